@@ -1,0 +1,4 @@
+pub mod Ranges
+pub mod Side
+pub mod Fields
+pub mod Names
