@@ -9,6 +9,8 @@ mod names;
 mod price;
 mod shares;
 mod side;
+#[cfg(test)]
+mod tests;
 mod time;
 
 pub use member::MemberNo;

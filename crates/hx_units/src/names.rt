@@ -1,4 +1,4 @@
-//! Names: of stocks, orders and firms.
+//! Names: of stocks, orders and firms. Each is bytes of its length, and any bytes are one.
 
 /// The name of a stock: 8 bytes, filled with spaces on the right (OUCH 4.2, ITCH 5.0: field Stock).
 #[derive(Clone, Copy, Debug, PartialEq, Eq, PartialOrd, Ord, Hash)]

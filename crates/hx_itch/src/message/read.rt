@@ -1,0 +1,147 @@
+// Messages of the feed, read from their bytes.
+ghost use Rattle.std.specs.Prelude.{◌≡◌, length};
+ghost use Rattle.hx_itch.specs.Message.{feed_message_of, system_event_of, stock_directory_of, add_order_of, add_order_with_attribution_of, order_executed_of, order_cancel_of, order_delete_of, order_replace_of, trade_of};
+
+use super::{
+    AddOrder, AddOrderWithAttribution, Feed, OrderCancel, OrderDelete, OrderExecuted, OrderReplace,
+    StockDirectory, SystemEvent, Trade,
+};
+use hx_units::fields::{array_at, u16_at, u32_at, u48_at, u64_at};
+use hx_units::{Firm, Symbol};
+
+// The message that the bytes are, by their type and length.
+pub fn read(bytes: &[u8]) -> Option<Feed>
+    ensures { result ≡ feed_message_of bytes.now }
+{
+    let kind = *bytes.first()?;
+    match (kind, bytes.len()) {
+        (b'S', 12) => Some(Feed::SystemEvent(read_system_event(bytes))),
+        (b'R', 39) => Some(Feed::StockDirectory(read_stock_directory(bytes))),
+        (b'A', 36) => Some(Feed::AddOrder(read_add_order(bytes))),
+        (b'F', 40) => Some(Feed::AddOrderWithAttribution(read_add_order_with_attribution(bytes))),
+        (b'E', 31) => Some(Feed::OrderExecuted(read_order_executed(bytes))),
+        (b'X', 23) => Some(Feed::OrderCancel(read_order_cancel(bytes))),
+        (b'D', 19) => Some(Feed::OrderDelete(read_order_delete(bytes))),
+        (b'U', 35) => Some(Feed::OrderReplace(read_order_replace(bytes))),
+        (b'P', 44) => Some(Feed::Trade(read_trade(bytes))),
+        _ => None,
+    }
+}
+
+fn read_system_event(bytes: &[u8]) -> SystemEvent
+    requires { length bytes.now ≡ 12 }
+    ensures { result ≡ system_event_of bytes.now }
+{
+    SystemEvent {
+        locate: u16_at(bytes, 1),
+        time: u48_at(bytes, 5),
+        event_code: bytes[11],
+    }
+}
+
+fn read_stock_directory(bytes: &[u8]) -> StockDirectory
+    requires { length bytes.now ≡ 39 }
+    ensures { result ≡ stock_directory_of bytes.now }
+{
+    StockDirectory {
+        locate: u16_at(bytes, 1),
+        time: u48_at(bytes, 5),
+        stock: Symbol(array_at(bytes, 11)),
+        tail: array_at(bytes, 19),
+    }
+}
+
+fn read_add_order(bytes: &[u8]) -> AddOrder
+    requires { length bytes.now ≡ 36 }
+    ensures { result ≡ add_order_of bytes.now }
+{
+    AddOrder {
+        locate: u16_at(bytes, 1),
+        time: u48_at(bytes, 5),
+        reference: u64_at(bytes, 11),
+        side: bytes[19],
+        shares: u32_at(bytes, 20),
+        stock: Symbol(array_at(bytes, 24)),
+        price: u32_at(bytes, 32),
+    }
+}
+
+fn read_add_order_with_attribution(bytes: &[u8]) -> AddOrderWithAttribution
+    requires { length bytes.now ≡ 40 }
+    ensures { result ≡ add_order_with_attribution_of bytes.now }
+{
+    AddOrderWithAttribution {
+        locate: u16_at(bytes, 1),
+        time: u48_at(bytes, 5),
+        reference: u64_at(bytes, 11),
+        side: bytes[19],
+        shares: u32_at(bytes, 20),
+        stock: Symbol(array_at(bytes, 24)),
+        price: u32_at(bytes, 32),
+        attribution: Firm(array_at(bytes, 36)),
+    }
+}
+
+fn read_order_executed(bytes: &[u8]) -> OrderExecuted
+    requires { length bytes.now ≡ 31 }
+    ensures { result ≡ order_executed_of bytes.now }
+{
+    OrderExecuted {
+        locate: u16_at(bytes, 1),
+        time: u48_at(bytes, 5),
+        reference: u64_at(bytes, 11),
+        shares: u32_at(bytes, 19),
+        match_number: u64_at(bytes, 23),
+    }
+}
+
+fn read_order_cancel(bytes: &[u8]) -> OrderCancel
+    requires { length bytes.now ≡ 23 }
+    ensures { result ≡ order_cancel_of bytes.now }
+{
+    OrderCancel {
+        locate: u16_at(bytes, 1),
+        time: u48_at(bytes, 5),
+        reference: u64_at(bytes, 11),
+        shares: u32_at(bytes, 19),
+    }
+}
+
+fn read_order_delete(bytes: &[u8]) -> OrderDelete
+    requires { length bytes.now ≡ 19 }
+    ensures { result ≡ order_delete_of bytes.now }
+{
+    OrderDelete {
+        locate: u16_at(bytes, 1),
+        time: u48_at(bytes, 5),
+        reference: u64_at(bytes, 11),
+    }
+}
+
+fn read_order_replace(bytes: &[u8]) -> OrderReplace
+    requires { length bytes.now ≡ 35 }
+    ensures { result ≡ order_replace_of bytes.now }
+{
+    OrderReplace {
+        locate: u16_at(bytes, 1),
+        time: u48_at(bytes, 5),
+        original_reference: u64_at(bytes, 11),
+        reference: u64_at(bytes, 19),
+        shares: u32_at(bytes, 27),
+        price: u32_at(bytes, 31),
+    }
+}
+
+fn read_trade(bytes: &[u8]) -> Trade
+    requires { length bytes.now ≡ 44 }
+    ensures { result ≡ trade_of bytes.now }
+{
+    Trade {
+        locate: u16_at(bytes, 1),
+        time: u48_at(bytes, 5),
+        shares: u32_at(bytes, 20),
+        stock: Symbol(array_at(bytes, 24)),
+        price: u32_at(bytes, 32),
+        match_number: u64_at(bytes, 36),
+    }
+}

@@ -1,0 +1,600 @@
+-- What the levels and the links lead to is the next order by rank.
+use Rattle.std.proofs.Common.{◌≡◌, ℕ, ◌≤◌, ◌<◌, ◌+◌, ◌-◌, ◌⊎◌, inl, inr, Bool, true, false, not, ◌||◌, ◌&&◌, cond, eqb, ltb, leb, List, [], ◌∷◌, Option, Some, None, refl, sym, ap, ◌∙◌, subst, arith, eqb-true, eq-eqb}
+use Rattle.std.specs.List.{AllByRecursion, list_any, find, filter}
+use Rattle.std.specs.Option.{option_map, IfSome}
+use Rattle.std.specs.BTreeMap.{BTreeMap}
+use Rattle.std.proofs.lemmas.Bool.{cond_both, cond-true, cond-false, true≢false, false_from_ne_true, and_parts, or_left, or_right, and_from, cases_order}
+use Rattle.std.proofs.lemmas.Bool.Decides.{nat_tests}
+use Rattle.slab.specs.Slab.{Slab, get}
+use Rattle.hx_levels.specs.declared.order.Live.{Live}
+use Rattle.hx_levels.specs.declared.order.Terms.{Terms}
+use Rattle.hx_levels.specs.declared.nodes.Node.{Node}
+use Rattle.hx_levels.specs.declared.nodes.Ends.{Ends}
+use Rattle.hx_levels.specs.declared.levels.Rung.{Rung}
+use Rattle.hx_levels.specs.declared.levels.Level.{Level}
+use Rattle.hx_levels.specs.Lists.{head_of, behind_first}
+use Rattle.hx_levels.specs.Rank.{first_of, higher}
+use Rattle.hx_levels.specs.Chain.{has}
+use Rattle.hx_levels.specs.Nodes.{queue_links, time_links}
+use Rattle.hx_levels.specs.Levels.{level_at, ends_in, first_at, IsFirstFrom}
+use Rattle.hx_units.specs.Side.{is_buy}
+use Rattle.hx_levels.specs.Book.{is_under, is_ahead, crosses, has_key, IsRanked, next_by_rank, next_by_time, is_candidate, is_equal, terms_of}
+use Rattle.hx_levels.specs.LevelBook.{keys_of, is_in, rung_of, contra, limit_of, to_key, IsBook}
+use Rattle.hx_levels.proofs.Lists.{or_else, found_among, all_weaker}
+use Rattle.hx_levels.proofs.Orders.{once_under}
+use Rattle.hx_levels.proofs.Chains.{chain-after}
+use Rattle.hx_levels.proofs.Next.{next-none, next-some, Ranked, behind-filter}
+use Rattle.hx_levels.proofs.Added.{is_in_own, is_in_at}
+use Rattle.hx_levels.proofs.Queues.{has-keys}
+
+-- the first by rank, where the best of those that pass are known
+
+module _ (ahead : Live → Live → Bool) (T Q : Live → Bool) (P : Live → Type 0) (within : (y : Live) → Q y ≡ true → P y → T y ≡ true)
+    (level : (x y : Live) → Q x ≡ true → Q y ≡ true → P x → P y → ahead y x ≡ false) where
+  abbrev pub IsBelow : Live → Type 0
+  IsBelow y = (x : Live) → Q x ≡ true → P x → (ahead x y ≡ true) × (ahead y x ≡ false)
+
+  first_all : (R : Live → Type 0) (ys : List Live) → AllByRecursion (λ z. T z ≡ true → R z) ys → IfSome (first_of ahead T ys) R
+  first_all R [] h = tt
+  first_all R (z ∷ zs) h = at (T z) refl (first_of ahead T zs) (first_all R zs h.1)
+    where
+      at : (b : Bool) → T z ≡ b → (r : Option Live) → IfSome r R → IfSome (cond b (higher ahead z r) r) R
+      at true e None i = h.0 e
+      at true e (Some w) i = cond_both (ahead w z) w z R (λ _. i) (λ _. h.0 e)
+      at false e r i = i
+
+  pub first_best : (zs : List Live) (x : Live) → AllByRecursion P zs → AllByRecursion (λ y. T y ≡ true → (Q y ≡ true) ⊎ IsBelow y) zs → find Q zs ≡ Some x → first_of ahead T zs ≡ Some x
+  first_best [] x p h f = cc
+  first_best (y ∷ ys) x p h f = at (Q y) (T y) refl refl f (first_best ys x p.1 h.1)
+    where
+      stays : Q y ≡ true → (r : Option Live) → IfSome r (λ z. ahead z y ≡ false) → higher ahead y r ≡ Some y
+      stays q None i = refl
+      stays q (Some z) i = ap Some (cond-false (ahead z y) z y i)
+
+      later : (q : Q y ≡ true) (zs : List Live) → AllByRecursion P zs → AllByRecursion (λ z. T z ≡ true → (Q z ≡ true) ⊎ IsBelow z) zs → AllByRecursion (λ z. T z ≡ true → ahead z y ≡ false) zs
+      later q [] a b = tt
+      later q (z ∷ zs) a b = ((λ t. elim (b.0 t) [ inl e ↦ level y z q e p.0 a.0 | inr e ↦ (e y q p.0).1 ]), later q zs a.1 b.1)
+
+      at : (b t : Bool) → Q y ≡ b → T y ≡ t → cond b (Some y) (find Q ys) ≡ Some x → (find Q ys ≡ Some x → first_of ahead T ys ≡ Some x)
+          → cond t (higher ahead y (first_of ahead T ys)) (first_of ahead T ys) ≡ Some x
+      at true true q t g ih = stays q (first_of ahead T ys) (first_all (λ z. ahead z y ≡ false) ys (later q ys p.1 h.1)) ∙ g
+      at true false q t g ih = absurd (true≢false (sym (within y q p.0) ∙ t))
+      at false true q t g ih =
+          ap (higher ahead y) (ih g)
+          ∙ ap Some (elim (h.0 t) [
+            | inl e ↦ absurd (true≢false (sym e ∙ q))
+            | inr e ↦ cond-true (ahead x y) x y (e x (found_test ys g) (found_p ys p.1 g)).0
+          ])
+        where
+          found_test : (zs : List Live) → find Q zs ≡ Some x → Q x ≡ true
+          found_test [] f' = cc
+          found_test (z ∷ zs) f' = by (Q z) refl f' (found_test zs)
+            where
+              by : (b : Bool) → Q z ≡ b → cond b (Some z) (find Q zs) ≡ Some x → (find Q zs ≡ Some x → Q x ≡ true) → Q x ≡ true
+              by true e g' ih' = let s : z ≡ x = cc in subst (λ v. Q v ≡ true) s e
+              by false e g' ih' = ih' g'
+
+          found_p : (zs : List Live) → AllByRecursion P zs → find Q zs ≡ Some x → P x
+          found_p zs a f' = found_among P Q x zs a f'
+      at false false q t g ih = ih g
+
+  pub first_none : (zs : List Live) → AllByRecursion (λ y. T y ≡ false) zs → first_of ahead T zs ≡ None
+  first_none [] h = refl
+  first_none (z ∷ zs) h = cond-false (T z) (higher ahead z (first_of ahead T zs)) (first_of ahead T zs) h.0 ∙ first_none zs h.1
+
+-- an order's queue has an order
+
+abbrev pub InClass : List Live → Live → Type 0
+InClass orders y = filter (is_in (rung_of (terms_of y.order)) y.order.shown) orders ≡ [] → ⊥
+
+any_kept : (p : Live → Bool) (orders : List Live) → list_any p orders ≡ true → filter p orders ≡ [] → ⊥
+any_kept p [] h e = true≢false (sym h)
+any_kept p (x ∷ xs) h e = at (p x) h e (any_kept p xs)
+  where
+    at : (b : Bool) → (b || list_any p xs) ≡ true → cond b (x ∷ filter p xs) (filter p xs) ≡ [] → (list_any p xs ≡ true → filter p xs ≡ [] → ⊥) → ⊥
+    at true g f ih = cc
+    at false g f ih = ih g f
+
+in_class : (all zs : List Live) → ((p : Live → Bool) → list_any p zs ≡ true → list_any p all ≡ true) → AllByRecursion (InClass all) zs
+in_class all [] lift = tt
+in_class all (z ∷ zs) lift = (
+  any_kept (is_in (rung_of (terms_of z.order)) z.order.shown) all (lift (is_in (rung_of (terms_of z.order)) z.order.shown) (or_left _ _ (is_in_own z))),
+  in_class all zs (λ p h. lift p (or_right (p z) (list_any p zs) h)),
+)
+
+pub all_in_class : (orders : List Live) → AllByRecursion (InClass orders) orders
+all_in_class orders = in_class orders orders (λ p h. h)
+
+pub both_all : (P Q : Live → Type 0) (zs : List Live) → AllByRecursion P zs → AllByRecursion Q zs → AllByRecursion (λ y. P y × Q y) zs
+both_all P Q [] p q = tt
+both_all P Q (z ∷ zs) p q = ((p.0, q.0), both_all P Q zs p.1 q.1)
+
+-- distances
+
+abbrev pub distance_of : Live → ℕ
+distance_of y = (rung_of (terms_of y.order)).distance
+
+crossing : (buy other : Bool) (l m p q : ℕ) → p ≤ 1999999900 → (eqb m l && cond buy (not other) other && cond buy (leb p q) (leb q p)) ≡ true
+    → (m ≡ l) × (other ≡ not buy) × (cond other (2000000000 - p) p ≤ cond buy q (2000000000 - q))
+crossing true true l m p q b h = (grind (arith, nat_tests), grind (arith, nat_tests), grind (arith, nat_tests))
+crossing true false l m p q b h = (grind (arith, nat_tests), grind (arith, nat_tests), grind (arith, nat_tests))
+crossing false true l m p q b h = (grind (arith, nat_tests), grind (arith, nat_tests), grind (arith, nat_tests))
+crossing false false l m p q b h = (grind (arith, nat_tests), grind (arith, nat_tests), grind (arith, nat_tests))
+
+crossed : (buy other : Bool) (l m p q : ℕ) → p ≤ 1999999900 → m ≡ l → other ≡ not buy → cond other (2000000000 - p) p ≤ cond buy q (2000000000 - q)
+    → (eqb m l && cond buy (not other) other && cond buy (leb p q) (leb q p)) ≡ true
+crossed true true l m p q b e o d = cc
+crossed true false l m p q b e o d = grind (arith, nat_tests)
+crossed false true l m p q b e o d = grind (arith, nat_tests)
+crossed false false l m p q b e o d = cc
+
+pub crosses-rung : (terms : Terms) (y : Live) → y.order.price ≤ 1999999900 → crosses terms y.order ≡ true
+    → (rung_of (terms_of y.order) ≡ contra terms (distance_of y)) × (distance_of y ≤ limit_of terms)
+crosses-rung terms y b h =
+    let c = crossing (is_buy terms.side) (is_buy y.order.side) terms.locate y.order.locate y.order.price terms.price b h in (
+      ap (λ n. record { locate = n; buy = is_buy y.order.side; distance = distance_of y }) c.0
+          ∙ ap (λ t. record { locate = terms.locate; buy = t; distance = distance_of y }) c.1,
+      c.2,
+    )
+
+pub rung-crosses : (terms : Terms) (y : Live) (d : ℕ) → y.order.price ≤ 1999999900 → rung_of (terms_of y.order) ≡ contra terms d → d ≤ limit_of terms → crosses terms y.order ≡ true
+rung-crosses terms y d b e l =
+    crossed (is_buy terms.side) (is_buy y.order.side) terms.locate y.order.locate y.order.price terms.price b
+    (ap (λ (r : Rung). r.locate) e) (ap (λ (r : Rung). r.buy) e) (subst (λ n. n ≤ limit_of terms) (sym (ap (λ (r : Rung). r.distance) e)) l)
+
+ranks : (buy ox oy sx sy : Bool) (p q : ℕ) → p ≤ 1999999900 → q ≤ 1999999900 → ox ≡ not buy → oy ≡ not buy
+    → (cond buy (ltb p q) (ltb q p) || (eqb p q && sx && not sy))
+    ≡ (ltb (cond ox (2000000000 - p) p) (cond oy (2000000000 - q) q) || (eqb (cond ox (2000000000 - p) p) (cond oy (2000000000 - q) q) && sx && not sy))
+ranks true true oy sx sy p q a b h k = cc
+ranks true false true sx sy p q a b h k = cc
+ranks true false false sx sy p q a b h k = refl
+ranks false false oy sx sy p q a b h k = cc
+ranks false true false sx sy p q a b h k = cc
+ranks false true true true true p q a b h k = grind (arith, nat_tests)
+ranks false true true true false p q a b h k = grind (arith, nat_tests)
+ranks false true true false true p q a b h k = grind (arith, nat_tests)
+ranks false true true false false p q a b h k = grind (arith, nat_tests)
+
+-- of orders on the contra side rank goes by distance, and then by being shown
+pub ahead-distance : (terms : Terms) (x y : Live) (d e : ℕ) → x.order.price ≤ 1999999900 → y.order.price ≤ 1999999900 → rung_of (terms_of x.order) ≡ contra terms d → rung_of (terms_of y.order) ≡ contra terms e
+    → is_ahead terms.side x y ≡ (ltb d e || (eqb d e && x.order.shown && not y.order.shown))
+ahead-distance terms x y d e a b h k =
+    ranks (is_buy terms.side) (is_buy x.order.side) (is_buy y.order.side) x.order.shown y.order.shown x.order.price y.order.price a b (ap (λ (r : Rung). r.buy) h) (ap (λ (r : Rung). r.buy) k)
+    ∙ ap (λ n. ltb n (distance_of y) || (eqb n (distance_of y) && x.order.shown && not y.order.shown)) (ap (λ (r : Rung). r.distance) h)
+    ∙ ap (λ n. ltb d n || (eqb d n && x.order.shown && not y.order.shown)) (ap (λ (r : Rung). r.distance) k)
+
+abbrev pub IsPriced : Live → Type 0
+IsPriced y = y.order.price ≤ 1999999900
+
+in_queue : (at : Rung) (s : Bool) (y : Live) → rung_of (terms_of y.order) ≡ at → y.order.shown ≡ s → is_in at s y ≡ true
+in_queue at s y e f = subst (λ r. is_in r s y ≡ true) e (subst (λ t. is_in (rung_of (terms_of y.order)) t y ≡ true) f (is_in_own y))
+
+-- the first of the best queue is the first by rank of all that pass
+module _ (terms : Terms) (T : Live → Bool) (d : ℕ) (s : Bool) (orders : List Live) (priced : AllByRecursion IsPriced orders)
+    (cross : (y : Live) → T y ≡ true → crosses terms y.order ≡ true)
+    (within : (y : Live) → is_in (contra terms d) s y ≡ true → IsPriced y → T y ≡ true)
+    (rest : (y : Live) → T y ≡ true → InClass orders y → IsPriced y
+    → (is_in (contra terms d) s y ≡ true) ⊎ ((d < distance_of y) ⊎ ((distance_of y ≡ d) × (s ≡ true) × (y.order.shown ≡ false)))) where
+  alike : (x y : Live) → is_in (contra terms d) s x ≡ true → is_in (contra terms d) s y ≡ true → IsPriced x → IsPriced y → is_ahead terms.side y x ≡ false
+  alike x y p q a b =
+      let u = is_in_at (contra terms d) s x p in
+      let v = is_in_at (contra terms d) s y q in
+      ahead-distance terms y x d d b a v.0 u.0 ∙ same y.order.shown x.order.shown (v.1 ∙ sym u.1)
+    where
+      same : (sy sx : Bool) → sy ≡ sx → (ltb d d || (eqb d d && sy && not sx)) ≡ false
+      same true true e = grind (arith, nat_tests)
+      same true false e = cc
+      same false true e = cc
+      same false false e = grind (arith, nat_tests)
+
+  below : (y : Live) → T y ≡ true → IsPriced y → (d < distance_of y) ⊎ ((distance_of y ≡ d) × (s ≡ true) × (y.order.shown ≡ false))
+      → (x : Live) → is_in (contra terms d) s x ≡ true → IsPriced x → (is_ahead terms.side x y ≡ true) × (is_ahead terms.side y x ≡ false)
+  below y t b o x q a =
+      let u = is_in_at (contra terms d) s x q in
+      let v = (crosses-rung terms y b (cross y t)).0 in
+      let e = ahead-distance terms x y d (distance_of y) a b u.0 v in
+      let f = ahead-distance terms y x (distance_of y) d b a v u.0 in
+      let r = ranked_so x.order.shown y.order.shown (distance_of y) o u.1 in
+      (e ∙ r.0, f ∙ r.1)
+    where
+      ranked_so : (sx sy : Bool) (e : ℕ) → (d < e) ⊎ ((e ≡ d) × (s ≡ true) × (sy ≡ false)) → sx ≡ s
+          → ((ltb d e || (eqb d e && sx && not sy)) ≡ true) × ((ltb e d || (eqb e d && sy && not sx)) ≡ false)
+      ranked_so sx sy e (inl l) h = (or_left (ltb d e) (eqb d e && sx && not sy) (lt_true d e l), apart)
+        where
+          lt_true : (m n : ℕ) → m < n → ltb m n ≡ true
+          lt_true m n k = grind (arith, nat_tests)
+
+          apart : (ltb e d || (eqb e d && sy && not sx)) ≡ false
+          apart = both (ltb e d) (eqb e d) sy sx (not_lt d e l) (not_eq d e l)
+            where
+              not_lt : (m n : ℕ) → m < n → ltb n m ≡ false
+              not_lt m n k = grind (arith, nat_tests)
+
+              not_eq : (m n : ℕ) → m < n → eqb n m ≡ false
+              not_eq m n k = grind (arith, nat_tests)
+
+              both : (g h' i j : Bool) → g ≡ false → h' ≡ false → (g || (h' && i && not j)) ≡ false
+              both true h' i j e' f' = cc
+              both false true i j e' f' = cc
+              both false false i j e' f' = refl
+      ranked_so sx sy e (inr w) h = by sx sy (h ∙ w.1) w.2
+        where
+          same_d : eqb d e ≡ true
+          same_d = eq-eqb d e (sym w.0)
+
+          no_lt : ltb e d ≡ false
+          no_lt = let k : e ≡ d = w.0 in grind (arith, nat_tests)
+
+          by : (a' b' : Bool) → a' ≡ true → b' ≡ false → ((ltb d e || (eqb d e && a' && not b')) ≡ true) × ((ltb e d || (eqb e d && b' && not a')) ≡ false)
+          by true false m n = (or_right (ltb d e) (eqb d e && true && true) (ap (λ t. t && true && true) same_d), ap (λ t. t || (eqb e d && false && false)) no_lt ∙ last (eqb e d))
+            where
+              last : (t : Bool) → (t && false && false) ≡ false
+              last true = refl
+              last false = refl
+          by true true m n = cc
+          by false b' m n = cc
+
+  pub best_at : (x : Live) → find (is_in (contra terms d) s) orders ≡ Some x → first_of (is_ahead terms.side) T orders ≡ Some x
+  best_at x f =
+      first_best (is_ahead terms.side) T (is_in (contra terms d) s) IsPriced within alike orders x priced
+      (each orders (both_all (InClass orders) IsPriced orders (all_in_class orders) priced)) f
+    where
+      each : (zs : List Live) → AllByRecursion (λ y. InClass orders y × IsPriced y) zs
+          → AllByRecursion (λ y. T y ≡ true → (is_in (contra terms d) s y ≡ true) ⊎ ((x : Live) → is_in (contra terms d) s x ≡ true → IsPriced x → (is_ahead terms.side x y ≡ true) × (is_ahead terms.side y x ≡ false))) zs
+      each [] a = tt
+      each (z ∷ zs) a = ((λ t. elim (rest z t a.0.0 a.0.1) [ inl q ↦ inl q | inr o ↦ inr (below z t a.0.1 o) ]), each zs a.1)
+
+-- what the ends of a queue tell
+
+no_queue : (p : Live → Bool) (orders : List Live) → head_of (keys_of (filter p orders)) ≡ None → filter p orders ≡ []
+no_queue p orders h = at (filter p orders) h
+  where
+    at : (zs : List Live) → head_of (keys_of zs) ≡ None → zs ≡ []
+    at [] e = refl
+    at (z ∷ zs) e = cc
+
+first_kept : (p : Live → Bool) (orders : List Live) → head_of (filter p orders) ≡ find p orders
+first_kept p [] = refl
+first_kept p (x ∷ xs) = cond_both (p x) (x ∷ filter p xs) (filter p xs) (λ r. head_of r ≡ cond (p x) (Some x) (find p xs))
+    (λ e. sym (cond-true (p x) (Some x) (find p xs) e)) (λ e. first_kept p xs ∙ sym (cond-false (p x) (Some x) (find p xs) e))
+
+head-keys : (zs : List Live) → head_of (keys_of zs) ≡ option_map (λ (y : Live). y.key.0) (head_of zs)
+head-keys [] = refl
+head-keys (z ∷ zs) = refl
+
+pub record HasFirst (p : Live → Bool) (orders : List Live) (key : ℕ) : Type 0 where
+  pub live : Live
+  pub found : find p orders ≡ Some live
+  pub key_is : live.key.0 ≡ key
+
+pub has_first : (p : Live → Bool) (orders : List Live) (key : ℕ) → head_of (keys_of (filter p orders)) ≡ Some key → HasFirst p orders key
+has_first p orders key h = at (find p orders) refl (sym (head-keys (filter p orders) ∙ ap (option_map (λ (y : Live). y.key.0)) (first_kept p orders)) ∙ h)
+  where
+    at : (o : Option Live) → find p orders ≡ o → option_map (λ (y : Live). y.key.0) o ≡ Some key → HasFirst p orders key
+    at None f e = cc
+    at (Some x) f e = record { live = x; found = f; key_is = cc }
+
+module _ (nodes : Slab Node) (levels : BTreeMap Rung Level) (time : Ends) (place : Option Terms) (kept : Option Rung) (orders : List Live)
+    (book : IsBook nodes levels time place kept orders) (terms : Terms) where
+  queue_first : (d : ℕ) (s : Bool) → first_at levels terms.locate (not (is_buy terms.side)) d s ≡ head_of (keys_of (filter (is_in (contra terms d) s) orders))
+  queue_first d s = (book.in_level (contra terms d) s).first
+
+  -- no order is where the ends of its queue are empty
+  not_there : (y : Live) (d : ℕ) → rung_of (terms_of y.order) ≡ contra terms d → InClass orders y → first_at levels terms.locate (not (is_buy terms.side)) d y.order.shown ≡ None → ⊥
+  not_there y d e c n = c (no_queue (is_in (rung_of (terms_of y.order)) y.order.shown) orders
+      (ap (λ r. head_of (keys_of (filter (is_in r y.order.shown) orders))) e ∙ sym (queue_first d y.order.shown) ∙ n))
+
+  pub one_empty : (a b : Rung) → (level : Level) × (level_at levels a ≡ Some level) × ((level.shown.first ≡ None) × (level.hidden.first ≡ None))
+      → (level : Level) × (level_at levels b ≡ Some level) × ((level.shown.first ≡ None) × (level.hidden.first ≡ None)) → a ≡ b
+  one_empty a b p q = let h : Some a ≡ Some b = sym (book.filled a p.0 p.1 p.2) ∙ book.filled b q.0 q.1 q.2 in cc
+
+  -- from a distance on
+
+  module _ (T : Live → Bool) (from : ℕ) (cross : (y : Live) → T y ≡ true → crosses terms y.order ≡ true)
+      (after : (y : Live) → T y ≡ true → InClass orders y → IsPriced y → from ≤ distance_of y)
+      (within : (y : Live) → crosses terms y.order ≡ true → IsPriced y → from ≤ distance_of y → T y ≡ true) where
+    pub best_from : (key : ℕ) → IsFirstFrom levels terms.locate (not (is_buy terms.side)) from (limit_of terms) key
+        → Some (record { 0 = key }) ≡ option_map (λ (y : Live). y.key) (first_of (is_ahead terms.side) T orders)
+    best_from key f =
+        let h = has_first (is_in (contra terms f.distance) f.shown) orders key (sym (queue_first f.distance f.shown) ∙ f.first) in
+        ap (λ (n : ℕ). Some (to_key n)) (sym h.key_is)
+        ∙ ap (option_map (λ (y : Live). y.key)) (sym (best_at terms T f.distance f.shown orders book.priced cross inside rest h.live h.found))
+      where
+        inside : (y : Live) → is_in (contra terms f.distance) f.shown y ≡ true → IsPriced y → T y ≡ true
+        inside y q p =
+            let u = is_in_at (contra terms f.distance) f.shown y q in
+            within y (rung-crosses terms y f.distance p u.0 f.below) p (subst (λ n. from ≤ n) (sym (ap (λ (r : Rung). r.distance) u.0)) f.above)
+
+        at_level : (y : Live) → rung_of (terms_of y.order) ≡ contra terms f.distance → InClass orders y → (s t : Bool) → f.shown ≡ s → y.order.shown ≡ t
+            → (is_in (contra terms f.distance) f.shown y ≡ true) ⊎ ((f.distance < distance_of y) ⊎ ((distance_of y ≡ f.distance) × (f.shown ≡ true) × (y.order.shown ≡ false)))
+        at_level y r c true true es et = inl (in_queue (contra terms f.distance) f.shown y r (et ∙ sym es))
+        at_level y r c true false es et = inr (inr (ap (λ (v : Rung). v.distance) r, es, et))
+        at_level y r c false true es et = absurd (not_there y f.distance r c (ap (first_at levels terms.locate (not (is_buy terms.side)) f.distance) et ∙ f.hidden es))
+        at_level y r c false false es et = inl (in_queue (contra terms f.distance) f.shown y r (et ∙ sym es))
+
+        rest : (y : Live) → T y ≡ true → InClass orders y → IsPriced y
+            → (is_in (contra terms f.distance) f.shown y ≡ true) ⊎ ((f.distance < distance_of y) ⊎ ((distance_of y ≡ f.distance) × (f.shown ≡ true) × (y.order.shown ≡ false)))
+        rest y t c p =
+            let r = crosses-rung terms y p (cross y t) in
+            elim (cases_order (distance_of y) f.distance) [
+              | inl e ↦ at_level y (r.0 ∙ ap (contra terms) e) c f.shown y.order.shown refl refl
+              | inr o ↦ elim o [
+                | inl l ↦ absurd (not_there y (distance_of y) r.0 c (f.before (distance_of y) y.order.shown (after y t c p) l))
+                | inr l ↦ inr (inl l)
+              ]
+            ]
+
+    pub none_from : ((d : ℕ) (s : Bool) → from ≤ d → d ≤ limit_of terms → first_at levels terms.locate (not (is_buy terms.side)) d s ≡ None)
+        → None ≡ option_map (λ (y : Live). y.key) (first_of (is_ahead terms.side) T orders)
+    none_from n = sym (ap (option_map (λ (y : Live). y.key)) (first_none (is_ahead terms.side) T (λ _. false) IsPriced (λ y q p. cc) (λ x y p q a b. cc) orders
+        (each orders (both_all (InClass orders) IsPriced orders (all_in_class orders) book.priced))))
+      where
+        each : (zs : List Live) → AllByRecursion (λ y. InClass orders y × IsPriced y) zs → AllByRecursion (λ y. T y ≡ false) zs
+        each [] a = tt
+        each (z ∷ zs) a = (
+          false_from_ne_true (T z) (λ t.
+              let r = crosses-rung terms z a.0.1 (cross z t) in
+              not_there z (distance_of z) r.0 a.0.0 (n (distance_of z) z.order.shown (after z t a.0.0 a.0.1) r.1)),
+          each zs a.1,
+        )
+
+  -- before any order
+  pub next_first : (key : ℕ) → IsFirstFrom levels terms.locate (not (is_buy terms.side)) 0 (limit_of terms) key → Some (record { 0 = key }) ≡ next_by_rank terms None orders
+  next_first key f =
+      best_from (is_candidate terms None) 0 (λ y t. t) (λ y t c p. omega arith) (λ y c p l. c) key f ∙ next-none terms orders
+
+  pub next_nothing : ((d : ℕ) (s : Bool) → 0 ≤ d → d ≤ limit_of terms → first_at levels terms.locate (not (is_buy terms.side)) d s ≡ None) → None ≡ next_by_rank terms None orders
+  next_nothing n = none_from (is_candidate terms None) 0 (λ y t. t) (λ y t c p. omega arith) (λ y c p l. c) n ∙ next-none terms orders
+
+-- behind an order in its queue
+
+pub find-kept : (keep test : Live → Bool) (a : Live) (xs : List Live) → find test xs ≡ Some a → keep a ≡ true → find test (filter keep xs) ≡ Some a
+find-kept keep test a [] f t = cc
+find-kept keep test a (x ∷ xs) f t = at (keep x) (test x) refl refl f (find-kept keep test a xs)
+  where
+    at : (b c : Bool) → keep x ≡ b → test x ≡ c → cond c (Some x) (find test xs) ≡ Some a → (find test xs ≡ Some a → keep a ≡ true → find test (filter keep xs) ≡ Some a)
+        → find test (cond b (x ∷ filter keep xs) (filter keep xs)) ≡ Some a
+    at true true eb ec g ih = cond-true (test x) (Some x) (find test (filter keep xs)) ec ∙ g
+    at true false eb ec g ih = cond-false (test x) (Some x) (find test (filter keep xs)) ec ∙ ih g t
+    at false true eb ec g ih = let e : x ≡ a = cc in absurd (true≢false (sym t ∙ ap keep (sym e) ∙ eb))
+    at false false eb ec g ih = ih g t
+
+pub has-found : (key : ℕ) (a : Live) (xs : List Live) → find (is_under key) xs ≡ Some a → has key (keys_of xs) ≡ true
+has-found key a [] f = cc
+has-found key a (x ∷ xs) f = at (is_under key x) f (has-found key a xs)
+  where
+    at : (b : Bool) → cond b (Some x) (find (is_under key) xs) ≡ Some a → (find (is_under key) xs ≡ Some a → has key (keys_of xs) ≡ true) → (b || has key (keys_of xs)) ≡ true
+    at true g ih = refl
+    at false g ih = ih g
+
+behind-keys : (key : ℕ) (xs : List Live) → behind_first (λ k. eqb k key) (keys_of xs) ≡ keys_of (behind_first (is_under key) xs)
+behind-keys key [] = refl
+behind-keys key (x ∷ xs) = cond_both (is_under key x) xs (behind_first (is_under key) xs) (λ r. cond (is_under key x) (keys_of xs) (behind_first (λ k. eqb k key) (keys_of xs)) ≡ keys_of r)
+    (λ e. cond-true (is_under key x) (keys_of xs) (behind_first (λ k. eqb k key) (keys_of xs)) e)
+    (λ e. cond-false (is_under key x) (keys_of xs) (behind_first (λ k. eqb k key) (keys_of xs)) e ∙ behind-keys key xs)
+
+iff_bool : (a b : Bool) → (a ≡ true → b ≡ true) → (b ≡ true → a ≡ true) → a ≡ b
+iff_bool true true h k = refl
+iff_bool true false h k = sym (h refl)
+iff_bool false true h k = k refl
+iff_bool false false h k = refl
+
+find-same_all : (p q : Live → Bool) (xs : List Live) → AllByRecursion (λ x. p x ≡ q x) xs → find p xs ≡ find q xs
+find-same_all p q [] h = refl
+find-same_all p q (x ∷ xs) h = ap (λ b. cond b (Some x) (find p xs)) h.0 ∙ ap (λ r. cond (q x) (Some x) r) (find-same_all p q xs h.1)
+
+all_behind : (P : Live → Type 0) (test : Live → Bool) (xs : List Live) → AllByRecursion P xs → AllByRecursion P (behind_first test xs)
+all_behind P test [] h = tt
+all_behind P test (x ∷ xs) h = cond_both (test x) xs (behind_first test xs) (λ r. AllByRecursion P r) (λ _. h.1) (λ _. all_behind P test xs h.1)
+
+same_distance : (o : Bool) (p q : ℕ) → p ≤ 1999999900 → q ≤ 1999999900 → cond o (2000000000 - p) p ≡ cond o (2000000000 - q) q → p ≡ q
+same_distance true p q a b h = omega arith
+same_distance false p q a b h = h
+
+shown_is : (a b : Bool) → cond a b (not b) ≡ true → a ≡ b
+shown_is true true h = refl
+shown_is true false h = cc
+shown_is false true h = cc
+shown_is false false h = refl
+
+is_shown : (a b : Bool) → a ≡ b → cond a b (not b) ≡ true
+is_shown true true h = refl
+is_shown true false h = cc
+is_shown false true h = cc
+is_shown false false h = refl
+
+equal-in : (terms : Terms) (a y : Live) → IsPriced a → IsPriced y → crosses terms a.order ≡ true → is_in (rung_of (terms_of a.order)) a.order.shown y ≡ is_equal terms a.order y
+equal-in terms a y pa py c =
+    iff_bool (is_in (rung_of (terms_of a.order)) a.order.shown y) (is_equal terms a.order y)
+    (λ i. let u = is_in_at (rung_of (terms_of a.order)) a.order.shown y i in
+    let r = crosses-rung terms a pa c in
+    let x = rung-crosses terms y (distance_of a) py (u.0 ∙ r.0) r.1 in
+    let o : is_buy y.order.side ≡ is_buy a.order.side = ap (λ (v : Rung). v.buy) u.0 in
+    let d : y.order.price ≡ a.order.price = same_distance (is_buy y.order.side) y.order.price a.order.price py pa (ap (λ (v : Rung). v.distance) u.0 ∙ ap (λ t. cond t (2000000000 - a.order.price) a.order.price) (sym o)) in
+    and_from (crosses terms y.order && eqb y.order.price a.order.price) (cond y.order.shown a.order.shown (not a.order.shown))
+    (and_from (crosses terms y.order) (eqb y.order.price a.order.price) x (eq-eqb y.order.price a.order.price d)) (is_shown y.order.shown a.order.shown u.1))
+    (λ e. let p = and_parts (crosses terms y.order && eqb y.order.price a.order.price) (cond y.order.shown a.order.shown (not a.order.shown)) e in
+    let q = and_parts (crosses terms y.order) (eqb y.order.price a.order.price) p.0 in
+    let r = crosses-rung terms a pa c in
+    let s = crosses-rung terms y py q.0 in
+    let o : is_buy y.order.side ≡ is_buy a.order.side = ap (λ (v : Rung). v.buy) s.0 ∙ sym (ap (λ (v : Rung). v.buy) r.0) in
+    let d : distance_of y ≡ distance_of a = ap (λ n. cond (is_buy y.order.side) (2000000000 - n) n) (eqb-true y.order.price a.order.price q.1) ∙ ap (λ t. cond t (2000000000 - a.order.price) a.order.price) o in
+    in_queue (rung_of (terms_of a.order)) a.order.shown y (s.0 ∙ ap (contra terms) d ∙ sym r.0) (shown_is y.order.shown a.order.shown p.1))
+
+module _ (nodes : Slab Node) (levels : BTreeMap Rung Level) (time : Ends) (place : Option Terms) (kept : Option Rung) (orders : List Live)
+    (book : IsBook nodes levels time place kept orders) (terms : Terms) (key : ℕ) (ranked : IsRanked terms key orders) (node : Node) (stored : get nodes key ≡ Some node) where
+  pub rank : Ranked terms key orders
+  rank = next-some terms key orders book.differ ranked
+
+  pub node_order : node.order ≡ rank.live.order
+  node_order = let e : Some node.order ≡ Some rank.live.order = ap (option_map (λ (n : Node). n.order)) (sym stored) ∙ book.stored key ∙ ap (option_map (λ (y : Live). y.order)) rank.found in cc
+
+  priced_live : IsPriced rank.live
+  priced_live = found_among IsPriced (is_under key) rank.live orders book.priced rank.found
+
+  pub live_rung : (rung_of (terms_of rank.live.order) ≡ contra terms (distance_of rank.live)) × (distance_of rank.live ≤ limit_of terms)
+  live_rung = crosses-rung terms rank.live priced_live rank.crosses
+
+  queue_after : node.queue.after ≡ option_map (λ (y : Live). y.key.0) (find (is_equal terms rank.live.order) (behind_first (is_under key) orders))
+  unfolding rank
+  queue_after =
+      let a = rank.live in
+      let p = is_in (rung_of (terms_of a.order)) a.order.shown in
+      let f : find (is_under key) (filter p orders) ≡ Some a = find-kept p (is_under key) a orders rank.found (is_in_own a) in
+      chain-after (queue_links nodes) key (node.queue) None (ends_in a.order.shown (level_at levels (rung_of (terms_of a.order)))).last (keys_of (filter p orders)) (book.in_level (rung_of (terms_of a.order)) a.order.shown).chain
+      (has-found key a (filter p orders) f) (ap (option_map (λ (n : Node). n.queue)) stored)
+      ∙ ap head_of (behind-keys key (filter p orders))
+      ∙ ap (λ r. head_of (keys_of r)) (behind-filter p (is_under key) a orders (once_under key orders book.differ) f)
+      ∙ head-keys (filter p (behind_first (is_under key) orders))
+      ∙ ap (option_map (λ (y : Live). y.key.0)) (first_kept p (behind_first (is_under key) orders)
+      ∙ find-same_all p (is_equal terms a.order) (behind_first (is_under key) orders)
+      (all_behind (λ y. p y ≡ is_equal terms a.order y) (is_under key) orders (all_weaker IsPriced (λ y. p y ≡ is_equal terms a.order y) (λ y py. equal-in terms a y priced_live py rank.crosses) orders book.priced)))
+
+  pub next_queued : (next : ℕ) → node.queue.after ≡ Some next → Some (record { 0 = next }) ≡ next_by_rank terms (Some (record { 0 = key })) orders
+  next_queued next e = at (find (is_equal terms rank.live.order) (behind_first (is_under key) orders)) (sym e ∙ queue_after) rank.next
+    where
+      at : (o : Option Live) → Some next ≡ option_map (λ (y : Live). y.key.0) o
+          → option_map (λ (y : Live). y.key) (or_else o (first_of (is_ahead terms.side) (is_candidate terms (Some rank.live)) orders)) ≡ next_by_rank terms (Some (record { 0 = key })) orders
+          → Some (record { 0 = next }) ≡ next_by_rank terms (Some (record { 0 = key })) orders
+      at None g n = cc
+      at (Some x) g n = let h : next ≡ x.key.0 = cc in ap (λ (v : ℕ). Some (to_key v)) h ∙ n
+
+  -- where its queue ends with it
+  past_queue : node.queue.after ≡ None → option_map (λ (y : Live). y.key) (first_of (is_ahead terms.side) (is_candidate terms (Some rank.live)) orders) ≡ next_by_rank terms (Some (record { 0 = key })) orders
+  past_queue e = at (find (is_equal terms rank.live.order) (behind_first (is_under key) orders)) (sym e ∙ queue_after) rank.next
+    where
+      at : (o : Option Live) → None ≡ option_map (λ (y : Live). y.key.0) o
+          → option_map (λ (y : Live). y.key) (or_else o (first_of (is_ahead terms.side) (is_candidate terms (Some rank.live)) orders)) ≡ next_by_rank terms (Some (record { 0 = key })) orders
+          → option_map (λ (y : Live). y.key) (first_of (is_ahead terms.side) (is_candidate terms (Some rank.live)) orders) ≡ next_by_rank terms (Some (record { 0 = key })) orders
+      at None g n = n
+      at (Some x) g n = cc
+
+  parts : (y : Live) → is_candidate terms (Some rank.live) y ≡ true → (crosses terms y.order ≡ true) × (is_ahead terms.side rank.live y ≡ true)
+  parts y t = and_parts (crosses terms y.order) (is_ahead terms.side rank.live y) t
+
+  farther : (d e : ℕ) (sx sy : Bool) → (ltb d e || (eqb d e && sx && not sy)) ≡ true → (d < e) ⊎ ((e ≡ d) × (sx ≡ true) × (sy ≡ false))
+  farther d e sx sy h = elim (cases_order d e) [ inl q ↦ inr (at q sx sy h) | inr o ↦ elim o [ inl l ↦ inl l | inr l ↦ absurd (gone l sx sy h) ] ]
+    where
+      at : d ≡ e → (a b : Bool) → (ltb d e || (eqb d e && a && not b)) ≡ true → (e ≡ d) × (a ≡ true) × (b ≡ false)
+      at q true true g = absurd (no g)
+        where
+          no : (ltb d e || (eqb d e && true && false)) ≡ true → ⊥
+          no g' = grind (arith, nat_tests)
+      at q true false g = (sym q, refl, refl)
+      at q false b g = absurd (no b g)
+        where
+          no : (c : Bool) → (ltb d e || (eqb d e && false && not c)) ≡ true → ⊥
+          no true g' = grind (arith, nat_tests)
+          no false g' = grind (arith, nat_tests)
+
+      gone : e < d → (a b : Bool) → (ltb d e || (eqb d e && a && not b)) ≡ true → ⊥
+      gone l true true g = grind (arith, nat_tests)
+      gone l true false g = grind (arith, nat_tests)
+      gone l false true g = grind (arith, nat_tests)
+      gone l false false g = grind (arith, nat_tests)
+
+  beyond : (y : Live) → is_candidate terms (Some rank.live) y ≡ true → IsPriced y
+      → (distance_of rank.live < distance_of y) ⊎ ((distance_of y ≡ distance_of rank.live) × (rank.live.order.shown ≡ true) × (y.order.shown ≡ false))
+  beyond y t p =
+      let r = crosses-rung terms y p (parts y t).0 in
+      farther (distance_of rank.live) (distance_of y) rank.live.order.shown y.order.shown
+      (sym (ahead-distance terms rank.live y (distance_of rank.live) (distance_of y) priced_live p live_rung.0 r.0) ∙ (parts y t).1)
+
+  pub next_hidden : (next : ℕ) → node.queue.after ≡ None → rank.live.order.shown ≡ true
+      → first_at levels terms.locate (not (is_buy terms.side)) (distance_of rank.live) false ≡ Some next → Some (record { 0 = next }) ≡ next_by_rank terms (Some (record { 0 = key })) orders
+  next_hidden next e s f =
+      let h = has_first (is_in (contra terms (distance_of rank.live)) false) orders next (sym (queue_first nodes levels time place kept orders book terms (distance_of rank.live) false) ∙ f) in
+      ap (λ (n : ℕ). Some (to_key n)) (sym h.key_is)
+      ∙ ap (option_map (λ (y : Live). y.key)) (sym (best_at terms (is_candidate terms (Some rank.live)) (distance_of rank.live) false orders book.priced (λ y t. (parts y t).0) inside rest h.live h.found))
+      ∙ past_queue e
+    where
+      inside : (y : Live) → is_in (contra terms (distance_of rank.live)) false y ≡ true → IsPriced y → is_candidate terms (Some rank.live) y ≡ true
+      inside y q p =
+          let u = is_in_at (contra terms (distance_of rank.live)) false y q in
+          and_from (crosses terms y.order) (is_ahead terms.side rank.live y) (rung-crosses terms y (distance_of rank.live) p u.0 live_rung.1)
+          (ahead-distance terms rank.live y (distance_of rank.live) (distance_of rank.live) priced_live p live_rung.0 u.0 ∙ at rank.live.order.shown y.order.shown s u.1)
+        where
+          at : (a b : Bool) → a ≡ true → b ≡ false → (ltb (distance_of rank.live) (distance_of rank.live) || (eqb (distance_of rank.live) (distance_of rank.live) && a && not b)) ≡ true
+          at true false g g' = or_right (ltb (distance_of rank.live) (distance_of rank.live)) (eqb (distance_of rank.live) (distance_of rank.live) && true && true)
+              (ap (λ t. t && true && true) (eq-eqb (distance_of rank.live) (distance_of rank.live) refl))
+          at true true g g' = cc
+          at false b g g' = cc
+
+      rest : (y : Live) → is_candidate terms (Some rank.live) y ≡ true → InClass orders y → IsPriced y
+          → (is_in (contra terms (distance_of rank.live)) false y ≡ true) ⊎ ((distance_of rank.live < distance_of y) ⊎ ((distance_of y ≡ distance_of rank.live) × (false ≡ true) × (y.order.shown ≡ false)))
+      rest y t c p =
+          let r = crosses-rung terms y p (parts y t).0 in
+          elim (beyond y t p) [
+            | inl l ↦ inr (inl l)
+            | inr w ↦ inl (in_queue (contra terms (distance_of rank.live)) false y (r.0 ∙ ap (contra terms) w.0) w.2)
+          ]
+
+  -- from the next level on
+  module _ (e : node.queue.after ≡ None) (hidden : rank.live.order.shown ≡ true → first_at levels terms.locate (not (is_buy terms.side)) (distance_of rank.live) false ≡ None) where
+    after_live : (y : Live) → is_candidate terms (Some rank.live) y ≡ true → InClass orders y → IsPriced y → distance_of rank.live + 1 ≤ distance_of y
+    after_live y t c p =
+        let r = crosses-rung terms y p (parts y t).0 in
+        elim (beyond y t p) [
+          | inl l ↦ omega arith
+          | inr w ↦ absurd (not_there nodes levels time place kept orders book terms y (distance_of rank.live) (r.0 ∙ ap (contra terms) w.0) c
+              (ap (first_at levels terms.locate (not (is_buy terms.side)) (distance_of rank.live)) w.2 ∙ hidden w.1))
+        ]
+
+    within_live : (y : Live) → crosses terms y.order ≡ true → IsPriced y → distance_of rank.live + 1 ≤ distance_of y → is_candidate terms (Some rank.live) y ≡ true
+    within_live y c p l =
+        let r = crosses-rung terms y p c in
+        and_from (crosses terms y.order) (is_ahead terms.side rank.live y) c
+        (ahead-distance terms rank.live y (distance_of rank.live) (distance_of y) priced_live p live_rung.0 r.0
+        ∙ or_left (ltb (distance_of rank.live) (distance_of y)) (eqb (distance_of rank.live) (distance_of y) && rank.live.order.shown && not y.order.shown) (less (distance_of rank.live) (distance_of y) l))
+      where
+        less : (m n : ℕ) → m + 1 ≤ n → ltb m n ≡ true
+        less m n g = grind (arith, nat_tests)
+
+    pub next_level : (next : ℕ) → IsFirstFrom levels terms.locate (not (is_buy terms.side)) (distance_of rank.live + 1) (limit_of terms) next → Some (record { 0 = next }) ≡ next_by_rank terms (Some (record { 0 = key })) orders
+    next_level next f =
+        best_from nodes levels time place kept orders book terms (is_candidate terms (Some rank.live)) (distance_of rank.live + 1) (λ y t. (parts y t).0) after_live within_live next f ∙ past_queue e
+
+    pub next_none : ((d : ℕ) (s : Bool) → distance_of rank.live + 1 ≤ d → d ≤ limit_of terms → first_at levels terms.locate (not (is_buy terms.side)) d s ≡ None) → None ≡ next_by_rank terms (Some (record { 0 = key })) orders
+    next_none n = none_from nodes levels time place kept orders book terms (is_candidate terms (Some rank.live)) (distance_of rank.live + 1) (λ y t. (parts y t).0) after_live within_live n ∙ past_queue e
+
+-- by time
+
+pub to_keys : (r : Option ℕ) (o : Option Live) → r ≡ option_map (λ (y : Live). y.key.0) o → option_map to_key r ≡ option_map (λ (y : Live). y.key) o
+to_keys r None e = ap (option_map to_key) e
+to_keys r (Some x) e = ap (option_map to_key) e
+
+pub time_first : (nodes : Slab Node) (levels : BTreeMap Rung Level) (time : Ends) (place : Option Terms) (kept : Option Rung) (orders : List Live) → IsBook nodes levels time place kept orders
+    → option_map to_key time.first ≡ next_by_time None orders
+time_first nodes levels time place kept orders b = to_keys time.first (head_of orders) (b.in_time.first ∙ head-keys orders)
+
+pub time_behind : (nodes : Slab Node) (levels : BTreeMap Rung Level) (time : Ends) (place : Option Terms) (kept : Option Rung) (orders : List Live) → IsBook nodes levels time place kept orders
+    → (key : ℕ) (node : Node) → has_key key orders ≡ true → get nodes key ≡ Some node → option_map to_key node.time.after ≡ next_by_time (Some (record { 0 = key })) orders
+time_behind nodes levels time place kept orders b key node h e =
+    to_keys node.time.after (head_of (behind_first (is_under key) orders))
+    (chain-after (time_links nodes) key node.time None time.last (keys_of orders) b.in_time.chain (has-keys key orders ∙ h) (ap (option_map (λ (n : Node). n.time)) e)
+    ∙ ap head_of (behind-keys key orders) ∙ head-keys (behind_first (is_under key) orders))
+
+some_found : (key : ℕ) (orders : List Live) → has_key key orders ≡ true → (live : Live) × (find (is_under key) orders ≡ Some live)
+some_found key [] h = absurd (true≢false (sym h))
+some_found key (x ∷ xs) h = at (is_under key x) h (some_found key xs)
+  where
+    at : (b : Bool) → (b || has_key key xs) ≡ true → (has_key key xs ≡ true → (live : Live) × (find (is_under key) xs ≡ Some live)) → (live : Live) × (cond b (Some x) (find (is_under key) xs) ≡ Some live)
+    at true g ih = (x, refl)
+    at false g ih = ih g
+
+pub record Found (nodes : Slab Node) (orders : List Live) (key : ℕ) : Type 0 where
+  pub live : Live
+  pub found : find (is_under key) orders ≡ Some live
+  pub node : Node
+  pub stored : get nodes key ≡ Some node
+  pub order : node.order ≡ live.order
+
+pub node_found : (nodes : Slab Node) (levels : BTreeMap Rung Level) (time : Ends) (place : Option Terms) (kept : Option Rung) (orders : List Live) → IsBook nodes levels time place kept orders
+    → (key : ℕ) → has_key key orders ≡ true → Found nodes orders key
+node_found nodes levels time place kept orders b key h =
+    let s = some_found key orders h in
+    at s.0 s.1 (get nodes key) refl (b.stored key ∙ ap (option_map (λ (y : Live). y.order)) s.1)
+  where
+    at : (live : Live) → find (is_under key) orders ≡ Some live → (o : Option Node) → get nodes key ≡ o → option_map (λ (n : Node). n.order) o ≡ Some live.order → Found nodes orders key
+    at live f None e g = cc
+    at live f (Some node) e g = record { live = live; found = f; node = node; stored = e; order = cc }

@@ -1,0 +1,129 @@
+use Rattle.std.proofs.Common.{◌≡◌, ℕ, ◌≤◌, ◌+◌, Bool, true, false, not, Option, Some, None, sym, ap, ◌∙◌, subst, refl}
+use Rattle.std.specs.Option.{IsSome, option_map, option_copied}
+use Rattle.hx_levels.proofs.Next.{next-some, Ranked}
+use Rattle.std.proofs.lemmas.Bool.{true≢false}
+use Rattle.slab.specs.Slab.{get}
+use Rattle.hx_levels.specs.declared.order.Order.{Order}
+use Rattle.hx_levels.specs.declared.order.Live.{Live}
+use Rattle.hx_levels.specs.declared.levels.Rung.{Rung}
+use Rattle.hx_levels.specs.declared.nodes.Node.{Node}
+use Rattle.hx_levels.specs.declared.nodes.Ends.{Ends}
+use Rattle.hx_levels.specs.Levels.{first_at, IsFirstFrom, ends_in, level_at}
+use Rattle.hx_units.specs.Side.{is_buy}
+use Rattle.hx_levels.specs.Book.{next_by_rank, IsRanked, terms_of}
+use Rattle.hx_levels.specs.LevelBook.{walked, contra, rung_of}
+use Rattle.hx_levels.proofs.LevelNext.{rank, node_order, next_queued, next_hidden, next_level, next_none, one_empty, distance_of, live_rung}
+use Rattle.hx_levels.proofs.level_book.LevelBook.contra_after.Goals as goal
+use Rattle.hx_levels.proofs.level_book.LevelBook.contra_after.Goals.{in_default-hidden-via-in-Some-hidden+else-node, in_default-hidden-via-in_default-hidden}
+
+is_some_of : {A B : Type 0} (f : A → B) (r : Option A) (y : B) → option_map f r ≡ Some y → IsSome r
+is_some_of f None y h = cc
+is_some_of f (Some x) y h = refl
+
+the_some : {A : Type 0} (r : Option A) → IsSome r → (x : A) × (r ≡ Some x)
+the_some None h = cc
+the_some (Some x) h = (x, refl)
+
+pub unwrap-node-requires : goal.unwrap-node-requires
+unwrap-node-requires c =
+    let i = c.self.inside in
+    let terms = c.args.terms.now in
+    let key = c.args.key.0 in
+    let orders = walked i.nodes i.time in
+    let ranked : IsRanked terms key orders = subst (λ v. IsRanked terms key v.orders) (sym c.self.view_is) c.requires in
+    let r : Ranked terms key orders = next-some terms key orders c.self.invariant.differ ranked in
+    let o : option_map (λ (n : Node). n.order) (get i.nodes key) ≡ Some r.live.order = c.self.invariant.stored key ∙ ap (option_map (λ (y : Live). y.order)) r.found in
+    let n = the_some (get i.nodes key) (is_some_of (λ (n : Node). n.order) (get i.nodes key) r.live.order o) in
+    is_some_of (λ x. x.now) c.get.result n.0 (c.get.ensures ∙ n.1)
+
+pub returns-in-Some-clause-exact : goal.returns-in-Some-clause-exact
+returns-in-Some-clause-exact c =
+    let i = c.self.inside in
+    let terms = c.args.terms.now in
+    let key = c.args.key.0 in
+    let orders = walked i.nodes i.time in
+    let ranked : IsRanked terms key orders = subst (λ v. IsRanked terms key v.orders) (sym c.self.view_is) c.requires in
+    let node = c.unwrap-node.result.now in
+    let stored : get i.nodes key ≡ Some node = sym c.get.ensures ∙ ap option_copied c.unwrap-node.ensures in
+    let live = (rank i.nodes i.levels i.time i.place i.kept orders c.self.invariant terms key ranked node stored).live in
+    next_queued i.nodes i.levels i.time i.place i.kept orders c.self.invariant terms key ranked node stored c.in-Some.next c.in-Some.is
+    ∙ ap (λ v. next_by_rank terms (Some c.args.key) v.orders) c.self.view_is
+
+pub first_from-requires-clause-single : goal.first_from-requires-clause-single
+first_from-requires-clause-single c =
+    let i = c.self.inside in
+    λ a b p q. one_empty i.nodes i.levels i.time i.place i.kept (walked i.nodes i.time) c.self.invariant c.args.terms.now a b p q
+
+pub returns-in-Some-hidden-clause-exact : goal.returns-in-Some-hidden-clause-exact
+returns-in-Some-hidden-clause-exact c =
+    let i = c.self.inside in
+    let terms = c.args.terms.now in
+    let key = c.args.key.0 in
+    let orders = walked i.nodes i.time in
+    let ranked : IsRanked terms key orders = subst (λ v. IsRanked terms key v.orders) (sym c.self.view_is) c.requires in
+    let node = c.unwrap-node.result.now in
+    let stored : get i.nodes key ≡ Some node = sym c.get.ensures ∙ ap option_copied c.unwrap-node.ensures in
+    let live = (rank i.nodes i.levels i.time i.place i.kept orders c.self.invariant terms key ranked node stored).live in
+    let at : c.rung_of-rung.result ≡ contra terms (distance_of live) =
+    c.rung_of-rung.ensures.rung
+    ∙ ap (λ (o : Order). rung_of (terms_of o)) (node_order i.nodes i.levels i.time i.place i.kept orders c.self.invariant terms key ranked node stored)
+    ∙ (live_rung i.nodes i.levels i.time i.place i.kept orders c.self.invariant terms key ranked node stored).0 in
+    let shown : node.order.shown ≡ live.order.shown = ap (λ (o : Order). o.shown) (node_order i.nodes i.levels i.time i.place i.kept orders c.self.invariant terms key ranked node stored) in
+    let hidden : c.ends_at-hidden.result.first ≡ first_at i.levels terms.locate (not (is_buy terms.side)) (distance_of live) false =
+    ap (λ (e : Ends). e.first) (c.ends_at-hidden.ensures ∙ ap (λ r. ends_in false (level_at i.levels r)) at) in
+    next_hidden i.nodes i.levels i.time i.place i.kept orders c.self.invariant terms key ranked node stored c.in-Some-hidden.next c.in_default.is (sym shown ∙ c.if-node.true) (sym hidden ∙ c.in-Some-hidden.is)
+    ∙ ap (λ v. next_by_rank terms (Some c.args.key) v.orders) c.self.view_is
+
+pub returns-in-Some-first_from-clause-exact : goal.returns-in-Some-first_from-clause-exact
+returns-in-Some-first_from-clause-exact c =
+    let i = c.self.inside in
+    let terms = c.args.terms.now in
+    let key = c.args.key.0 in
+    let orders = walked i.nodes i.time in
+    let ranked : IsRanked terms key orders = subst (λ v. IsRanked terms key v.orders) (sym c.self.view_is) c.requires in
+    let node = c.unwrap-node.result.now in
+    let stored : get i.nodes key ≡ Some node = sym c.get.ensures ∙ ap option_copied c.unwrap-node.ensures in
+    let live = (rank i.nodes i.levels i.time i.place i.kept orders c.self.invariant terms key ranked node stored).live in
+    let at : c.rung_of-rung.result ≡ contra terms (distance_of live) =
+    c.rung_of-rung.ensures.rung
+    ∙ ap (λ (o : Order). rung_of (terms_of o)) (node_order i.nodes i.levels i.time i.place i.kept orders c.self.invariant terms key ranked node stored)
+    ∙ (live_rung i.nodes i.levels i.time i.place i.kept orders c.self.invariant terms key ranked node stored).0 in
+    let shown : node.order.shown ≡ live.order.shown = ap (λ (o : Order). o.shown) (node_order i.nodes i.levels i.time i.place i.kept orders c.self.invariant terms key ranked node stored) in
+    let hidden : c.ends_at-hidden.result.first ≡ first_at i.levels terms.locate (not (is_buy terms.side)) (distance_of live) false =
+    ap (λ (e : Ends). e.first) (c.ends_at-hidden.ensures ∙ ap (λ r. ends_in false (level_at i.levels r)) at) in
+    let empty : live.order.shown ≡ true → first_at i.levels terms.locate (not (is_buy terms.side)) (distance_of live) false ≡ None =
+    λ t. sym hidden ∙ elim c.in_default-hidden.branch [
+      | in_default-hidden-via-in-Some-hidden+else-node w ↦ absurd (true≢false (sym t ∙ sym shown ∙ w.if-node.false))
+      | in_default-hidden-via-in_default-hidden w ↦ w.in_default-hidden.is
+    ] in
+    next_level i.nodes i.levels i.time i.place i.kept orders c.self.invariant terms key ranked node stored c.in_default.is empty c.in-Some-first_from.next
+    (subst (λ n. IsFirstFrom i.levels terms.locate (not (is_buy terms.side)) (distance_of live + 1) n c.in-Some-first_from.next) c.contra_of-limit.ensures.limit
+    (subst (λ (r : Rung). IsFirstFrom i.levels r.locate r.buy (r.distance + 1) c.contra_of-limit.result.1 c.in-Some-first_from.next) at c.in-Some-first_from.ensures.found))
+    ∙ ap (λ v. next_by_rank terms (Some c.args.key) v.orders) c.self.view_is
+
+pub returns-in-None-clause-exact : goal.returns-in-None-clause-exact
+returns-in-None-clause-exact c =
+    let i = c.self.inside in
+    let terms = c.args.terms.now in
+    let key = c.args.key.0 in
+    let orders = walked i.nodes i.time in
+    let ranked : IsRanked terms key orders = subst (λ v. IsRanked terms key v.orders) (sym c.self.view_is) c.requires in
+    let node = c.unwrap-node.result.now in
+    let stored : get i.nodes key ≡ Some node = sym c.get.ensures ∙ ap option_copied c.unwrap-node.ensures in
+    let live = (rank i.nodes i.levels i.time i.place i.kept orders c.self.invariant terms key ranked node stored).live in
+    let at : c.rung_of-rung.result ≡ contra terms (distance_of live) =
+    c.rung_of-rung.ensures.rung
+    ∙ ap (λ (o : Order). rung_of (terms_of o)) (node_order i.nodes i.levels i.time i.place i.kept orders c.self.invariant terms key ranked node stored)
+    ∙ (live_rung i.nodes i.levels i.time i.place i.kept orders c.self.invariant terms key ranked node stored).0 in
+    let shown : node.order.shown ≡ live.order.shown = ap (λ (o : Order). o.shown) (node_order i.nodes i.levels i.time i.place i.kept orders c.self.invariant terms key ranked node stored) in
+    let hidden : c.ends_at-hidden.result.first ≡ first_at i.levels terms.locate (not (is_buy terms.side)) (distance_of live) false =
+    ap (λ (e : Ends). e.first) (c.ends_at-hidden.ensures ∙ ap (λ r. ends_in false (level_at i.levels r)) at) in
+    let empty : live.order.shown ≡ true → first_at i.levels terms.locate (not (is_buy terms.side)) (distance_of live) false ≡ None =
+    λ t. sym hidden ∙ elim c.in_default-hidden.branch [
+      | in_default-hidden-via-in-Some-hidden+else-node w ↦ absurd (true≢false (sym t ∙ sym shown ∙ w.if-node.false))
+      | in_default-hidden-via-in_default-hidden w ↦ w.in_default-hidden.is
+    ] in
+    next_none i.nodes i.levels i.time i.place i.kept orders c.self.invariant terms key ranked node stored c.in_default.is empty
+    (subst (λ n. (d : ℕ) (s : Bool) → distance_of live + 1 ≤ d → d ≤ n → first_at i.levels terms.locate (not (is_buy terms.side)) d s ≡ None) c.contra_of-limit.ensures.limit
+    (subst (λ (r : Rung). (d : ℕ) (s : Bool) → r.distance + 1 ≤ d → d ≤ c.contra_of-limit.result.1 → first_at i.levels r.locate r.buy d s ≡ None) at c.in-None.ensures.none))
+    ∙ ap (λ v. next_by_rank terms (Some c.args.key) v.orders) c.self.view_is

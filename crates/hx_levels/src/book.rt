@@ -1,0 +1,68 @@
+//! What a book promises, however it is kept.
+ghost use Rattle.std.specs.Prelude.{◌≡◌, ◌+◌, ◌-◌, ◌<◌, ◌++◌, List, [], ◌∷◌, Option, Some, None, IfSome, OnOk, OnErr, true, false};
+ghost use Rattle.std.specs.Option.{option_copied, is_some};
+ghost use Rattle.hx_levels.specs.Book.{terms_of, order_of, has_key, KeysDiffer, ranked, reduced, without, next_by_rank, next_by_time, IsRanked};
+
+use crate::order::{Key, Order};
+use hx_units::{NoMemory, Price, Side};
+
+/// A book, seen as the live orders in time order, each under its key (`orders`), and one reserved place
+/// (`place`): the terms for whose order there is room.
+pub trait Book {
+    ghost use Rattle.hx_levels.specs.declared.order.Live.{Live};
+    ghost use Rattle.hx_levels.specs.declared.order.Terms.{Terms};
+
+    ghost orders: { Self → List Live };
+
+    ghost place: { Self → Option Terms };
+
+    /// Makes room for one order of this stock, side and price (in units of 1/10,000 dollar). The place holds
+    /// until the next `add` or `reserve`. After `NoMemory` all is as before.
+    fn reserve(&mut self, locate: u16, side: Side, price: Price) -> Result<(), NoMemory>
+        ensures orders { orders self.new ≡ orders self.old }
+        ensures ok { OnOk result (place self.new ≡ Some (record { locate = locate; side = side; price = price })) }
+        ensures err { OnErr result (place self.new ≡ place self.old) };
+
+    /// Puts the order last in time, at the reserved place, and gives its key, which no live order has.
+    fn add(&mut self, order: Order) -> Key
+        requires { place self.old ≡ Some (terms_of order) }
+        ensures orders { orders self.new ≡ orders self.old ++ (record { key = result; order = order }) ∷ [] }
+        ensures fresh { has_key result.0 (orders self.old) ≡ false }
+        ensures place { place self.new ≡ None };
+
+    /// Takes some, but not all, of an order's open shares off. It keeps its place in time.
+    fn reduce(&mut self, key: Key, by: u32)
+        requires live { has_key key.0 (orders self.old) ≡ true }
+        requires some { 0 < by }
+        requires less { IfSome (order_of key.0 (orders self.old)) (λ order. by < order.shares) }
+        ensures orders { orders self.new ≡ reduced key.0 by (orders self.old) }
+        ensures place { place self.new ≡ place self.old };
+
+    /// Takes a live order out, and gives it as it stood.
+    fn remove(&mut self, key: Key) -> Order
+        requires { has_key key.0 (orders self.old) ≡ true }
+        ensures was { order_of key.0 (orders self.old) ≡ Some result }
+        ensures orders { orders self.new ≡ without key.0 (orders self.old) }
+        ensures place { place self.new ≡ place self.old };
+
+    /// The live order under the key, where there is one.
+    fn get(&self, key: Key) -> Option<&Order>
+        ensures exact { option_copied result ≡ order_of key.0 (orders self.now) }
+        ensures live { is_some result ≡ has_key key.0 (orders self.now) }
+        ensures keys { KeysDiffer (orders self.now) };
+
+    /// The order that an incoming order of this stock, side and price meets next: of those that cross, the next
+    /// by rank (a better price, then shown before hidden, then time) after the one with the key `after`, or the
+    /// first.
+    fn next_contra(&self, locate: u16, side: Side, price: Price, after: Option<Key>) -> Option<Key>
+        requires { IfSome after (λ key. IsRanked (record { locate = locate; side = side; price = price }) key.0 (orders self.now)) }
+        ensures exact { result ≡ next_by_rank (record { locate = locate; side = side; price = price }) after (orders self.now) }
+        ensures ranked { IfSome result (λ key. IsRanked (record { locate = locate; side = side; price = price }) key.0 (orders self.now)) }
+        ensures keys { KeysDiffer (orders self.now) };
+
+    /// The next order in time after the one with the key `after`, or the oldest.
+    fn next_in_time(&self, after: Option<Key>) -> Option<Key>
+        requires { IfSome after (λ key. has_key key.0 (orders self.now) ≡ true) }
+        ensures exact { result ≡ next_by_time after (orders self.now) }
+        ensures live { IfSome result (λ key. has_key key.0 (orders self.now) ≡ true) };
+}

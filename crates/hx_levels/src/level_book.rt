@@ -1,0 +1,288 @@
+//! The book by levels of price.
+ghost use Rattle.std.specs.Prelude.{◌≡◌, ◌+◌, ◌-◌, ◌≤◌, ◌++◌, ◌<◌, [], ◌∷◌, Option, Some, None, IfSome, OnOk, OnErr, true, false};
+ghost use Rattle.hx_levels.specs.LevelBook.{rung_of, contra, limit_of, to_key};
+ghost use Rattle.hx_levels.specs.Book.{terms_of, has_key, order_of, KeysDiffer, IsRanked, next_by_rank, next_by_time, without, reduced};
+ghost use Rattle.std.specs.Option.{option_copied, option_map, is_some};
+
+use crate::book::Book;
+use crate::levels::{Level, Rung, drop_empty, ends_at, first_from, make_level, set_ends};
+use crate::list_book::is_buy;
+use crate::nodes::{Ends, Node, link_last, take_shares, unlink};
+use crate::order::{Key, Order, Terms};
+use hx_units::{NoMemory, Price, Side};
+use slab::Slab;
+use std::alloc::Global;
+use std::collections::BTreeMap;
+use std::marker::Model;
+
+/// A book by levels of price: the orders in a slab, linked in time order, and in queues by price and by
+/// whether they are shown. A call takes time in proportion to the logarithm of the number of levels at most.
+#[derive(Drop)]
+pub struct LevelBook {
+    nodes: Slab<Node>,
+    levels: BTreeMap<Rung, Level>,
+    time: Ends,
+    place: Option<Terms>,
+    // The level that was reserved last. It stays also where it is empty.
+    kept: Option<Rung>,
+}
+
+impl Model for LevelBook {
+    ghost use Rattle.hx_levels.specs.Book.{Contents};
+    ghost use Rattle.hx_levels.specs.LevelBook.{walked, IsBook};
+
+    ghost Value = { Contents };
+
+    ghost view = { λ b. record { orders = walked b.nodes b.time; place = b.place } };
+
+    ghost invariant = { λ b. IsBook b.nodes b.levels b.time b.place b.kept (walked b.nodes b.time) };
+}
+
+impl LevelBook {
+    /// An empty book with no reserved place, which takes its memory from `alloc`.
+    pub fn new(alloc: Global) -> Self
+        ensures orders { result.orders ≡ [] }
+        ensures place { result.place ≡ None }
+    {
+        LevelBook {
+            nodes: Slab::new(alloc),
+            levels: BTreeMap::new(alloc),
+            time: Ends {
+                first: None,
+                last: None,
+            },
+            place: None,
+            kept: None,
+        }
+    }
+}
+
+impl LevelBook {
+    // Puts an order last, whose level is there.
+    fn add_last(&mut self, order: Order) -> Key
+        requires { self.old.place ≡ Some (terms_of order) }
+        ensures orders { self.new.orders ≡ self.old.orders ++ (record { key = result; order = order }) ∷ [] }
+        ensures fresh { has_key result.0 self.old.orders ≡ false }
+        ensures place { self.new.place ≡ None }
+    {
+        let _price = order.price.get();
+        let rung = rung_of(&order);
+        let ends = ends_at(&self.levels, rung, order.shown);
+        let key = link_last(&mut self.nodes, order, ends.last, self.time.last);
+        set_ends(&mut self.levels, rung, order.shown, ends.with(key));
+        self.time = self.time.with(key);
+        self.place = None;
+        Key(key)
+    }
+}
+
+// The level of an order.
+fn rung_of(order: &Order) -> Rung
+    ensures rung { result ≡ rung_of (terms_of order.now) }
+    ensures priced { order.now.price ≤ 1999999900 }
+{
+    let buy = is_buy(order.side);
+    let price = order.price.get();
+    Rung {
+        locate: order.locate,
+        buy,
+        distance: if buy { 2_000_000_000 - price } else { price },
+    }
+}
+
+// The contra side of the terms: its rungs begin at this one, and go up to the distance.
+fn contra_of(terms: &Terms) -> (Rung, u32)
+    ensures rung { result.0 ≡ contra terms.now 0 }
+    ensures limit { result.1 ≡ limit_of terms.now }
+    ensures small { result.1 ≤ 2000000000 }
+{
+    let buy = is_buy(terms.side);
+    let price = terms.price.get();
+    let rung = Rung {
+        locate: terms.locate,
+        buy: !buy,
+        distance: 0,
+    };
+    (rung, if buy { price } else { 2_000_000_000 - price })
+}
+
+impl LevelBook {
+    fn order(&self, key: Key) -> Option<&Order>
+        ensures exact { option_copied result ≡ order_of key.0 self.now.orders }
+        ensures live { is_some result ≡ has_key key.0 self.now.orders }
+        ensures keys { KeysDiffer self.now.orders }
+    {
+        match self.nodes.get(key.0) {
+            Some(node) => Some(&node.order),
+            None => None,
+        }
+    }
+
+    fn first_contra(&self, terms: &Terms) -> Option<Key>
+        ensures exact { result ≡ next_by_rank terms.now None self.now.orders }
+        ensures keys { KeysDiffer self.now.orders }
+    {
+        let (rung, limit) = contra_of(terms);
+        match first_from(&self.levels, rung, limit) {
+            Some(key) => Some(Key(key)),
+            None => None,
+        }
+    }
+
+    fn contra_after(&self, terms: &Terms, key: Key) -> Option<Key>
+        requires { IsRanked terms.now key.0 self.now.orders }
+        ensures exact { result ≡ next_by_rank terms.now (Some key) self.now.orders }
+        ensures keys { KeysDiffer self.now.orders }
+    {
+        let node = self.nodes.get(key.0).unwrap();
+        if let Some(next) = node.queue.after {
+            return Some(Key(next));
+        }
+        let rung = rung_of(&node.order);
+        let hidden = ends_at(&self.levels, rung, false).first;
+        match hidden {
+            Some(next) if node.order.shown => Some(Key(next)),
+            _ => {
+                let (_, limit) = contra_of(terms);
+                let from = Rung {
+                    locate: rung.locate,
+                    buy: rung.buy,
+                    distance: rung.distance + 1,
+                };
+                match first_from(&self.levels, from, limit) {
+                    Some(next) => Some(Key(next)),
+                    None => None,
+                }
+            }
+        }
+    }
+}
+
+// The key that a link leads to.
+fn key_of(link: Option<usize>) -> Option<Key>
+    ensures { result ≡ option_map to_key link }
+{
+    match link {
+        Some(key) => Some(Key(key)),
+        None => None,
+    }
+}
+
+impl LevelBook {
+    fn time_after(&self, after: Option<Key>) -> Option<Key>
+        requires { IfSome after (λ key. has_key key.0 self.now.orders ≡ true) }
+        ensures { result ≡ next_by_time after self.now.orders }
+    {
+        match after {
+            None => key_of(self.time.first),
+            Some(key) => key_of(self.nodes.get(key.0).unwrap().time.after),
+        }
+    }
+}
+
+impl LevelBook {
+    fn take(&mut self, key: Key) -> Order
+        requires { has_key key.0 self.old.orders ≡ true }
+        ensures was { order_of key.0 self.old.orders ≡ Some result }
+        ensures orders { self.new.orders ≡ without key.0 self.old.orders }
+        ensures place { self.new.place ≡ self.old.place }
+    {
+        let node = unlink(&mut self.nodes, key.0);
+        let rung = rung_of(&node.order);
+        let shown = node.order.shown;
+        let ends = ends_at(&self.levels, rung, shown);
+        set_ends(&mut self.levels, rung, shown, ends.without(node.queue));
+        drop_empty(&mut self.levels, rung, self.kept);
+        self.time = self.time.without(node.time);
+        node.order
+    }
+
+    fn take_off(&mut self, key: Key, by: u32)
+        requires less { IfSome (order_of key.0 self.old.orders) (λ order. by < order.shares) }
+        ensures orders { self.new.orders ≡ reduced key.0 by self.old.orders }
+        ensures place { self.new.place ≡ self.old.place }
+    {
+        take_shares(&mut self.nodes, key.0, by);
+    }
+
+    fn reserve_place(&mut self, terms: Terms) -> Result<(), NoMemory>
+        ensures orders { self.new.orders ≡ self.old.orders }
+        ensures ok { OnOk result (self.new.place ≡ Some terms) }
+        ensures err { OnErr result (self.new.place ≡ self.old.place) }
+    {
+        let rung = rung_at(&terms);
+        self.nodes.reserve(1)?;
+        make_level(&mut self.levels, rung)?;
+        if let Some(old) = self.kept {
+            drop_empty(&mut self.levels, old, Some(rung));
+        }
+        self.kept = Some(rung);
+        self.place = Some(terms);
+        Ok(())
+    }
+}
+
+// The level of the terms.
+fn rung_at(terms: &Terms) -> Rung
+    ensures { result ≡ rung_of terms.now }
+{
+    let buy = is_buy(terms.side);
+    let price = terms.price.get();
+    Rung {
+        locate: terms.locate,
+        buy,
+        distance: if buy { 2_000_000_000 - price } else { price },
+    }
+}
+
+impl Book for LevelBook {
+    ghost orders = { λ book. book.orders };
+
+    ghost place = { λ book. book.place };
+
+    fn reserve(&mut self, locate: u16, side: Side, price: Price) -> Result<(), NoMemory> {
+        self.reserve_place(Terms {
+            locate,
+            side,
+            price,
+        })
+    }
+
+    fn add(&mut self, order: Order) -> Key {
+        self.add_last(order)
+    }
+
+    fn reduce(&mut self, key: Key, by: u32) {
+        self.take_off(key, by);
+    }
+
+    fn remove(&mut self, key: Key) -> Order {
+        self.take(key)
+    }
+
+    fn get(&self, key: Key) -> Option<&Order> {
+        self.order(key)
+    }
+
+    fn next_contra(
+        &self,
+        locate: u16,
+        side: Side,
+        price: Price,
+        after: Option<Key>,
+    ) -> Option<Key> {
+        let terms = Terms {
+            locate,
+            side,
+            price,
+        };
+        match after {
+            None => self.first_contra(&terms),
+            Some(key) => self.contra_after(&terms, key),
+        }
+    }
+
+    fn next_in_time(&self, after: Option<Key>) -> Option<Key> {
+        self.time_after(after)
+    }
+}

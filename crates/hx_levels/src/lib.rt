@@ -1,0 +1,16 @@
+//! The book: the live orders in time order, each under its key.
+#![tactic(auto)]
+
+mod book;
+mod level_book;
+mod levels;
+mod list_book;
+mod nodes;
+mod order;
+#[cfg(test)]
+mod tests;
+
+pub use book::Book;
+pub use level_book::LevelBook;
+pub use list_book::ListBook;
+pub use order::{Key, Life, Live, Order, Terms};

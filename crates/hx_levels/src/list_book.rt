@@ -1,0 +1,246 @@
+//! The book as a plain list.
+ghost use Rattle.std.specs.Prelude.{◌≡◌, ◌+◌, ◌<◌, [], ◌∷◌, Option, Some, None, IfSome, MatchOption, true, false, IsTrue};
+ghost use Rattle.std.specs.List.{position, filter, find};
+ghost use Rattle.std.specs.Option.{option_map, option_copied, is_some};
+ghost use Rattle.hx_units.specs.Side.{is_buy};
+ghost use Rattle.hx_levels.specs.Lists.{head_of, drop_first, behind_first};
+ghost use Rattle.hx_levels.specs.Rank.{first_of, higher};
+ghost use Rattle.hx_levels.specs.Book.{is_under, is_ahead, crosses, outranks, ranked, is_candidate, is_equal, has_key, IsPlace, order_of, KeysDiffer, IsRanked, next_by_rank};
+
+use crate::book::Book;
+use crate::order::{Key, Live, Order, Terms};
+use hx_units::{NoMemory, Price, Side};
+use slab::Slab;
+use std::alloc::Global;
+use std::marker::Model;
+
+/// A book as a plain list: the orders in time order, and the keys that are in use. Each call takes time in
+/// proportion to the number of orders.
+#[derive(Drop)]
+pub struct ListBook {
+    entries: Vec<Live>,
+    keys: Slab<bool>,
+    place: Option<Terms>,
+}
+
+impl Model for ListBook {
+    ghost use Rattle.hx_levels.specs.Book.{Contents, IsList};
+
+    ghost Value = { Contents };
+
+    ghost view = { λ b. record { orders = b.entries.items; place = b.place } };
+
+    ghost invariant = { λ b. IsList b.entries b.keys b.place };
+}
+
+impl ListBook {
+    /// An empty book with no reserved place, which takes its memory from `alloc`.
+    pub fn new(alloc: Global) -> Self
+        ensures orders { result.orders ≡ [] }
+        ensures place { result.place ≡ None }
+    {
+        ListBook {
+            entries: Vec::new(alloc),
+            keys: Slab::new(alloc),
+            place: None,
+        }
+    }
+}
+
+pub(crate) fn is_buy(side: Side) -> bool
+    ensures { result ≡ is_buy side }
+{
+    matches!(side, Side::Buy)
+}
+
+// Whether the order crosses the terms.
+pub(crate) fn crosses(terms: &Terms, order: &Order) -> bool
+    ensures { result ≡ crosses terms.now order.now }
+{
+    let buy = is_buy(terms.side);
+    if order.locate != terms.locate || buy == is_buy(order.side) {
+        return false;
+    }
+    if buy {
+        order.price.get() <= terms.price.get()
+    } else {
+        terms.price.get() <= order.price.get()
+    }
+}
+
+// Whether x ranks above y, wherever they stand.
+pub(crate) fn outranks(side: Side, x: &Order, y: &Order) -> bool
+    ensures { result ≡ outranks side x.now y.now }
+{
+    let (first, second) = (x.price.get(), y.price.get());
+    if first == second {
+        return x.shown && !y.shown;
+    }
+    is_buy(side) == (first < second)
+}
+
+fn place_of(entries: &[Live], key: Key) -> Option<usize>
+    ensures { MatchOption result (has_key key.0 entries.now ≡ false) (IsPlace key.0 entries.now) }
+{
+    for (i, live) in entries.iter().enumerate() {
+        if live.key.0 == key.0 {
+            return Some(i);
+        }
+    }
+    None
+}
+
+// Whether the order crosses and, where there is one, `than` ranks above it.
+fn is_candidate(terms: &Terms, than: Option<&Live>, live: &Live) -> bool
+    ensures { result ≡ is_candidate terms.now (option_copied than.entry) live.now }
+{
+    crosses(terms, &live.order)
+        && match than {
+            Some(other) => outranks(terms.side, &other.order, &live.order),
+            None => true,
+        }
+}
+
+fn higher<'a>(side: Side, live: &'a Live, best: Option<&'a Live>) -> Option<&'a Live>
+    ensures { option_copied result ≡ higher (is_ahead side) live.now (option_copied best.entry) }
+{
+    match best {
+        Some(other) if outranks(side, &other.order, &live.order) => best,
+        _ => Some(live),
+    }
+}
+
+// The first by rank of the candidates.
+fn first_below(entries: &[Live], terms: &Terms, than: Option<&Live>) -> Option<Key>
+    ensures { result ≡ option_map (λ live. live.key) (first_of (is_ahead terms.now.side) (is_candidate terms.now (option_copied than.entry)) entries.now) }
+{
+    let mut best: Option<&Live> = None;
+    let mut i = entries.len();
+    while i > 0 {
+        i -= 1;
+        let live = &entries[i];
+        if is_candidate(terms, than, live) {
+            best = higher(terms.side, live, best);
+        }
+    }
+    best.map(|live| live.key)
+}
+
+// Whether the order crosses and ranks as the other does.
+fn is_equal(terms: &Terms, with: &Order, live: &Live) -> bool
+    ensures { result ≡ is_equal terms.now with.now live.now }
+{
+    crosses(terms, &live.order)
+        && live.order.price.get() == with.price.get()
+        && live.order.shown == with.shown
+}
+
+// The first of these that crosses and ranks alike.
+fn first_equal(entries: &[Live], terms: &Terms, with: &Order) -> Option<Key>
+    ensures { result ≡ option_map (λ live. live.key) (find (is_equal terms.now with.now) entries.now) }
+{
+    for live in entries {
+        if is_equal(terms, with, live) {
+            return Some(live.key);
+        }
+    }
+    None
+}
+
+fn order_in(entries: &[Live], key: Key) -> Option<&Order>
+    ensures exact { option_copied result ≡ order_of key.0 entries.now }
+    ensures live { is_some result ≡ has_key key.0 entries.now }
+{
+    match place_of(entries, key) {
+        Some(place) => Some(&entries[place].order),
+        None => None,
+    }
+}
+
+fn first_in(entries: &[Live], terms: &Terms) -> Option<Key>
+    ensures { result ≡ next_by_rank terms.now None entries.now }
+{
+    first_below(entries, terms, None)
+}
+
+// The next by rank behind the order with the key: the next that ranks alike, or else the first of those below.
+fn next_in(entries: &[Live], terms: &Terms, key: Key) -> Option<Key>
+    requires differ { KeysDiffer entries.now }
+    requires ranked { IsRanked terms.now key.0 entries.now }
+    ensures { result ≡ next_by_rank terms.now (Some key) entries.now }
+{
+    let place = place_of(entries, key).unwrap();
+    let live = &entries[place];
+    match first_equal(&entries[place + 1..], terms, &live.order) {
+        Some(next) => Some(next),
+        None => first_below(entries, terms, Some(live)),
+    }
+}
+
+impl Book for ListBook {
+    ghost orders = { λ book. book.orders };
+
+    ghost place = { λ book. book.place };
+
+    fn reserve(&mut self, locate: u16, side: Side, price: Price) -> Result<(), NoMemory> {
+        self.entries.reserve(1)?;
+        self.keys.reserve(1)?;
+        self.place = Some(Terms {
+            locate,
+            side,
+            price,
+        });
+        Ok(())
+    }
+
+    fn add(&mut self, order: Order) -> Key {
+        let key = Key(self.keys.insert_reserved(true));
+        self.entries.push_reserved(Live { key, order });
+        self.place = None;
+        key
+    }
+
+    fn reduce(&mut self, key: Key, by: u32) {
+        if let Some(place) = place_of(&self.entries, key) {
+            let live = &mut self.entries[place];
+            live.order.shares -= by;
+        }
+    }
+
+    fn remove(&mut self, key: Key) -> Order {
+        let place = place_of(&self.entries, key).unwrap();
+        self.keys.remove(key.0);
+        let live = self.entries.remove(place);
+        live.order
+    }
+
+    fn get(&self, key: Key) -> Option<&Order> {
+        order_in(&self.entries, key)
+    }
+
+    fn next_contra(
+        &self,
+        locate: u16,
+        side: Side,
+        price: Price,
+        after: Option<Key>,
+    ) -> Option<Key> {
+        let terms = Terms {
+            locate,
+            side,
+            price,
+        };
+        match after {
+            None => first_in(&self.entries, &terms),
+            Some(key) => next_in(&self.entries, &terms, key),
+        }
+    }
+
+    fn next_in_time(&self, after: Option<Key>) -> Option<Key> {
+        let next = match after {
+            Some(key) => place_of(&self.entries, key).unwrap() + 1,
+            None => 0,
+        };
+        self.entries.get(next).map(|live| live.key)
+    }
+}

@@ -1,0 +1,70 @@
+//! An order, and the key under which a book keeps it.
+use hx_units::{Firm, MemberNo, Price, Side, Token};
+
+/// The name of a live order in a book. It is used only while its order lives.
+#[derive(Clone, Copy, Debug, PartialEq, Eq)]
+pub struct Key(pub usize);
+
+/// How long an order lives (OUCH 4.2, Enter Order: Time in Force).
+#[derive(Clone, Copy, Debug, PartialEq, Eq)]
+pub enum Life {
+    /// To the end of the market hours.
+    Market,
+    /// To the end of the system hours.
+    System,
+    /// Until this time, in nanoseconds since midnight.
+    Until(u64),
+}
+
+/// A live order.
+#[derive(Clone, Copy, Debug)]
+pub struct Order {
+    /// Whose order it is.
+    pub member: MemberNo,
+    /// The member's own name of it.
+    pub token: Token,
+    /// The number of its chain: an entered token with the tokens that replaced it.
+    pub chain: u64,
+    /// The number of its stock (ITCH 5.0: Stock Locate).
+    pub locate: u16,
+    /// Buy or sell, short or not.
+    pub side: Side,
+    /// The limit, in units of 1/10,000 dollar.
+    pub price: Price,
+    /// The open shares.
+    pub shares: u32,
+    /// The least number of shares that an execution may have (OUCH 4.2: Minimum Quantity).
+    pub minimum: u32,
+    /// How it asked to be displayed, a letter (OUCH 4.2: Display).
+    pub display: u8,
+    /// Whether it is shown in the feed.
+    pub shown: bool,
+    /// For which firm it was entered.
+    pub firm: Firm,
+    /// In which capacity, a letter (OUCH 4.2: Capacity).
+    pub capacity: u8,
+    /// Its reference number (OUCH 4.2, ITCH 5.0: Order Reference Number).
+    pub reference: u64,
+    /// How long it lives.
+    pub life: Life,
+}
+
+/// An order under its key.
+#[derive(Clone, Copy, Debug)]
+pub struct Live {
+    /// The key.
+    pub key: Key,
+    /// The order.
+    pub order: Order,
+}
+
+/// The stock, side letter and limit price of an order.
+#[derive(Clone, Copy, Debug)]
+pub struct Terms {
+    /// The number of the stock.
+    pub locate: u16,
+    /// The side.
+    pub side: Side,
+    /// The limit, in units of 1/10,000 dollar.
+    pub price: Price,
+}

@@ -1,0 +1,204 @@
+//! Each call of a book once, and both books side by side.
+use crate::{Book, Key, LevelBook, Life, ListBook, Order};
+use hx_units::{Firm, MemberNo, Price, Side, Token};
+use std::alloc::Global;
+use std::process::Abort;
+use std::test::Fail;
+
+fn order(rt: &impl Abort, side: Side, units: u32, shares: u32, shown: bool) -> Order {
+    Order {
+        member: MemberNo::of(1).expect(rt, "a member"),
+        token: Token(*b"H1            "),
+        chain: 0,
+        locate: 1,
+        side,
+        price: Price::of(units).expect(rt, "a price"),
+        shares,
+        minimum: 0,
+        display: if shown { b'Y' } else { b'N' },
+        shown,
+        firm: Firm(*b"FMA1"),
+        capacity: b'O',
+        reference: 1,
+        life: Life::System,
+    }
+}
+
+fn rest<B: Book>(book: &mut B, order: Order) -> Result<Key, Fail> {
+    book.reserve(order.locate, order.side, order.price)?;
+    Ok(book.add(order))
+}
+
+// The open shares under a key, and 0 where no order has it.
+fn shares<B: Book>(book: &B, key: Key) -> u32 {
+    book.get(key).map_or(0, |order| order.shares)
+}
+
+// Takes some of an order's shares off. True where the order has more.
+fn less<B: Book>(book: &mut B, key: Key, by: u32) -> bool {
+    let Some(order) = book.get(key) else {
+        return false;
+    };
+    if by == 0 || order.shares <= by {
+        return false;
+    }
+    book.reduce(key, by);
+    true
+}
+
+// The shares of an order that is taken out.
+fn take<B: Book>(book: &mut B, key: Key) -> Option<u32> {
+    book.get(key)?;
+    Some(book.remove(key).shares)
+}
+
+fn each_call<B: Book>(rt: &impl Abort, book: &mut B) -> Result<(), Fail> {
+    let limit = Price::of(100000).expect(rt, "a price");
+    assert!(rt; book.next_in_time(None).is_none());
+    let hidden = rest(book, order(rt, Side::Buy, 100000, 100, false))?;
+    let shown = rest(book, order(rt, Side::Buy, 100000, 200, true))?;
+    let better = rest(book, order(rt, Side::Buy, 100100, 300, false))?;
+    let low = rest(book, order(rt, Side::Buy, 99900, 400, true))?;
+    // By price, then shown before hidden; a buy below the sell's limit does not cross.
+    let first = book.next_contra(1, Side::Sell, limit, None);
+    assert_eq!(rt; first, Some(better));
+    let second = book.next_contra(1, Side::Sell, limit, first);
+    assert_eq!(rt; second, Some(shown));
+    let third = book.next_contra(1, Side::Sell, limit, second);
+    assert_eq!(rt; third, Some(hidden));
+    assert!(rt; book.next_contra(1, Side::Sell, limit, third).is_none());
+    assert!(rt; book.next_contra(2, Side::Sell, limit, None).is_none());
+    assert!(rt; book.next_contra(1, Side::Buy, limit, None).is_none());
+    // A reduced order keeps its place in time.
+    assert!(rt; less(book, hidden, 40));
+    assert_eq!(rt; shares(book, hidden), 60);
+    let oldest = book.next_in_time(None);
+    assert_eq!(rt; oldest, Some(hidden));
+    assert_eq!(rt; book.next_in_time(oldest), Some(shown));
+    assert_eq!(rt; take(book, hidden), Some(60));
+    assert!(rt; book.get(hidden).is_none());
+    assert_eq!(rt; book.next_in_time(None), Some(shown));
+    assert_eq!(rt; shares(book, low), 400);
+    Ok(())
+}
+
+#[test]
+fn list_book(rt: HostRuntime) -> Result<(), Fail> {
+    let mut book = ListBook::new(rt.alloc());
+    each_call(&rt, &mut book)
+}
+
+#[test]
+fn level_book(rt: HostRuntime) -> Result<(), Fail> {
+    let mut book = LevelBook::new(rt.alloc());
+    each_call(&rt, &mut book)
+}
+
+// Whether the keys are those of the same order, by its reference and its open shares.
+fn is_same<A: Book, B: Book>(one: &A, two: &B, a: Key, b: Key) -> bool {
+    match (one.get(a), two.get(b)) {
+        (Some(x), Some(y)) => x.reference == y.reference && x.shares == y.shares,
+        _ => false,
+    }
+}
+
+// Whether both books give the same orders by rank, from the first to the last.
+fn agree_by_rank<A: Book, B: Book>(one: &A, two: &B, side: Side, price: Price) -> bool {
+    let mut a = one.next_contra(1, side, price, None);
+    let mut b = two.next_contra(1, side, price, None);
+    for _ in 0..100000 {
+        let (Some(x), Some(y)) = (a, b) else {
+            return a.is_none() && b.is_none();
+        };
+        if !is_same(one, two, x, y) {
+            return false;
+        }
+        a = one.next_contra(1, side, price, Some(x));
+        b = two.next_contra(1, side, price, Some(y));
+    }
+    false
+}
+
+// Whether both books give the same orders in time, from the first to the last.
+fn agree_in_time<A: Book, B: Book>(one: &A, two: &B) -> bool {
+    let mut a = one.next_in_time(None);
+    let mut b = two.next_in_time(None);
+    for _ in 0..100000 {
+        let (Some(x), Some(y)) = (a, b) else {
+            return a.is_none() && b.is_none();
+        };
+        if !is_same(one, two, x, y) {
+            return false;
+        }
+        a = one.next_in_time(Some(x));
+        b = two.next_in_time(Some(y));
+    }
+    false
+}
+
+fn next_number(state: &mut u64) -> u64 {
+    let x = *state;
+    let x = x ^ (x << 13);
+    let x = x ^ (x >> 7);
+    let x = x ^ (x << 17);
+    *state = x;
+    x
+}
+
+// An order at one of 50 prices.
+fn drawn(rt: &impl Abort, number: u64, reference: u64) -> Order {
+    let side = if number / 4 % 2 == 0 {
+        Side::Buy
+    } else {
+        Side::Sell
+    };
+    let units = (10000 + number / 8 % 50 * 100) as u32;
+    Order {
+        reference,
+        ..order(rt, side, units, 5, number / 1024 % 2 == 0)
+    }
+}
+
+// 2,000 commands, the same to both books.
+fn both_agree<A: Book, B: Book>(
+    rt: &impl Abort,
+    alloc: Global,
+    one: &mut A,
+    two: &mut B,
+) -> Result<(), Fail> {
+    let low = Price::of(1).expect(rt, "a price");
+    let high = Price::of(1000000).expect(rt, "a price");
+    let mut keys: Vec<(Key, Key)> = Vec::new(alloc);
+    let mut state: u64 = 88172645463325252;
+    for i in 0..2000_u64 {
+        let number = next_number(&mut state);
+        let len = keys.len();
+        if number % 4 < 2 || len == 0 {
+            let x = rest(one, drawn(rt, number, i))?;
+            let y = rest(two, drawn(rt, number, i))?;
+            keys.push((x, y))?;
+        } else {
+            let at = (number / 8 % len as u64) as usize;
+            let (x, y) = keys[at];
+            if number % 4 == 2 {
+                keys.remove(at);
+                assert_eq!(rt; take(one, x), take(two, y));
+            } else {
+                assert_eq!(rt; less(one, x, 1), less(two, y, 1));
+            }
+        }
+        if i % 50 == 49 {
+            assert!(rt; agree_by_rank(one, two, Side::Buy, high));
+            assert!(rt; agree_by_rank(one, two, Side::Sell, low));
+            assert!(rt; agree_in_time(one, two));
+        }
+    }
+    Ok(())
+}
+
+#[test]
+fn both_books_agree(rt: HostRuntime) -> Result<(), Fail> {
+    let mut one = ListBook::new(rt.alloc());
+    let mut two = LevelBook::new(rt.alloc());
+    both_agree(&rt, rt.alloc(), &mut one, &mut two)
+}

@@ -1,0 +1,31 @@
+-- What is prepared of an act tells what the act tells.
+use Rattle.std.proofs.Common.{◌≡◌, ℕ, List, [], ◌∷◌, map, length, Option, refl, sym, ap, ◌∙◌}
+use Rattle.hx_members.specs.Setups.{Setup}
+use Rattle.hx_market.specs.declared.event.Event.{Event}
+use Rattle.hx_market.specs.Outputs.{Outcome}
+use Rattle.hx_market.specs.Steps.{step, happens, with_record}
+use Rattle.hx_levels.specs.declared.order.Live.{Live}
+use Rattle.hx_levels.specs.declared.order.Terms.{Terms}
+use Rattle.hx_levels.specs.Book.{lives}
+use Rattle.hx_match.specs.declared.fills.Fill.{Fill}
+use Rattle.hx_members.specs.declared.name.Name.{Name}
+use Rattle.hx_market.specs.declared.acting.Act.{Act}
+use Rattle.hx_market.specs.declared.acting.Act.TheVariants.{Nothing, Reject, Accept}
+use Rattle.hx_market.specs.Markets.{Market}
+use Rattle.hx_market.specs.Ready.{HasPlaces, act_feed_count, act_members, outcome_of}
+use Rattle.hx_market.proofs.Plans.{feed_accepted, members_accepted}
+
+pub tells : (m : Market) (act : Act) (orders : List Live) (place : Option Terms) (name : Option Name) (fills : List Fill) (left : ℕ) → m.live ≡ lives orders → HasPlaces orders place name fills left act
+    → (act_feed_count act fills left ≡ length (outcome_of m act).told.feed) × (act_members act orders fills left ≡ map (λ r. r.0) (outcome_of m act).told.replies)
+tells m Nothing orders place name fills left live h = (refl, refl)
+tells m (Reject r) orders place name fills left live h = (refl, refl)
+tells m (Accept a) orders place name fills left live h = (feed_accepted m a orders fills left live h.2, members_accepted m a orders fills left live h.3 h.2)
+
+-- what an event does, as one step
+pub step_is : (s t : Setup) (m k : Market) (e f : Event) (o : Outcome) → happens s (with_record e m) e ≡ o → s ≡ t → m ≡ k → e ≡ f → o ≡ step t k f
+unfolding step
+step_is s t m k e f o h se me ee =
+    sym h
+    ∙ ap (λ (z : Setup). happens z (with_record e m) e) se
+    ∙ ap (λ (z : Market). happens t (with_record e z) e) me
+    ∙ ap (λ (z : Event). happens t (with_record z k) z) ee

@@ -1,0 +1,140 @@
+use Rattle.std.proofs.Common.{◌≡◌, ℕ, List, Some, sym, ap, ◌∙◌, subst, refl}
+use Rattle.hx_levels.specs.declared.order.Order.{Order}
+use Rattle.hx_levels.specs.Book.{lives}
+use Rattle.hx_match.specs.declared.fills.Fill.{Fill}
+use Rattle.hx_members.specs.Chains.{Used, Chain}
+use Rattle.hx_members.specs.Setups.{Setup}
+use Rattle.hx_refs.specs.Numbers.{Numbers, raised}
+use Rattle.hx_itch.specs.declared.message.Feed.{Feed}
+use Rattle.hx_market.specs.declared.event.Event.{Event}
+use Rattle.hx_market.specs.Markets.{Market}
+use Rattle.hx_market.specs.Outputs.{Outcome, Told}
+use Rattle.hx_market.specs.Steps.{step, sender, with_record}
+use Rattle.hx_market.specs.Keeping.{IsSound}
+use Rattle.hx_market.specs.Ready.{Planned, Seen, IsPlanned, HasPlaces, market_of, outcome_of}
+use Rattle.hx_market.proofs.Next.{recording}
+use Rattle.hx_market.proofs.Drafts.{step_is}
+use Rattle.hx_market.proofs.Outcomes.{bare, parts, told_same, in_time, fits_act, sound_outcome}
+use Rattle.hx_market.proofs.market.Market.commit.Goals as goal
+
+-- the market by its parts
+whole : (xs ys : List Order) (ts us : List Used) (cs ds : List Chain) (n k : Numbers) (hours : ℕ) (rs qs : List ℕ) → xs ≡ ys → ts ≡ us → cs ≡ ds → n ≡ k → rs ≡ qs
+    → (let m : Market = record { live = xs; tokens = ts; chains = cs; numbers = n; hours = hours; recorded = rs } in m) ≡ (let m : Market = record { live = ys; tokens = us; chains = ds; numbers = k; hours = hours; recorded = qs } in m)
+whole xs ys ts us cs ds n k hours rs qs l t c e r =
+    ap (λ (z : List Order). (let m : Market = record { live = z; tokens = ts; chains = cs; numbers = n; hours = hours; recorded = rs } in m)) l
+    ∙ ap (λ (z : List Used). (let m : Market = record { live = ys; tokens = z; chains = cs; numbers = n; hours = hours; recorded = rs } in m)) t
+    ∙ ap (λ (z : List Chain). (let m : Market = record { live = ys; tokens = us; chains = z; numbers = n; hours = hours; recorded = rs } in m)) c
+    ∙ ap (λ (z : Numbers). (let m : Market = record { live = ys; tokens = us; chains = ds; numbers = z; hours = hours; recorded = rs } in m)) e
+    ∙ ap (λ (z : List ℕ). (let m : Market = record { live = ys; tokens = us; chains = ds; numbers = k; hours = hours; recorded = z } in m)) r
+
+pub raise-requires : goal.raise-requires
+raise-requires g c =
+    let s = c.self.inside in
+    let q = c.prepared.inside in
+    let p : Planned = record { event = q.event.value; feed_count = q.feed_count; reply_members = q.reply_members.items; number = q.number; act = q.act; fills = q.fills.items; left = q.left } in
+    let m : Market = market_of (g.B.Book.orders s.book) s.tokens s.refs s.hours s.recorded in
+    let i : IsPlanned s.setup m (g.B.Book.orders s.book) (g.B.Book.place s.book) s.tokens.place p =
+    c.self.invariant.1 p (ap (λ (v : Seen). v.ready) c.self.view_is ∙ c.requires.ready ∙ ap (λ (z : Planned). Some z) (sym c.prepared.view_is)) in
+    i.may_record
+
+pub carry_out-requires-clause-time : goal.carry_out-requires-clause-time
+carry_out-requires-clause-time g c =
+    let s = c.self.inside in
+    let q = c.prepared.inside in
+    let p : Planned = record { event = q.event.value; feed_count = q.feed_count; reply_members = q.reply_members.items; number = q.number; act = q.act; fills = q.fills.items; left = q.left } in
+    let m : Market = market_of (g.B.Book.orders s.book) s.tokens s.refs s.hours s.recorded in
+    let i : IsPlanned s.setup m (g.B.Book.orders s.book) (g.B.Book.place s.book) s.tokens.place p =
+    c.self.invariant.1 p (ap (λ (v : Seen). v.ready) c.self.view_is ∙ c.requires.ready ∙ ap (λ (z : Planned). Some z) (sym c.prepared.view_is)) in
+    in_time s.setup q.act i.is_act
+
+pub carry_out-requires-clause-unused : goal.carry_out-requires-clause-unused
+carry_out-requires-clause-unused g c =
+    let s = c.self.inside in
+    let q = c.prepared.inside in
+    let p : Planned = record { event = q.event.value; feed_count = q.feed_count; reply_members = q.reply_members.items; number = q.number; act = q.act; fills = q.fills.items; left = q.left } in
+    let m : Market = market_of (g.B.Book.orders s.book) s.tokens s.refs s.hours s.recorded in
+    let i : IsPlanned s.setup m (g.B.Book.orders s.book) (g.B.Book.place s.book) s.tokens.place p =
+    c.self.invariant.1 p (ap (λ (v : Seen). v.ready) c.self.view_is ∙ c.requires.ready ∙ ap (λ (z : Planned). Some z) (sym c.prepared.view_is)) in
+    i.unused
+
+pub carry_out-requires-clause-places : goal.carry_out-requires-clause-places
+carry_out-requires-clause-places g c =
+    let s = c.self.inside in
+    let q = c.prepared.inside in
+    let p : Planned = record { event = q.event.value; feed_count = q.feed_count; reply_members = q.reply_members.items; number = q.number; act = q.act; fills = q.fills.items; left = q.left } in
+    let m : Market = market_of (g.B.Book.orders s.book) s.tokens s.refs s.hours s.recorded in
+    let i : IsPlanned s.setup m (g.B.Book.orders s.book) (g.B.Book.place s.book) s.tokens.place p =
+    c.self.invariant.1 p (ap (λ (v : Seen). v.ready) c.self.view_is ∙ c.requires.ready ∙ ap (λ (z : Planned). Some z) (sym c.prepared.view_is)) in
+    subst (λ (fs : List Fill). HasPlaces (g.B.Book.orders s.book) (g.B.Book.place s.book) s.tokens.place fs q.left q.act) (sym c.deref.ensures.value) i.places
+
+pub carry_out-requires-clause-fits : goal.carry_out-requires-clause-fits
+carry_out-requires-clause-fits g c =
+    let s = c.self.inside in
+    let q = c.prepared.inside in
+    let p : Planned = record { event = q.event.value; feed_count = q.feed_count; reply_members = q.reply_members.items; number = q.number; act = q.act; fills = q.fills.items; left = q.left } in
+    let m : Market = market_of (g.B.Book.orders s.book) s.tokens s.refs s.hours s.recorded in
+    let i : IsPlanned s.setup m (g.B.Book.orders s.book) (g.B.Book.place s.book) s.tokens.place p =
+    c.self.invariant.1 p (ap (λ (v : Seen). v.ready) c.self.view_is ∙ c.requires.ready ∙ ap (λ (z : Planned). Some z) (sym c.prepared.view_is)) in
+    fits_act s.setup m q.number q.act c.self.invariant.0 i.may_record i.is_act i.unused i.sender
+
+pub invariant_of-self : goal.invariant_of-self
+invariant_of-self g c =
+    let s = c.self.inside in
+    let q = c.prepared.inside in
+    let p : Planned = record { event = q.event.value; feed_count = q.feed_count; reply_members = q.reply_members.items; number = q.number; act = q.act; fills = q.fills.items; left = q.left } in
+    let m : Market = market_of (g.B.Book.orders s.book) s.tokens s.refs s.hours s.recorded in
+    let i : IsPlanned s.setup m (g.B.Book.orders s.book) (g.B.Book.place s.book) s.tokens.place p =
+    c.self.invariant.1 p (ap (λ (v : Seen). v.ready) c.self.view_is ∙ c.requires.ready ∙ ap (λ (z : Planned). Some z) (sym c.prepared.view_is)) in
+    let k : Market = (outcome_of (bare m) q.act).market in
+    let n : Market = market_of (g.B.Book.orders c.carry_out.new.book) c.carry_out.new.tokens c.carry_out.new.refs s.hours c.raise.new.self in
+    let is : n ≡ (outcome_of (recording m q.number) q.act).market =
+    whole (lives (g.B.Book.orders c.carry_out.new.book)) k.live c.carry_out.new.tokens.tokens k.tokens c.carry_out.new.tokens.chains k.chains c.carry_out.new.refs k.numbers s.hours c.raise.new.self (raised s.recorded q.number)
+    c.carry_out.ensures.live c.carry_out.ensures.tokens c.carry_out.ensures.chains c.carry_out.ensures.numbers c.raise.ensures
+    ∙ sym (parts (recording m q.number) q.act) in
+    (subst IsSound (sym is) (sound_outcome s.setup m q.number q.act c.self.invariant.0 i.may_record i.is_act i.unused i.sender), λ p h. cc)
+
+pub returns-clause-market : goal.returns-clause-market
+returns-clause-market g c =
+    let s = c.self.inside in
+    let q = c.prepared.inside in
+    let p : Planned = record { event = q.event.value; feed_count = q.feed_count; reply_members = q.reply_members.items; number = q.number; act = q.act; fills = q.fills.items; left = q.left } in
+    let m : Market = market_of (g.B.Book.orders s.book) s.tokens s.refs s.hours s.recorded in
+    let i : IsPlanned s.setup m (g.B.Book.orders s.book) (g.B.Book.place s.book) s.tokens.place p =
+    c.self.invariant.1 p (ap (λ (v : Seen). v.ready) c.self.view_is ∙ c.requires.ready ∙ ap (λ (z : Planned). Some z) (sym c.prepared.view_is)) in
+    let k : Market = (outcome_of (bare m) q.act).market in
+    let n : Market = market_of (g.B.Book.orders c.carry_out.new.book) c.carry_out.new.tokens c.carry_out.new.refs s.hours c.raise.new.self in
+    let is : n ≡ (outcome_of (recording m q.number) q.act).market =
+    whole (lives (g.B.Book.orders c.carry_out.new.book)) k.live c.carry_out.new.tokens.tokens k.tokens c.carry_out.new.tokens.chains k.chains c.carry_out.new.refs k.numbers s.hours c.raise.new.self (raised s.recorded q.number)
+    c.carry_out.ensures.live c.carry_out.ensures.tokens c.carry_out.ensures.chains c.carry_out.ensures.numbers c.raise.ensures
+    ∙ sym (parts (recording m q.number) q.act) in
+    let one : outcome_of (with_record p.event m) q.act ≡ step c.args.self.now.setup c.args.self.now.market c.args.prepared.event =
+    step_is s.setup c.args.self.now.setup m c.args.self.now.market p.event c.args.prepared.event (outcome_of (with_record p.event m) q.act) i.does (ap (λ (v : Seen). v.setup) c.self.view_is) (ap (λ (v : Seen). v.market) c.self.view_is) (ap (λ (v : Planned). v.event) c.prepared.view_is) in
+    is ∙ ap (λ z. (outcome_of (recording m z) q.act).market) i.number ∙ ap (λ (o : Outcome). o.market) one
+
+pub returns-clause-feed : goal.returns-clause-feed
+returns-clause-feed g c =
+    let s = c.self.inside in
+    let q = c.prepared.inside in
+    let p : Planned = record { event = q.event.value; feed_count = q.feed_count; reply_members = q.reply_members.items; number = q.number; act = q.act; fills = q.fills.items; left = q.left } in
+    let m : Market = market_of (g.B.Book.orders s.book) s.tokens s.refs s.hours s.recorded in
+    let i : IsPlanned s.setup m (g.B.Book.orders s.book) (g.B.Book.place s.book) s.tokens.place p =
+    c.self.invariant.1 p (ap (λ (v : Seen). v.ready) c.self.view_is ∙ c.requires.ready ∙ ap (λ (z : Planned). Some z) (sym c.prepared.view_is)) in
+    let one : outcome_of (with_record p.event m) q.act ≡ step c.args.self.now.setup c.args.self.now.market c.args.prepared.event =
+    step_is s.setup c.args.self.now.setup m c.args.self.now.market p.event c.args.prepared.event (outcome_of (with_record p.event m) q.act) i.does (ap (λ (v : Seen). v.setup) c.self.view_is) (ap (λ (v : Seen). v.market) c.self.view_is) (ap (λ (v : Planned). v.event) c.prepared.view_is) in
+    let told : (outcome_of (bare m) q.act).told ≡ (step c.args.self.now.setup c.args.self.now.market c.args.prepared.event).told =
+    sym (told_same (with_record p.event m) q.act) ∙ ap (λ (o : Outcome). o.told) one in
+    c.carry_out.ensures.feed ∙ ap (λ (t : Told). t.feed) told
+
+pub returns-clause-replies : goal.returns-clause-replies
+returns-clause-replies g c =
+    let s = c.self.inside in
+    let q = c.prepared.inside in
+    let p : Planned = record { event = q.event.value; feed_count = q.feed_count; reply_members = q.reply_members.items; number = q.number; act = q.act; fills = q.fills.items; left = q.left } in
+    let m : Market = market_of (g.B.Book.orders s.book) s.tokens s.refs s.hours s.recorded in
+    let i : IsPlanned s.setup m (g.B.Book.orders s.book) (g.B.Book.place s.book) s.tokens.place p =
+    c.self.invariant.1 p (ap (λ (v : Seen). v.ready) c.self.view_is ∙ c.requires.ready ∙ ap (λ (z : Planned). Some z) (sym c.prepared.view_is)) in
+    let one : outcome_of (with_record p.event m) q.act ≡ step c.args.self.now.setup c.args.self.now.market c.args.prepared.event =
+    step_is s.setup c.args.self.now.setup m c.args.self.now.market p.event c.args.prepared.event (outcome_of (with_record p.event m) q.act) i.does (ap (λ (v : Seen). v.setup) c.self.view_is) (ap (λ (v : Seen). v.market) c.self.view_is) (ap (λ (v : Planned). v.event) c.prepared.view_is) in
+    let told : (outcome_of (bare m) q.act).told ≡ (step c.args.self.now.setup c.args.self.now.market c.args.prepared.event).told =
+    sym (told_same (with_record p.event m) q.act) ∙ ap (λ (o : Outcome). o.told) one in
+    c.carry_out.ensures.replies ∙ ap (λ (t : Told). t.replies) told

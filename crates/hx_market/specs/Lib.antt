@@ -1,0 +1,10 @@
+pub mod Orders
+pub mod Markets
+pub mod Outputs
+pub mod Executions
+pub mod Entering
+pub mod Steps
+pub mod Striking
+pub mod Keeping
+pub mod Admitting
+pub mod Ready

@@ -1,0 +1,160 @@
+//! What an event will do, once it is committed.
+ghost use Rattle.std.specs.Prelude.{◌≡◌, ◌<◌, List, Some, None, IsSome, false};
+ghost use Rattle.hx_ouch.specs.Inbound.{inbound_of};
+ghost use Rattle.hx_members.specs.Setups.{member_of};
+ghost use Rattle.hx_members.specs.Chains.{Used, is_used};
+ghost use Rattle.hx_market.specs.Entering.{entered_by, rejection, resolved_firm};
+ghost use Rattle.hx_market.specs.Markets.{Market};
+ghost use Rattle.hx_market.specs.Steps.{act, happens, sender, time_of};
+ghost use Rattle.hx_market.specs.Admitting.{is_from_stranger};
+ghost use Rattle.hx_market.specs.Ready.{outcome_of, IsAct, IsAccepting, IsOf, IsUnused};
+
+use crate::event::Event;
+use crate::rules::{rejection, side_of};
+use hx_members::{Setup, Tokens};
+use hx_ouch::{Enter, Inbound, decode_in};
+use hx_units::{Firm, MemberNo, Price, Side, Token};
+
+/// An Enter that is rejected.
+#[derive(Clone, Copy, Debug)]
+pub struct Rejecting {
+    /// Whose it is.
+    pub member: MemberNo,
+    /// When it came.
+    pub time: u64,
+    /// The order's token.
+    pub token: Token,
+    /// The reason.
+    pub letter: u8,
+}
+
+/// An Enter that is accepted.
+#[derive(Clone, Copy, Debug)]
+pub struct Accepting {
+    /// Whose it is.
+    pub member: MemberNo,
+    /// When it came.
+    pub time: u64,
+    /// The message.
+    pub enter: Enter,
+    /// The number of the stock.
+    pub locate: u16,
+    /// The side of its letter.
+    pub side: Side,
+    /// Its price.
+    pub price: Price,
+    /// The firm that it is for.
+    pub firm: Firm,
+}
+
+/// What an event does.
+#[derive(Clone, Copy, Debug)]
+pub enum Act {
+    /// No more than that it is recorded.
+    Nothing,
+    /// A token is used, and a reply goes out.
+    Reject(Rejecting),
+    /// An order arrives.
+    Accept(Accepting),
+}
+
+// The firm that a message is for: a blank one means the member's.
+fn resolved_firm(setup: &Setup, member: MemberNo, firm: Firm) -> Firm
+    requires { IsSome (member_of setup.now member) }
+    ensures { result ≡ resolved_firm setup.now member firm }
+{
+    if firm == (Firm([b' '; 4])) {
+        setup.member(member).unwrap().firm
+    } else {
+        firm
+    }
+}
+
+// An Enter that nothing rejects.
+fn accepting_of(setup: &Setup, hours: u8, member: MemberNo, time: u64, enter: Enter) -> Accepting
+    requires member { IsSome (member_of setup.now member) }
+    requires time { time < 86400000000000 }
+    requires passes { rejection setup.now hours enter ≡ None }
+    ensures message { (result.member ≡ member) × (result.time ≡ time) × (result.enter ≡ enter) }
+    ensures is_accepting { IsAccepting setup.now result }
+{
+    Accepting {
+        member,
+        time,
+        enter,
+        locate: setup.locate(enter.stock).unwrap(),
+        side: side_of(enter.side),
+        price: Price::of(enter.price).unwrap(),
+        firm: resolved_firm(setup, member, enter.firm),
+    }
+}
+
+// What an Enter does whose token is not used.
+fn enter_act(setup: &Setup, hours: u8, member: MemberNo, time: u64, enter: Enter) -> Act
+    requires member { IsSome (member_of setup.now member) }
+    requires time { time < 86400000000000 }
+    ensures does { (m : Market) → entered_by setup.now m member time enter false (rejection setup.now hours enter) ≡ outcome_of m result }
+    ensures is_act { IsAct setup.now result }
+    ensures sender { IsOf member result }
+    ensures unused { (tokens : List Used) → is_used tokens member enter.token ≡ false → IsUnused tokens result }
+{
+    if let Some(letter) = rejection(setup, hours, &enter) {
+        return Act::Reject(Rejecting {
+            member,
+            time,
+            token: enter.token,
+            letter,
+        });
+    }
+    Act::Accept(accepting_of(setup, hours, member, time, enter))
+}
+
+// What a member's message does, at so many hours codes past.
+fn message_act(
+    setup: &Setup,
+    hours: u8,
+    tokens: &Tokens,
+    member: MemberNo,
+    time: u64,
+    bytes: &[u8],
+) -> Act
+    requires member { IsSome (member_of setup.now member) }
+    requires time { time < 86400000000000 }
+    ensures does { (m : Market) → m.tokens ≡ tokens.now.tokens → m.hours ≡ hours → act setup.now m member time (inbound_of bytes.now) ≡ outcome_of m result }
+    ensures is_act { IsAct setup.now result }
+    ensures sender { IsOf member result }
+    ensures unused { IsUnused tokens.now.tokens result }
+{
+    match decode_in(bytes) {
+        Some(Inbound::Enter(enter)) => {
+            if tokens.state(member, &enter.token).is_some() {
+                Act::Nothing
+            } else {
+                enter_act(setup, hours, member, time, enter)
+            }
+        }
+        Some(Inbound::Replace(_)) | Some(Inbound::Cancel(_)) | None => Act::Nothing,
+    }
+}
+
+/// What an event does that is not refused, at so many hours codes past.
+pub fn act_of(setup: &Setup, hours: u8, tokens: &Tokens, event: &Event) -> Act
+    requires known { is_from_stranger setup.now event.now ≡ false }
+    requires time { time_of event.now < 86400000000000 }
+    ensures does { (m : Market) → m.tokens ≡ tokens.now.tokens → m.hours ≡ hours → happens setup.now m event.now ≡ outcome_of m result }
+    ensures is_act { IsAct setup.now result }
+    ensures sender { IsOf (sender event.now) result }
+    ensures unused { IsUnused tokens.now.tokens result }
+{
+    match event {
+        Event::Message {
+            member,
+            time,
+            bytes,
+        } => {
+            let member = MemberNo::of(*member).unwrap();
+            message_act(setup, hours, tokens, member, *time, bytes.as_slice())
+        }
+        Event::Tick { .. } | Event::Hours { .. } => Act::Nothing,
+    }
+}

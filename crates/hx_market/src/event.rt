@@ -1,0 +1,94 @@
+//! Events: what the market is told, each with its time.
+ghost use Rattle.std.specs.Prelude.{◌≡◌, IfOk, List};
+
+use hx_units::NoMemory;
+use std::alloc::Global;
+use std::marker::Model;
+
+/// The bytes of a message, as they came. Contracts see the list of them.
+#[derive(Drop)]
+pub struct Bytes {
+    items: Vec<u8>,
+}
+
+impl Model for Bytes {
+    ghost use Rattle.std.specs.Prelude.{ℕ, List};
+
+    ghost Value = { List ℕ };
+
+    ghost view = { λ b. b.items.items };
+}
+
+impl Bytes {
+    /// These bytes.
+    pub fn of(items: Vec<u8>) -> Bytes
+        ensures { result ≡ items.items }
+    {
+        Bytes { items }
+    }
+
+    /// The bytes, as a slice.
+    pub fn as_slice(&self) -> &[u8]
+        ensures { result.now ≡ self.now }
+    {
+        &self.items
+    }
+
+    /// The bytes, given back.
+    pub fn into_vec(self) -> Vec<u8>
+        ensures { result.items ≡ self }
+    {
+        self.items
+    }
+}
+
+/// One event of the market: a member's message, a tick, or the hours' next code. Its time is in nanoseconds
+/// since midnight, and it is that of all that the event gives.
+#[derive(Drop)]
+pub enum Event {
+    /// A message of a member, an OUCH 4.2 message where it is readable.
+    Message {
+        /// The member's number.
+        member: u16,
+        /// When it came.
+        time: u64,
+        /// The message.
+        bytes: Bytes,
+    },
+    /// The operator lets time pass: orders whose seconds are over end.
+    Tick {
+        /// The time.
+        time: u64,
+    },
+    /// The operator ends a part of the day (ITCH 5.0, System Event Message).
+    Hours {
+        /// The time.
+        time: u64,
+        /// The event code.
+        code: u8,
+    },
+}
+
+impl Event {
+    /// An equal event. `NoMemory` where there is no room for its bytes.
+    pub fn copy(&self, alloc: Global) -> Result<Event, NoMemory>
+        ensures { IfOk result (λ event. event ≡ self.now) }
+    {
+        Ok(match self {
+            Event::Message {
+                member,
+                time,
+                bytes,
+            } => Event::Message {
+                member: *member,
+                time: *time,
+                bytes: Bytes::of(bytes.items.clone()?),
+            },
+            Event::Tick { time } => Event::Tick { time: *time },
+            Event::Hours { time, code } => Event::Hours {
+                time: *time,
+                code: *code,
+            },
+        })
+    }
+}

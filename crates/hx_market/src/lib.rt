@@ -1,0 +1,24 @@
+//! The state machine of the market: each event is prepared, which may be refused, and then committed, which
+//! can't be. One committed event is one step of the market as `specs/` defines it.
+#![tactic(auto)]
+
+mod accepting;
+mod acting;
+mod admitting;
+mod arriving;
+mod carrying;
+mod event;
+mod executing;
+mod fault;
+mod market;
+mod output;
+mod planning;
+mod prepared;
+mod recorded;
+mod rules;
+
+pub use event::{Bytes, Event};
+pub use fault::PrepareError;
+pub use market::Market;
+pub use output::Output;
+pub use prepared::Prepared;

@@ -1,0 +1,145 @@
+//! The market: each event is prepared, and then committed.
+ghost use Rattle.std.specs.Prelude.{◌≡◌, [], Some, None, IfOk, OnOk, OnErr, IfErr, length, map};
+ghost use Rattle.std.specs.Option.{option_map};
+ghost use Rattle.hx_market.specs.Admitting.{refusal, or_no_memory};
+ghost use Rattle.hx_market.specs.Markets.{opening, opening_hours};
+ghost use Rattle.hx_market.specs.Steps.{step};
+ghost use Rattle.hx_market.specs.Ready.{chain_facts};
+
+use crate::carrying::carry_out;
+use crate::event::Event;
+use crate::fault::PrepareError;
+use crate::output::Output;
+use crate::prepared::{Prepared, make};
+use crate::recorded::Recorded;
+use hx_levels::Book;
+use hx_members::{ChainFacts, Setup, Tokens};
+use hx_refs::Refs;
+use hx_units::{MemberNo, NoMemory, Token};
+use std::alloc::Global;
+use std::marker::Model;
+use std::snapshot::Snapshot;
+
+/// The market over a book.
+#[derive(Drop)]
+pub struct Market<B: Book> {
+    setup: Setup,
+    book: B,
+    tokens: Tokens,
+    refs: Refs,
+    // How many of the hours codes are past.
+    hours: u8,
+    recorded: Recorded,
+    // What the last `prepare` gave, known to contracts alone.
+    ready: Option<Snapshot<Prepared>>,
+    alloc: Global,
+}
+
+impl<B: Book> Model for Market<B> {
+    ghost use Rattle.std.specs.Prelude.{◌≡◌, Some};
+    ghost use Rattle.std.specs.Option.{option_map};
+    ghost use Rattle.hx_market.specs.Keeping.{IsSound};
+    ghost use Rattle.hx_market.specs.Ready.{Planned, Seen, IsPlanned, market_of};
+
+    ghost Value = { Seen };
+
+    ghost view = { λ m. record { setup = m.setup; market = market_of (B.orders m.book) m.tokens m.refs m.hours m.recorded; ready = option_map (λ s. s.value) m.ready } };
+
+    ghost invariant = { λ m. IsSound (market_of (B.orders m.book) m.tokens m.refs m.hours m.recorded) × ((p : Planned) → option_map (λ s. s.value) m.ready ≡ Some p → IsPlanned m.setup (market_of (B.orders m.book) m.tokens m.refs m.hours m.recorded) (B.orders m.book) (B.place m.book) m.tokens.place p) };
+}
+
+// How many of the hours codes are past as the day begins.
+fn opening_hours(setup: &Setup) -> u8
+    ensures { result ≡ opening_hours setup.now }
+{
+    if setup.start_open() { 2 } else { 0 }
+}
+
+impl<B: Book + Drop> Market<B> {
+    /// The opening market of a setup, over an empty book. `NoMemory` where its counts find no room.
+    pub fn new(alloc: Global, setup: Setup, book: B) -> Result<Self, NoMemory>
+        requires { B.orders book ≡ [] }
+        ensures setup { IfOk result (λ m. m.setup ≡ setup) }
+        ensures market { IfOk result (λ m. m.market ≡ opening setup) }
+        ensures ready { IfOk result (λ m. m.ready ≡ None) }
+    {
+        let hours = opening_hours(&setup);
+        Ok(Market {
+            setup,
+            book,
+            tokens: Tokens::new(alloc),
+            refs: Refs::new(alloc)?,
+            hours,
+            recorded: Recorded::new(alloc)?,
+            ready: None,
+            alloc,
+        })
+    }
+
+    /// Makes the plan of an event, and all growths that its commit needs. What contracts see of the market stays, but
+    /// that what was prepared before is void. Refused, in this order: `BadTime` where the time is not within the day,
+    /// `NoMember` where a message is from no member of the setup, `Limit` where as many events as allowed are recorded
+    /// under the event's number, and `NoMemory`.
+    pub fn prepare(&mut self, event: &Event) -> Result<Prepared, PrepareError>
+        ensures setup { self.new.setup ≡ self.old.setup }
+        ensures market { self.new.market ≡ self.old.market }
+        ensures ready { IfOk result (λ p. self.new.ready ≡ Some p) }
+        ensures event { IfOk result (λ p. p.event ≡ event.now) }
+        ensures feed_count { IfOk result (λ p. p.feed_count ≡ length (step self.old.setup self.old.market event.now).told.feed) }
+        ensures reply_members { IfOk result (λ p. p.reply_members ≡ map (λ r. r.0) (step self.old.setup self.old.market event.now).told.replies) }
+        ensures passes { OnOk result (refusal self.old.setup self.old.market.recorded event.now ≡ None) }
+        ensures refused { IfErr result (λ e. e ≡ or_no_memory (refusal self.old.setup self.old.market.recorded event.now)) }
+        ensures void { OnErr result (self.new.ready ≡ None) }
+    {
+        self.ready = None;
+        let prepared = make(
+            self.alloc,
+            &self.setup,
+            self.hours,
+            &self.recorded,
+            &mut self.book,
+            &mut self.tokens,
+            event,
+        )?;
+        self.ready = Some(Snapshot::of(&prepared));
+        Ok(prepared)
+    }
+
+    /// Does what was prepared last: one step of the market. It takes no memory, and can't refuse.
+    pub fn commit(&mut self, prepared: Prepared) -> Output
+        requires ready { self.old.ready ≡ Some prepared }
+        ensures market { self.new.market ≡ (step self.old.setup self.old.market prepared.event).market }
+        ensures feed { result.feed.items ≡ (step self.old.setup self.old.market prepared.event).told.feed }
+        ensures replies { result.replies.items ≡ (step self.old.setup self.old.market prepared.event).told.replies }
+        ensures setup { self.new.setup ≡ self.old.setup }
+        ensures ready { self.new.ready ≡ None }
+    {
+        self.ready = None;
+        let Prepared {
+            number,
+            act,
+            fills,
+            left,
+            mut out,
+            ..
+        } = prepared;
+        self.recorded.raise(number);
+        carry_out(
+            &mut self.book,
+            &mut self.tokens,
+            &mut self.refs,
+            &mut out,
+            &act,
+            &fills,
+            left,
+        );
+        out
+    }
+
+    /// What the chain of a token has done; none where the member has not used the token.
+    pub fn chain(&self, member: MemberNo, token: &Token) -> Option<ChainFacts>
+        ensures { result ≡ chain_facts self.now.market.tokens self.now.market.chains member token.now }
+    {
+        Some(self.tokens.state(member, token)?.facts)
+    }
+}

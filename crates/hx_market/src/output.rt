@@ -1,0 +1,14 @@
+//! What an event gives.
+
+use hx_itch::Feed;
+use hx_ouch::Outbound;
+use hx_units::MemberNo;
+
+/// What an event gives: messages of the feed, and replies, each behind its member, both in order.
+#[derive(Drop)]
+pub struct Output {
+    /// The feed's messages.
+    pub feed: Vec<Feed>,
+    /// The replies.
+    pub replies: Vec<(MemberNo, Outbound)>,
+}

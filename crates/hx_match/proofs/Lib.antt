@@ -1,0 +1,5 @@
+pub mod Steps
+pub mod OnePass
+pub mod First
+pub mod Entries
+pub mod Carried

@@ -1,0 +1,16 @@
+//! Used tokens, and what their chains have done.
+#![tactic(auto)]
+
+mod name;
+mod rows;
+mod setup;
+mod stock;
+mod tokens;
+
+pub use name::{ChainFacts, Name, TokenState};
+pub use setup::Setup;
+pub use stock::{Member, Stock};
+pub use tokens::Tokens;
+
+#[cfg(test)]
+mod tests;

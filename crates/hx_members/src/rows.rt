@@ -1,0 +1,165 @@
+//! The rows of the used tokens, in order of use.
+ghost use Rattle.std.specs.Prelude.{◌≡◌, ◌+◌, ◌<◌, ◌^◌, ◌++◌, [], ◌∷◌, length, Some, None, OnOk, OnErr, slice_get};
+ghost use Rattle.std.specs.Option.{option_map};
+ghost use Rattle.hx_members.specs.Chains.{entered_at};
+ghost use Rattle.hx_members.specs.Rows.{Row, IsUnused, tokens_of, row_place, row_state, noted_rows, settled_rows};
+
+use crate::name::{ChainFacts, Name, TokenState};
+use hx_units::{NoMemory, Token};
+use indexmap::IndexMap;
+use std::alloc::Global;
+use std::marker::Model;
+
+/// A used token: the entered token of its chain and that token's place, the key of its live order, and at an entered
+/// token what the chain has done.
+#[derive(Clone, Copy, Debug)]
+pub(crate) struct UsedToken {
+    pub entered: Token,
+    pub chain: u64,
+    pub key: Option<usize>,
+    pub facts: ChainFacts,
+}
+
+impl UsedToken {
+    ghost use Rattle.hx_members.specs.Rows.{fresh};
+
+    /// A token that is just used, in the chain of the entered token at a place.
+    pub(crate) fn fresh(entered: Token, chain: u64) -> UsedToken
+        ensures { result ≡ fresh entered chain }
+    {
+        UsedToken {
+            entered,
+            chain,
+            key: None,
+            facts: ChainFacts {
+                executed: 0,
+                displayed: false,
+                traded: false,
+            },
+        }
+    }
+}
+
+/// The rows, and the name for which a place is reserved.
+#[derive(Drop)]
+pub(crate) struct Rows {
+    map: IndexMap<Name, UsedToken>,
+    place: Option<Name>,
+}
+
+impl Model for Rows {
+    ghost use Rattle.hx_members.specs.Rows.{RowList};
+    ghost use Rattle.indexmap.specs.IndexMap.{spare};
+    ghost use Rattle.std.specs.Prelude.{IsSome, ◌<◌};
+
+    ghost Value = { RowList };
+
+    ghost view = { λ r. record { rows = r.map.entries; place = r.place } };
+
+    ghost invariant = { λ r. IsSome r.place → 0 < spare r.map };
+}
+
+impl Rows {
+    /// No rows.
+    pub(crate) fn new(alloc: Global) -> Self
+        ensures rows { result.rows ≡ [] }
+        ensures place { result.place ≡ None }
+    {
+        Rows {
+            map: IndexMap::new(alloc),
+            place: None,
+        }
+    }
+
+    /// How many rows there are.
+    pub(crate) fn len(&self) -> u64
+        ensures { result ≡ length self.now.rows }
+    {
+        self.map.len() as u64
+    }
+
+    /// Makes room for one more row, of this name.
+    pub(crate) fn reserve(&mut self, name: Name) -> Result<(), NoMemory>
+        ensures rows { self.new.rows ≡ self.old.rows }
+        ensures ok { OnOk result (self.new.place ≡ Some name) }
+        ensures err { OnErr result (self.new.place ≡ self.old.place) }
+    {
+        self.map.reserve(1)?;
+        self.place = Some(name);
+        Ok(())
+    }
+
+    /// Adds the row for which a place is reserved.
+    pub(crate) fn push(&mut self, name: Name, used: UsedToken)
+        requires place { self.old.place ≡ Some name }
+        requires unused { IsUnused name self.old.rows }
+        ensures rows { self.new.rows ≡ self.old.rows ++ (name, used) ∷ [] }
+        ensures place { self.new.place ≡ None }
+    {
+        self.place = None;
+        let _ = self.map.insert(name, used);
+    }
+
+    /// The place of a name.
+    pub(crate) fn place(&self, name: Name) -> Option<usize>
+        ensures { result ≡ row_place name self.now.rows }
+    {
+        self.map.get_index_of(&name)
+    }
+
+    /// The row at a place, without its name.
+    pub(crate) fn at(&self, place: usize) -> Option<UsedToken>
+        ensures { result ≡ option_map (λ (row : Row). row.1) (slice_get self.now.rows place) }
+    {
+        let (_, used) = self.map.get_index(place)?;
+        Some(*used)
+    }
+
+    /// The entered token of the row at a place, or the given one where there is no row.
+    pub(crate) fn entered(&self, place: usize, token: Token) -> Token
+        ensures { result ≡ entered_at (tokens_of self.now.rows) place token }
+    {
+        match self.at(place) {
+            Some(used) => used.entered,
+            None => token,
+        }
+    }
+
+    /// What is told of a name.
+    pub(crate) fn state(&self, name: Name) -> Option<TokenState>
+        ensures { result ≡ row_state name self.now.rows }
+    {
+        let used = self.at(self.place(name)?)?;
+        let entered = self.at(used.chain as usize)?;
+        Some(TokenState {
+            chain: used.chain,
+            facts: entered.facts,
+            key: used.key,
+        })
+    }
+
+    /// Sets the key of the live order of the token at a place.
+    pub(crate) fn settle(&mut self, place: usize, key: Option<usize>)
+        ensures rows { self.new.rows ≡ settled_rows place key self.old.rows }
+        ensures place { self.new.place ≡ self.old.place }
+    {
+        if let Some(used) = self.map.get_index_mut(place) {
+            used.key = key;
+        }
+    }
+
+    /// Adds to what the chain at a place has done.
+    pub(crate) fn note(&mut self, chain: usize, shares: u32, displayed: bool)
+        requires { (row : Row) × (slice_get self.old.rows chain ≡ Some row) × (row.1.facts.executed + shares < 2 ^ 32) }
+        ensures rows { self.new.rows ≡ noted_rows chain shares displayed self.old.rows }
+        ensures place { self.new.place ≡ self.old.place }
+    {
+        if let Some(used) = self.map.get_index_mut(chain) {
+            used.facts = ChainFacts {
+                executed: used.facts.executed + shares,
+                displayed: used.facts.displayed || displayed,
+                traded: used.facts.traded || shares > 0,
+            };
+        }
+    }
+}

@@ -1,0 +1,210 @@
+//! The setup of a day.
+ghost use Rattle.std.specs.Prelude.{◌≡◌, ◌≤◌, ◌<◌, ◌+◌, length, map, IfOk, true};
+ghost use Rattle.std.specs.Option.{option_map};
+ghost use Rattle.hx_units.specs.Ranges.{IsMember};
+ghost use Rattle.hx_members.specs.Setups.{is_login, names_differ, numbers_rise, locates_of, places_of, stock_named, member_with};
+
+use crate::stock::{Member, Stock};
+use hx_units::{Firm, MemberNo, NoMemory, Symbol};
+use indexmap::IndexMap;
+use std::alloc::Global;
+use std::marker::Model;
+
+/// The setup of a day: its session, its stocks, its members, and how it begins.
+#[derive(Drop)]
+pub struct Setup {
+    session: [u8; 10],
+    start_open: bool,
+    stocks: Vec<Stock>,
+    members: Vec<Member>,
+    locates: IndexMap<Symbol, u16>,
+    places: IndexMap<MemberNo, u16>,
+}
+
+impl Model for Setup {
+    ghost use Rattle.std.specs.Prelude.{◌≡◌};
+    ghost use Rattle.hx_members.specs.Setups.{Setup, IsSetup, locates_of, places_of};
+
+    ghost Value = { Setup };
+
+    ghost view = { λ s. record { session = s.session; start_open = s.start_open; stocks = s.stocks.items; members = s.members.items } };
+
+    ghost invariant = { λ s. IsSetup (record { session = s.session; start_open = s.start_open; stocks = s.stocks.items; members = s.members.items }) × (s.locates.entries ≡ locates_of s.stocks.items) × (s.places.entries ≡ places_of s.members.items) };
+}
+
+/// Whether a user, or a password, is the one that is kept: without regard to case and to spaces on the right.
+fn is_same_login(given: &[u8], kept: &[u8]) -> bool
+    requires { length given.now ≡ length kept.now }
+    ensures { result ≡ is_login given.now kept.now }
+{
+    given.eq_ignore_ascii_case(kept)
+}
+
+/// The index of the stocks by name.
+fn index_stocks(alloc: Global, stocks: &[Stock]) -> Result<IndexMap<Symbol, u16>, NoMemory>
+    requires few { length stocks.now ≤ 1000 }
+    requires names { names_differ stocks.now ≡ true }
+    ensures { IfOk result (λ locates. locates.entries ≡ locates_of stocks.now) }
+{
+    let mut locates = IndexMap::new(alloc);
+    let mut locate = 0;
+    for stock in stocks {
+        locate += 1;
+        locates.insert(stock.symbol, locate)?;
+    }
+    Ok(locates)
+}
+
+/// The index of the members by number.
+fn index_members(alloc: Global, members: &[Member]) -> Result<IndexMap<MemberNo, u16>, NoMemory>
+    requires few { length members.now ≤ 4095 }
+    requires numbers { numbers_rise members.now ≡ true }
+    ensures { IfOk result (λ places. places.entries ≡ places_of members.now) }
+{
+    let mut places = IndexMap::new(alloc);
+    let mut place = 0;
+    for member in members {
+        places.insert(member.number, place)?;
+        place += 1;
+    }
+    Ok(places)
+}
+
+impl Setup {
+    ghost use Rattle.hx_members.specs.Setups.{IsSetup, standard, locate_of, stock_at, member_of, login_of};
+
+    /// The setup of these fields.
+    fn of(
+        alloc: Global,
+        session: [u8; 10],
+        start_open: bool,
+        stocks: Vec<Stock>,
+        members: Vec<Member>,
+    ) -> Result<Self, NoMemory>
+        requires { IsSetup (record { session = session; start_open = start_open; stocks = stocks.items; members = members.items }) }
+        ensures { IfOk result (λ setup. setup ≡ record { session = session; start_open = start_open; stocks = stocks.items; members = members.items }) }
+    {
+        let locates = index_stocks(alloc, &stocks)?;
+        let places = index_members(alloc, &members)?;
+        Ok(Setup {
+            session,
+            start_open,
+            stocks,
+            members,
+            locates,
+            places,
+        })
+    }
+
+    /// The standard setup: two stocks, three members, and a day that begins open. It fails only for want of memory.
+    pub fn standard(alloc: Global) -> Result<Self, NoMemory>
+        ensures { IfOk result (λ setup. setup ≡ standard) }
+    {
+        let stocks = vec![in alloc; stock(*b"ABCD    "), stock(*b"WXYZ    ")]?;
+        let members = vec![in alloc;
+            member(1, *b"FMA1", *b"ALPHA ", *b"PWALPHA   "),
+            member(2, *b"FMB2", *b"BRAVO ", *b"PWBRAVO   "),
+            member(3, *b"FMC3", *b"CHARLI", *b"PWCHARLI  "),
+        ]?;
+        Setup::of(alloc, *b"HX00000001", true, stocks, members)
+    }
+
+    /// An equal setup. It fails only for want of memory.
+    pub fn copy(&self, alloc: Global) -> Result<Self, NoMemory>
+        ensures { IfOk result (λ setup. setup ≡ self.now) }
+    {
+        let stocks = self.stocks.to_vec(alloc)?;
+        let members = self.members.to_vec(alloc)?;
+        Setup::of(alloc, self.session, self.start_open, stocks, members)
+    }
+
+    /// The session: 10 letters or digits (MoldUDP64 and SoupBinTCP: Session).
+    pub fn session(&self) -> &[u8; 10]
+        ensures { result.now ≡ self.now.session }
+    {
+        &self.session
+    }
+
+    /// Whether the day begins open.
+    pub fn start_open(&self) -> bool
+        ensures { result ≡ self.now.start_open }
+    {
+        self.start_open
+    }
+
+    /// The stocks, in order of their locates, which count from 1.
+    pub fn stocks(&self) -> &[Stock]
+        ensures { result.now ≡ self.now.stocks }
+    {
+        &self.stocks
+    }
+
+    /// The members, by rising number.
+    pub fn members(&self) -> &[Member]
+        ensures { result.now ≡ self.now.members }
+    {
+        &self.members
+    }
+
+    /// The stock of a locate (ITCH 5.0: Stock Locate), if there is one.
+    pub fn stock(&self, locate: u16) -> Option<&Stock>
+        ensures { option_map (λ s. s.now) result ≡ stock_at self.now locate }
+    {
+        if locate == 0 {
+            return None;
+        }
+        self.stocks.get(locate as usize - 1)
+    }
+
+    /// The locate of a stock, if it is one of the day's.
+    pub fn locate(&self, symbol: Symbol) -> Option<u16>
+        ensures { result ≡ locate_of self.now symbol }
+    {
+        self.locates.get(&symbol).copied()
+    }
+
+    /// The member of this number, if there is one.
+    pub fn member(&self, number: MemberNo) -> Option<&Member>
+        ensures { option_map (λ m. m.now) result ≡ member_of self.now number }
+    {
+        let place = *self.places.get(&number)?;
+        self.members.get(place as usize)
+    }
+
+    /// The member who logs in so (SoupBinTCP 3.00, Login Request: Username and Password). Both are compared without
+    /// regard to case and to spaces on their right.
+    pub fn login(&self, user: &[u8; 6], password: &[u8; 10]) -> Option<MemberNo>
+        ensures { result ≡ login_of self.now user.now password.now }
+    {
+        for member in &self.members {
+            if is_same_login(user, &member.user) && is_same_login(password, &member.password) {
+                return Some(member.number);
+            }
+        }
+        None
+    }
+}
+
+/// A stock of the standard setup.
+fn stock(symbol: [u8; 8]) -> Stock
+    ensures { result ≡ stock_named symbol }
+{
+    Stock {
+        symbol: Symbol(symbol),
+        tail: *b"Q \0\0\0dNCZ P  1N\0\0\0\0N",
+    }
+}
+
+/// A member of the standard setup.
+fn member(number: u16, firm: [u8; 4], user: [u8; 6], password: [u8; 10]) -> Member
+    requires { IsMember number }
+    ensures { result ≡ member_with number firm user password 1000 }
+{
+    Member {
+        number: MemberNo::of(number).unwrap(),
+        firm: Firm(firm),
+        user,
+        password,
+        limit: 1000,
+    }
+}

@@ -1,0 +1,144 @@
+//! The used tokens of all members, in order of use, and what their chains have done.
+ghost use Rattle.std.specs.Prelude.{◌≡◌, ℕ, ◌+◌, ◌<◌, ◌^◌, ◌++◌, [], ◌∷◌, length, Some, None, IfSome, OnOk, OnErr, slice_set, true, false};
+ghost use Rattle.hx_units.specs.declared.names.Token.{Token as TokenName};
+ghost use Rattle.hx_members.specs.Chains.{is_used, place_of, entered_of, entered_used, entered_chain, replacing_used, entered_at, executed_at, noted_at, IsEnteredAt, IsChainAt};
+ghost use Rattle.hx_members.specs.Rows.{name_of};
+ghost use Rattle.hx_members.specs.Tokens.{state_of};
+
+use crate::name::{Name, TokenState};
+use crate::rows::{Rows, UsedToken};
+use hx_units::{MemberNo, NoMemory, Token};
+use std::alloc::Global;
+use std::marker::Model;
+
+/// The used tokens of all members, in order of use, and one reserved place.
+///
+/// A chain is an entered token with the tokens that replaced it. It is named by its member and its entered token; calls
+/// name it by that token's place in the order of use.
+#[derive(Drop)]
+pub struct Tokens {
+    kept: Rows,
+}
+
+impl Model for Tokens {
+    ghost use Rattle.hx_members.specs.Rows.{IsSound};
+    ghost use Rattle.hx_members.specs.Tokens.{TokenList, list_of};
+
+    ghost Value = { TokenList };
+
+    ghost view = { λ t. list_of t.kept };
+
+    ghost invariant = { λ t. IsSound t.kept.rows };
+}
+
+impl Tokens {
+    /// No token is used, and no place is reserved.
+    pub fn new(alloc: Global) -> Self
+        ensures tokens { result.tokens ≡ [] }
+        ensures chains { result.chains ≡ [] }
+        ensures keys { result.keys ≡ [] }
+        ensures place { result.place ≡ None }
+    {
+        Tokens {
+            kept: Rows::new(alloc),
+        }
+    }
+
+    /// How many tokens are used: the place that the next one gets.
+    pub fn count(&self) -> u64
+        ensures { result ≡ length self.now.tokens }
+    {
+        self.kept.len()
+    }
+
+    /// What is told of a token, if the member has used it.
+    pub fn state(&self, member: MemberNo, token: &Token) -> Option<TokenState>
+        ensures state { result ≡ state_of self.now.tokens self.now.chains self.now.keys member token.now }
+        ensures entered { IfSome result (λ state. IsEnteredAt self.now.tokens member (entered_of self.now.tokens member token.now) state.chain) }
+    {
+        self.kept.state(Name {
+            member,
+            token: *token,
+        })
+    }
+
+    /// Makes a place for this token, which holds until it is used or another place is reserved. It fails only for want
+    /// of memory.
+    pub fn reserve(&mut self, member: MemberNo, token: &Token) -> Result<(), NoMemory>
+        ensures tokens { self.new.tokens ≡ self.old.tokens }
+        ensures chains { self.new.chains ≡ self.old.chains }
+        ensures keys { self.new.keys ≡ self.old.keys }
+        ensures ok { OnOk result (self.new.place ≡ Some (name_of member token.now)) }
+        ensures err { OnErr result (self.new.place ≡ self.old.place) }
+    {
+        self.kept.reserve(Name {
+            member,
+            token: *token,
+        })
+    }
+
+    /// The token becomes used, as a chain of its own.
+    pub fn consume(&mut self, member: MemberNo, token: &Token)
+        requires place { self.old.place ≡ Some (name_of member token.now) }
+        requires unused { is_used self.old.tokens member token.now ≡ false }
+        ensures tokens { self.new.tokens ≡ self.old.tokens ++ entered_used member token.now ∷ [] }
+        ensures chains { self.new.chains ≡ self.old.chains ++ entered_chain member token.now ∷ [] }
+        ensures keys { self.new.keys ≡ self.old.keys ++ None ∷ [] }
+        ensures place { self.new.place ≡ None }
+    {
+        let chain = self.kept.len();
+        let name = Name {
+            member,
+            token: *token,
+        };
+        self.kept.push(name, UsedToken::fresh(*token, chain));
+    }
+
+    /// The token becomes used, in the chain of the member's entered token at this place.
+    pub fn join_chain(&mut self, member: MemberNo, token: &Token, chain: u64)
+        requires place { self.old.place ≡ Some (name_of member token.now) }
+        requires unused { is_used self.old.tokens member token.now ≡ false }
+        requires there { (entered : TokenName) × IsEnteredAt self.old.tokens member entered chain }
+        ensures tokens { self.new.tokens ≡ self.old.tokens ++ replacing_used member token.now (entered_at self.old.tokens chain token.now) ∷ [] }
+        ensures chains { self.new.chains ≡ self.old.chains }
+        ensures keys { self.new.keys ≡ self.old.keys ++ None ∷ [] }
+        ensures place { self.new.place ≡ None }
+    {
+        let entered = self.kept.entered(chain as usize, *token);
+        let name = Name {
+            member,
+            token: *token,
+        };
+        self.kept.push(name, UsedToken::fresh(entered, chain));
+    }
+
+    /// Sets the key of a used token's live order.
+    pub fn settle(&mut self, member: MemberNo, token: &Token, key: Option<usize>)
+        requires used { is_used self.old.tokens member token.now ≡ true }
+        ensures tokens { self.new.tokens ≡ self.old.tokens }
+        ensures chains { self.new.chains ≡ self.old.chains }
+        ensures keys { self.new.keys ≡ slice_set self.old.keys (place_of self.old.tokens member token.now) key }
+        ensures place { self.new.place ≡ self.old.place }
+    {
+        let name = Name {
+            member,
+            token: *token,
+        };
+        if let Some(place) = self.kept.place(name) {
+            self.kept.settle(place, key);
+        }
+    }
+
+    /// Adds to what the chain of the entered token at this place has done: so many shares executed, and displayed or
+    /// not. A chain trades by its first executed share.
+    pub fn note(&mut self, chain: u64, shares: u32, displayed: bool)
+        requires there { IsChainAt self.old.tokens chain }
+        requires fits { executed_at self.old.tokens self.old.chains chain + shares < 2 ^ 32 }
+        ensures tokens { self.new.tokens ≡ self.old.tokens }
+        ensures chains { self.new.chains ≡ noted_at self.old.tokens chain shares displayed self.old.chains }
+        ensures keys { self.new.keys ≡ self.old.keys }
+        ensures place { self.new.place ≡ self.old.place }
+    {
+        self.kept.note(chain as usize, shares, displayed);
+    }
+}

@@ -1,0 +1,2 @@
+pub mod InboundLaws
+pub mod OutboundLaws

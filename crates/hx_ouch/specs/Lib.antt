@@ -1,0 +1,2 @@
+pub mod Inbound
+pub mod Outbound

@@ -1,0 +1,201 @@
+-- A reply to a member (OUCH 4.2, Outbound Messages): what its bytes say, and how it is written.
+use Rattle.std.specs.Prelude.{ℕ, ◌^◌, ◌<◌, ◌≡◌, ◌∷◌, ◌++◌, List, [], Option, Some, None, length, Bool, ◌||◌, if◌then◌else◌}
+use Rattle.hx_units.specs.Fields.{is_message, byte_at, text_at, number_at, spelled}
+use Rattle.hx_ouch.specs.declared.outbound.SystemEvent.{SystemEvent}
+use Rattle.hx_ouch.specs.declared.outbound.Accepted.{Accepted}
+use Rattle.hx_ouch.specs.declared.outbound.Replaced.{Replaced}
+use Rattle.hx_ouch.specs.declared.outbound.Canceled.{Canceled}
+use Rattle.hx_ouch.specs.declared.outbound.Executed.{Executed}
+use Rattle.hx_ouch.specs.declared.outbound.Rejected.{Rejected}
+use Rattle.hx_ouch.specs.declared.outbound.Outbound.{Outbound}
+use Rattle.hx_ouch.specs.declared.outbound.Outbound.TheVariants as variant
+
+-- ---- System Event, 10 bytes of type S
+
+abbrev pub system_event_of : List ℕ → SystemEvent
+system_event_of bytes = record {
+  time = number_at 1 8 bytes;
+  event_code = byte_at 9 bytes;
+}
+
+abbrev pub system_event_bytes : SystemEvent → List ℕ
+system_event_bytes m = (83 ∷ []) ++ spelled 8 m.time ++ (m.event_code ∷ [])
+
+pub record IsSystemEvent (m : SystemEvent) : Type 0 where
+  pub time : m.time < 2 ^ 64
+
+-- ---- Accepted, 66 bytes of type A
+
+abbrev pub accepted_of : List ℕ → Accepted
+accepted_of bytes = record {
+  time = number_at 1 8 bytes;
+  token = record { 0 = text_at 9 14 bytes };
+  side = byte_at 23 bytes;
+  shares = number_at 24 4 bytes;
+  stock = record { 0 = text_at 28 8 bytes };
+  price = number_at 36 4 bytes;
+  time_in_force = number_at 40 4 bytes;
+  firm = record { 0 = text_at 44 4 bytes };
+  display = byte_at 48 bytes;
+  reference = number_at 49 8 bytes;
+  capacity = byte_at 57 bytes;
+  intermarket_sweep = byte_at 58 bytes;
+  minimum_quantity = number_at 59 4 bytes;
+  cross_type = byte_at 63 bytes;
+  order_state = byte_at 64 bytes;
+  bbo_weight = byte_at 65 bytes;
+}
+
+abbrev pub accepted_bytes : Accepted → List ℕ
+accepted_bytes m = (65 ∷ []) ++ spelled 8 m.time ++ m.token.0 ++ (m.side ∷ []) ++ spelled 4 m.shares
+    ++ m.stock.0 ++ spelled 4 m.price ++ spelled 4 m.time_in_force ++ m.firm.0 ++ (m.display ∷ [])
+    ++ spelled 8 m.reference ++ (m.capacity ∷ []) ++ (m.intermarket_sweep ∷ [])
+    ++ spelled 4 m.minimum_quantity ++ (m.cross_type ∷ []) ++ (m.order_state ∷ [])
+    ++ (m.bbo_weight ∷ [])
+
+pub record IsAccepted (m : Accepted) : Type 0 where
+  pub time : m.time < 2 ^ 64
+  pub token : length m.token.0 ≡ 14
+  pub shares : m.shares < 2 ^ 32
+  pub stock : length m.stock.0 ≡ 8
+  pub price : m.price < 2 ^ 32
+  pub time_in_force : m.time_in_force < 2 ^ 32
+  pub firm : length m.firm.0 ≡ 4
+  pub reference : m.reference < 2 ^ 64
+  pub minimum_quantity : m.minimum_quantity < 2 ^ 32
+
+-- ---- Replaced, 80 bytes of type U
+
+abbrev pub replaced_of : List ℕ → Replaced
+replaced_of bytes = record {
+  time = number_at 1 8 bytes;
+  replacement_token = record { 0 = text_at 9 14 bytes };
+  side = byte_at 23 bytes;
+  shares = number_at 24 4 bytes;
+  stock = record { 0 = text_at 28 8 bytes };
+  price = number_at 36 4 bytes;
+  time_in_force = number_at 40 4 bytes;
+  firm = record { 0 = text_at 44 4 bytes };
+  display = byte_at 48 bytes;
+  reference = number_at 49 8 bytes;
+  capacity = byte_at 57 bytes;
+  intermarket_sweep = byte_at 58 bytes;
+  minimum_quantity = number_at 59 4 bytes;
+  cross_type = byte_at 63 bytes;
+  order_state = byte_at 64 bytes;
+  previous_token = record { 0 = text_at 65 14 bytes };
+  bbo_weight = byte_at 79 bytes;
+}
+
+abbrev pub replaced_bytes : Replaced → List ℕ
+replaced_bytes m = (85 ∷ []) ++ spelled 8 m.time ++ m.replacement_token.0 ++ (m.side ∷ [])
+    ++ spelled 4 m.shares ++ m.stock.0 ++ spelled 4 m.price ++ spelled 4 m.time_in_force ++ m.firm.0
+    ++ (m.display ∷ []) ++ spelled 8 m.reference ++ (m.capacity ∷ []) ++ (m.intermarket_sweep ∷ [])
+    ++ spelled 4 m.minimum_quantity ++ (m.cross_type ∷ []) ++ (m.order_state ∷ [])
+    ++ m.previous_token.0 ++ (m.bbo_weight ∷ [])
+
+pub record IsReplaced (m : Replaced) : Type 0 where
+  pub time : m.time < 2 ^ 64
+  pub replacement_token : length m.replacement_token.0 ≡ 14
+  pub shares : m.shares < 2 ^ 32
+  pub stock : length m.stock.0 ≡ 8
+  pub price : m.price < 2 ^ 32
+  pub time_in_force : m.time_in_force < 2 ^ 32
+  pub firm : length m.firm.0 ≡ 4
+  pub reference : m.reference < 2 ^ 64
+  pub minimum_quantity : m.minimum_quantity < 2 ^ 32
+  pub previous_token : length m.previous_token.0 ≡ 14
+
+-- ---- Canceled, 28 bytes of type C
+
+abbrev pub canceled_of : List ℕ → Canceled
+canceled_of bytes = record {
+  time = number_at 1 8 bytes;
+  token = record { 0 = text_at 9 14 bytes };
+  shares = number_at 23 4 bytes;
+  reason = byte_at 27 bytes;
+}
+
+abbrev pub canceled_bytes : Canceled → List ℕ
+canceled_bytes m = (67 ∷ []) ++ spelled 8 m.time ++ m.token.0 ++ spelled 4 m.shares
+    ++ (m.reason ∷ [])
+
+pub record IsCanceled (m : Canceled) : Type 0 where
+  pub time : m.time < 2 ^ 64
+  pub token : length m.token.0 ≡ 14
+  pub shares : m.shares < 2 ^ 32
+
+-- ---- Executed, 40 bytes of type E
+
+abbrev pub executed_of : List ℕ → Executed
+executed_of bytes = record {
+  time = number_at 1 8 bytes;
+  token = record { 0 = text_at 9 14 bytes };
+  shares = number_at 23 4 bytes;
+  price = number_at 27 4 bytes;
+  liquidity_flag = byte_at 31 bytes;
+  match_number = number_at 32 8 bytes;
+}
+
+abbrev pub executed_bytes : Executed → List ℕ
+executed_bytes m = (69 ∷ []) ++ spelled 8 m.time ++ m.token.0 ++ spelled 4 m.shares
+    ++ spelled 4 m.price ++ (m.liquidity_flag ∷ []) ++ spelled 8 m.match_number
+
+pub record IsExecuted (m : Executed) : Type 0 where
+  pub time : m.time < 2 ^ 64
+  pub token : length m.token.0 ≡ 14
+  pub shares : m.shares < 2 ^ 32
+  pub price : m.price < 2 ^ 32
+  pub match_number : m.match_number < 2 ^ 64
+
+-- ---- Rejected, 24 bytes of type J
+
+abbrev pub rejected_of : List ℕ → Rejected
+rejected_of bytes = record {
+  time = number_at 1 8 bytes;
+  token = record { 0 = text_at 9 14 bytes };
+  reason = byte_at 23 bytes;
+}
+
+abbrev pub rejected_bytes : Rejected → List ℕ
+rejected_bytes m = (74 ∷ []) ++ spelled 8 m.time ++ m.token.0 ++ (m.reason ∷ [])
+
+pub record IsRejected (m : Rejected) : Type 0 where
+  pub time : m.time < 2 ^ 64
+  pub token : length m.token.0 ≡ 14
+
+-- ---- any message
+
+-- what the bytes say
+abbrev pub outbound_of : List ℕ → Option Outbound
+outbound_of bytes =
+    if is_message 10 83 bytes then Some (variant.SystemEvent (system_event_of bytes))
+    else if is_message 66 65 bytes then Some (variant.Accepted (accepted_of bytes))
+    else if is_message 80 85 bytes then Some (variant.Replaced (replaced_of bytes))
+    else if is_message 28 67 bytes then Some (variant.Canceled (canceled_of bytes))
+    else if is_message 40 69 bytes then Some (variant.Executed (executed_of bytes))
+    else if is_message 24 74 bytes then Some (variant.Rejected (rejected_of bytes))
+    else None
+
+-- whether they are a message at all, by their length and type
+abbrev pub is_outbound : List ℕ → Bool
+is_outbound bytes = is_message 10 83 bytes || is_message 66 65 bytes || is_message 80 85 bytes
+    || is_message 28 67 bytes || is_message 40 69 bytes || is_message 24 74 bytes
+
+-- the spelling that is written
+abbrev pub outbound_bytes : Outbound → List ℕ
+outbound_bytes (variant.SystemEvent m) = system_event_bytes m
+outbound_bytes (variant.Accepted m) = accepted_bytes m
+outbound_bytes (variant.Replaced m) = replaced_bytes m
+outbound_bytes (variant.Canceled m) = canceled_bytes m
+outbound_bytes (variant.Executed m) = executed_bytes m
+outbound_bytes (variant.Rejected m) = rejected_bytes m
+
+-- each number fits into its bytes, and each name has its length
+abbrev pub IsOutbound : Outbound → Type 0
+IsOutbound (variant.SystemEvent m) = IsSystemEvent m
+IsOutbound (variant.Accepted m) = IsAccepted m
+IsOutbound (variant.Replaced m) = IsReplaced m
+IsOutbound (variant.Canceled m) = IsCanceled m
+IsOutbound (variant.Executed m) = IsExecuted m
+IsOutbound (variant.Rejected m) = IsRejected m

@@ -1,0 +1,64 @@
+//! The ends of each range, as the public standards and the rules of the exchange give them.
+use super::*;
+use std::alloc::AllocError;
+use std::test::Fail;
+
+#[test]
+fn prices_and_shares(rt: HostRuntime) {
+    assert_eq!(rt; Price::of(0), None);
+    assert_eq!(rt; Price::of(1).map(Price::get), Some(1));
+    assert_eq!(rt;
+        Price::of(1_999_999_900).map(Price::get),
+        Some(1_999_999_900)
+    );
+    assert_eq!(rt; Price::of(1_999_999_901), None);
+    assert_eq!(rt; Shares::of(0), None);
+    assert_eq!(rt; Shares::of(1).map(Shares::get), Some(1));
+    assert_eq!(rt; Shares::of(999_999).map(Shares::get), Some(999_999));
+    assert_eq!(rt; Shares::of(1_000_000), None);
+}
+
+#[test]
+fn times_and_members(rt: HostRuntime) {
+    assert_eq!(rt; Nanos::of(0).map(Nanos::get), Some(0));
+    assert_eq!(rt;
+        Nanos::of(86_399_999_999_999).map(Nanos::get),
+        Some(86_399_999_999_999)
+    );
+    assert_eq!(rt; Nanos::of(86_400_000_000_000), None);
+    assert_eq!(rt; MemberNo::of(0), None);
+    assert_eq!(rt; MemberNo::of(1).map(MemberNo::get), Some(1));
+    assert_eq!(rt; MemberNo::of(4_095).map(MemberNo::get), Some(4_095));
+    assert_eq!(rt; MemberNo::of(4_096), None);
+}
+
+#[test]
+fn sides(rt: HostRuntime) {
+    for letter in *b"BSTE" {
+        assert_eq!(rt; Side::of(letter).map(Side::get), Some(letter));
+    }
+    assert_eq!(rt; Side::of(b'b'), None);
+}
+
+#[test]
+fn want_of_memory(rt: HostRuntime) -> Result<(), Fail> {
+    assert_eq!(rt; NoMemory::from(AllocError), NoMemory);
+    let text = format!(in rt.alloc(); "{NoMemory}")?;
+    assert_eq!(rt; text.as_str(), "no memory");
+    Ok(())
+}
+
+// The shares and the price of the order of 100 shares at 10 dollars, as they stand in its bytes.
+#[test]
+fn fields_of_a_message(rt: HostRuntime) {
+    let bytes = b"\x00\x00\x00\x00\x00\x64\x00\x01\x86\xa0";
+    assert_eq!(rt; fields::array_at(bytes, 5), [100, 0]);
+    assert_eq!(rt; fields::u16_at(bytes, 4), 100);
+    assert_eq!(rt; fields::u32_at(bytes, 6), 100_000);
+    assert_eq!(rt; fields::u48_at(bytes, 0), 100);
+    assert_eq!(rt; fields::u64_at(bytes, 2), 429_496_829_600);
+    assert_eq!(rt; fields::u16_bytes(100), [0, 100]);
+    assert_eq!(rt; fields::u32_bytes(100_000), [0, 1, 0x86, 0xa0]);
+    assert_eq!(rt; fields::u48_bytes(100), [0, 0, 0, 0, 0, 100]);
+    assert_eq!(rt; fields::u64_bytes(100_000), [0, 0, 0, 0, 0, 1, 0x86, 0xa0]);
+}
