@@ -1,8 +1,6 @@
 -- A chain's executed shares and the open shares of its live orders stay within the shares of one message.
-use Rattle.std.proofs.Common.{◌≡◌, ℕ, zero, suc, ◌+◌, ◌-◌, ◌<◌, ◌≤◌, ◌^◌, min, Bool, true, false, cond, eqb, ltb, ◌&&◌, List, [], ◌∷◌, ◌++◌, length, Option, Some, None, refl, sym, ap, ◌∙◌, subst, arith, eq-eqb, eqb-true, slice_get}
-use Rattle.std.specs.Prelude.{◌==◌}
+use Rattle.std.proofs.Common.{◌≡◌, ℕ, zero, suc, ◌+◌, ◌-◌, ◌≤◌, min, Bool, true, false, cond, eqb, ltb, ◌&&◌, List, [], ◌∷◌, ◌++◌, Option, Some, None, refl, sym, ap, ◌∙◌, subst, arith, eq-eqb, eqb-true}
 use Rattle.std.specs.Option.{IfSome, option_map_or}
-use Rattle.std.specs.List.{AllByRecursion}
 use Rattle.std.proofs.lemmas.Bool.{cond-true, cond-false, cond_both, and_parts}
 use Rattle.std.proofs.lemmas.Bool.Decides.{nat_tests}
 use Rattle.std.proofs.lemmas.Slice.Eq.{bytes_eq-Decides}
@@ -11,8 +9,8 @@ use Rattle.hx_units.specs.Names.{is_token}
 use Rattle.hx_levels.specs.declared.order.Order.{Order}
 use Rattle.hx_levels.specs.Book.{outranks}
 use Rattle.hx_match.specs.declared.fills.Incoming.{Incoming}
-use Rattle.hx_match.specs.Matching.{Execution, Place, Matched, PlaceOf, MatchedOf, behind, first_of_entries, passes, first_entry, first_by_rank, less_of, matched_by, matched_entries, itself, with_shares}
-use Rattle.hx_members.specs.Chains.{Used, Chain, is_used, is_chain, entered_of, executed_by, executed_at, note, noted, IsEnteredAt, entered_used, noted_at}
+use Rattle.hx_match.specs.Matching.{Execution, Place, Matched, behind, first_of_entries, passes, first_entry, less_of, matched_by, matched_entries, itself, with_shares}
+use Rattle.hx_members.specs.Chains.{Used, Chain, is_chain, entered_of, executed_by, executed_at, note, noted, IsEnteredAt, noted_at}
 use Rattle.hx_market.specs.Keeping.{noted_both, chains_by, CanNote, CanNoteAll, own, is_name, open_in, IsPlaced, ArePlaced}
 use Rattle.hx_market.specs.Executions.{chains_after}
 

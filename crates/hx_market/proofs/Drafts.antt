@@ -1,5 +1,5 @@
 -- What is prepared of an act tells what the act tells.
-use Rattle.std.proofs.Common.{◌≡◌, ℕ, List, [], ◌∷◌, map, length, Option, refl, sym, ap, ◌∙◌}
+use Rattle.std.proofs.Common.{◌≡◌, ℕ, List, map, length, Option, refl, sym, ap, ◌∙◌}
 use Rattle.hx_members.specs.Setups.{Setup}
 use Rattle.hx_market.specs.declared.event.Event.{Event}
 use Rattle.hx_market.specs.Outputs.{Outcome}

@@ -6,3 +6,6 @@ pub mod Plans
 pub mod Passing
 pub mod Drafts
 pub mod Outcomes
+pub mod Walks
+pub mod Timed
+pub mod Computing

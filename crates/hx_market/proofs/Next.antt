@@ -1,24 +1,23 @@
 -- The market stays sound: at the opening, where an event is recorded, rejected, accepted.
-use Rattle.std.proofs.Common.{◌≡◌, ℕ, zero, suc, ◌+◌, ◌-◌, ◌*◌, ◌<◌, ◌≤◌, ◌^◌, ◌&&◌, not, if◌then◌else◌, Bool, true, false, cond, ltb, List, [], ◌∷◌, ◌++◌, length, replicate, Option, Some, None, refl, sym, ap, ◌∙◌, subst, arith, slice_index}
+use Rattle.std.proofs.Common.{◌≡◌, ℕ, zero, suc, ◌+◌, ◌*◌, ◌≤◌, ◌&&◌, not, if◌then◌else◌, Bool, true, false, cond, ltb, List, [], ◌∷◌, ◌++◌, length, replicate, refl, sym, ap, ◌∙◌, subst, arith, slice_index}
 use Rattle.std.specs.List.{AllByRecursion}
 use Rattle.std.proofs.lemmas.Bool.{cond_both}
-use Rattle.std.proofs.lemmas.Bool.Decides.{nat_tests}
 use Rattle.hx_units.specs.declared.names.Token.{Token}
 use Rattle.hx_levels.specs.declared.order.Order.{Order}
-use Rattle.hx_match.specs.Matching.{Execution, Matched, matched, matched_entries, itself, with_shares}
+use Rattle.hx_match.specs.Matching.{Execution, Matched, matched}
 use Rattle.hx_members.specs.Chains.{Used, Chain, is_used, entered_of, executed_by, note, IsEnteredAt, entered_used}
 use Rattle.hx_members.specs.Setups.{Setup}
-use Rattle.hx_refs.specs.Numbers.{Numbers, raised, private_drawn, public_drawn}
+use Rattle.hx_refs.specs.Numbers.{Numbers, raised}
 use Rattle.hx_ouch.specs.declared.inbound.Enter.{Enter}
-use Rattle.hx_market.specs.Orders.{is_shown, is_immediate}
-use Rattle.hx_market.specs.Markets.{Market, opening, no_counts}
+use Rattle.hx_market.specs.Orders.{is_immediate}
+use Rattle.hx_market.specs.Markets.{Market, opening}
 use Rattle.hx_market.specs.Executions.{chains_after, incoming_of, resting_of, displays, arrive}
 use Rattle.hx_market.specs.Entering.{consumed, drawn, accept_order, reject, after_draw}
 use Rattle.hx_market.specs.Ready.{MayRecord}
-use Rattle.hx_market.specs.Keeping.{own, is_name, open_in, IsPlaced, ArePlaced, CanNote, CanNoteAll, chains_by, total, IsSound, CanAccept}
-use Rattle.hx_market.proofs.Budget.{name-self, own-true, open-append, IsWithin, Counted, counted, executed-noted, can, placed-append}
-use Rattle.hx_market.proofs.Used.{placed-more, open-more, open-unused, executed-unused, executed-fresh, chained-more, chained-append, chained-noted, entered-last, used-last, get-last, length-push, same-name}
-use Rattle.hx_market.proofs.Sound.{ended, total-raised, total-within, length-raised, raised-same, raised-along, raised-limited}
+use Rattle.hx_market.specs.Keeping.{own, is_name, open_in, IsPlaced, ArePlaced, CanNote, chains_by, total, IsSound, CanAccept}
+use Rattle.hx_market.proofs.Budget.{open-append, IsWithin, Counted, counted, executed-noted, can, placed-append}
+use Rattle.hx_market.proofs.Used.{placed-more, open-more, open-unused, executed-unused, executed-fresh, chained-more, chained-append, chained-noted, entered-last, used-last, get-last, same-name}
+use Rattle.hx_market.proofs.Sound.{ended, total-raised, total-within, length-raised, raised-along, raised-limited}
 
 zeros : (n i : ℕ) → slice_index (replicate n 0) i ≤ 0
 zeros zero i = omega arith
@@ -148,7 +147,6 @@ noted_within true i en cs k t = let a = executed-noted i en 0 true cs k t in let
     none false = refl
 noted_within false i en cs k t = omega arith
 
-
 -- what holds of the numbers before an order arrives
 pub record AreReady (m : Market) : Type 0 where
   pub public : m.numbers.public ≤ total m.recorded
@@ -224,7 +222,6 @@ arrives_entered m x shown h new =
 pub draws : (numbers : Numbers) (i : ℕ) (shown : Bool) → ((after_draw numbers i shown).public ≤ numbers.public + 1) × ((after_draw numbers i shown).matches ≡ numbers.matches)
 draws numbers i true = (omega arith, refl)
 draws numbers i false = (omega arith, refl)
-
 
 -- the numbers have room for an entered order, and so have the chains
 pub can_accept : (m : Market) (x : Order) → IsSound m → MayRecord m.recorded x.member → IsEntered m x

@@ -1,19 +1,16 @@
 -- What an act leaves: a sound market again.
-use Rattle.std.proofs.Common.{◌≡◌, ℕ, ◌<◌, ◌≤◌, Bool, false, List, [], length, Option, refl, sym, ap, ◌∙◌, subst}
+use Rattle.std.proofs.Common.{◌≡◌, ℕ, [], length, refl, sym, subst}
 use Rattle.hx_levels.specs.declared.order.Order.{Order}
-use Rattle.hx_members.specs.Chains.{is_used}
 use Rattle.hx_members.specs.Setups.{Setup}
-use Rattle.hx_refs.specs.Numbers.{raised}
 use Rattle.hx_market.specs.declared.acting.Act.{Act}
 use Rattle.hx_market.specs.declared.acting.Act.TheVariants.{Nothing, Reject, Accept}
 use Rattle.hx_market.specs.declared.acting.Accepting.{Accepting}
 use Rattle.hx_market.specs.Markets.{Market}
 use Rattle.hx_market.specs.Orders.{is_shown}
-use Rattle.hx_market.specs.Outputs.{Told}
 use Rattle.hx_market.specs.Entering.{next_reference}
 use Rattle.hx_market.specs.Keeping.{IsSound}
 use Rattle.hx_market.specs.Ready.{IsAct, IsUnused, IsOf, IsInTime, FitsAct, MayRecord, order_of_accepting, outcome_of}
-use Rattle.hx_market.proofs.Next.{recording, IsEntered, can_accept, sound_recorded, sound_rejected, sound_accepted}
+use Rattle.hx_market.proofs.Next.{recording, can_accept, sound_recorded, sound_rejected, sound_accepted}
 
 -- without hours and counts, which no act reads
 abbrev pub bare : Market → Market

@@ -1,17 +1,13 @@
 -- What a message has that nothing rejects, and an event that is not refused.
-use Rattle.std.proofs.Common.{◌≡◌, ℕ, ◌<◌, ◌≤◌, Bool, true, false, ◌==◌, ◌||◌, ◌&&◌, not, List, [], ◌∷◌, Option, Some, None, if◌then◌else◌, ◌%◌, refl, sym, ap, ◌∙◌, subst, nat_lt, nat_le, arith}
+use Rattle.std.proofs.Common.{◌≡◌, ℕ, ◌<◌, ◌≤◌, Bool, true, false, ◌==◌, ◌||◌, ◌&&◌, not, List, [], ◌∷◌, Some, None, if◌then◌else◌, ◌%◌, refl, nat_lt, nat_le, arith}
 use Rattle.std.specs.Prelude.{is_none, is_some}
 use Rattle.std.specs.List.{AllByRecursion}
 use Rattle.std.proofs.lemmas.Bool.{or_parts, and_parts}
 use Rattle.std.proofs.lemmas.Bool.Decides.{nat_tests}
-use Rattle.hx_units.specs.declared.names.Token.{Token}
 use Rattle.hx_members.specs.Setups.{Setup, locate_of, member_of}
-use Rattle.hx_members.specs.declared.stock.Member.{Member}
 use Rattle.hx_members.specs.declared.name.TokenState.{TokenState}
 use Rattle.hx_ouch.specs.declared.inbound.Enter.{Enter}
-use Rattle.hx_market.specs.Markets.{is_open}
-use Rattle.hx_market.specs.Orders.{is_side, is_display}
-use Rattle.hx_market.specs.Entering.{Reason, first_reason, reasons, rejection, is_late, is_bad_shares, is_bad_price}
+use Rattle.hx_market.specs.Entering.{Reason, first_reason, reasons, rejection, is_bad_price}
 use Rattle.hx_market.specs.Admitting.{known_member}
 
 -- where there is no letter, no reason applies

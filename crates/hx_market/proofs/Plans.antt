@@ -1,13 +1,12 @@
 -- What the fills of a plan stand for, and how much they tell.
-use Rattle.std.proofs.Common.{◌≡◌, ℕ, suc, ◌+◌, ◌≤◌, ◌<◌, Bool, true, false, cond, eqb, ltb, ◌&&◌, not, if◌then◌else◌, List, [], ◌∷◌, ◌++◌, map, length, Option, Some, None, refl, sym, ap, ◌∙◌, subst, arith, eq-eqb, eqb-true}
+use Rattle.std.proofs.Common.{◌≡◌, ℕ, suc, ◌+◌, Bool, true, false, cond, ltb, ◌&&◌, not, if◌then◌else◌, List, [], ◌∷◌, ◌++◌, map, length, Option, Some, None, refl, sym, ap, ◌∙◌, arith, eq-eqb, eqb-true}
 use Rattle.std.specs.Option.{option_map, option_map_or}
-use Rattle.std.specs.List.{AllByRecursion, find, filter}
-use Rattle.std.proofs.lemmas.Bool.{cond-true, cond-false, cond_both, or_parts, and_parts}
+use Rattle.std.specs.List.{AllByRecursion, find}
+use Rattle.std.proofs.lemmas.Bool.{cond_both, or_parts}
 use Rattle.hx_units.specs.declared.names.Token.{Token}
 use Rattle.hx_units.specs.declared.names.Symbol.{Symbol}
 use Rattle.hx_levels.specs.declared.order.Order.{Order}
 use Rattle.hx_levels.specs.declared.order.Live.{Live}
-use Rattle.hx_levels.specs.Lists.{drop_first}
 use Rattle.hx_levels.specs.Book.{order_of, is_under, has_key, KeysDiffer, reduced, without, with_less, lives}
 use Rattle.hx_match.specs.declared.fills.Fill.{Fill}
 use Rattle.hx_match.specs.Matching.{Execution, Matched, matched}

@@ -1,25 +1,15 @@
 -- What a market keeps so that the next event can be committed.
-use Rattle.std.proofs.Common.{◌≡◌, ℕ, zero, suc, ◌+◌, ◌-◌, ◌*◌, ◌<◌, ◌≤◌, ◌^◌, ◌&&◌, not, min, max, Bool, true, false, cond, eqb, ltb, leb, List, [], ◌∷◌, ◌++◌, length, replicate, Option, Some, None, refl, sym, ap, ◌∙◌, subst, arith, eq-eqb, eqb-true, slice_get, slice_index, slice_set}
+use Rattle.std.proofs.Common.{◌≡◌, ℕ, zero, suc, ◌+◌, ◌-◌, ◌*◌, ◌<◌, ◌≤◌, min, max, Bool, true, false, cond, ltb, leb, List, [], ◌∷◌, ◌++◌, length, Option, Some, None, refl, ap, ◌∙◌, arith, slice_index}
 use Rattle.std.specs.Option.{IfSome}
-use Rattle.std.specs.List.{AllByRecursion}
-use Rattle.std.proofs.lemmas.Bool.{cond-true, cond-false, cond_both, ltb-true, and_parts}
+use Rattle.std.proofs.lemmas.Bool.{cond-true, cond_both, ltb-true, and_parts}
 use Rattle.std.proofs.lemmas.Bool.Decides.{nat_tests}
-use Rattle.hx_units.specs.declared.names.Token.{Token}
 use Rattle.hx_levels.specs.declared.order.Order.{Order}
 use Rattle.hx_levels.specs.Book.{outranks, crosses}
 use Rattle.hx_match.specs.declared.fills.Incoming.{Incoming}
-use Rattle.hx_match.specs.Matching.{Execution, Place, Matched, PlaceOf, MatchedOf, behind, first_of_entries, passes, qualifies, terms, first_entry, less_of, matched_by, matched_entries, matched, itself, with_shares}
-use Rattle.hx_members.specs.Chains.{Used, Chain, is_used, is_chain, entered_of, executed_by, note, IsEnteredAt, entered_used}
-use Rattle.hx_members.specs.Setups.{Setup}
-use Rattle.hx_refs.specs.Numbers.{Numbers, raised, private_drawn, public_drawn}
-use Rattle.hx_ouch.specs.declared.inbound.Enter.{Enter}
-use Rattle.hx_market.specs.Orders.{is_shown, is_immediate}
-use Rattle.hx_market.specs.Markets.{Market, opening, no_counts}
-use Rattle.hx_market.specs.Executions.{chains_after, incoming_of, resting_of, displays}
-use Rattle.hx_market.specs.Entering.{consumed, accept, reject, entered_order, next_reference, after_draw}
-use Rattle.hx_market.specs.Keeping.{own, is_name, open_in, IsPlaced, ArePlaced, CanNote, CanNoteAll, chains_by, total, IsSound, CanAccept}
-use Rattle.hx_market.proofs.Budget.{name-self, own-true, open-append, IsWithin, Counted, counted, executed-noted, can, first, StandsIn, split, placed-append}
-use Rattle.hx_market.proofs.Used.{placed-more, open-more, open-unused, executed-unused, executed-fresh, chained-more, chained-append, chained-noted, entered-last, used-last, get-last, length-push}
+use Rattle.hx_match.specs.Matching.{Place, Matched, behind, first_of_entries, passes, qualifies, terms, less_of, matched_by, matched_entries, itself, with_shares}
+use Rattle.hx_refs.specs.Numbers.{raised}
+use Rattle.hx_market.specs.Keeping.{total}
+use Rattle.hx_market.proofs.Budget.{first, StandsIn, split}
 
 length-append : (xs ys : List Order) → length (xs ++ ys) ≡ length xs + length ys
 length-append [] ys = omega arith

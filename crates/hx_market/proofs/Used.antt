@@ -1,14 +1,13 @@
 -- Used tokens, when one more token is used.
-use Rattle.std.proofs.Common.{◌≡◌, ℕ, zero, suc, ◌+◌, ◌<◌, ◌≤◌, Bool, true, false, cond, eqb, ◌&&◌, ◌||◌, List, [], ◌∷◌, ◌++◌, length, Option, Some, None, refl, sym, ap, ◌∙◌, subst, arith, eq-eqb, eqb-true, slice_get}
-use Rattle.std.specs.Prelude.{◌==◌}
-use Rattle.std.specs.List.{AllByRecursion, list_any}
-use Rattle.std.proofs.lemmas.Bool.{cond-true, cond-false, and_parts, or_parts, or_left, or_right}
+use Rattle.std.proofs.Common.{◌≡◌, ℕ, zero, suc, ◌+◌, Bool, true, false, cond, eqb, ◌||◌, List, [], ◌∷◌, ◌++◌, length, Some, None, refl, sym, ap, ◌∙◌, subst, arith, eqb-true, slice_get}
+use Rattle.std.specs.List.{AllByRecursion}
+use Rattle.std.proofs.lemmas.Bool.{cond-true, and_parts, or_left, or_right}
 use Rattle.hx_units.specs.declared.names.Token.{Token}
 use Rattle.hx_units.specs.Names.{is_token}
 use Rattle.hx_levels.specs.declared.order.Order.{Order}
 use Rattle.hx_members.specs.Chains.{Used, Chain, is_use, is_used, is_chain, entered_of, executed_by, note, noted, IsEnteredAt, entered_used}
-use Rattle.hx_market.specs.Keeping.{own, is_name, open_in, IsPlaced, ArePlaced}
-use Rattle.hx_market.proofs.Budget.{is_token-true, is_token-self, name-self}
+use Rattle.hx_market.specs.Keeping.{own, is_name, open_in, ArePlaced}
+use Rattle.hx_market.proofs.Budget.{is_token-true, name-self}
 
 pub used-append : (ts us : List Used) (m : ℕ) (t : Token) → is_used ts m t ≡ true → is_used (ts ++ us) m t ≡ true
 used-append [] us m t h = absurd (let z : false ≡ true = h in cc)

@@ -1,5 +1,5 @@
 -- Which events the market refuses, and why.
-use Rattle.std.specs.Prelude.{ℕ, Bool, true, false, if◌then◌else◌, ◌&&◌, nat_le, List, Option, Some, None, slice_index, is_none}
+use Rattle.std.specs.Prelude.{ℕ, Bool, false, if◌then◌else◌, ◌&&◌, nat_le, List, Option, Some, None, slice_index, is_none}
 use Rattle.std.specs.Option.{option_map_or}
 use Rattle.hx_members.specs.Setups.{Setup, member_of}
 use Rattle.hx_members.specs.declared.stock.Member.{Member}

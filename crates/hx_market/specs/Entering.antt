@@ -1,12 +1,11 @@
 -- The rules of Enter (OUCH 4.2, Enter Order).
-use Rattle.std.specs.Prelude.{ℕ, ◌+◌, ◌%◌, Bool, true, false, if◌then◌else◌, ◌==◌, ◌&&◌, ◌||◌, not, nat_lt, nat_le, List, [], ◌∷◌, ◌++◌, length, Option, Some, None, is_none, unwrap_or}
+use Rattle.std.specs.Prelude.{ℕ, ◌%◌, Bool, true, false, if◌then◌else◌, ◌==◌, ◌&&◌, ◌||◌, not, nat_lt, nat_le, List, [], ◌∷◌, ◌++◌, length, Option, Some, None, is_none, unwrap_or}
 use Rattle.hx_units.specs.declared.names.Firm.{Firm}
 use Rattle.hx_units.specs.Names.{is_firm}
 use Rattle.hx_members.specs.Setups.{Setup, locate_of, firm_of}
 use Rattle.hx_members.specs.Chains.{is_used}
 use Rattle.hx_refs.specs.Numbers.{Numbers, next_public, next_private, public_drawn, private_drawn}
 use Rattle.hx_ouch.specs.declared.inbound.Enter.{Enter}
-use Rattle.hx_ouch.specs.declared.outbound.Outbound.{Outbound}
 use Rattle.hx_ouch.specs.declared.outbound.Outbound.TheVariants.{Accepted, Rejected}
 use Rattle.hx_market.specs.Orders.{Order, Token, is_side, side_of, is_display, is_immediate, is_shown, life_of}
 use Rattle.hx_market.specs.Markets.{Market, is_open, is_after_market}

@@ -2,7 +2,6 @@
 use Rattle.std.specs.Prelude.{ℕ, ◌+◌, Bool, true, false, if◌then◌else◌, ◌==◌, ◌&&◌, not, nat_lt, List, [], ◌∷◌, ◌++◌, length, map}
 use Rattle.std.specs.List.{filter}
 use Rattle.hx_units.specs.declared.names.Symbol.{Symbol}
-use Rattle.hx_levels.specs.declared.order.Terms.{Terms}
 use Rattle.hx_match.specs.declared.fills.Incoming.{Incoming}
 use Rattle.hx_match.specs.Matching.{Execution, Matched, matched}
 use Rattle.hx_members.specs.Chains.{Used, Chain, note, entered_of}

@@ -1,5 +1,5 @@
 -- What a market keeps: its numbers, and the shares of each chain, stay within.
-use Rattle.std.specs.Prelude.{◌≡◌, ℕ, ◌+◌, ◌*◌, ◌-◌, ◌<◌, ◌≤◌, ◌^◌, Bool, true, false, if◌then◌else◌, ◌==◌, ◌&&◌, List, [], ◌∷◌, length, Some, slice_get, slice_index, sum}
+use Rattle.std.specs.Prelude.{◌≡◌, ℕ, ◌+◌, ◌*◌, ◌-◌, ◌<◌, ◌≤◌, ◌^◌, Bool, true, false, if◌then◌else◌, ◌==◌, ◌&&◌, List, [], ◌∷◌, length, slice_index}
 use Rattle.std.specs.List.{AllByRecursion}
 use Rattle.hx_units.specs.Names.{is_token}
 use Rattle.hx_units.specs.declared.names.Token.{Token}
@@ -8,7 +8,7 @@ use Rattle.hx_match.specs.Matching.{Execution}
 use Rattle.hx_market.specs.Markets.{Market}
 use Rattle.hx_market.specs.Executions.{chains_after}
 use Rattle.hx_refs.specs.Numbers.{Numbers}
-use Rattle.hx_members.specs.Chains.{Used, Chain, is_used, entered_of, executed_by, executed_at, IsEnteredAt, IsChainAt, noted_at, note}
+use Rattle.hx_members.specs.Chains.{Used, Chain, is_used, entered_of, executed_by, executed_at, IsEnteredAt, IsChainAt, noted_at}
 
 -- The chains as a plan's executions change them, each order's chain by its number.
 

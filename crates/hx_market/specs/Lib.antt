@@ -8,3 +8,4 @@ pub mod Striking
 pub mod Keeping
 pub mod Admitting
 pub mod Ready
+pub mod Days

@@ -1,5 +1,5 @@
 -- The state of the market.
-use Rattle.std.specs.Prelude.{ℕ, ◌+◌, Bool, if◌then◌else◌, ◌&&◌, nat_lt, nat_le, List, [], replicate}
+use Rattle.std.specs.Prelude.{ℕ, Bool, if◌then◌else◌, ◌&&◌, nat_lt, nat_le, List, [], replicate}
 use Rattle.hx_market.specs.Orders.{Order}
 use Rattle.hx_members.specs.Chains.{Used, Chain}
 use Rattle.hx_members.specs.Setups.{Setup}

@@ -1,7 +1,6 @@
 -- What the market has prepared.
-use Rattle.std.specs.Prelude.{◌≡◌, ℕ, ◌+◌, ◌*◌, ◌<◌, ◌≤◌, Bool, true, false, List, [], ◌∷◌, ◌++◌, length, map, Option, Some, None, slice_index, nat_lt, ◌&&◌, if◌then◌else◌, ⊤}
+use Rattle.std.specs.Prelude.{◌≡◌, ℕ, ◌+◌, ◌*◌, ◌<◌, ◌≤◌, false, List, [], ◌∷◌, ◌++◌, length, map, Option, Some, None, slice_index, nat_lt, ◌&&◌, if◌then◌else◌, ⊤}
 use Rattle.std.specs.Option.{option_map_or}
-use Rattle.std.specs.Global.{Vec}
 use Rattle.std.specs.Vec.{vec_len, vec_capacity}
 use Rattle.hx_units.specs.declared.names.Token.{Token}
 use Rattle.hx_levels.specs.declared.order.Live.{Live}
@@ -9,7 +8,7 @@ use Rattle.hx_levels.specs.declared.order.Terms.{Terms}
 use Rattle.hx_levels.specs.Book.{lives, order_of, KeysDiffer}
 use Rattle.hx_match.specs.declared.fills.Fill.{Fill}
 use Rattle.hx_match.specs.declared.fills.Incoming.{Incoming}
-use Rattle.hx_match.specs.Matching.{Matched, matched}
+use Rattle.hx_match.specs.Matching.{matched}
 use Rattle.hx_match.specs.Executing.{AreGood, done_by, left_by}
 use Rattle.hx_members.specs.Setups.{Setup, locate_of}
 use Rattle.hx_members.specs.Chains.{Used, Chain, is_used, entered_of, entered_used, entered_chain}
@@ -23,10 +22,9 @@ use Rattle.hx_market.specs.declared.output.Output.{Output}
 use Rattle.hx_market.specs.declared.acting.Act.{Act}
 use Rattle.hx_market.specs.declared.acting.Act.TheVariants.{Nothing, Reject, Accept}
 use Rattle.hx_market.specs.declared.acting.Accepting.{Accepting}
-use Rattle.hx_market.specs.declared.acting.Rejecting.{Rejecting}
 use Rattle.hx_market.specs.Orders.{Order, side_of, is_immediate, is_shown, life_of}
 use Rattle.hx_market.specs.Markets.{Market}
-use Rattle.hx_market.specs.Outputs.{Reply, Outcome, nothing}
+use Rattle.hx_market.specs.Outputs.{Outcome, nothing}
 use Rattle.hx_market.specs.Entering.{accept_order, reject, resolved_firm, next_reference}
 use Rattle.hx_market.specs.Steps.{happens, sender, with_record}
 

@@ -1,7 +1,6 @@
 -- Quiet chains, and histories without them.
-use Rattle.std.specs.Prelude.{ℕ, Bool, true, false, if◌then◌else◌, ◌==◌, ◌&&◌, ◌||◌, not, List, [], ◌∷◌, ◌++◌, map, Option, Some, None}
+use Rattle.std.specs.Prelude.{ℕ, Bool, false, if◌then◌else◌, ◌==◌, ◌&&◌, ◌||◌, not, List, [], ◌∷◌, ◌++◌, map, Option, Some, None}
 use Rattle.std.specs.List.{filter}
-use Rattle.hx_units.specs.Names.{is_token}
 use Rattle.hx_members.specs.Setups.{Setup}
 use Rattle.hx_members.specs.Chains.{is_used, is_loud, entered_of}
 use Rattle.hx_itch.specs.declared.message.Feed.{Feed}

@@ -127,5 +127,7 @@ pub fn accept<B: Book>(
     let taker = taker_of(chain, act);
     out.replies.push_reserved(accepted(&order, act));
     let immediate = act.enter.time_in_force == 0;
-    arrive(book, tokens, refs, out, &taker, &order, immediate, fills, left);
+    arrive(
+        book, tokens, refs, out, &taker, &order, immediate, fills, left,
+    );
 }

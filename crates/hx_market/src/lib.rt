@@ -7,15 +7,19 @@ mod acting;
 mod admitting;
 mod arriving;
 mod carrying;
+pub mod days;
 mod event;
 mod executing;
 mod fault;
+mod listing;
 mod market;
 mod output;
 mod planning;
 mod prepared;
 mod recorded;
 mod rules;
+#[cfg(test)]
+mod tests;
 
 pub use event::{Bytes, Event};
 pub use fault::PrepareError;

@@ -1,6 +1,7 @@
 //! The market: each event is prepared, and then committed.
-ghost use Rattle.std.specs.Prelude.{◌≡◌, [], Some, None, IfOk, OnOk, OnErr, IfErr, length, map};
-ghost use Rattle.std.specs.Option.{option_map};
+ghost use Rattle.std.specs.Prelude.{◌≡◌, ◌<◌, ◌^◌, [], Some, None, IfOk, OnOk, OnErr, IfErr, length, map};
+ghost use Rattle.std.specs.List.{AllByRecursion};
+ghost use Rattle.hx_itch.specs.Message.{feed_time};
 ghost use Rattle.hx_market.specs.Admitting.{refusal, or_no_memory};
 ghost use Rattle.hx_market.specs.Markets.{opening, opening_hours};
 ghost use Rattle.hx_market.specs.Steps.{step};
@@ -9,10 +10,11 @@ ghost use Rattle.hx_market.specs.Ready.{chain_facts};
 use crate::carrying::carry_out;
 use crate::event::Event;
 use crate::fault::PrepareError;
+use crate::listing::list_orders;
 use crate::output::Output;
 use crate::prepared::{Prepared, make};
 use crate::recorded::Recorded;
-use hx_levels::Book;
+use hx_levels::{Book, Order};
 use hx_members::{ChainFacts, Setup, Tokens};
 use hx_refs::Refs;
 use hx_units::{MemberNo, NoMemory, Token};
@@ -113,6 +115,9 @@ impl<B: Book + Drop> Market<B> {
         ensures replies { result.replies.items ≡ (step self.old.setup self.old.market prepared.event).told.replies }
         ensures setup { self.new.setup ≡ self.old.setup }
         ensures ready { self.new.ready ≡ None }
+
+        // The feed's times have room in its messages.
+        ensures times { AllByRecursion (λ f. feed_time f < 2 ^ 48) result.feed.items }
     {
         self.ready = None;
         let Prepared {
@@ -141,5 +146,12 @@ impl<B: Book + Drop> Market<B> {
         ensures { result ≡ chain_facts self.now.market.tokens self.now.market.chains member token.now }
     {
         Some(self.tokens.state(member, token)?.facts)
+    }
+
+    /// The live orders, the earlier ones first. `NoMemory` where the list cannot grow.
+    pub fn live(&self) -> Result<Vec<Order>, NoMemory>
+        ensures { IfOk result (λ orders. orders.items ≡ self.now.market.live) }
+    {
+        list_orders(self.alloc, &self.book)
     }
 }

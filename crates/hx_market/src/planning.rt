@@ -25,11 +25,7 @@ fn incoming_of(act: &Accepting) -> Incoming
 }
 
 // The plan of an accepted order, and a place for what rests of it.
-fn plan_order<B: Book>(
-    alloc: Global,
-    book: &mut B,
-    act: &Accepting,
-) -> Result<Plan, NoMemory>
+fn plan_order<B: Book>(alloc: Global, book: &mut B, act: &Accepting) -> Result<Plan, NoMemory>
     ensures orders { B.orders book.new ≡ B.orders book.old }
     ensures place { OnOk result (B.place book.new ≡ Some (terms_of_accepting act.now)) }
     ensures executions { IfOk result (λ plan. AreFills (incoming_of_accepting act.now) (B.orders book.new) plan.fills.items plan.left) }
@@ -103,11 +99,7 @@ pub struct Draft {
 }
 
 // Of an order that arrives.
-fn draft_order<B: Book>(
-    alloc: Global,
-    book: &mut B,
-    act: &Accepting,
-) -> Result<Draft, NoMemory>
+fn draft_order<B: Book>(alloc: Global, book: &mut B, act: &Accepting) -> Result<Draft, NoMemory>
     ensures orders { B.orders book.new ≡ B.orders book.old }
     ensures place { OnOk result (B.place book.new ≡ Some (terms_of_accepting act.now)) }
     ensures executions { IfOk result (λ d. AreFills (incoming_of_accepting act.now) (B.orders book.new) d.fills.items d.left) }

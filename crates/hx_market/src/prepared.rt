@@ -5,10 +5,10 @@ ghost use Rattle.hx_market.specs.Admitting.{refusal, or_no_memory};
 ghost use Rattle.hx_market.specs.Ready.{HasRoom, IsPlanned, market_of};
 
 use crate::acting::{Act, act_of};
+use crate::admitting::admit;
 use crate::event::Event;
 use crate::fault::PrepareError;
 use crate::output::Output;
-use crate::admitting::admit;
 use crate::planning::{draft_act, room_for};
 use crate::recorded::Recorded;
 use hx_levels::Book;

@@ -1,4 +1,4 @@
-//! Used tokens, and what their chains have done.
+//! The setup of a day, the used tokens of its members, and what their chains have done.
 #![tactic(auto)]
 
 mod name;

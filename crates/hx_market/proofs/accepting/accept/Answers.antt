@@ -1,10 +1,10 @@
-use Rattle.std.proofs.Common.{◌≡◌, ℕ, ◌+◌, ◌<◌, ◌++◌, ◌∷◌, [], List, Bool, true, if◌then◌else◌, length, sym, ap, ◌∙◌, subst, refl, arith}
+use Rattle.std.proofs.Common.{◌≡◌, ℕ, ◌+◌, ◌<◌, ◌++◌, ◌∷◌, [], List, Bool, true, if◌then◌else◌, length, sym, ap, ◌∙◌, arith}
 use Rattle.hx_units.specs.declared.names.Token.{Token}
 use Rattle.hx_levels.specs.declared.order.Order.{Order}
 use Rattle.hx_levels.specs.Book.{lives}
 use Rattle.hx_match.specs.Matching.{Execution, Matched, matched}
 use Rattle.hx_match.specs.Executing.{done_by}
-use Rattle.hx_members.specs.Chains.{Used, Chain, entered_of, note, entered_used, entered_chain}
+use Rattle.hx_members.specs.Chains.{Used, Chain, entered_of, entered_used, entered_chain}
 use Rattle.hx_refs.specs.Numbers.{Numbers}
 use Rattle.hx_market.specs.declared.executing.Taker.{Taker}
 use Rattle.hx_market.specs.Orders.{is_immediate, is_shown}

@@ -1,4 +1,4 @@
-use Rattle.std.proofs.Common.{◌≡◌, ℕ, List, Bool, Option, Some, sym, ap, ◌∙◌, subst, false}
+use Rattle.std.proofs.Common.{◌≡◌, List, Bool, Option, Some, sym, ap, ◌∙◌, false}
 use Rattle.hx_ouch.specs.declared.inbound.Inbound.{Inbound}
 use Rattle.hx_ouch.specs.declared.inbound.Enter.{Enter}
 use Rattle.hx_ouch.specs.declared.inbound.Inbound.TheVariants.{Enter as ToEnter}
@@ -6,7 +6,6 @@ use Rattle.hx_ouch.specs.Inbound.{inbound_of}
 use Rattle.hx_members.specs.declared.name.TokenState.{TokenState}
 use Rattle.std.specs.Prelude.{is_some}
 use Rattle.hx_members.specs.Chains.{Used, is_used}
-use Rattle.hx_market.specs.Markets.{Market}
 use Rattle.hx_market.specs.Steps.{act}
 use Rattle.hx_market.specs.Entering.{entered_by, rejection}
 use Rattle.hx_market.proofs.Passing.{unused_of}

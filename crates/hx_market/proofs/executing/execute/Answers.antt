@@ -1,4 +1,4 @@
-use Rattle.std.proofs.Common.{◌≡◌, ℕ, ◌<◌, List, ◌∷◌, drop, length, get_or, Some, Option, refl, sym, ap, ◌∙◌, subst, suc, false, drop-cons}
+use Rattle.std.proofs.Common.{◌≡◌, ℕ, ◌<◌, List, ◌∷◌, drop, length, get_or, Some, Option, sym, ap, ◌∙◌, subst, suc, false, drop-cons}
 use Rattle.hx_levels.specs.declared.order.Order.{Order}
 use Rattle.hx_levels.specs.declared.order.Live.{Live}
 use Rattle.hx_levels.specs.Book.{order_of}

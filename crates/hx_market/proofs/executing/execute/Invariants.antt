@@ -1,4 +1,4 @@
-use Rattle.std.proofs.Common.{◌≡◌, ℕ, ◌+◌, ◌*◌, ◌≤◌, ◌++◌, drop, length}
+use Rattle.std.proofs.Common.{◌≡◌, ◌+◌, ◌*◌, ◌++◌, drop}
 use Rattle.std.specs.Vec.{vec_len, vec_capacity}
 use Rattle.hx_match.specs.Executing.{done_by, left_by, AreGood}
 use Rattle.hx_market.specs.Executions.{feed_of_executions, replies_of_executions}

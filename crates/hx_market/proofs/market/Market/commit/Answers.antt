@@ -1,19 +1,20 @@
-use Rattle.std.proofs.Common.{◌≡◌, ℕ, List, Some, sym, ap, ◌∙◌, subst, refl}
+use Rattle.std.proofs.Common.{◌≡◌, ◌<◌, ◌^◌, ℕ, List, Some, sym, ap, ◌∙◌, subst}
 use Rattle.hx_levels.specs.declared.order.Order.{Order}
 use Rattle.hx_levels.specs.Book.{lives}
 use Rattle.hx_match.specs.declared.fills.Fill.{Fill}
 use Rattle.hx_members.specs.Chains.{Used, Chain}
-use Rattle.hx_members.specs.Setups.{Setup}
 use Rattle.hx_refs.specs.Numbers.{Numbers, raised}
 use Rattle.hx_itch.specs.declared.message.Feed.{Feed}
-use Rattle.hx_market.specs.declared.event.Event.{Event}
 use Rattle.hx_market.specs.Markets.{Market}
 use Rattle.hx_market.specs.Outputs.{Outcome, Told}
-use Rattle.hx_market.specs.Steps.{step, sender, with_record}
+use Rattle.hx_market.specs.Steps.{step, with_record}
 use Rattle.hx_market.specs.Keeping.{IsSound}
 use Rattle.hx_market.specs.Ready.{Planned, Seen, IsPlanned, HasPlaces, market_of, outcome_of}
 use Rattle.hx_market.proofs.Next.{recording}
 use Rattle.hx_market.proofs.Drafts.{step_is}
+use Rattle.hx_market.proofs.Timed.{fits_feed}
+use Rattle.hx_itch.specs.Message.{feed_time}
+use Rattle.std.specs.List.{AllByRecursion}
 use Rattle.hx_market.proofs.Outcomes.{bare, parts, told_same, in_time, fits_act, sound_outcome}
 use Rattle.hx_market.proofs.market.Market.commit.Goals as goal
 
@@ -138,3 +139,13 @@ returns-clause-replies g c =
     let told : (outcome_of (bare m) q.act).told ≡ (step c.args.self.now.setup c.args.self.now.market c.args.prepared.event).told =
     sym (told_same (with_record p.event m) q.act) ∙ ap (λ (o : Outcome). o.told) one in
     c.carry_out.ensures.replies ∙ ap (λ (t : Told). t.replies) told
+
+pub returns-clause-times : goal.returns-clause-times
+returns-clause-times g c =
+    let s = c.self.inside in
+    let q = c.prepared.inside in
+    let p : Planned = record { event = q.event.value; feed_count = q.feed_count; reply_members = q.reply_members.items; number = q.number; act = q.act; fills = q.fills.items; left = q.left } in
+    let m : Market = market_of (g.B.Book.orders s.book) s.tokens s.refs s.hours s.recorded in
+    let i : IsPlanned s.setup m (g.B.Book.orders s.book) (g.B.Book.place s.book) s.tokens.place p =
+    c.self.invariant.1 p (ap (λ (v : Seen). v.ready) c.self.view_is ∙ c.requires.ready ∙ ap (λ (z : Planned). Some z) (sym c.prepared.view_is)) in
+    subst (λ (fs : List Feed). AllByRecursion (λ f. feed_time f < 2 ^ 48) fs) (sym c.carry_out.ensures.feed) (fits_feed (bare m) q.act (in_time s.setup q.act i.is_act))

@@ -1,4 +1,4 @@
-use Rattle.std.proofs.Common.{◌≡◌, ℕ, List, [], sym, ap, ◌∙◌, subst, refl}
+use Rattle.std.proofs.Common.{◌≡◌, ℕ, List, [], sym, ap, ◌∙◌, subst}
 use Rattle.hx_levels.specs.declared.order.Live.{Live}
 use Rattle.hx_levels.specs.Book.{lives}
 use Rattle.hx_members.specs.Chains.{Used, Chain}
@@ -29,6 +29,6 @@ returns-clause-market g c =
 pub invariant_of-result : goal.invariant_of-result
 invariant_of-result g c = (
   subst IsSound (sym (opens c.args.setup (g.B.Book.orders c.args.book) c.new.result.tokens c.new.result.chains c.in_ok-new.field-0 c.opening_hours-hours.result c.in_ok-new-2.field-0
-  c.requires c.new.ensures.tokens c.new.ensures.chains c.in_ok-new.ensures c.opening_hours-hours.ensures c.in_ok-new-2.ensures)) (sound_opening c.args.setup),
+      c.requires c.new.ensures.tokens c.new.ensures.chains c.in_ok-new.ensures c.opening_hours-hours.ensures c.in_ok-new-2.ensures)) (sound_opening c.args.setup),
   λ p h. cc,
 )

@@ -1,12 +1,11 @@
-use Rattle.std.proofs.Common.{◌≡◌, ℕ, List, length, map, sym, ap, ◌∙◌, refl}
+use Rattle.std.proofs.Common.{◌≡◌, ℕ, List, length, map, ap, ◌∙◌, refl}
 use Rattle.hx_levels.specs.declared.order.Live.{Live}
 use Rattle.hx_levels.specs.Book.{lives}
 use Rattle.hx_members.specs.Chains.{Used, Chain}
 use Rattle.hx_refs.specs.Numbers.{Numbers}
-use Rattle.hx_members.specs.Setups.{Setup}
 use Rattle.hx_market.specs.Markets.{Market}
 use Rattle.hx_market.specs.Outputs.{Outcome}
-use Rattle.hx_market.specs.Steps.{step, with_record}
+use Rattle.hx_market.specs.Steps.{with_record}
 use Rattle.hx_market.specs.Ready.{Seen, market_of, outcome_of}
 use Rattle.hx_market.proofs.Drafts.{step_is}
 use Rattle.hx_market.proofs.market.Market.prepare.Goals as goal

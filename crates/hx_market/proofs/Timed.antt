@@ -1,0 +1,48 @@
+-- What an event tells carries its time.
+use Rattle.std.proofs.Common.{ℕ, ◌+◌, ◌<◌, ◌^◌, Bool, List, [], ◌∷◌, ◌++◌, map, length, eqb, arith}
+use Rattle.std.specs.List.{AllByRecursion}
+use Rattle.std.proofs.lemmas.Bool.{cond_both}
+use Rattle.hx_units.specs.declared.names.Symbol.{Symbol}
+use Rattle.hx_itch.specs.declared.message.Feed.{Feed}
+use Rattle.hx_itch.specs.Message.{feed_time}
+use Rattle.hx_match.specs.Matching.{Execution}
+use Rattle.hx_market.specs.declared.acting.Act.{Act}
+use Rattle.hx_market.specs.declared.acting.Act.TheVariants.{Nothing, Reject, Accept}
+use Rattle.hx_market.specs.Orders.{Order, is_immediate, is_shown}
+use Rattle.hx_market.specs.Markets.{Market}
+use Rattle.hx_market.specs.Executions.{feed_of_executions, published, arrival_feed, shown_of, arrive}
+use Rattle.hx_market.specs.Entering.{next_reference, drawn, consumed}
+use Rattle.hx_market.specs.Ready.{IsInTime, outcome_of, order_of_accepting}
+
+abbrev AreIn : List Feed → Type 0
+AreIn fs = AllByRecursion (λ f. feed_time f < 2 ^ 48) fs
+
+executions_in : (time : ℕ) (stock : Symbol) (number : ℕ) (es : List Execution) → time < 2 ^ 48 → AreIn (feed_of_executions time stock number es)
+executions_in time stock number [] h = tt
+executions_in time stock number (e ∷ es) h = (
+  cond_both e.order.shown _ _ (λ f. feed_time f < 2 ^ 48) (λ _. h) (λ _. h),
+  executions_in time stock (number + 1) es h,
+)
+
+published_in : (time : ℕ) (stock : Symbol) (xs : List Order) → time < 2 ^ 48 → AreIn (map (published time stock) xs)
+published_in time stock [] h = tt
+published_in time stock (x ∷ xs) h = (cond_both (eqb x.display 65) _ _ (λ f. feed_time f < 2 ^ 48) (λ _. h) (λ _. h), published_in time stock xs h)
+
+both_in : (xs ys : List Feed) → AreIn xs → AreIn ys → AreIn (xs ++ ys)
+both_in [] ys h k = k
+both_in (x ∷ xs) ys h k = (h.0, both_in xs ys h.1 k)
+
+arrival_in : (time : ℕ) (stock : Symbol) (matches : ℕ) (es : List Execution) (resting : List Order) → time < 2 ^ 48 → AreIn (arrival_feed time stock matches es resting)
+arrival_in time stock matches es resting h =
+    both_in (feed_of_executions time stock matches es) (map (published time stock) (shown_of resting)) (executions_in time stock matches es h) (published_in time stock (shown_of resting) h)
+
+-- the feed of an act has times of the day, which six bytes hold
+pub fits_feed : (m : Market) (act : Act) → IsInTime act → AllByRecursion (λ f. feed_time f < 2 ^ 48) (outcome_of m act).told.feed
+fits_feed m Nothing h = tt
+fits_feed m (Reject r) h = tt
+fits_feed m (Accept a) h =
+    let l : a.time < 2 ^ 48 = omega arith in
+    let shown : Bool = is_shown a.enter.display a.enter.time_in_force in
+    let x : Order = order_of_accepting (length m.tokens) (next_reference m.numbers a.member shown) a in
+    let r = arrive a.time (is_immediate a.enter.time_in_force) x (drawn (consumed m a.member a.enter.token) a.member shown) in
+    arrival_in a.time a.enter.stock m.numbers.matches r.executions r.resting l

@@ -1,0 +1,225 @@
+-- Worked days: the messages of each, and what each tells. All are orders for the stock ABCD, with a blank firm, over the standard setup.
+use Rattle.std.specs.Prelude.{ℕ, codes, ◌==◌, if◌then◌else◌, List, [], ◌∷◌}
+use Rattle.hx_refs.specs.Numbers.{private_reference}
+use Rattle.hx_itch.specs.declared.message.Feed.{Feed}
+use Rattle.hx_itch.specs.declared.message.Feed.TheVariants.{AddOrder, AddOrderWithAttribution, OrderExecuted, Trade}
+use Rattle.hx_ouch.specs.declared.outbound.Outbound.TheVariants.{Accepted, Canceled, Executed, Rejected}
+use Rattle.hx_ouch.specs.Inbound.{enter_bytes}
+use Rattle.hx_units.specs.declared.names.Symbol.{Symbol}
+use Rattle.hx_market.specs.declared.event.Event.{Event}
+use Rattle.hx_market.specs.declared.event.Event.TheVariants.{Message}
+use Rattle.hx_market.specs.Outputs.{Reply, Told}
+
+abbrev pub abcd : Symbol
+abcd = record { 0 = codes "ABCD    " }
+
+-- the members' firms
+abbrev pub firm_number : ℕ → List ℕ
+firm_number member = if member == 1 then codes "FMA1" else (if member == 2 then codes "FMB2" else codes "FMC3")
+
+-- an Enter Order message
+abbrev pub entered : (time member : ℕ) (token : List ℕ) (side shares price time_in_force display minimum : ℕ) → Event
+entered time member token side shares price time_in_force display minimum =
+    Message member time
+    (enter_bytes (record {
+      token = record { 0 = token };
+      side = side;
+      shares = shares;
+      stock = abcd;
+      price = price;
+      time_in_force = time_in_force;
+      firm = record { 0 = codes "    " };
+      display = display;
+      capacity = 79;
+      intermarket_sweep = 78;
+      minimum_quantity = minimum;
+      cross_type = 78;
+      customer_type = 82;
+    }))
+
+abbrev pub accepted : (member time : ℕ) (token : List ℕ) (side shares price time_in_force display reference minimum : ℕ) → Reply
+accepted member time token side shares price time_in_force display reference minimum = (
+  member,
+  Accepted (record {
+    time = time;
+    token = record { 0 = token };
+    side = side;
+    shares = shares;
+    stock = abcd;
+    price = price;
+    time_in_force = time_in_force;
+    firm = record { 0 = firm_number member };
+    display = display;
+    reference = reference;
+    capacity = 79;
+    intermarket_sweep = 78;
+    minimum_quantity = minimum;
+    cross_type = 78;
+    order_state = 76;
+    bbo_weight = 32;
+  }),
+)
+
+abbrev pub filled : (member time : ℕ) (token : List ℕ) (shares price flag match_number : ℕ) → Reply
+filled member time token shares price flag match_number =
+    (member, Executed (record { time = time; token = record { 0 = token }; shares = shares; price = price; liquidity_flag = flag; match_number = match_number }))
+
+abbrev pub canceled : (member time : ℕ) (token : List ℕ) (shares reason : ℕ) → Reply
+canceled member time token shares reason = (member, Canceled (record { time = time; token = record { 0 = token }; shares = shares; reason = reason }))
+
+abbrev pub rejected : (member time : ℕ) (token : List ℕ) (reason : ℕ) → Reply
+rejected member time token reason = (member, Rejected (record { time = time; token = record { 0 = token }; reason = reason }))
+
+abbrev pub added : (time reference side shares price : ℕ) → Feed
+added time reference side shares price = AddOrder (record { locate = 1; time = time; reference = reference; side = side; shares = shares; stock = abcd; price = price })
+
+abbrev pub attributed : (time reference side shares price : ℕ) (firm : List ℕ) → Feed
+attributed time reference side shares price firm =
+    AddOrderWithAttribution (record { locate = 1; time = time; reference = reference; side = side; shares = shares; stock = abcd; price = price; attribution = record { 0 = firm } })
+
+abbrev pub executed : (time reference shares match_number : ℕ) → Feed
+executed time reference shares match_number = OrderExecuted (record { locate = 1; time = time; reference = reference; shares = shares; match_number = match_number })
+
+abbrev pub traded : (time shares price match_number : ℕ) → Feed
+traded time shares price match_number = Trade (record { locate = 1; time = time; shares = shares; stock = abcd; price = price; match_number = match_number })
+
+abbrev pub tells : List Feed → List Reply → Told
+tells feed replies = record { feed = feed; replies = replies }
+
+-- one displayed order
+abbrev pub one_displayed_order : List Event
+one_displayed_order =
+    entered 1000 1 (codes "T1            ") 66 100 100000 99999 89 0 ∷ []
+
+abbrev pub one_displayed_order_tells : List Told
+one_displayed_order_tells =
+    tells (added 1000 1 66 100 100000 ∷ []) (accepted 1 1000 (codes "T1            ") 66 100 100000 99999 89 1 0 ∷ []) ∷ []
+
+-- a hidden order, then a displayed one
+abbrev pub hidden_then_displayed : List Event
+hidden_then_displayed =
+    entered 10 1 (codes "H1            ") 66 100 100000 99999 78 0 ∷
+    entered 20 2 (codes "T1            ") 66 200 100000 99999 89 0 ∷ []
+
+abbrev pub hidden_then_displayed_tells : List Told
+hidden_then_displayed_tells =
+    tells ([]) (accepted 1 10 (codes "H1            ") 66 100 100000 99999 78 (private_reference 1 1) 0 ∷ []) ∷
+    tells (added 20 1 66 200 100000 ∷ []) (accepted 2 20 (codes "T1            ") 66 200 100000 99999 89 1 0 ∷ []) ∷ []
+
+-- display beats time
+abbrev pub display_beats_time : List Event
+display_beats_time =
+    entered 10 1 (codes "H1            ") 66 100 100000 99999 78 0 ∷
+    entered 20 2 (codes "T1            ") 66 100 100000 99999 89 0 ∷
+    entered 30 3 (codes "S1            ") 83 100 100000 99999 89 0 ∷ []
+
+abbrev pub display_beats_time_tells : List Told
+display_beats_time_tells =
+    tells ([]) (accepted 1 10 (codes "H1            ") 66 100 100000 99999 78 (private_reference 1 1) 0 ∷ []) ∷
+    tells (added 20 1 66 100 100000 ∷ []) (accepted 2 20 (codes "T1            ") 66 100 100000 99999 89 1 0 ∷ []) ∷
+    tells (executed 30 1 100 1 ∷ []) (accepted 3 30 (codes "S1            ") 83 100 100000 99999 89 2 0 ∷ filled 2 30 (codes "T1            ") 100 100000 65 1 ∷ filled 3 30 (codes "S1            ") 100 100000 82 1 ∷ []) ∷ []
+
+-- hidden executions on both sides
+abbrev pub hidden_executions_on_both_sides : List Event
+hidden_executions_on_both_sides =
+    entered 10 1 (codes "H1            ") 66 100 100000 99999 78 0 ∷
+    entered 20 2 (codes "S1            ") 83 60 99900 0 78 0 ∷
+    entered 30 1 (codes "H2            ") 83 50 100500 99999 78 0 ∷
+    entered 40 2 (codes "B1            ") 66 50 100500 0 78 0 ∷ []
+
+abbrev pub hidden_executions_on_both_sides_tells : List Told
+hidden_executions_on_both_sides_tells =
+    tells ([]) (accepted 1 10 (codes "H1            ") 66 100 100000 99999 78 (private_reference 1 1) 0 ∷ []) ∷
+    tells (traded 20 60 100000 1 ∷ []) (accepted 2 20 (codes "S1            ") 83 60 99900 0 78 (private_reference 2 1) 0 ∷ filled 1 20 (codes "H1            ") 60 100000 74 1 ∷ filled 2 20 (codes "S1            ") 60 100000 82 1 ∷ []) ∷
+    tells ([]) (accepted 1 30 (codes "H2            ") 83 50 100500 99999 78 (private_reference 1 2) 0 ∷ []) ∷
+    tells (traded 40 50 100500 2 ∷ []) (accepted 2 40 (codes "B1            ") 66 50 100500 0 78 (private_reference 2 2) 0 ∷ filled 1 40 (codes "H2            ") 50 100500 74 2 ∷ filled 2 40 (codes "B1            ") 50 100500 82 2 ∷ []) ∷ []
+
+-- an order is passed over for its minimum
+abbrev pub minimum_passed_over : List Event
+minimum_passed_over =
+    entered 10 1 (codes "H1            ") 66 200 100000 99999 78 0 ∷
+    entered 20 2 (codes "G1            ") 66 500 100000 99999 78 500 ∷
+    entered 30 3 (codes "S1            ") 83 500 100000 99999 78 500 ∷ []
+
+abbrev pub minimum_passed_over_tells : List Told
+minimum_passed_over_tells =
+    tells ([]) (accepted 1 10 (codes "H1            ") 66 200 100000 99999 78 (private_reference 1 1) 0 ∷ []) ∷
+    tells ([]) (accepted 2 20 (codes "G1            ") 66 500 100000 99999 78 (private_reference 2 1) 500 ∷ []) ∷
+    tells (traded 30 500 100000 1 ∷ []) (accepted 3 30 (codes "S1            ") 83 500 100000 99999 78 (private_reference 3 1) 500 ∷ filled 2 30 (codes "G1            ") 500 100000 74 1 ∷ filled 3 30 (codes "S1            ") 500 100000 82 1 ∷ []) ∷ []
+
+-- the minimum stays
+abbrev pub minimum_stays : List Event
+minimum_stays =
+    entered 10 1 (codes "H1            ") 66 600 100000 99999 78 0 ∷
+    entered 20 2 (codes "H2            ") 66 300 100000 99999 78 0 ∷
+    entered 30 3 (codes "S1            ") 83 1000 100000 99999 78 500 ∷
+    entered 40 1 (codes "B1            ") 66 300 100000 0 78 0 ∷
+    entered 50 1 (codes "B2            ") 66 400 100000 0 78 0 ∷ []
+
+abbrev pub minimum_stays_tells : List Told
+minimum_stays_tells =
+    tells ([]) (accepted 1 10 (codes "H1            ") 66 600 100000 99999 78 (private_reference 1 1) 0 ∷ []) ∷
+    tells ([]) (accepted 2 20 (codes "H2            ") 66 300 100000 99999 78 (private_reference 2 1) 0 ∷ []) ∷
+    tells (traded 30 600 100000 1 ∷ []) (accepted 3 30 (codes "S1            ") 83 1000 100000 99999 78 (private_reference 3 1) 500 ∷ filled 1 30 (codes "H1            ") 600 100000 74 1 ∷ filled 3 30 (codes "S1            ") 600 100000 82 1 ∷ []) ∷
+    tells ([]) (accepted 1 40 (codes "B1            ") 66 300 100000 0 78 (private_reference 1 2) 0 ∷ canceled 1 40 (codes "B1            ") 300 73 ∷ []) ∷
+    tells (traded 50 400 100000 2 ∷ []) (accepted 1 50 (codes "B2            ") 66 400 100000 0 78 (private_reference 1 3) 0 ∷ filled 3 50 (codes "S1            ") 400 100000 74 2 ∷ filled 1 50 (codes "B2            ") 400 100000 82 2 ∷ []) ∷ []
+
+-- a displayed immediate order
+abbrev pub displayed_immediate_or_cancel : List Event
+displayed_immediate_or_cancel =
+    entered 10 1 (codes "I1            ") 66 100 100000 0 89 0 ∷ []
+
+abbrev pub displayed_immediate_or_cancel_tells : List Told
+displayed_immediate_or_cancel_tells =
+    tells ([]) (accepted 1 10 (codes "I1            ") 66 100 100000 0 89 (private_reference 1 1) 0 ∷ canceled 1 10 (codes "I1            ") 100 73 ∷ []) ∷ []
+
+-- two levels are taken
+abbrev pub two_levels_taken : List Event
+two_levels_taken =
+    entered 10 1 (codes "T1            ") 66 100 100000 99999 89 0 ∷
+    entered 20 2 (codes "T1            ") 66 200 100100 99999 65 0 ∷
+    entered 30 3 (codes "S1            ") 83 350 100000 99999 89 0 ∷
+    entered 40 3 (codes "S1            ") 66 100 100000 99999 89 0 ∷ []
+
+abbrev pub two_levels_taken_tells : List Told
+two_levels_taken_tells =
+    tells (added 10 1 66 100 100000 ∷ []) (accepted 1 10 (codes "T1            ") 66 100 100000 99999 89 1 0 ∷ []) ∷
+    tells (attributed 20 2 66 200 100100 (codes "FMB2") ∷ []) (accepted 2 20 (codes "T1            ") 66 200 100100 99999 65 2 0 ∷ []) ∷
+    tells (executed 30 2 200 1 ∷ executed 30 1 100 2 ∷ added 30 3 83 50 100000 ∷ []) (accepted 3 30 (codes "S1            ") 83 350 100000 99999 89 3 0 ∷ filled 2 30 (codes "T1            ") 200 100100 65 1 ∷ filled 3 30 (codes "S1            ") 200 100100 82 1 ∷ filled 1 30 (codes "T1            ") 100 100000 65 2 ∷ filled 3 30 (codes "S1            ") 100 100000 82 2 ∷ []) ∷
+    tells ([]) ([]) ∷ []
+
+-- times go back
+abbrev pub times_going_back : List Event
+times_going_back =
+    entered 500 1 (codes "T1            ") 66 100 100000 99999 89 0 ∷
+    entered 100 2 (codes "S1            ") 83 100 100000 0 78 0 ∷ []
+
+abbrev pub times_going_back_tells : List Told
+times_going_back_tells =
+    tells (added 500 1 66 100 100000 ∷ []) (accepted 1 500 (codes "T1            ") 66 100 100000 99999 89 1 0 ∷ []) ∷
+    tells (executed 100 1 100 1 ∷ []) (accepted 2 100 (codes "S1            ") 83 100 100000 0 78 (private_reference 2 1) 0 ∷ filled 1 100 (codes "T1            ") 100 100000 65 1 ∷ filled 2 100 (codes "S1            ") 100 100000 82 1 ∷ []) ∷ []
+
+-- the limits of fields
+abbrev pub limits_of_fields : List Event
+limits_of_fields =
+    entered 10 1 (codes "A1            ") 66 999999 1999999900 99999 89 0 ∷
+    entered 20 1 (codes "A2            ") 66 1000000 100000 99999 89 0 ∷
+    entered 30 1 (codes "A3            ") 66 100 2000000000 99999 89 0 ∷
+    entered 40 1 (codes "A4            ") 66 100 10001 99999 89 0 ∷
+    entered 50 1 (codes "A5            ") 66 100 9999 99999 89 0 ∷
+    entered 60 1 (codes "A6            ") 66 100 100000 99999 89 1 ∷
+    entered 70 1 (codes "A7            ") 66 100 100000 99999 78 101 ∷
+    entered 80 1 (codes "A8            ") 66 100 100000 99999 80 0 ∷
+    entered 90 1 (codes "A2            ") 66 100 100000 99999 89 0 ∷ []
+
+abbrev pub limits_of_fields_tells : List Told
+limits_of_fields_tells =
+    tells (added 10 1 66 999999 1999999900 ∷ []) (accepted 1 10 (codes "A1            ") 66 999999 1999999900 99999 89 1 0 ∷ []) ∷
+    tells ([]) (rejected 1 20 (codes "A2            ") 90 ∷ []) ∷
+    tells ([]) (rejected 1 30 (codes "A3            ") 88 ∷ []) ∷
+    tells ([]) (rejected 1 40 (codes "A4            ") 88 ∷ []) ∷
+    tells (added 50 2 66 100 9999 ∷ []) (accepted 1 50 (codes "A5            ") 66 100 9999 99999 89 2 0 ∷ []) ∷
+    tells ([]) (rejected 1 60 (codes "A6            ") 78 ∷ []) ∷
+    tells ([]) (rejected 1 70 (codes "A7            ") 78 ∷ []) ∷
+    tells ([]) (rejected 1 80 (codes "A8            ") 68 ∷ []) ∷
+    tells ([]) ([]) ∷ []

@@ -1,0 +1,15 @@
+//! A publisher of numbered messages in MoldUDP64 packets, and a server of requests for them, over any list
+//! of messages that may grow.
+//!
+//! Only the calls named `append` take memory.
+#![tactic(auto)]
+
+mod list;
+mod publisher;
+mod server;
+#[cfg(test)]
+mod tests;
+
+pub use list::ListMessages;
+pub use publisher::Publisher;
+pub use server::Server;

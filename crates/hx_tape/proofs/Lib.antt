@@ -1,0 +1,11 @@
+pub mod Numbers
+pub mod Splits
+pub mod Lines
+pub mod Writing
+pub mod Told
+pub mod Few
+pub mod Telling
+pub mod Playing
+pub mod Runs
+pub mod Pieces
+pub mod OneReading

@@ -1,0 +1,33 @@
+-- The lines that are written for what an event tells.
+use Rattle.std.specs.Prelude.{ℕ, ◌+◌, List, [], ◌∷◌, ◌++◌, slice_index, codes}
+use Rattle.std.specs.Fmt.{decimal}
+use Rattle.hex.specs.Hex.{encode_lower}
+use Rattle.hx_itch.specs.declared.message.Feed.{Feed}
+use Rattle.hx_itch.specs.Message.{feed_bytes}
+use Rattle.hx_ouch.specs.declared.outbound.Outbound.{Outbound}
+use Rattle.hx_ouch.specs.Outbound.{outbound_bytes}
+use Rattle.hx_refs.specs.Numbers.{raised}
+use Rattle.hx_market.specs.Outputs.{Reply}
+
+-- message n of the feed
+abbrev pub feed_line : ℕ → Feed → List ℕ
+feed_line n message = codes "F " ++ (decimal n ++ (32 ∷ (encode_lower (feed_bytes message) ++ 10 ∷ [])))
+
+-- reply n to a member
+abbrev pub reply_line : ℕ → ℕ → Outbound → List ℕ
+reply_line member n reply = codes "M " ++ (decimal member ++ (32 ∷ (decimal n ++ (32 ∷ (encode_lower (outbound_bytes reply) ++ 10 ∷ [])))))
+
+-- messages of the feed, after n others
+abbrev pub feed_lines : ℕ → List Feed → List ℕ
+feed_lines n [] = []
+feed_lines n (message ∷ messages) = feed_line (n + 1) message ++ feed_lines (n + 1) messages
+
+-- replies, after so many others of each member
+abbrev pub reply_lines : List ℕ → List Reply → List ℕ
+reply_lines counts [] = []
+reply_lines counts (reply ∷ replies) = reply_line reply.0 (slice_index counts reply.0 + 1) reply.1 ++ reply_lines (raised counts reply.0) replies
+
+-- how many replies each member then has
+abbrev pub counts_after : List ℕ → List Reply → List ℕ
+counts_after counts [] = counts
+counts_after counts (reply ∷ replies) = counts_after (raised counts reply.0) replies

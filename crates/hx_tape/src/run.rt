@@ -1,0 +1,218 @@
+//! A replay as it goes: its market, and what was counted.
+ghost use Rattle.std.specs.Prelude.{◌≡◌, ◌≢◌, ◌≤◌, ◌<◌, ◌^◌, ◌+◌, ◌++◌, [], ℕ, None, IfOk, IfErr, OnOk, OnErr, string_bytes, length, All, slice_index};
+ghost use Rattle.hx_itch.specs.Message.{feed_time};
+ghost use Rattle.hx_market.specs.Steps.{step};
+ghost use Rattle.hx_market.specs.Admitting.{refusal, or_no_memory};
+ghost use Rattle.hx_tape.specs.Text.{Entry, entry_of, line};
+ghost use Rattle.hx_tape.specs.Output.{feed_line, reply_line, feed_lines, reply_lines, counts_after};
+ghost use Rattle.hx_tape.specs.Run.{event_of, fault_of, counts_of, start, Plays, Faults, IsFew};
+
+use crate::fault::{Kind, TapeError};
+use crate::line::{self, Fields};
+use hx_itch::{Feed, encode};
+use hx_levels::Book;
+use hx_market::{Bytes, Event, Market, Output, PrepareError};
+use hx_members::Setup;
+use hx_ouch::{Outbound, encode_out};
+use hx_units::{MemberNo, NoMemory};
+use std::alloc::{AllocError, Global};
+use std::marker::Model;
+
+/// What a replay counted.
+#[derive(Clone, Copy, Debug, PartialEq, Eq)]
+pub struct Counts {
+    /// The events.
+    pub events: u64,
+    /// The messages of the feed.
+    pub feed: u64,
+    /// The replies.
+    pub replies: u64,
+}
+
+/// A replay as it goes. Contracts see its progress.
+#[derive(Drop)]
+pub struct Run<B: Book> {
+    market: Market<B>,
+    counts: Counts,
+    // How many replies went to each member number.
+    replies: Vec<u64>,
+    alloc: Global,
+}
+
+impl<B: Book> Model for Run<B> {
+    ghost use Rattle.hx_tape.specs.Run.{Progress};
+
+    ghost Value = { Progress };
+
+    ghost view = { λ r. record { setup = r.market.setup; market = r.market.market; events = r.counts.events; feed = r.counts.feed; replies = r.counts.replies; counts = r.replies.items } };
+}
+
+// Message n of the feed.
+fn feed_line(alloc: Global, number: u64, message: &Feed) -> Result<String, AllocError>
+    requires { feed_time message.now < 2 ^ 48 }
+    ensures { IfOk result (λ text. string_bytes text ≡ feed_line number message.now) }
+{
+    let hex = hex::encode(alloc, &encode(message))?;
+    format!(in alloc; "F {number} {hex}\n")
+}
+
+// Reply n to a member.
+fn reply_line(
+    alloc: Global,
+    member: MemberNo,
+    number: u64,
+    reply: &Outbound,
+) -> Result<String, AllocError>
+    ensures { IfOk result (λ text. string_bytes text ≡ reply_line member number reply.now) }
+{
+    let member = member.get();
+    let hex = hex::encode(alloc, &encode_out(reply))?;
+    format!(in alloc; "M {member} {number} {hex}\n")
+}
+
+// Writes the lines of messages of the feed, after so many others.
+fn write_feed(
+    alloc: Global,
+    text: &mut String,
+    before: u64,
+    feed: &[Feed],
+) -> Result<(), AllocError>
+    requires times { All (λ message. feed_time message < 2 ^ 48) feed.now }
+    requires room { before + length feed.now < 2 ^ 64 }
+    ensures { OnOk result (string_bytes text.new ≡ string_bytes text.old ++ feed_lines before feed.now) }
+{
+    let mut number = before;
+    for message in feed {
+        number += 1;
+        let line = feed_line(alloc, number, message)?;
+        text.push_str(&line)?;
+    }
+    Ok(())
+}
+
+// Writes the lines of replies, after so many others of each member.
+fn write_replies(
+    alloc: Global,
+    text: &mut String,
+    counts: &mut [u64],
+    replies: &[(MemberNo, Outbound)],
+) -> Result<(), AllocError>
+    requires numbered { length counts.old ≡ 4096 }
+    requires room { (member : ℕ) → slice_index counts.old member + length replies.now < 2 ^ 64 }
+    ensures lines { OnOk result (string_bytes text.new ≡ string_bytes text.old ++ reply_lines counts.old replies.now) }
+    ensures counts { OnOk result (counts.new ≡ counts_after counts.old replies.now) }
+{
+    for (member, reply) in replies {
+        let count = &mut counts[member.get() as usize];
+        *count += 1;
+        let line = reply_line(alloc, *member, *count, reply)?;
+        text.push_str(&line)?;
+    }
+    Ok(())
+}
+
+// The fault of the line of this number, where the market refuses its event.
+fn fault_of(line: u64, error: PrepareError) -> TapeError
+    ensures { result ≡ fault_of line error }
+{
+    let kind = match error {
+        PrepareError::NoMemory => return TapeError::NoMemory,
+        PrepareError::Limit { .. } => Kind::Limit,
+        PrepareError::NoMember => Kind::Member,
+        PrepareError::BadTime => Kind::Time,
+    };
+    TapeError::Line { line, kind }
+}
+
+impl<B: Book + Drop> Run<B> {
+    /// A replay at its start, over an empty book.
+    pub fn new(alloc: Global, setup: Setup, book: B) -> Result<Self, NoMemory>
+        requires { B.orders book ≡ [] }
+        ensures { IfOk result (λ run. run ≡ start setup) }
+    {
+        Ok(Run {
+            market: Market::new(alloc, setup, book)?,
+            counts: Counts {
+                events: 0,
+                feed: 0,
+                replies: 0,
+            },
+            replies: vec![in alloc; 0; 4096]?,
+            alloc,
+        })
+    }
+
+    /// What was counted.
+    pub fn counts(&self) -> Counts
+        ensures { result ≡ counts_of self.now }
+    {
+        self.counts
+    }
+
+    /// Plays the next line, and gives its output lines.
+    pub fn play(&mut self, text: &[u8]) -> Result<String, TapeError>
+        requires events { self.old.events < 2 ^ 60 }
+        requires few { IsFew self.old }
+        ensures ok { IfOk result (λ output. Plays self.old self.new text.now (string_bytes output)) }
+        ensures faults { IfErr result (Faults self.old text.now) }
+    {
+        let line = self.counts.events + 1;
+        let bad = TapeError::Line {
+            line,
+            kind: Kind::Bad,
+        };
+        let Some(fields) = line::read(self.alloc, text)? else {
+            return Err(bad);
+        };
+        if fields.member == 0 {
+            return Err(bad);
+        }
+        let output = self.step(fields)?;
+        Ok(self.tell(&output)?)
+    }
+
+    // One step of the market.
+    fn step(&mut self, fields: Fields) -> Result<Output, TapeError>
+        requires { self.old.events < 2 ^ 60 }
+        ensures passes { OnOk result (refusal self.old.setup self.old.market.recorded (event_of (entry_of fields)) ≡ None) }
+        ensures run { OnOk result (self.new ≡ record self.old { market = (step self.old.setup self.old.market (event_of (entry_of fields))).market }) }
+        ensures feed { IfOk result (λ output. output.feed.items ≡ (step self.old.setup self.old.market (event_of (entry_of fields))).told.feed) }
+        ensures replies { IfOk result (λ output. output.replies.items ≡ (step self.old.setup self.old.market (event_of (entry_of fields))).told.replies) }
+        ensures refused { IfErr result (λ e. e ≡ fault_of (self.old.events + 1) (or_no_memory (refusal self.old.setup self.old.market.recorded (event_of (entry_of fields))))) }
+    {
+        let event = Event::Message {
+            member: fields.member,
+            time: fields.time,
+            bytes: Bytes::of(fields.bytes),
+        };
+        match self.market.prepare(&event) {
+            Ok(prepared) => Ok(self.market.commit(prepared)),
+            Err(error) => Err(fault_of(self.counts.events + 1, error)),
+        }
+    }
+
+    // Counts what a step gave, and gives its output lines.
+    fn tell(&mut self, output: &Output) -> Result<String, AllocError>
+        requires times { All (λ message. feed_time message < 2 ^ 48) output.now.feed.items }
+        requires events { self.old.events < 2 ^ 60 }
+        requires feed { self.old.feed + length output.now.feed.items < 2 ^ 64 }
+        requires replies { self.old.replies + length output.now.replies.items < 2 ^ 64 }
+        requires numbered { length self.old.counts ≡ 4096 }
+        requires each { (member : ℕ) → slice_index self.old.counts member ≤ self.old.replies }
+        ensures lines { IfOk result (λ text. string_bytes text ≡ feed_lines self.old.feed output.now.feed.items ++ reply_lines self.old.counts output.now.replies.items) }
+        ensures run { OnOk result (self.new ≡ record self.old {
+            events = self.old.events + 1;
+            feed = self.old.feed + length output.now.feed.items;
+            replies = self.old.replies + length output.now.replies.items;
+            counts = counts_after self.old.counts output.now.replies.items;
+        }) }
+    {
+        let mut text = String::new(self.alloc);
+        write_feed(self.alloc, &mut text, self.counts.feed, &output.feed)?;
+        write_replies(self.alloc, &mut text, &mut self.replies, &output.replies)?;
+        self.counts.events += 1;
+        self.counts.feed += output.feed.len() as u64;
+        self.counts.replies += output.replies.len() as u64;
+        Ok(text)
+    }
+}
