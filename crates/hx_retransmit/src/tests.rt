@@ -112,11 +112,23 @@ fn turns_of_a_publisher(rt: HostRuntime) -> Result<(), Fail> {
     let pulse = b"HX00000001\0\0\0\0\0\0\0\x29\0\0".as_slice();
     let mut publisher = Publisher::new(SESSION, ListMessages::new(alloc), 0);
     publisher.append(&numbered(alloc, 0, 40)?)?;
-    assert_eq!(rt; publisher.turn(0).ok_or("data")?.as_slice(), first.as_slice());
-    assert_eq!(rt; publisher.turn(0).ok_or("data")?.as_slice(), last.as_slice());
+    assert_eq!(rt;
+        publisher.turn(0).ok_or("data")?.as_slice(),
+        first.as_slice()
+    );
+    assert_eq!(rt;
+        publisher.turn(0).ok_or("data")?.as_slice(),
+        last.as_slice()
+    );
     assert!(rt; publisher.turn(0).is_none());
     assert!(rt; publisher.turn(999_999_999).is_none());
-    assert_eq!(rt; publisher.turn(1_000_000_000).ok_or("a heartbeat")?.as_slice(), pulse);
+    assert_eq!(rt;
+        publisher
+            .turn(1_000_000_000)
+            .ok_or("a heartbeat")?
+            .as_slice(),
+        pulse
+    );
     assert_eq!(rt; publisher.turn(5).ok_or("a heartbeat")?.as_slice(), pulse);
     assert_eq!(rt;
         publisher.end().as_slice(),
