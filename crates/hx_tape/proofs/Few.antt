@@ -1,8 +1,8 @@
 -- The counts of a replay fit.
-use Rattle.std.proofs.Common.{◌≡◌, ℕ, zero, suc, ◌+◌, ◌*◌, ◌≤◌, ◌<◌, List, [], ◌∷◌, length, replicate, refl, sym, ap, ◌∙◌, arith, slice_index}
+use Rattle.std.proofs.Common.{◌≡◌, ℕ, zero, suc, ◌+◌, ◌≤◌, List, [], ◌∷◌, length, replicate, refl, ap, ◌∙◌, arith, slice_index}
 use Rattle.hx_members.specs.Setups.{Setup}
 use Rattle.hx_refs.specs.Numbers.{raised}
-use Rattle.hx_market.specs.Markets.{opening}
+use Rattle.hx_market.specs.Markets.{Market, opening}
 use Rattle.hx_market.specs.Outputs.{Reply}
 use Rattle.hx_market.specs.Steps.{step}
 use Rattle.hx_tape.specs.Text.{Entry}
@@ -51,3 +51,7 @@ zeros (suc n) (suc k) = zeros n k
 pub few-start : (setup : Setup) → IsFew (start setup)
 unfolding opening
 few-start setup = record { feed = omega arith; replies = omega arith; numbered = refl; each = λ member. omega (arith, zeros 4096 member) }
+
+pub started : (setup s : Setup) (m : Market) (counts : List ℕ) → s ≡ setup → m ≡ opening setup → counts ≡ replicate 4096 0
+    → (let p : Progress = record { setup = s; market = m; events = 0; feed = 0; replies = 0; counts = counts } in p) ≡ start setup
+started setup s m counts a b c = rw (a, b, c) refl

@@ -4,8 +4,8 @@ pub mod Lines
 pub mod Writing
 pub mod Told
 pub mod Few
-pub mod Telling
 pub mod Playing
 pub mod Runs
 pub mod Pieces
 pub mod OneReading
+pub mod OutputIsTold

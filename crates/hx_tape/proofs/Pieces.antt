@@ -73,6 +73,12 @@ stops_then End b c text pending piece w v u e p q = record {
 pub so_far_none : (setup : Setup) (r w : Option (List ℕ)) → SoFar setup r r w w (start setup) [] 0
 so_far_none setup r w = record { text = []; read = Consumes-nil r; plays = replays_none (start setup) [] w; no_feed = λ k d below. absurd (omega arith); short = omega arith }
 
+-- the same over an equal setup
+pub starts_so : (setup copied : Setup) (c : Progress) (pending : List ℕ) (r w : Option (List ℕ)) → copied ≡ setup → c ≡ start copied → pending ≡ [] → SoFar setup r r w w c pending 0
+starts_so setup copied c pending r w copy is none =
+    let start_is : start setup ≡ c = ap start (sym copy) ∙ sym is in
+    subst (λ (x : List ℕ). SoFar setup r r w w c x 0) (sym none) (subst (λ (x : Progress). SoFar setup r r w w x [] 0) start_is (so_far_none setup r w))
+
 pub so_far_more : (setup : Setup) (r s s' w v u : Option (List ℕ)) (c c' : Progress) (pending piece pending' : List ℕ) (turn : ℕ) → SoFar setup r s w v c pending turn → Consumes s s' piece → length piece ≤ 8192
     → Replays c c' (pending ++ piece) v u pending' → HasNone 10 pending' → SoFar setup r s' w u c' pending' (turn + 1)
 so_far_more setup r s s' w v u c c' pending piece pending' turn h took small plays none = record {

@@ -1,25 +1,16 @@
 -- One line is played.
-use Rattle.std.proofs.Common.{◌≡◌, ℕ, ◌+◌, ◌<◌, ◌≤◌, ◌^◌, eqb, leb, Bool, true, false, cond, List, ◌++◌, length, Option, Some, None, refl, sym, ap, ◌∙◌, subst, inr, arith, eqb-true}
+use Rattle.std.proofs.Common.{◌≡◌, ℕ, ◌+◌, eqb, Bool, true, false, List, ◌++◌, length, Option, Some, None, refl, sym, ap, ◌∙◌, subst, inr, eqb-true}
 use Rattle.std.specs.Prelude.{◌≢◌}
-use Rattle.std.specs.List.{All}
-use Rattle.std.proofs.lemmas.Bool.Decides.{nat_tests}
-use Rattle.hx_members.specs.Setups.{Setup}
 use Rattle.hx_itch.specs.declared.message.Feed.{Feed}
-use Rattle.hx_itch.specs.Message.{feed_time}
-use Rattle.hx_market.specs.declared.event.Event.{Event}
 use Rattle.hx_market.specs.declared.fault.PrepareError.{PrepareError}
 use Rattle.hx_market.specs.declared.fault.PrepareError.TheVariants as refused
-use Rattle.hx_market.specs.Markets.{Market}
 use Rattle.hx_market.specs.Outputs.{Reply}
-use Rattle.hx_market.specs.Admitting.{refusal, or_no_memory, is_from_stranger, limit_of}
-use Rattle.hx_market.specs.Steps.{step, time_of}
-use Rattle.hx_tape.specs.declared.fault.Kind.{Kind}
+use Rattle.hx_market.specs.Admitting.{refusal, or_no_memory}
 use Rattle.hx_tape.specs.declared.fault.Kind.TheVariants as kind
 use Rattle.hx_tape.specs.declared.fault.TapeError.{TapeError}
 use Rattle.hx_tape.specs.Text.{Entry, IsEntry, line}
 use Rattle.hx_tape.specs.Output.{feed_lines, reply_lines, counts_after}
 use Rattle.hx_tape.specs.Run.{Progress, event_of, kind_of, fault_of, check_of, outcome_of, output_of, after, Plays, Faults}
-use Rattle.hx_tape.proofs.Told.{told_timed}
 
 not_nought : (n : ℕ) → n ≢ 0 → eqb n 0 ≡ false
 not_nought n h = at (eqb n 0) refl
@@ -48,21 +39,6 @@ refused_line p text e x entry is_line member is = subst (Faults p text) (sym is)
     at (Some (refused.Limit m)) h = (refl, inr (e, entry, is_line, h))
     at (Some refused.NoMember) h = (refl, inr (e, entry, is_line, h))
     at (Some refused.BadTime) h = (refl, inr (e, entry, is_line, h))
-
--- an event that is not refused is within the day
-in_time : (setup : Setup) (recorded : List ℕ) (event : Event) → refusal setup recorded event ≡ None → time_of event < 86400000000000
-in_time setup recorded event h = at (leb 86400000000000 (time_of event)) refl _ h
-  where
-    small : (n : ℕ) → leb 86400000000000 n ≡ false → n < 86400000000000
-    small n e = grind (arith, nat_tests)
-
-    at : (b : Bool) → leb 86400000000000 (time_of event) ≡ b → (r : Option PrepareError) → cond b (Some refused.BadTime) r ≡ None → time_of event < 86400000000000
-    at true e r k = absurd (let z : Some refused.BadTime ≡ None = k in cc)
-    at false e r k = small (time_of event) e
-
-pub told_in_time : (setup : Setup) (market : Market) (event : Event) (feed : List Feed) → refusal setup market.recorded event ≡ None → feed ≡ (step setup market event).told.feed → All (λ m. feed_time m < 2 ^ 48) feed
-told_in_time setup market event feed h is =
-    subst (λ (ms : List Feed). All (λ m. feed_time m < 2 ^ 48) ms) (sym is) (λ k d below. omega (arith, told_timed setup market event k d below, in_time setup market.recorded event h))
 
 pub plays_line : (p run new : Progress) (text output : List ℕ) (e : Entry) (feed : List Feed) (replies : List Reply) → IsEntry e → text ≡ line e → e.member ≢ 0 → refusal p.setup p.market.recorded (event_of e) ≡ None
     → run ≡ record p { market = (outcome_of p e).market } → feed ≡ (outcome_of p e).told.feed → replies ≡ (outcome_of p e).told.replies

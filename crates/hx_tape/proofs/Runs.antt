@@ -1,5 +1,5 @@
 -- Lines one after the other.
-use Rattle.std.proofs.Common.{◌⊎◌, ◌≡◌, ℕ, ◌+◌, ◌≤◌, ◌<◌, List, [], ◌∷◌, ◌++◌, length, Option, is_some, Bool, true, false, cond, refl, sym, ap, ◌∙◌, subst, append_assoc, inl, inr, arith}
+use Rattle.std.proofs.Common.{◌⊎◌, ◌≡◌, ℕ, ◌+◌, ◌≤◌, ◌<◌, List, [], ◌∷◌, ◌++◌, length, Option, refl, sym, ap, ◌∙◌, subst, append_assoc, inl, inr, arith}
 use Rattle.std.specs.Io.KnownBytes.{Appends}
 use Rattle.std.proofs.KnownBytes.{Appends-nil, Appends-trans}
 use Rattle.std.proofs.lemmas.List.{append-nil, length-append}
@@ -8,7 +8,6 @@ use Rattle.hx_tape.specs.declared.fault.TapeError.{TapeError}
 use Rattle.hx_tape.specs.declared.fault.TapeError.TheVariants as fault
 use Rattle.hx_tape.specs.declared.fault.Kind.TheVariants as kinds
 use Rattle.hx_tape.specs.Text.{Entry, line, HasNone}
-use Rattle.hx_tape.specs.declared.fault.Kind.{Kind}
 use Rattle.hx_tape.specs.Run.{Progress, output_of, after, IsEvent, AreEvents, tape, after_all, output_all, Plays, Replays, Stops, EndsBy, Faults, FailsAs, Writes, IsFew}
 use Rattle.hx_tape.proofs.Few.{few-after}
 

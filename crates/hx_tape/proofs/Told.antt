@@ -1,16 +1,12 @@
--- What one step of the market tells: when, and how much.
-use Rattle.std.proofs.Common.{◌≡◌, ℕ, zero, suc, ◌+◌, ◌*◌, ◌≤◌, ◌<◌, ltb, eqb, ◌&&◌, not, Bool, true, false, cond, List, [], ◌∷◌, ◌++◌, length, map, Option, Some, None, refl, sym, ap, ◌∙◌, arith}
-use Rattle.std.specs.List.{All, filter}
+-- How much one step of the market tells.
+use Rattle.std.proofs.Common.{◌≡◌, ℕ, suc, ◌+◌, ◌*◌, ◌≤◌, ltb, ◌&&◌, not, Bool, true, false, cond, List, [], ◌∷◌, length, map, Option, Some, None, refl, arith}
 use Rattle.std.proofs.lemmas.List.{length-append}
-use Rattle.std.proofs.lemmas.List.Elements.{All-append, All-cons}
 use Rattle.hx_units.specs.declared.names.Symbol.{Symbol}
 use Rattle.hx_units.specs.declared.names.Token.{Token}
 use Rattle.hx_levels.specs.declared.order.Order.{Order}
 use Rattle.hx_match.specs.Matching.{Execution, Matched, matched}
 use Rattle.hx_members.specs.Setups.{Setup}
 use Rattle.hx_members.specs.Chains.{is_used}
-use Rattle.hx_itch.specs.declared.message.Feed.{Feed}
-use Rattle.hx_itch.specs.Message.{feed_time}
 use Rattle.hx_ouch.specs.declared.inbound.Inbound.{Inbound}
 use Rattle.hx_ouch.specs.declared.inbound.Inbound.TheVariants as inbound
 use Rattle.hx_ouch.specs.declared.inbound.Enter.{Enter}
@@ -20,75 +16,10 @@ use Rattle.hx_market.specs.declared.event.Event.TheVariants.{Message, Tick, Hour
 use Rattle.hx_market.specs.Markets.{Market}
 use Rattle.hx_market.specs.Orders.{is_immediate, is_shown}
 use Rattle.hx_market.specs.Outputs.{Reply, Outcome}
-use Rattle.hx_market.specs.Executions.{feed_of_execution, feed_of_executions, replies_of_executions, published, shown_of, resting_of, canceled_of, incoming_of, arrival_feed, Arrival, arrive}
+use Rattle.hx_market.specs.Executions.{feed_of_executions, replies_of_executions, published, shown_of, resting_of, canceled_of, incoming_of, Arrival, arrive}
 use Rattle.hx_market.specs.Entering.{entered_by, rejection, accept_order, drawn, consumed, entered_order, next_reference}
-use Rattle.hx_market.specs.Steps.{act, step, time_of, with_record}
+use Rattle.hx_market.specs.Steps.{act, step, with_record}
 use Rattle.hx_market.proofs.Sound.{ended}
-
--- ---- when
-
-abbrev HaveTime : ℕ → List Feed → Type 0
-HaveTime time messages = All (λ m. feed_time m ≡ time) messages
-
-none_timed : (time : ℕ) → HaveTime time []
-none_timed time k d below = absurd (omega arith)
-
-execution_timed : (time : ℕ) (stock : Symbol) (n : ℕ) (e : Execution) → feed_time (feed_of_execution time stock n e) ≡ time
-execution_timed time stock n e = at e.order.shown
-  where
-    at : (b : Bool) → feed_time (cond b (feed_of_execution time stock n (record e { order = record e.order { shown = true } })) (feed_of_execution time stock n (record e { order = record e.order { shown = false } }))) ≡ time
-    at true = refl
-    at false = refl
-
-executions_timed : (time : ℕ) (stock : Symbol) (n : ℕ) (es : List Execution) → HaveTime time (feed_of_executions time stock n es)
-executions_timed time stock n [] = none_timed time
-executions_timed time stock n (e ∷ es) =
-    All-cons (λ m. feed_time m ≡ time) (feed_of_execution time stock (n + 1) e) (feed_of_executions time stock (n + 1) es) (execution_timed time stock (n + 1) e) (executions_timed time stock (n + 1) es)
-
-published_timed : (time : ℕ) (stock : Symbol) (x : Order) → feed_time (published time stock x) ≡ time
-published_timed time stock x = at (eqb x.display 65) refl
-  where
-    at : (b : Bool) → eqb x.display 65 ≡ b → feed_time (published time stock x) ≡ time
-    at true e = rw e refl
-    at false e = rw e refl
-
-all_published_timed : (time : ℕ) (stock : Symbol) (xs : List Order) → HaveTime time (map (published time stock) xs)
-all_published_timed time stock [] = none_timed time
-all_published_timed time stock (x ∷ xs) =
-    All-cons (λ m. feed_time m ≡ time) (published time stock x) (map (published time stock) xs) (published_timed time stock x) (all_published_timed time stock xs)
-
-arrival_timed : (time : ℕ) (stock : Symbol) (n : ℕ) (es : List Execution) (resting : List Order) → HaveTime time (arrival_feed time stock n es resting)
-arrival_timed time stock n es resting =
-    All-append (λ m. feed_time m ≡ time) (feed_of_executions time stock n es) (map (published time stock) (shown_of resting)) (executions_timed time stock n es) (all_published_timed time stock (shown_of resting))
-
-accept_order_timed : (market : Market) (time : ℕ) (e : Enter) (x : Order) → HaveTime time (accept_order market time e x).told.feed
-accept_order_timed market time e x =
-    let a : Arrival = arrive time (is_immediate e.time_in_force) x (drawn (consumed market x.member x.token) x.member x.shown) in
-    arrival_timed time e.stock market.numbers.matches a.executions a.resting
-
--- the order of a message
-abbrev order_in : Setup → Market → ℕ → ℕ → Enter → Order
-order_in setup market member time e = entered_order setup (length market.tokens) (next_reference market.numbers member (is_shown e.display e.time_in_force)) member time e
-
-entered_timed : (setup : Setup) (market : Market) (member time : ℕ) (e : Enter) (used : Bool) (letter : Option ℕ) → HaveTime time (entered_by setup market member time e used letter).told.feed
-entered_timed setup market member time e true letter = none_timed time
-entered_timed setup market member time e false (Some letter) = none_timed time
-entered_timed setup market member time e false None = accept_order_timed market time e (order_in setup market member time e)
-
-act_timed : (setup : Setup) (market : Market) (member time : ℕ) (o : Option Inbound) → HaveTime time (act setup market member time o).told.feed
-act_timed setup market member time None = none_timed time
-act_timed setup market member time (Some (inbound.Enter e)) = entered_timed setup market member time e (is_used market.tokens member e.token) (rejection setup market.hours e)
-act_timed setup market member time (Some (inbound.Replace r)) = none_timed time
-act_timed setup market member time (Some (inbound.Cancel c)) = none_timed time
-
--- each message of the feed has the event's time
-pub told_timed : (setup : Setup) (market : Market) (event : Event) → All (λ m. feed_time m ≡ time_of event) (step setup market event).told.feed
-unfolding step
-told_timed setup market (Message member time bytes) = act_timed setup (with_record (Message member time bytes) market) member time (inbound_of bytes)
-told_timed setup market (Tick time) = none_timed time
-told_timed setup market (Hours time code) = none_timed time
-
--- ---- how much
 
 -- all messages of an event but few end a live order
 pub record TellsFew (live : List Order) (o : Outcome) : Type 0 where
@@ -143,6 +74,10 @@ accept_order_few market time e x =
     let replies : length a.replies ≡ length (replies_of_executions time x.member x.token entered.numbers.matches m.fills) + length (canceled_of time x.member x.token immediate m.left) =
     length-append (replies_of_executions time x.member x.token entered.numbers.matches m.fills) (canceled_of time x.member x.token immediate m.left) in
     record { feed = omega (arith, ends, one, executions, shown, rests, live, feed); replies = omega (arith, ends, one, executed, canceled, rests, live, replies) }
+
+-- the order of a message
+abbrev order_in : Setup → Market → ℕ → ℕ → Enter → Order
+order_in setup market member time e = entered_order setup (length market.tokens) (next_reference market.numbers member (is_shown e.display e.time_in_force)) member time e
 
 entered_few : (setup : Setup) (market : Market) (member time : ℕ) (e : Enter) (used : Bool) (letter : Option ℕ) → TellsFew market.live (entered_by setup market member time e used letter)
 entered_few setup market member time e true letter = record { feed = omega arith; replies = omega arith }

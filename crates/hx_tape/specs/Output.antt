@@ -1,5 +1,5 @@
 -- The lines that are written for what an event tells.
-use Rattle.std.specs.Prelude.{ℕ, ◌+◌, List, [], ◌∷◌, ◌++◌, slice_index, codes}
+use Rattle.std.specs.Prelude.{ℕ, ◌+◌, List, [], ◌∷◌, ◌++◌, length, slice_index, codes}
 use Rattle.std.specs.Fmt.{decimal}
 use Rattle.hex.specs.Hex.{encode_lower}
 use Rattle.hx_itch.specs.declared.message.Feed.{Feed}
@@ -7,7 +7,7 @@ use Rattle.hx_itch.specs.Message.{feed_bytes}
 use Rattle.hx_ouch.specs.declared.outbound.Outbound.{Outbound}
 use Rattle.hx_ouch.specs.Outbound.{outbound_bytes}
 use Rattle.hx_refs.specs.Numbers.{raised}
-use Rattle.hx_market.specs.Outputs.{Reply}
+use Rattle.hx_market.specs.Outputs.{Reply, Told}
 
 -- message n of the feed
 abbrev pub feed_line : ℕ → Feed → List ℕ
@@ -31,3 +31,8 @@ reply_lines counts (reply ∷ replies) = reply_line reply.0 (slice_index counts 
 abbrev pub counts_after : List ℕ → List Reply → List ℕ
 counts_after counts [] = counts
 counts_after counts (reply ∷ replies) = counts_after (raised counts reply.0) replies
+
+-- the output text of what events tell: for each its messages of the feed, then its replies
+abbrev pub told_lines : ℕ → List ℕ → List Told → List ℕ
+told_lines n counts [] = []
+told_lines n counts (t ∷ ts) = (feed_lines n t.feed ++ reply_lines counts t.replies) ++ told_lines (n + length t.feed) (counts_after counts t.replies) ts

@@ -1,5 +1,6 @@
 //! A replay as it goes: its market, and what was counted.
-ghost use Rattle.std.specs.Prelude.{◌≡◌, ◌≢◌, ◌≤◌, ◌<◌, ◌^◌, ◌+◌, ◌++◌, [], ℕ, None, IfOk, IfErr, OnOk, OnErr, string_bytes, length, All, slice_index};
+ghost use Rattle.std.specs.Prelude.{◌≡◌, ◌≢◌, ◌≤◌, ◌<◌, ◌^◌, ◌+◌, ◌++◌, [], ℕ, None, IfOk, IfErr, OnOk, OnErr, string_bytes, length, slice_index};
+ghost use Rattle.std.specs.List.{AllByRecursion};
 ghost use Rattle.hx_itch.specs.Message.{feed_time};
 ghost use Rattle.hx_market.specs.Steps.{step};
 ghost use Rattle.hx_market.specs.Admitting.{refusal, or_no_memory};
@@ -77,7 +78,7 @@ fn write_feed(
     before: u64,
     feed: &[Feed],
 ) -> Result<(), AllocError>
-    requires times { All (λ message. feed_time message < 2 ^ 48) feed.now }
+    requires times { AllByRecursion (λ message. feed_time message < 2 ^ 48) feed.now }
     requires room { before + length feed.now < 2 ^ 64 }
     ensures { OnOk result (string_bytes text.new ≡ string_bytes text.old ++ feed_lines before feed.now) }
 {
@@ -178,6 +179,7 @@ impl<B: Book + Drop> Run<B> {
         ensures run { OnOk result (self.new ≡ record self.old { market = (step self.old.setup self.old.market (event_of (entry_of fields))).market }) }
         ensures feed { IfOk result (λ output. output.feed.items ≡ (step self.old.setup self.old.market (event_of (entry_of fields))).told.feed) }
         ensures replies { IfOk result (λ output. output.replies.items ≡ (step self.old.setup self.old.market (event_of (entry_of fields))).told.replies) }
+        ensures times { IfOk result (λ output. AllByRecursion (λ message. feed_time message < 2 ^ 48) output.feed.items) }
         ensures refused { IfErr result (λ e. e ≡ fault_of (self.old.events + 1) (or_no_memory (refusal self.old.setup self.old.market.recorded (event_of (entry_of fields))))) }
     {
         let event = Event::Message {
@@ -193,7 +195,7 @@ impl<B: Book + Drop> Run<B> {
 
     // Counts what a step gave, and gives its output lines.
     fn tell(&mut self, output: &Output) -> Result<String, AllocError>
-        requires times { All (λ message. feed_time message < 2 ^ 48) output.now.feed.items }
+        requires times { AllByRecursion (λ message. feed_time message < 2 ^ 48) output.now.feed.items }
         requires events { self.old.events < 2 ^ 60 }
         requires feed { self.old.feed + length output.now.feed.items < 2 ^ 64 }
         requires replies { self.old.replies + length output.now.replies.items < 2 ^ 64 }
@@ -201,10 +203,10 @@ impl<B: Book + Drop> Run<B> {
         requires each { (member : ℕ) → slice_index self.old.counts member ≤ self.old.replies }
         ensures lines { IfOk result (λ text. string_bytes text ≡ feed_lines self.old.feed output.now.feed.items ++ reply_lines self.old.counts output.now.replies.items) }
         ensures run { OnOk result (self.new ≡ record self.old {
-            events = self.old.events + 1;
-            feed = self.old.feed + length output.now.feed.items;
-            replies = self.old.replies + length output.now.replies.items;
-            counts = counts_after self.old.counts output.now.replies.items;
+          events = self.old.events + 1;
+          feed = self.old.feed + length output.now.feed.items;
+          replies = self.old.replies + length output.now.replies.items;
+          counts = counts_after self.old.counts output.now.replies.items;
         }) }
     {
         let mut text = String::new(self.alloc);

@@ -1,0 +1,244 @@
+mod days;
+
+use super::*;
+use days::Day;
+use std::io;
+use std::process::Abort;
+use std::test::Fail;
+
+/// Gives its bytes in small pieces, and then fails.
+#[derive(Drop)]
+struct Faulty<'a> {
+    text: &'a [u8],
+}
+
+impl Read for Faulty<'_> {
+    fn read(&mut self, buf: &mut [u8]) -> io::Result<usize> {
+        let count = self.text.len().min(buf.len()).min(7);
+        if count == 0 {
+            return Err(io::Error::from(ErrorKind::ConnectionReset));
+        }
+        let (front, others) = self.text.split_at(count);
+        buf[..count].copy_from_slice(front);
+        self.text = others;
+        Ok(count)
+    }
+}
+
+/// Takes so many bytes, in small pieces, and then fails.
+#[derive(Drop)]
+struct Full {
+    taken: Vec<u8>,
+    room: usize,
+}
+
+impl Write for Full {
+    fn write(&mut self, buf: &[u8]) -> io::Result<usize> {
+        let count = buf.len().min(self.room).min(11);
+        if count == 0 {
+            return Err(io::Error::from(ErrorKind::StorageFull));
+        }
+        self.taken.extend_from_slice(&buf[..count])?;
+        self.room -= count;
+        Ok(count)
+    }
+
+    fn flush(&mut self) -> io::Result<()> {
+        Ok(())
+    }
+}
+
+// What a replay wrote over the standard setup, and how it ended.
+fn replayed(alloc: Global, text: &[u8]) -> Result<(Vec<u8>, Result<Counts, TapeError>), TapeError> {
+    let setup = Setup::standard(alloc)?;
+    let mut output = Vec::new(alloc);
+    let mut reader = text;
+    let result = replay(alloc, &setup, &mut reader, &mut output);
+    Ok((output, result))
+}
+
+// How many lines begin with this byte.
+fn lines_of(text: &[u8], kind: u8) -> u64 {
+    let mut count = 0;
+    let mut begins = true;
+    for byte in text {
+        if begins && *byte == kind && count < u64::MAX {
+            count += 1;
+        }
+        begins = *byte == b'\n';
+    }
+    count
+}
+
+fn expect_day<R: AllocGlobal + Abort>(rt: &R, day: &Day) -> Result<(), Fail> {
+    let (output, result) = replayed(rt.alloc(), day.tape)?;
+    assert_eq!(rt; output.as_slice(), day.output);
+    let counts = result?;
+    assert_eq!(rt; counts.feed, lines_of(day.output, b'F'));
+    assert_eq!(rt; counts.replies, lines_of(day.output, b'M'));
+    Ok(())
+}
+
+#[test]
+fn one_displayed_order(rt: HostRuntime) -> Result<(), Fail> {
+    expect_day(&rt, &days::ONE_DISPLAYED_ORDER)
+}
+
+#[test]
+fn hidden_then_displayed(rt: HostRuntime) -> Result<(), Fail> {
+    expect_day(&rt, &days::HIDDEN_THEN_DISPLAYED)
+}
+
+#[test]
+fn display_beats_time(rt: HostRuntime) -> Result<(), Fail> {
+    expect_day(&rt, &days::DISPLAY_BEATS_TIME)
+}
+
+#[test]
+fn hidden_executions_on_both_sides(rt: HostRuntime) -> Result<(), Fail> {
+    expect_day(&rt, &days::HIDDEN_EXECUTIONS_ON_BOTH_SIDES)
+}
+
+#[test]
+fn minimum_passed_over(rt: HostRuntime) -> Result<(), Fail> {
+    expect_day(&rt, &days::MINIMUM_PASSED_OVER)
+}
+
+#[test]
+fn minimum_passed_over_without_its_first_line(rt: HostRuntime) -> Result<(), Fail> {
+    let day = days::MINIMUM_PASSED_OVER;
+    let Some((_, tape)) = split_once(day.tape, b'\n') else {
+        panic!(&rt; "there is a line");
+    };
+    let Some((_, output)) = split_once(day.output, b'\n') else {
+        panic!(&rt; "there is a line");
+    };
+    let (written, _) = replayed(rt.alloc(), tape)?;
+    assert_eq!(rt; written.as_slice(), output);
+    Ok(())
+}
+
+#[test]
+fn minimum_stays(rt: HostRuntime) -> Result<(), Fail> {
+    expect_day(&rt, &days::MINIMUM_STAYS)
+}
+
+#[test]
+fn displayed_immediate_or_cancel(rt: HostRuntime) -> Result<(), Fail> {
+    expect_day(&rt, &days::DISPLAYED_IMMEDIATE_OR_CANCEL)
+}
+
+#[test]
+fn two_levels_taken(rt: HostRuntime) -> Result<(), Fail> {
+    expect_day(&rt, &days::TWO_LEVELS_TAKEN)
+}
+
+#[test]
+fn times_going_back(rt: HostRuntime) -> Result<(), Fail> {
+    expect_day(&rt, &days::TIMES_GOING_BACK)
+}
+
+#[test]
+fn limits_of_fields(rt: HostRuntime) -> Result<(), Fail> {
+    expect_day(&rt, &days::LIMITS_OF_FIELDS)
+}
+
+#[test]
+fn empty_tape(rt: HostRuntime) -> Result<(), Fail> {
+    let (output, result) = replayed(rt.alloc(), b"")?;
+    let counts = result?;
+    assert_eq!(rt; output.len(), 0);
+    assert_eq!(rt; (counts.events, counts.feed, counts.replies), (0, 0, 0));
+    Ok(())
+}
+
+#[test]
+fn an_event_without_output(rt: HostRuntime) -> Result<(), Fail> {
+    let (output, result) = replayed(rt.alloc(), b"20 1 00\n")?;
+    let counts = result?;
+    assert_eq!(rt; output.len(), 0);
+    assert_eq!(rt; counts.events, 1);
+    Ok(())
+}
+
+#[test]
+fn bad_lines(rt: HostRuntime) -> Result<(), Fail> {
+    let day = days::ONE_DISPLAYED_ORDER;
+    let cases: [(&[u8], Kind); 10] = [
+        (b"20 1 zz\n", Kind::Bad),
+        (b"020 1 00\n", Kind::Bad),
+        (b"20 1 4F\n", Kind::Bad),
+        (b"20 1 \n", Kind::Bad),
+        (b"20 1 00", Kind::Bad),
+        (b"5 0 4b\n", Kind::Bad),
+        (b"86400000000000 1 00\n", Kind::Time),
+        (b"86400000000000 9 00\n", Kind::Time),
+        (b"20 9 00\n", Kind::Member),
+        (b"20 9999 00\n", Kind::Member),
+    ];
+    for (text, want) in cases {
+        let setup = Setup::standard(rt.alloc())?;
+        let mut output = Vec::new(rt.alloc());
+        let mut reader = day.tape.chain(text);
+        match replay(rt.alloc(), &setup, &mut reader, &mut output) {
+            Err(TapeError::Line { line, kind }) => assert_eq!(rt; (line, kind), (2, want)),
+            _ => panic!(&rt; "the second line fails"),
+        }
+        assert_eq!(rt; output.as_slice(), day.output);
+    }
+    Ok(())
+}
+
+#[test]
+fn member_at_limit(rt: HostRuntime) -> Result<(), Fail> {
+    let mut text = Vec::new(rt.alloc());
+    for _ in 0..1001 {
+        text.extend_from_slice(b"20 1 00\n")?;
+    }
+    let (_, result) = replayed(rt.alloc(), &text)?;
+    match result {
+        Err(TapeError::Line { line, kind }) => assert_eq!(rt; (line, kind), (1001, Kind::Limit)),
+        _ => panic!(&rt; "the member may send 1,000 messages"),
+    }
+    Ok(())
+}
+
+#[test]
+fn reader_fails(rt: HostRuntime) -> Result<(), Fail> {
+    let day = days::TWO_LEVELS_TAKEN;
+    let setup = Setup::standard(rt.alloc())?;
+    let mut output = Vec::new(rt.alloc());
+    let mut reader = Faulty { text: day.tape };
+    let result = replay(rt.alloc(), &setup, &mut reader, &mut output);
+    assert!(rt; matches!(result, Err(TapeError::Read)));
+    assert_eq!(rt; output.as_slice(), day.output);
+    Ok(())
+}
+
+#[test]
+fn writer_fails(rt: HostRuntime) -> Result<(), Fail> {
+    let day = days::TWO_LEVELS_TAKEN;
+    let setup = Setup::standard(rt.alloc())?;
+    let mut output = Full {
+        taken: Vec::new(rt.alloc()),
+        room: 400,
+    };
+    let mut text = day.tape;
+    let result = replay(rt.alloc(), &setup, &mut text, &mut output);
+    assert!(rt; matches!(result, Err(TapeError::Write)));
+    assert_eq!(rt; output.taken.as_slice(), &day.output[..400]);
+    Ok(())
+}
+
+#[test]
+fn over_a_book(rt: HostRuntime) -> Result<(), Fail> {
+    let day = days::DISPLAY_BEATS_TIME;
+    let alloc = rt.alloc();
+    let setup = Setup::standard(alloc)?;
+    let mut output = Vec::new(alloc);
+    let mut text = day.tape;
+    let counts = replay_on(alloc, &setup, ListBook::new(alloc), &mut text, &mut output)?;
+    assert_eq!(rt; counts.events, 3);
+    assert_eq!(rt; output.as_slice(), day.output);
+    Ok(())
+}

@@ -3,7 +3,7 @@ use Rattle.std.proofs.lemmas.List.{length-append, length-take}
 use Rattle.std.proofs.lemmas.Result.{err_from_is_err_and, IfOk-weaker, IfErr-weaker}
 use Rattle.hx_tape.specs.declared.run.Counts.{Counts}
 use Rattle.hx_tape.specs.Run.{ReplaysAll, StopsAt}
-use Rattle.hx_tape.proofs.Pieces.{so_far_counts, so_far_more, so_far_kept, ends_well, ends_in_line, stops_in_piece, stops_at_start, at_end_after}
+use Rattle.hx_tape.proofs.Pieces.{so_far_counts, so_far_more, so_far_kept, ends_well, ends_in_line, stops_in_piece, stops_at_start, stops_in_read, starts_so, at_end_after}
 use Rattle.hx_tape.proofs.replay.replay_on.Goals as goal
 use Rattle.hx_tape.proofs.replay.replay_on.Goals.{in-Ok+in_ok-play_piece-in-Ok, in-Err+else-ne}
 
@@ -61,3 +61,13 @@ pub returns-in_err-run-clause-err : goal.returns-in_err-run-clause-err
 returns-in_err-run-clause-err g c =
     let p = err_from_is_err_and c.from_residual-in_err-run.result c.from_residual-in_err-run.ensures.1 in
     rw (p.1, p.2) (stops_at_start c.args.setup.now (g.R.Read.remaining c.args.reader.now) (g.W.Write.contents c.args.writer.now))
+
+pub loop-init : goal.loop-init
+loop-init g c =
+    starts_so c.args.setup.now c.in_ok-copy.field-0 c.in_ok-run.run' c.new-pending.result.items (g.R.Read.remaining c.args.reader.now) (g.W.Write.contents c.args.writer.now)
+    c.in_ok-copy.ensures c.in_ok-run.ensures c.new-pending.ensures.items
+
+pub returns-then-ne-clause-err : goal.returns-then-ne-clause-err
+returns-then-ne-clause-err g c =
+    stops_in_read c.args.setup.now (g.R.Read.remaining c.args.reader.now) (g.R.Read.remaining c.loop.reader) (g.R.Read.remaining c.read.new.self) (g.W.Write.contents c.args.writer.now) (g.W.Write.contents c.loop.writer)
+    c.loop.run c.loop.pending.items c.loop.counter c.loop.invariant c.in-Err.ensures.bytes

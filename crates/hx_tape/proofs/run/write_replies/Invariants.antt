@@ -1,4 +1,4 @@
-use Rattle.std.proofs.Common.{◌≡◌, ℕ, ◌+◌, ◌≤◌, ◌++◌, string_bytes, drop, length, slice_index}
+use Rattle.std.proofs.Common.{◌≡◌, ℕ, ◌+◌, ◌≤◌, ◌++◌, string_bytes, drop, slice_index}
 use Rattle.hx_tape.specs.Output.{reply_lines, counts_after}
 use Rattle.hx_tape.proofs.run.write_replies.Given as goal
 

@@ -1,9 +1,9 @@
 use Rattle.std.proofs.Common.{◌≡◌, ◌+◌, ap, inr}
 use Rattle.std.proofs.lemmas.Result.{err_from_is_err_and}
 use Rattle.hx_tape.specs.Text.{entry_of, IsEntry, line}
-use Rattle.hx_tape.specs.Run.{Progress, event_of}
+use Rattle.hx_tape.specs.Run.{Progress}
 use Rattle.hx_tape.proofs.Lines.{some_of}
-use Rattle.hx_tape.proofs.Playing.{operator_is_bad, refused_line, told_in_time, plays_line}
+use Rattle.hx_tape.proofs.Playing.{operator_is_bad, refused_line, plays_line}
 use Rattle.hx_tape.proofs.run.Run.play.Goals as goal
 
 pub returns-then-fields-eq0-clause-faults : goal.returns-then-fields-eq0-clause-faults
@@ -16,10 +16,6 @@ returns-in_err-output-clause-faults g c =
     let p = err_from_is_err_and c.from_residual-in_err-output.result c.from_residual-in_err-output.ensures.1 in
     let found = some_of (λ e. (c.args.text.now ≡ line (entry_of e)) × IsEntry (entry_of e)) c.in_ok-fields.field-0 c.in-Some.fields c.in-Some.is c.in_ok-fields.ensures.found in
     rw (p.1, p.2) (refused_line c.args.self.now c.args.text.now (entry_of c.in-Some.fields) _ found.1 found.0 c.if-fields-eq0.false c.in_err-output.ensures.refused)
-
-pub tell-requires-clause-times : goal.tell-requires-clause-times
-tell-requires-clause-times g c =
-    told_in_time c.args.self.now.setup c.args.self.now.market (event_of (entry_of c.in-Some.fields)) c.in_ok-output.output.feed.items c.in_ok-output.ensures.passes c.in_ok-output.ensures.feed
 
 pub returns-clause-ok : goal.returns-clause-ok
 returns-clause-ok g c =
