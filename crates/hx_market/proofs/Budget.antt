@@ -41,7 +41,7 @@ pub own-true : (b : Bool) (n : ℕ) → b ≡ true → own b n ≡ n
 own-true true n h = refl
 own-true false n h = cc
 
-own-le : (b : Bool) (n m : ℕ) → n ≤ m → own b n ≤ own b m
+pub own-le : (b : Bool) (n m : ℕ) → n ≤ m → own b n ≤ own b m
 own-le true n m h = h
 own-le false n m h = omega arith
 
@@ -118,13 +118,13 @@ placed-parts : (ts : List Used) (front : List Order) (x : Order) (back : List Or
 placed-parts ts [] x back h = (tt, h.0, h.1)
 placed-parts ts (y ∷ ys) x back h = let k = placed-parts ts ys x back h.1 in ((h.0, k.0), k.1, k.2)
 
-placed-shares : (ts : List Used) (x : Order) (n : ℕ) → IsPlaced ts x → IsPlaced ts (with_shares x n)
+pub placed-shares : (ts : List Used) (x : Order) (n : ℕ) → IsPlaced ts x → IsPlaced ts (with_shares x n)
 placed-shares ts x n h = record { used = h.used; at = h.at }
 
 abbrev less : Order → ℕ → List Order
 less x f = less_of itself with_shares x f
 
-open-less : (ts : List Used) (i : ℕ) (t : Token) (f : ℕ) (x : Order) → f ≤ x.shares → let b = is_name x.member (entered_of ts x.member x.token) i t in open_in ts i t (less x f) + own b f ≡ own b x.shares
+pub open-less : (ts : List Used) (i : ℕ) (t : Token) (f : ℕ) (x : Order) → f ≤ x.shares → let b = is_name x.member (entered_of ts x.member x.token) i t in open_in ts i t (less x f) + own b f ≡ own b x.shares
 open-less ts i t f x l = at (ltb f x.shares) refl
   where
     same : (f s : ℕ) → ltb f s ≡ false → f ≤ s → f ≡ s

@@ -10,16 +10,20 @@ use Rattle.hx_levels.specs.Book.{lives}
 use Rattle.hx_match.specs.declared.fills.Fill.{Fill}
 use Rattle.hx_members.specs.declared.name.Name.{Name}
 use Rattle.hx_market.specs.declared.acting.Act.{Act}
-use Rattle.hx_market.specs.declared.acting.Act.TheVariants.{Nothing, Reject, Accept}
+use Rattle.hx_market.specs.declared.acting.Act.TheVariants.{Nothing, Reject, Accept, Fail, Replace, Cancel}
 use Rattle.hx_market.specs.Markets.{Market}
-use Rattle.hx_market.specs.Ready.{HasPlaces, act_feed_count, act_members, outcome_of}
-use Rattle.hx_market.proofs.Plans.{feed_accepted, members_accepted}
+use Rattle.hx_market.specs.Acts.{outcome_of, IsAbout}
+use Rattle.hx_market.specs.Ready.{HasPlaces, act_feed_count, act_members}
+use Rattle.hx_market.proofs.Plans.{feed_accepted, members_accepted, feed_replaced, members_replaced, length-deleted, length-off}
 
-pub tells : (m : Market) (act : Act) (orders : List Live) (place : Option Terms) (name : Option Name) (fills : List Fill) (left : ℕ) → m.live ≡ lives orders → HasPlaces orders place name fills left act
+pub tells : (m : Market) (act : Act) (orders : List Live) (place : Option Terms) (name : Option Name) (fills : List Fill) (left : ℕ) → m.live ≡ lives orders → IsAbout orders act → HasPlaces orders place name fills left act
     → (act_feed_count act fills left ≡ length (outcome_of m act).told.feed) × (act_members act orders fills left ≡ map (λ r. r.0) (outcome_of m act).told.replies)
-tells m Nothing orders place name fills left live h = (refl, refl)
-tells m (Reject r) orders place name fills left live h = (refl, refl)
-tells m (Accept a) orders place name fills left live h = (feed_accepted m a orders fills left live h.2, members_accepted m a orders fills left live h.3 h.2)
+tells m Nothing orders place name fills left live about h = (refl, refl)
+tells m (Reject r) orders place name fills left live about h = (refl, refl)
+tells m (Accept a) orders place name fills left live about h = (feed_accepted m a orders fills left live h.2, members_accepted m a orders fills left live h.3 h.2)
+tells m (Fail a) orders place name fills left live about h = (length-deleted a.time a.old.order, refl)
+tells m (Replace a) orders place name fills left live about h = (feed_replaced m a orders fills left live about h.2, members_replaced m a orders fills left live about h.2)
+tells m (Cancel a) orders place name fills left live about h = (length-off a.time a.by a.old.order, refl)
 
 -- what an event does, as one step
 pub step_is : (s t : Setup) (m k : Market) (e f : Event) (o : Outcome) → happens s (with_record e m) e ≡ o → s ≡ t → m ≡ k → e ≡ f → o ≡ step t k f

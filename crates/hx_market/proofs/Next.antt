@@ -14,9 +14,10 @@ use Rattle.hx_market.specs.Markets.{Market, opening}
 use Rattle.hx_market.specs.Executions.{chains_after, incoming_of, resting_of, displays, arrive}
 use Rattle.hx_market.specs.Entering.{consumed, drawn, accept_order, reject, after_draw}
 use Rattle.hx_market.specs.Ready.{MayRecord}
-use Rattle.hx_market.specs.Keeping.{own, is_name, open_in, IsPlaced, ArePlaced, CanNote, chains_by, total, IsSound, CanAccept}
+use Rattle.hx_market.specs.Keeping.{own, is_name, open_in, IsPlaced, ArePlaced, CanNote, chains_by, total, AreLone, IsSound, CanAccept}
 use Rattle.hx_market.proofs.Budget.{open-append, IsWithin, Counted, counted, executed-noted, can, placed-append}
 use Rattle.hx_market.proofs.Used.{placed-more, open-more, open-unused, executed-unused, executed-fresh, chained-more, chained-append, chained-noted, entered-last, used-last, get-last, same-name}
+use Rattle.hx_market.proofs.Lone.{NoneOf, StayLone, stay_lone, lone-more, lone-append, none-more, none-unused}
 use Rattle.hx_market.proofs.Sound.{ended, total-raised, total-within, length-raised, raised-along, raised-limited}
 
 zeros : (n i : ℕ) → slice_index (replicate n 0) i ≤ 0
@@ -32,6 +33,7 @@ sound_opening setup = record {
   matches = omega arith;
   within = λ i t. omega arith;
   placed = tt;
+  lone = tt;
   chained = tt;
   numbered = refl;
   limited = λ i. (let a = zeros 4096 i in omega arith);
@@ -43,7 +45,7 @@ recording m i = record m { recorded = raised m.recorded i }
 pub more : (m : Market) (i : ℕ) → IsSound m → MayRecord m.recorded i → total (raised m.recorded i) ≡ total m.recorded + 1
 more m i h l = let a = h.numbered in let b = l.in_range in total-raised m.recorded i (omega arith)
 
-raised-le : (xs : List ℕ) (i k : ℕ) → slice_index xs k ≤ slice_index (raised xs i) k
+pub raised-le : (xs : List ℕ) (i k : ℕ) → slice_index xs k ≤ slice_index (raised xs i) k
 raised-le [] i k = omega arith
 raised-le (x ∷ xs) zero zero = omega arith
 raised-le (x ∷ xs) zero (suc k) = omega arith
@@ -57,6 +59,7 @@ sound_recorded m i h l = record {
   matches = (let a = h.matches in let b = more m i h l in omega arith);
   within = h.within;
   placed = h.placed;
+  lone = h.lone;
   chained = h.chained;
   numbered = length-raised m.recorded i ∙ h.numbered;
   limited = raised-limited m.recorded i 4294967295 h.limited l.limit;
@@ -87,6 +90,7 @@ sound_rejected m i time token letter h l = let r = sound_recorded m i h l in rec
   matches = r.matches;
   within = within_consumed m i token h;
   placed = placed-more m.tokens _ m.live h.placed;
+  lone = lone-more m.tokens _ m.live h.placed h.lone;
   chained = chained_consumed m i token h;
   numbered = r.numbered;
   limited = r.limited;
@@ -101,6 +105,9 @@ pub record Arrives (m : Market) (x : Order) : Type 0 where
   pub within : IsWithin m.tokens x.member (entered_of m.tokens x.member x.token) x.shares m.chains m.live
   pub placed : ArePlaced m.tokens m.live
   pub chained : AllByRecursion (λ c. is_used m.tokens c.member c.entered ≡ true) m.chains
+  -- and has no other live order
+  pub lone : AreLone m.tokens m.live
+  pub alone : NoneOf m.tokens x.member (entered_of m.tokens x.member x.token) m.live
 
 abbrev pub matched_of : Market → Order → Matched
 matched_of m x = matched (incoming_of x) x.shares m.live
@@ -147,6 +154,18 @@ noted_within true i en cs k t = let a = executed-noted i en 0 true cs k t in let
     none false = refl
 noted_within false i en cs k t = omega arith
 
+stay : (m : Market) (x : Order) → Arrives m x → StayLone m.tokens m.live (matched_of m x).rest
+unfolding matched
+stay m x h = stay_lone x.shares (incoming_of x) x.shares m.tokens m.live h.lone
+
+rests_lone : (m : Market) (x : Order) (imm : Bool) (left : ℕ) (xs : List Order) → AreLone m.tokens xs → NoneOf m.tokens x.member (entered_of m.tokens x.member x.token) xs → AreLone m.tokens (xs ++ resting_of x imm left)
+rests_lone m x imm left xs h n =
+    cond_both (ltb 0 left && not imm) (record x { shares = left } ∷ []) [] (λ l. AreLone m.tokens (xs ++ l)) (λ _. lone-append m.tokens xs (record x { shares = left }) h n) (λ _. subst (AreLone m.tokens) (sym (append_nil xs)) h)
+  where
+    append_nil : (ys : List Order) → ys ++ [] ≡ ys
+    append_nil [] = refl
+    append_nil (y ∷ ys) = ap (λ l. y ∷ l) (append_nil ys)
+
 -- what holds of the numbers before an order arrives
 pub record AreReady (m : Market) : Type 0 where
   pub public : m.numbers.public ≤ total m.recorded
@@ -169,6 +188,7 @@ sound_arrived m x time imm h n =
       matches = (let a = n.matches in let b = ends m x in let f = length-join c.rest resting in let g = one_rests x imm c.left in omega arith);
       within = λ j t. (let a = k.within j t in let b = open-append ts j t c.rest resting in let r = rests_within ts j t x imm c.left in let w = noted_within (displays resting) x.member en chains j t in omega arith);
       placed = placed-append ts c.rest resting k.placed (rests_placed ts x imm c.left (record { used = h.used; at = h.at }));
+      lone = rests_lone m x imm c.left c.rest (stay m x h).lone ((stay m x h).none x.member en h.alone);
       chained = chained_if (displays resting) chains (chained_after ts x.member en c.fills m.chains h.chained);
       numbered = n.numbered;
       limited = n.limited;
@@ -217,6 +237,8 @@ arrives_entered m x shown h new =
       within = subst (λ (z : Token). IsWithin (used_by m x.member x.token) x.member z x.shares (chains_with m x.member x.token) m.live) (sym last) (within_entered m x h new);
       placed = placed-more m.tokens _ m.live h.placed;
       chained = chained_consumed m x.member x.token h;
+      lone = lone-more m.tokens _ m.live h.placed h.lone;
+      alone = subst (λ (z : Token). NoneOf (used_by m x.member x.token) x.member z m.live) (sym last) (none-more m.tokens _ x.member x.token m.live h.placed (none-unused m.tokens x.member x.token m.live new.unused h.placed));
     }
 
 pub draws : (numbers : Numbers) (i : ℕ) (shown : Bool) → ((after_draw numbers i shown).public ≤ numbers.public + 1) × ((after_draw numbers i shown).matches ≡ numbers.matches)
@@ -258,7 +280,7 @@ sound_accepted m x time e h l new =
     })
   where
     arrives_recorded : Arrives (drawn (consumed m x.member x.token) x.member x.shown) x → Arrives (drawn (consumed (recording m x.member) x.member x.token) x.member x.shown) x
-    arrives_recorded a = record { used = a.used; at = a.at; within = a.within; placed = a.placed; chained = a.chained }
+    arrives_recorded a = record { used = a.used; at = a.at; within = a.within; placed = a.placed; chained = a.chained; lone = a.lone; alone = a.alone }
 
     private_le : (b : Bool) (j : ℕ) → slice_index (raised m.numbers.private x.member) j ≤ slice_index (raised m.recorded x.member) j → slice_index m.numbers.private j ≤ slice_index (raised m.recorded x.member) j
         → slice_index (after_draw m.numbers x.member b).private j ≤ slice_index (raised m.recorded x.member) j

@@ -1,15 +1,22 @@
 -- What an act leaves: a sound market again.
-use Rattle.std.proofs.Common.{◌≡◌, ℕ, [], length, refl, sym, subst}
+use Rattle.std.proofs.Common.{◌≡◌, ℕ, List, [], length, refl, sym, ap, ◌∙◌, subst, arith}
 use Rattle.hx_levels.specs.declared.order.Order.{Order}
 use Rattle.hx_members.specs.Setups.{Setup}
 use Rattle.hx_market.specs.declared.acting.Act.{Act}
-use Rattle.hx_market.specs.declared.acting.Act.TheVariants.{Nothing, Reject, Accept}
+use Rattle.hx_market.specs.declared.acting.Act.TheVariants.{Nothing, Reject, Accept, Fail, Replace, Cancel}
 use Rattle.hx_market.specs.declared.acting.Accepting.{Accepting}
 use Rattle.hx_market.specs.Markets.{Market}
-use Rattle.hx_market.specs.Orders.{is_shown}
+use Rattle.hx_market.specs.Orders.{is_shown, is_called}
+use Rattle.std.specs.List.{find}
+use Rattle.hx_levels.specs.declared.order.Live.{Live}
+use Rattle.hx_levels.specs.Book.{lives}
+use Rattle.hx_market.proofs.Called.{only_found}
+use Rattle.hx_market.proofs.Amended.{Replaces, chain_old, can_replace, sound_handed, sound_replaced, sound_lessened}
 use Rattle.hx_market.specs.Entering.{next_reference}
 use Rattle.hx_market.specs.Keeping.{IsSound}
-use Rattle.hx_market.specs.Ready.{IsAct, IsUnused, IsOf, IsInTime, FitsAct, MayRecord, order_of_accepting, outcome_of}
+use Rattle.hx_market.specs.Acts.{IsAct, SuitsTokens, IsAbout, IsOnly, IsExchange, IsReplacing, IsOf, IsInRange, order_of_accepting, order_by_replacing, outcome_of}
+use Rattle.hx_market.specs.declared.acting.Replacing.{Replacing}
+use Rattle.hx_market.specs.Ready.{FitsAct, MayRecord}
 use Rattle.hx_market.proofs.Next.{recording, can_accept, sound_recorded, sound_rejected, sound_accepted}
 
 -- without hours and counts, which no act reads
@@ -22,30 +29,68 @@ pub parts : (m : Market) (act : Act) → let k : Market = (outcome_of (bare m) a
 parts m Nothing = refl
 parts m (Reject r) = refl
 parts m (Accept a) = refl
+parts m (Fail a) = refl
+parts m (Replace a) = refl
+parts m (Cancel a) = refl
 
 pub told_same : (m : Market) (act : Act) → (outcome_of m act).told ≡ (outcome_of (bare m) act).told
 told_same m Nothing = refl
 told_same m (Reject r) = refl
 told_same m (Accept a) = refl
+told_same m (Fail a) = refl
+told_same m (Replace a) = refl
+told_same m (Cancel a) = refl
 
 abbrev order_by : Market → Accepting → Order
 order_by m a = order_of_accepting (length m.tokens) (next_reference m.numbers a.member (is_shown a.enter.display a.enter.time_in_force)) a
 
-pub in_time : (setup : Setup) (act : Act) → IsAct setup act → IsInTime act
-in_time setup Nothing h = tt
-in_time setup (Reject r) h = tt
-in_time setup (Accept a) h = h.time
+abbrev order_in_place : Market → Replacing → Order
+order_in_place m a = order_by_replacing (next_reference m.numbers a.member (is_shown a.replace.display a.replace.time_in_force)) a
 
-pub fits_act : (setup : Setup) (m : Market) (i : ℕ) (act : Act) → IsSound m → MayRecord m.recorded i → IsAct setup act → IsUnused m.tokens act → IsOf i act → FitsAct (bare m) act
-fits_act setup m i Nothing h l k u e = tt
-fits_act setup m i (Reject r) h l k u e = tt
-fits_act setup m i (Accept a) h l k u e =
+pub in_range : (setup : Setup) (act : Act) → IsAct setup act → IsInRange act
+in_range setup Nothing h = tt
+in_range setup (Reject r) h = tt
+in_range setup (Accept a) h = h.time
+in_range setup (Fail a) h = h
+in_range setup (Replace a) h = h
+in_range setup (Cancel a) h = h
+
+-- what an order that replaces has to be
+replaces : (m : Market) (a : Replacing) (orders : List Live) (reference : ℕ) → m.live ≡ lives orders → IsReplacing a → IsExchange m.tokens m.chains a → IsOnly orders a.member a.replace.existing_token a.old
+    → Replaces m a.member a.replace.existing_token a.old.order (order_by_replacing reference a)
+replaces m a orders reference live is suits only = record {
+  names = record { found = ap (λ (xs : List Order). find (is_called a.member a.replace.existing_token) xs) live ∙ only_found a.member a.replace.existing_token a.old.key.0 a.old.order orders only.only only.found; called = only.called };
+  unused = suits.unused;
+  member = refl;
+  chain = refl;
+  shares = (let e = suits.executed in let k = is.more in let s = is.shares in omega arith);
+}
+
+pub fits_act : (setup : Setup) (m : Market) (i : ℕ) (act : Act) (orders : List Live) → m.live ≡ lives orders → IsSound m → MayRecord m.recorded i → IsAct setup act → SuitsTokens m.tokens m.chains act → IsAbout orders act → IsOf i act → FitsAct (bare m) act
+fits_act setup m i Nothing orders live h l k u b e = tt
+fits_act setup m i (Reject r) orders live h l k u b e = tt
+fits_act setup m i (Accept a) orders live h l k u b e =
     can_accept m (order_by m a) h (subst (MayRecord m.recorded) (sym e) l) (record { unused = u; chain = refl; shares = k.shares })
+fits_act setup m i (Fail a) orders live h l k u b e =
+    chain_old m a.member a.existing a.old.order h (record { found = ap (λ (xs : List Order). find (is_called a.member a.existing) xs) live ∙ only_found a.member a.existing a.old.key.0 a.old.order orders b.only b.found; called = b.called })
+fits_act setup m i (Replace a) orders live h l k u b e =
+    let r = replaces m a orders 0 live k u b in (
+      can_replace m a.member a.replace.existing_token a.old.order (order_by_replacing 0 a) h (subst (MayRecord m.recorded) (sym e) l) r,
+      chain_old m a.member a.replace.existing_token a.old.order h r.names,
+    )
+fits_act setup m i (Cancel a) orders live h l k u b e = tt
 
-pub sound_outcome : (setup : Setup) (m : Market) (i : ℕ) (act : Act) → IsSound m → MayRecord m.recorded i → IsAct setup act → IsUnused m.tokens act → IsOf i act → IsSound (outcome_of (recording m i) act).market
-sound_outcome setup m i Nothing h l k u e = sound_recorded m i h l
-sound_outcome setup m i (Reject r) h l k u e =
+pub sound_outcome : (setup : Setup) (m : Market) (i : ℕ) (act : Act) (orders : List Live) → m.live ≡ lives orders → IsSound m → MayRecord m.recorded i → IsAct setup act → SuitsTokens m.tokens m.chains act → IsAbout orders act → IsOf i act
+    → IsSound (outcome_of (recording m i) act).market
+sound_outcome setup m i Nothing orders live h l k u b e = sound_recorded m i h l
+sound_outcome setup m i (Reject r) orders live h l k u b e =
     subst (λ j. IsSound (outcome_of (recording m j) (Reject r)).market) e (sound_rejected m r.member r.time r.token r.letter h (subst (MayRecord m.recorded) (sym e) l))
-sound_outcome setup m i (Accept a) h l k u e =
+sound_outcome setup m i (Accept a) orders live h l k u b e =
     subst (λ j. IsSound (outcome_of (recording m j) (Accept a)).market) e
     (sound_accepted m (order_by m a) a.time a.enter h (subst (MayRecord m.recorded) (sym e) l) (record { unused = u; chain = refl; shares = k.shares }))
+sound_outcome setup m i (Fail a) orders live h l k u b e = sound_handed (recording m i) a.member a.existing a.replacement (sound_recorded m i h l)
+sound_outcome setup m i (Replace a) orders live h l k u b e =
+    subst (λ j. IsSound (outcome_of (recording m j) (Replace a)).market) e
+    (sound_replaced m a.member a.time a.stock a.replace a.old.order (order_in_place m a) h (subst (MayRecord m.recorded) (sym e) l)
+        (replaces m a orders (next_reference m.numbers a.member (is_shown a.replace.display a.replace.time_in_force)) live k u b) refl)
+sound_outcome setup m i (Cancel a) orders live h l k u b e = sound_lessened (recording m i) a.member a.token a.by (sound_recorded m i h l)

@@ -1,5 +1,5 @@
 -- What the fills of a plan stand for, and how much they tell.
-use Rattle.std.proofs.Common.{◌≡◌, ℕ, suc, ◌+◌, Bool, true, false, cond, ltb, ◌&&◌, not, if◌then◌else◌, List, [], ◌∷◌, ◌++◌, map, length, Option, Some, None, refl, sym, ap, ◌∙◌, arith, eq-eqb, eqb-true}
+use Rattle.std.proofs.Common.{◌≡◌, ℕ, suc, ◌+◌, Bool, true, false, cond, ltb, ◌&&◌, not, if◌then◌else◌, nat_lt, List, [], ◌∷◌, ◌++◌, map, length, Option, Some, None, refl, sym, ap, ◌∙◌, arith, eq-eqb, eqb-true}
 use Rattle.std.specs.Option.{option_map, option_map_or}
 use Rattle.std.specs.List.{AllByRecursion, find}
 use Rattle.std.proofs.lemmas.Bool.{cond_both, or_parts}
@@ -17,9 +17,17 @@ use Rattle.hx_market.specs.Orders.{is_immediate, is_shown, is_visible}
 use Rattle.hx_itch.specs.declared.message.Feed.{Feed}
 use Rattle.hx_ouch.specs.declared.outbound.Outbound.TheVariants.{Canceled}
 use Rattle.hx_market.specs.Outputs.{Reply}
-use Rattle.hx_market.specs.Entering.{after_draw, next_reference}
-use Rattle.hx_market.specs.Executions.{feed_of_executions, replies_of_executions, resting_of, shown_of, published, canceled_of}
-use Rattle.hx_market.specs.Ready.{AreFills, incoming_of_accepting, order_of_accepting, accepted_by, maker_of, makers_and, members_by, feed_count_of}
+use Rattle.hx_market.specs.Entering.{after_draw, next_reference, accepted_of}
+use Rattle.hx_market.specs.Executions.{feed_of_executions, replies_of_executions, resting_of, shown_of, published, canceled_of, arrival_feed}
+use Rattle.hx_match.specs.Rules.{AreFills}
+use Rattle.hx_market.specs.declared.acting.Replacing.{Replacing}
+use Rattle.hx_market.specs.Leaving.{others, deleted, taken_off}
+use Rattle.hx_market.specs.Replacing.{replaced_of, is_one_display}
+use Rattle.hx_market.specs.Acts.{incoming_of_accepting, order_of_accepting, accepted_by, IsOnly, open_shares, incoming_of_replacing, order_by_replacing, replaced_by_act}
+use Rattle.hx_market.proofs.Called.{others_lives}
+use Rattle.hx_market.proofs.Used.{same-name}
+use Rattle.hx_itch.specs.declared.message.Feed.TheVariants.{OrderReplace, OrderCancel, OrderDelete}
+use Rattle.hx_market.specs.Ready.{maker_of, makers_and, arrival_members, arrival_count, one_if, replaced_count}
 
 -- each fill is one execution
 pub length-done : (fills : List Fill) (orders : List Live) → AreGood fills orders → length (done_by fills orders) ≡ length fills
@@ -37,7 +45,7 @@ abbrev member_at : ℕ → List Live → Option ℕ
 member_at key orders = option_map (λ x. x.member) (order_of key orders)
 
 -- each order of the list stands among these orders with its member
-AreOf : List Live → List Live → Type 0
+pub AreOf : List Live → List Live → Type 0
 AreOf orders xs = AllByRecursion (λ live. member_at live.key.0 orders ≡ Some live.order.member) xs
 
 of_more : (live : Live) (orders xs : List Live) → has_key live.key.0 xs ≡ false → AreOf orders xs → AreOf (live ∷ orders) xs
@@ -118,25 +126,30 @@ who_if : (b : Bool) (r : Reply) → (if b then who r ∷ [] else []) ≡ map who
 who_if true r = refl
 who_if false r = refl
 
+-- the members of the replies of an order that arrives, with the reply that comes first
+pub members_arrived : (time number m : ℕ) (token : Token) (imm : Bool) (r : Reply) (orders xs : List Live) (fills : List Fill) (left : ℕ) (k : Matched) → who r ≡ m → AreOf orders xs → AreGood fills xs
+    → done_by fills xs ≡ k.fills → left ≡ k.left
+    → arrival_members m imm orders fills left ≡ map who (r ∷ (replies_of_executions time m token number k.fills ++ canceled_of time m token imm k.left))
+members_arrived time number m token imm r orders xs fills left k first of good done remains =
+    let replies : List Execution → List Reply = λ es. replies_of_executions time m token number es in
+    let tail : ℕ → List Reply = λ n. canceled_of time m token imm n in
+    let makers : makers_and m orders fills ≡ map who (replies k.fills) = makers_done time number m token fills orders xs of good ∙ ap (λ (es : List Execution). map who (replies es)) done in
+    let last : (if ltb 0 left && imm then m ∷ [] else []) ≡ map who (tail k.left) =
+    who_if (ltb 0 left && imm) (m, Canceled (record { time = time; token = token; shares = left; reason = 73 })) ∙ ap (λ n. map who (tail n)) remains in
+    ap (λ l. m ∷ (l ++ (if ltb 0 left && imm then m ∷ [] else []))) makers
+    ∙ ap (λ (l : List ℕ). m ∷ (map who (replies k.fills) ++ l)) last
+    ∙ ap (λ (l : List ℕ). m ∷ l) (sym (map-join (replies k.fills) (tail k.left)))
+    ∙ ap (λ n. n ∷ map who (replies k.fills ++ tail k.left)) (sym first)
+
 -- the members of an accepted order's replies
 pub members_accepted : (m : Market) (a : Accepting) (orders : List Live) (fills : List Fill) (left : ℕ) → m.live ≡ lives orders → KeysDiffer orders → AreFills (incoming_of_accepting a) orders fills left
-    → members_by a orders fills left ≡ map who (accepted_by m a).told.replies
+    → arrival_members a.member (is_immediate a.enter.time_in_force) orders fills left ≡ map who (accepted_by m a).told.replies
 members_accepted m a orders fills left live differ h =
     let shown : Bool = is_shown a.enter.display a.enter.time_in_force in
-    let imm : Bool = is_immediate a.enter.time_in_force in
-    let number : ℕ = (after_draw m.numbers a.member shown).matches in
-    let replies : List Execution → List Reply = λ es. replies_of_executions a.time a.member a.enter.token number es in
     let of : List Order → Matched = λ xs. matched (incoming_of_accepting a) a.enter.shares xs in
-    let tail : ℕ → List Reply = λ n. canceled_of a.time a.member a.enter.token imm n in
-    let makers : makers_and a.member orders fills ≡ map who (replies (of m.live).fills) =
-    makers_done a.time number a.member a.enter.token fills orders orders (of_itself orders differ) h.good
-    ∙ ap (λ (es : List Execution). map who (replies es)) h.done ∙ ap (λ (xs : List Order). map who (replies (of xs).fills)) (sym live) in
-    let last : (if ltb 0 left && imm then a.member ∷ [] else []) ≡ map who (tail (of m.live).left) =
-    who_if (ltb 0 left && imm) (a.member, Canceled (record { time = a.time; token = a.enter.token; shares = left; reason = 73 }))
-    ∙ ap (λ n. map who (tail n)) h.remains ∙ ap (λ (xs : List Order). map who (tail (of xs).left)) (sym live) in
-    ap (λ l. a.member ∷ (l ++ (if ltb 0 left && imm then a.member ∷ [] else []))) makers
-    ∙ ap (λ (l : List ℕ). a.member ∷ (map who (replies (of m.live).fills) ++ l)) last
-    ∙ ap (λ (l : List ℕ). a.member ∷ l) (sym (map-join (replies (of m.live).fills) (tail (of m.live).left)))
+    let x : Order = order_of_accepting (length m.tokens) (next_reference m.numbers a.member shown) a in
+    members_arrived a.time (after_draw m.numbers a.member shown).matches a.member a.enter.token (is_immediate a.enter.time_in_force) (accepted_of x a.time a.enter) orders orders fills left (of m.live) refl
+    (of_itself orders differ) h.good (h.done ∙ ap (λ (xs : List Order). (of xs).fills) (sym live)) (h.remains ∙ ap (λ (xs : List Order). (of xs).left) (sym live))
 
 length-feed : (time : ℕ) (stock : Symbol) (number : ℕ) (es : List Execution) → length (feed_of_executions time stock number es) ≡ length es
 length-feed time stock number [] = refl
@@ -163,20 +176,85 @@ length-rests time stock x true false false left h = none x.shown h
     none false h = refl
 length-rests time stock x false visible imm left h = refl
 
+-- how many messages of the feed an order gives that arrives
+pub feed_arrived : (time : ℕ) (stock : Symbol) (number : ℕ) (x : Order) (visible imm : Bool) (orders : List Live) (fills : List Fill) (left : ℕ) (k : Matched) → x.shown ≡ (visible && not imm) → AreGood fills orders
+    → done_by fills orders ≡ k.fills → left ≡ k.left
+    → arrival_count (visible && not imm) fills left ≡ length (arrival_feed time stock number k.fills (resting_of x imm k.left))
+feed_arrived time stock number x visible imm orders fills left k shown good done remains =
+    let rests : ℕ → ℕ = λ n. length (map (published time stock) (shown_of (resting_of x imm n))) in
+    let fills_is : length fills ≡ length k.fills = sym (length-done fills orders good) ∙ ap (λ (es : List Execution). length es) done in
+    let rest_is : (if ltb 0 left && (visible && not imm) then 1 else 0) ≡ rests k.left = sym (length-rests time stock x (ltb 0 left) visible imm left shown) ∙ ap rests remains in
+    let told_is : length (feed_of_executions time stock number k.fills) ≡ length k.fills = length-feed time stock number k.fills in
+    ap (λ n. n + (if ltb 0 left && (visible && not imm) then 1 else 0)) (fills_is ∙ sym told_is)
+    ∙ ap (λ n. length (feed_of_executions time stock number k.fills) + n) rest_is
+    ∙ sym (length-join (feed_of_executions time stock number k.fills) (map (published time stock) (shown_of (resting_of x imm k.left))))
+
 -- how many messages of the feed an accepted order gives
 pub feed_accepted : (m : Market) (a : Accepting) (orders : List Live) (fills : List Fill) (left : ℕ) → m.live ≡ lives orders → AreFills (incoming_of_accepting a) orders fills left
-    → feed_count_of a fills left ≡ length (accepted_by m a).told.feed
+    → arrival_count (is_shown a.enter.display a.enter.time_in_force) fills left ≡ length (accepted_by m a).told.feed
 feed_accepted m a orders fills left live h =
     let shown : Bool = is_shown a.enter.display a.enter.time_in_force in
-    let imm : Bool = is_immediate a.enter.time_in_force in
-    let x : Order = order_of_accepting (length m.tokens) (next_reference m.numbers a.member shown) a in
     let of : List Order → Matched = λ xs. matched (incoming_of_accepting a) a.enter.shares xs in
-    let rests : ℕ → ℕ = λ n. length (map (published a.time a.enter.stock) (shown_of (resting_of x imm n))) in
-    let fills_is : length fills ≡ length (of m.live).fills =
-    sym (length-done fills orders h.good) ∙ ap (λ (es : List Execution). length es) h.done ∙ ap (λ (xs : List Order). length (of xs).fills) (sym live) in
-    let rest_is : (if ltb 0 left && shown then 1 else 0) ≡ rests (of m.live).left =
-    sym (length-rests a.time a.enter.stock x (ltb 0 left) (is_visible a.enter.display) imm left refl) ∙ ap rests h.remains ∙ ap (λ (xs : List Order). rests (of xs).left) (sym live) in
-    let told_is : length (feed_of_executions a.time a.enter.stock m.numbers.matches (of m.live).fills) ≡ length (of m.live).fills = length-feed a.time a.enter.stock m.numbers.matches (of m.live).fills in
-    ap (λ n. n + (if ltb 0 left && shown then 1 else 0)) (fills_is ∙ sym told_is)
-    ∙ ap (λ n. length (feed_of_executions a.time a.enter.stock m.numbers.matches (of m.live).fills) + n) rest_is
-    ∙ sym (length-join (feed_of_executions a.time a.enter.stock m.numbers.matches (of m.live).fills) (map (published a.time a.enter.stock) (shown_of (resting_of x imm (of m.live).left))))
+    feed_arrived a.time a.enter.stock m.numbers.matches (order_of_accepting (length m.tokens) (next_reference m.numbers a.member shown) a) (is_visible a.enter.display) (is_immediate a.enter.time_in_force) orders fills left
+    (of m.live) refl h.good (h.done ∙ ap (λ (xs : List Order). (of xs).fills) (sym live)) (h.remains ∙ ap (λ (xs : List Order). (of xs).left) (sym live))
+
+-- The same of an order that replaces another.
+
+-- the executions against the others, as the market has them
+others_matched : (m : Market) (a : Replacing) (orders : List Live) (fills : List Fill) (left : ℕ) → m.live ≡ lives orders → IsOnly orders a.member a.replace.existing_token a.old → AreFills (incoming_of_replacing a) (without a.old.key.0 orders) fills left
+    → let k : Matched = matched (incoming_of_replacing a) (open_shares a) (others a.member a.replace.existing_token m.live) in (done_by fills (without a.old.key.0 orders) ≡ k.fills) × (left ≡ k.left)
+others_matched m a orders fills left live only h =
+    let of : List Order → Matched = λ xs. matched (incoming_of_replacing a) (open_shares a) xs in
+    let e : lives (without a.old.key.0 orders) ≡ others a.member a.replace.existing_token m.live =
+    others_lives a.member a.replace.existing_token a.old.key.0 orders only.only only.differ ∙ ap (λ (xs : List Order). others a.member a.replace.existing_token xs) (sym live) in
+    (h.done ∙ ap (λ (xs : List Order). (of xs).fills) e, h.remains ∙ ap (λ (xs : List Order). (of xs).left) e)
+
+pub members_replaced : (m : Market) (a : Replacing) (orders : List Live) (fills : List Fill) (left : ℕ) → m.live ≡ lives orders → IsOnly orders a.member a.replace.existing_token a.old → AreFills (incoming_of_replacing a) (without a.old.key.0 orders) fills left
+    → arrival_members a.member (is_immediate a.replace.time_in_force) orders fills left ≡ map who (replaced_by_act m a).told.replies
+members_replaced m a orders fills left live only h =
+    let shown : Bool = is_shown a.replace.display a.replace.time_in_force in
+    let k : Matched = matched (incoming_of_replacing a) (open_shares a) (others a.member a.replace.existing_token m.live) in
+    let x : Order = order_by_replacing (next_reference m.numbers a.member shown) a in
+    let e = others_matched m a orders fills left live only h in
+    let own : a.old.order.member ≡ a.member = (same-name a.old.order.member a.member a.old.order.token a.replace.existing_token only.called).0 in
+    let told : ℕ → List Reply = λ n. replies_of_executions a.time n a.replace.replacement_token (after_draw m.numbers a.member shown).matches k.fills ++ canceled_of a.time n a.replace.replacement_token (is_immediate a.replace.time_in_force) k.left in
+    members_arrived a.time (after_draw m.numbers a.member shown).matches a.member a.replace.replacement_token (is_immediate a.replace.time_in_force) (replaced_of a.member a.time a.stock a.replace x)
+    orders (without a.old.key.0 orders) fills left k refl (of_without orders a.old.key.0 orders (of_itself orders only.differ)) h.good e.0 e.1
+    ∙ ap (λ n. map who (replaced_of a.member a.time a.stock a.replace x ∷ told n)) (sym own)
+
+pub length-deleted : (time : ℕ) (x : Order) → one_if x.shown ≡ length (deleted time x)
+length-deleted time x = at x.shown
+  where
+    at : (b : Bool) → one_if b ≡ length (if b then OrderDelete (record { locate = x.locate; time = time; reference = x.reference }) ∷ [] else [])
+    at true = refl
+    at false = refl
+
+pub feed_replaced : (m : Market) (a : Replacing) (orders : List Live) (fills : List Fill) (left : ℕ) → m.live ≡ lives orders → IsOnly orders a.member a.replace.existing_token a.old → AreFills (incoming_of_replacing a) (without a.old.key.0 orders) fills left
+    → replaced_count a fills left ≡ length (replaced_by_act m a).told.feed
+feed_replaced m a orders fills left live only h =
+    let shown : Bool = is_shown a.replace.display a.replace.time_in_force in
+    let imm : Bool = is_immediate a.replace.time_in_force in
+    let k : Matched = matched (incoming_of_replacing a) (open_shares a) (others a.member a.replace.existing_token m.live) in
+    let x : Order = order_by_replacing (next_reference m.numbers a.member shown) a in
+    let e = others_matched m a orders fills left live only h in
+    let len : length fills ≡ length k.fills = sym (length-done fills (without a.old.key.0 orders) h.good) ∙ ap (λ (es : List Execution). length es) e.0 in
+    let feed : List Feed = arrival_feed a.time a.stock m.numbers.matches k.fills (resting_of x imm k.left) in
+    let count : arrival_count shown fills left ≡ length feed =
+    feed_arrived a.time a.stock m.numbers.matches x (is_visible a.replace.display) imm (without a.old.key.0 orders) fills left k refl h.good e.0 e.1 in
+    let one : List Feed = OrderReplace (record { locate = x.locate; time = a.time; original_reference = a.old.order.reference; reference = x.reference; shares = x.shares; price = x.price }) ∷ [] in
+    ap (λ n. if is_one_display a.old.order x && nat_lt n 1 then 1 else one_if a.old.order.shown + arrival_count shown fills left) len
+    ∙ ap (λ n. if is_one_display a.old.order x && nat_lt (length k.fills) 1 then 1 else one_if a.old.order.shown + n) count
+    ∙ either (is_one_display a.old.order x && nat_lt (length k.fills) 1) one (deleted a.time a.old.order) feed refl (length-deleted a.time a.old.order)
+  where
+    either : (b : Bool) (one gone feed : List Feed) → length one ≡ 1 → one_if a.old.order.shown ≡ length gone → (if b then 1 else one_if a.old.order.shown + length feed) ≡ length (if b then one else gone ++ feed)
+    either true one gone feed h k = sym h
+    either false one gone feed h k = ap (λ n. n + length feed) k ∙ sym (length-join gone feed)
+
+pub length-off : (time by : ℕ) (x : Order) → one_if x.shown ≡ length (taken_off time by x)
+length-off time by x = at (nat_lt by x.shares) x.shown
+  where
+    at : (a b : Bool) → one_if b ≡ length (if a then (if b then OrderCancel (record { locate = x.locate; time = time; reference = x.reference; shares = by }) ∷ [] else []) else (if b then OrderDelete (record { locate = x.locate; time = time; reference = x.reference }) ∷ [] else []))
+    at true true = refl
+    at true false = refl
+    at false true = refl
+    at false false = refl

@@ -1,5 +1,5 @@
 -- What an event tells carries its time.
-use Rattle.std.proofs.Common.{ℕ, ◌+◌, ◌<◌, ◌^◌, Bool, List, [], ◌∷◌, ◌++◌, map, length, eqb, arith}
+use Rattle.std.proofs.Common.{ℕ, ◌+◌, ◌<◌, ◌^◌, Bool, ◌&&◌, nat_lt, List, [], ◌∷◌, ◌++◌, map, length, eqb, arith}
 use Rattle.std.specs.List.{AllByRecursion}
 use Rattle.std.proofs.lemmas.Bool.{cond_both}
 use Rattle.hx_units.specs.declared.names.Symbol.{Symbol}
@@ -7,12 +7,14 @@ use Rattle.hx_itch.specs.declared.message.Feed.{Feed}
 use Rattle.hx_itch.specs.Message.{feed_time}
 use Rattle.hx_match.specs.Matching.{Execution}
 use Rattle.hx_market.specs.declared.acting.Act.{Act}
-use Rattle.hx_market.specs.declared.acting.Act.TheVariants.{Nothing, Reject, Accept}
+use Rattle.hx_market.specs.declared.acting.Act.TheVariants.{Nothing, Reject, Accept, Fail, Replace, Cancel}
 use Rattle.hx_market.specs.Orders.{Order, is_immediate, is_shown}
 use Rattle.hx_market.specs.Markets.{Market}
 use Rattle.hx_market.specs.Executions.{feed_of_executions, published, arrival_feed, shown_of, arrive}
 use Rattle.hx_market.specs.Entering.{next_reference, drawn, consumed}
-use Rattle.hx_market.specs.Ready.{IsInTime, outcome_of, order_of_accepting}
+use Rattle.hx_market.specs.Acts.{IsInRange, order_of_accepting, order_by_replacing, outcome_of}
+use Rattle.hx_market.specs.Leaving.{deleted}
+use Rattle.hx_market.specs.Replacing.{handed_over, is_one_display}
 
 abbrev AreIn : List Feed → Type 0
 AreIn fs = AllByRecursion (λ f. feed_time f < 2 ^ 48) fs
@@ -36,8 +38,11 @@ arrival_in : (time : ℕ) (stock : Symbol) (matches : ℕ) (es : List Execution)
 arrival_in time stock matches es resting h =
     both_in (feed_of_executions time stock matches es) (map (published time stock) (shown_of resting)) (executions_in time stock matches es h) (published_in time stock (shown_of resting) h)
 
+deleted_in : (time : ℕ) (x : Order) → time < 2 ^ 48 → AreIn (deleted time x)
+deleted_in time x h = cond_both x.shown _ _ AreIn (λ _. (h, tt)) (λ _. tt)
+
 -- the feed of an act has times of the day, which six bytes hold
-pub fits_feed : (m : Market) (act : Act) → IsInTime act → AllByRecursion (λ f. feed_time f < 2 ^ 48) (outcome_of m act).told.feed
+pub fits_feed : (m : Market) (act : Act) → IsInRange act → AllByRecursion (λ f. feed_time f < 2 ^ 48) (outcome_of m act).told.feed
 fits_feed m Nothing h = tt
 fits_feed m (Reject r) h = tt
 fits_feed m (Accept a) h =
@@ -46,3 +51,16 @@ fits_feed m (Accept a) h =
     let x : Order = order_of_accepting (length m.tokens) (next_reference m.numbers a.member shown) a in
     let r = arrive a.time (is_immediate a.enter.time_in_force) x (drawn (consumed m a.member a.enter.token) a.member shown) in
     arrival_in a.time a.enter.stock m.numbers.matches r.executions r.resting l
+fits_feed m (Fail a) h = let l : a.time < 2 ^ 48 = omega arith in deleted_in a.time a.old.order l
+fits_feed m (Replace a) h =
+    let t = h.time in
+    let l : a.time < 2 ^ 48 = omega arith in
+    let shown : Bool = is_shown a.replace.display a.replace.time_in_force in
+    let x : Order = order_by_replacing (next_reference m.numbers a.member shown) a in
+    let r = arrive a.time (is_immediate a.replace.time_in_force) x (drawn (handed_over m a.member a.replace.existing_token a.replace.replacement_token) a.member shown) in
+    cond_both (is_one_display a.old.order x && nat_lt (length r.executions) 1) _ _ AreIn (λ _. (l, tt))
+    (λ _. both_in (deleted a.time a.old.order) (arrival_feed a.time a.stock m.numbers.matches r.executions r.resting) (deleted_in a.time a.old.order l) (arrival_in a.time a.stock m.numbers.matches r.executions r.resting l))
+fits_feed m (Cancel a) h =
+    let t = h.time in
+    let l : a.time < 2 ^ 48 = omega arith in
+    cond_both (nat_lt a.by a.old.order.shares) _ _ AreIn (λ _. cond_both a.old.order.shown _ _ AreIn (λ _. (l, tt)) (λ _. tt)) (λ _. deleted_in a.time a.old.order l)

@@ -1,10 +1,10 @@
--- Worked days: the messages of each, and what each tells. All are orders for the stock ABCD, with a blank firm, over the standard setup.
+-- Worked days: the messages of each, and what each tells. All orders are for the stock ABCD, with a blank firm, over the standard setup.
 use Rattle.std.specs.Prelude.{ℕ, codes, ◌==◌, if◌then◌else◌, List, [], ◌∷◌}
 use Rattle.hx_refs.specs.Numbers.{private_reference}
 use Rattle.hx_itch.specs.declared.message.Feed.{Feed}
-use Rattle.hx_itch.specs.declared.message.Feed.TheVariants.{AddOrder, AddOrderWithAttribution, OrderExecuted, Trade}
-use Rattle.hx_ouch.specs.declared.outbound.Outbound.TheVariants.{Accepted, Canceled, Executed, Rejected}
-use Rattle.hx_ouch.specs.Inbound.{enter_bytes}
+use Rattle.hx_itch.specs.declared.message.Feed.TheVariants.{AddOrder, AddOrderWithAttribution, OrderExecuted, OrderCancel, OrderDelete, OrderReplace, Trade}
+use Rattle.hx_ouch.specs.declared.outbound.Outbound.TheVariants.{Accepted, Canceled, Executed, Rejected, Replaced}
+use Rattle.hx_ouch.specs.Inbound.{enter_bytes, replace_bytes, cancel_bytes}
 use Rattle.hx_units.specs.declared.names.Symbol.{Symbol}
 use Rattle.hx_market.specs.declared.event.Event.{Event}
 use Rattle.hx_market.specs.declared.event.Event.TheVariants.{Message}
@@ -69,6 +69,58 @@ canceled member time token shares reason = (member, Canceled (record { time = ti
 
 abbrev pub rejected : (member time : ℕ) (token : List ℕ) (reason : ℕ) → Reply
 rejected member time token reason = (member, Rejected (record { time = time; token = record { 0 = token }; reason = reason }))
+
+-- a Replace Order message, and a Cancel Order message
+abbrev pub exchanged : (time member : ℕ) (existing replacement : List ℕ) (shares price time_in_force display minimum : ℕ) → Event
+exchanged time member existing replacement shares price time_in_force display minimum =
+    Message member time
+    (replace_bytes (record {
+      existing_token = record { 0 = existing };
+      replacement_token = record { 0 = replacement };
+      shares = shares;
+      price = price;
+      time_in_force = time_in_force;
+      display = display;
+      intermarket_sweep = 78;
+      minimum_quantity = minimum;
+    }))
+
+abbrev pub called_off : (time member : ℕ) (token : List ℕ) (shares : ℕ) → Event
+called_off time member token shares = Message member time (cancel_bytes (record { token = record { 0 = token }; shares = shares }))
+
+abbrev pub replaced : (member time : ℕ) (token : List ℕ) (side shares price time_in_force display reference minimum : ℕ) (previous : List ℕ) → Reply
+replaced member time token side shares price time_in_force display reference minimum previous = (
+  member,
+  Replaced (record {
+    time = time;
+    replacement_token = record { 0 = token };
+    side = side;
+    shares = shares;
+    stock = abcd;
+    price = price;
+    time_in_force = time_in_force;
+    firm = record { 0 = firm_number member };
+    display = display;
+    reference = reference;
+    capacity = 79;
+    intermarket_sweep = 78;
+    minimum_quantity = minimum;
+    cross_type = 78;
+    order_state = 76;
+    previous_token = record { 0 = previous };
+    bbo_weight = 32;
+  }),
+)
+
+abbrev pub taken_off : (time reference shares : ℕ) → Feed
+taken_off time reference shares = OrderCancel (record { locate = 1; time = time; reference = reference; shares = shares })
+
+abbrev pub deleted : (time reference : ℕ) → Feed
+deleted time reference = OrderDelete (record { locate = 1; time = time; reference = reference })
+
+abbrev pub renewed : (time original reference shares price : ℕ) → Feed
+renewed time original reference shares price =
+    OrderReplace (record { locate = 1; time = time; original_reference = original; reference = reference; shares = shares; price = price })
 
 abbrev pub added : (time reference side shares price : ℕ) → Feed
 added time reference side shares price = AddOrder (record { locate = 1; time = time; reference = reference; side = side; shares = shares; stock = abcd; price = price })
@@ -222,4 +274,95 @@ limits_of_fields_tells =
     tells ([]) (rejected 1 60 (codes "A6            ") 78 ∷ []) ∷
     tells ([]) (rejected 1 70 (codes "A7            ") 78 ∷ []) ∷
     tells ([]) (rejected 1 80 (codes "A8            ") 68 ∷ []) ∷
+    tells ([]) ([]) ∷ []
+
+-- a Replace fails, and its token stays used
+abbrev pub failed_replace : List Event
+failed_replace =
+    entered 10 1 (codes "T1            ") 66 100 100000 99999 89 0 ∷
+    exchanged 20 1 (codes "T1            ") (codes "T2            ") 100 10001 99999 89 0 ∷
+    entered 30 1 (codes "T2            ") 66 100 100000 99999 89 0 ∷ []
+
+abbrev pub failed_replace_tells : List Told
+failed_replace_tells =
+    tells (added 10 1 66 100 100000 ∷ []) (accepted 1 10 (codes "T1            ") 66 100 100000 99999 89 1 0 ∷ []) ∷
+    tells (deleted 20 1 ∷ []) (canceled 1 20 (codes "T1            ") 100 85 ∷ []) ∷
+    tells ([]) ([]) ∷ []
+
+-- a chain of replaces that traded
+abbrev pub chain_that_traded : List Event
+chain_that_traded =
+    entered 10 1 (codes "H1            ") 66 100 100000 99999 78 0 ∷
+    exchanged 20 1 (codes "H1            ") (codes "H2            ") 100 100100 99999 78 0 ∷
+    exchanged 30 1 (codes "H2            ") (codes "H3            ") 100 100200 99999 78 0 ∷
+    exchanged 40 1 (codes "H3            ") (codes "H4            ") 100 100300 99999 78 0 ∷
+    entered 50 2 (codes "S1            ") 83 1 100300 0 78 0 ∷
+    exchanged 60 1 (codes "H4            ") (codes "H5            ") 1 100300 99999 78 0 ∷ []
+
+abbrev pub chain_that_traded_tells : List Told
+chain_that_traded_tells =
+    tells ([]) (accepted 1 10 (codes "H1            ") 66 100 100000 99999 78 (private_reference 1 1) 0 ∷ []) ∷
+    tells ([]) (replaced 1 20 (codes "H2            ") 66 100 100100 99999 78 (private_reference 1 2) 0 (codes "H1            ") ∷ []) ∷
+    tells ([]) (replaced 1 30 (codes "H3            ") 66 100 100200 99999 78 (private_reference 1 3) 0 (codes "H2            ") ∷ []) ∷
+    tells ([]) (replaced 1 40 (codes "H4            ") 66 100 100300 99999 78 (private_reference 1 4) 0 (codes "H3            ") ∷ []) ∷
+    tells (traded 50 1 100300 1 ∷ []) (accepted 2 50 (codes "S1            ") 83 1 100300 0 78 (private_reference 2 1) 0 ∷ filled 1 50 (codes "H4            ") 1 100300 74 1 ∷ filled 2 50 (codes "S1            ") 1 100300 82 1 ∷ []) ∷
+    tells ([]) (canceled 1 60 (codes "H4            ") 99 85 ∷ []) ∷ []
+
+-- replaces change the display
+abbrev pub display_changes : List Event
+display_changes =
+    entered 10 1 (codes "T1            ") 66 100 100000 99999 89 0 ∷
+    exchanged 20 1 (codes "T1            ") (codes "T2            ") 100 100000 99999 78 0 ∷
+    exchanged 30 1 (codes "T2            ") (codes "T3            ") 150 100000 99999 89 0 ∷
+    exchanged 40 1 (codes "T3            ") (codes "T4            ") 150 100100 99999 89 0 ∷
+    exchanged 50 1 (codes "T4            ") (codes "T5            ") 150 100100 99999 65 0 ∷ []
+
+abbrev pub display_changes_tells : List Told
+display_changes_tells =
+    tells (added 10 1 66 100 100000 ∷ []) (accepted 1 10 (codes "T1            ") 66 100 100000 99999 89 1 0 ∷ []) ∷
+    tells (deleted 20 1 ∷ []) (replaced 1 20 (codes "T2            ") 66 100 100000 99999 78 (private_reference 1 1) 0 (codes "T1            ") ∷ []) ∷
+    tells (added 30 2 66 150 100000 ∷ []) (replaced 1 30 (codes "T3            ") 66 150 100000 99999 89 2 0 (codes "T2            ") ∷ []) ∷
+    tells (renewed 40 2 3 150 100100 ∷ []) (replaced 1 40 (codes "T4            ") 66 150 100100 99999 89 3 0 (codes "T3            ") ∷ []) ∷
+    tells (deleted 50 3 ∷ attributed 50 4 66 150 100100 (codes "FMA1") ∷ []) (replaced 1 50 (codes "T5            ") 66 150 100100 99999 65 4 0 (codes "T4            ") ∷ []) ∷ []
+
+-- cancels take shares off, and the order out
+abbrev pub cancels : List Event
+cancels =
+    entered 10 1 (codes "T1            ") 66 100 100000 99999 89 0 ∷
+    entered 20 2 (codes "S1            ") 83 30 100000 0 78 0 ∷
+    called_off 30 1 (codes "T1            ") 100 ∷
+    called_off 40 1 (codes "T1            ") 99 ∷
+    called_off 50 1 (codes "T1            ") 0 ∷
+    called_off 60 1 (codes "T1            ") 0 ∷ []
+
+abbrev pub cancels_tells : List Told
+cancels_tells =
+    tells (added 10 1 66 100 100000 ∷ []) (accepted 1 10 (codes "T1            ") 66 100 100000 99999 89 1 0 ∷ []) ∷
+    tells (executed 20 1 30 1 ∷ []) (accepted 2 20 (codes "S1            ") 83 30 100000 0 78 (private_reference 2 1) 0 ∷ filled 1 20 (codes "T1            ") 30 100000 65 1 ∷ filled 2 20 (codes "S1            ") 30 100000 82 1 ∷ []) ∷
+    tells ([]) ([]) ∷
+    tells (taken_off 40 1 1 ∷ []) (canceled 1 40 (codes "T1            ") 1 85 ∷ []) ∷
+    tells (deleted 50 1 ∷ []) (canceled 1 50 (codes "T1            ") 69 85 ∷ []) ∷
+    tells ([]) ([]) ∷ []
+
+-- replaces after executions, and replaces that trade
+abbrev pub replaces_that_trade : List Event
+replaces_that_trade =
+    entered 10 1 (codes "T1            ") 66 100 100000 99999 89 0 ∷
+    entered 20 2 (codes "S1            ") 83 30 100000 0 78 0 ∷
+    exchanged 30 1 (codes "T1            ") (codes "T2            ") 150 100100 99999 89 0 ∷
+    entered 40 2 (codes "S2            ") 83 200 100200 99999 89 0 ∷
+    exchanged 50 1 (codes "T2            ") (codes "T3            ") 100 100200 99999 89 0 ∷
+    exchanged 60 1 (codes "T2            ") (codes "T4            ") 100 100000 99999 89 0 ∷
+    exchanged 70 2 (codes "S2            ") (codes "S1            ") 300 100200 99999 89 0 ∷
+    called_off 80 1 (codes "T2            ") 0 ∷ []
+
+abbrev pub replaces_that_trade_tells : List Told
+replaces_that_trade_tells =
+    tells (added 10 1 66 100 100000 ∷ []) (accepted 1 10 (codes "T1            ") 66 100 100000 99999 89 1 0 ∷ []) ∷
+    tells (executed 20 1 30 1 ∷ []) (accepted 2 20 (codes "S1            ") 83 30 100000 0 78 (private_reference 2 1) 0 ∷ filled 1 20 (codes "T1            ") 30 100000 65 1 ∷ filled 2 20 (codes "S1            ") 30 100000 82 1 ∷ []) ∷
+    tells (renewed 30 1 2 120 100100 ∷ []) (replaced 1 30 (codes "T2            ") 66 120 100100 99999 89 2 0 (codes "T1            ") ∷ []) ∷
+    tells (added 40 3 83 200 100200 ∷ []) (accepted 2 40 (codes "S2            ") 83 200 100200 99999 89 3 0 ∷ []) ∷
+    tells (deleted 50 2 ∷ executed 50 3 70 2 ∷ []) (replaced 1 50 (codes "T3            ") 66 70 100200 99999 89 4 0 (codes "T2            ") ∷ filled 2 50 (codes "S2            ") 70 100200 65 2 ∷ filled 1 50 (codes "T3            ") 70 100200 82 2 ∷ []) ∷
+    tells ([]) ([]) ∷
+    tells ([]) ([]) ∷
     tells ([]) ([]) ∷ []

@@ -1,14 +1,16 @@
 -- What a market keeps: its numbers, and the shares of each chain, stay within.
-use Rattle.std.specs.Prelude.{◌≡◌, ℕ, ◌+◌, ◌*◌, ◌-◌, ◌<◌, ◌≤◌, ◌^◌, Bool, true, false, if◌then◌else◌, ◌==◌, ◌&&◌, List, [], ◌∷◌, length, slice_index}
-use Rattle.std.specs.List.{AllByRecursion}
+use Rattle.std.specs.Prelude.{◌≡◌, ℕ, ◌+◌, ◌*◌, ◌-◌, ◌<◌, ◌≤◌, ◌^◌, Bool, true, false, if◌then◌else◌, ◌==◌, ◌&&◌, List, [], ◌∷◌, length, slice_index, Option, Some}
+use Rattle.std.specs.List.{AllByRecursion, list_any}
 use Rattle.hx_units.specs.Names.{is_token}
 use Rattle.hx_units.specs.declared.names.Token.{Token}
 use Rattle.hx_levels.specs.declared.order.Order.{Order}
+use Rattle.hx_levels.specs.declared.order.Live.{Live}
 use Rattle.hx_match.specs.Matching.{Execution}
 use Rattle.hx_market.specs.Markets.{Market}
 use Rattle.hx_market.specs.Executions.{chains_after}
 use Rattle.hx_refs.specs.Numbers.{Numbers}
-use Rattle.hx_members.specs.Chains.{Used, Chain, is_used, entered_of, executed_by, executed_at, IsEnteredAt, IsChainAt, noted_at}
+use Rattle.hx_members.specs.Tokens.{key_at}
+use Rattle.hx_members.specs.Chains.{Used, Chain, is_used, place_of, entered_of, executed_by, executed_at, IsEnteredAt, IsChainAt, noted_at}
 
 -- The chains as a plan's executions change them, each order's chain by its number.
 
@@ -54,6 +56,24 @@ pub record IsPlaced (tokens : List Used) (x : Order) : Type 0 where
 abbrev pub ArePlaced : List Used → List Order → Type 0
 ArePlaced tokens xs = AllByRecursion (IsPlaced tokens) xs
 
+-- the order is of this chain
+abbrev pub is_of_chain : List Used → ℕ → Token → Order → Bool
+is_of_chain tokens i t x = is_name x.member (entered_of tokens x.member x.token) i t
+
+-- each chain has one live order at most
+abbrev pub AreLone : List Used → List Order → Type 0
+AreLone tokens [] = Unit {0}
+AreLone tokens (x ∷ xs) = (list_any (is_of_chain tokens x.member (entered_of tokens x.member x.token)) xs ≡ false) × AreLone tokens xs
+
+-- the key of each live order stands at its token
+pub record AreKeyed (tokens : List Used) (keys : List (Option ℕ)) (orders : List Live) : Type 0 where
+  pub as_many : length keys ≡ length tokens
+  pub each : AllByRecursion (λ live. key_at keys (place_of tokens live.order.member live.order.token) ≡ Some live.key.0) orders
+
+-- the tokens of these orders were used before the one at this place
+abbrev pub AreBefore : List Used → ℕ → List Live → Type 0
+AreBefore tokens place orders = AllByRecursion (λ live. place_of tokens live.order.member live.order.token < place) orders
+
 -- the sum of the counts
 abbrev pub total : List ℕ → ℕ
 total [] = 0
@@ -69,6 +89,7 @@ pub record IsSound (m : Market) : Type 0 where
   -- the executed and the open shares of a chain are within those of one message
   pub within : (i : ℕ) (t : Token) → executed_by m.chains i t + open_in m.tokens i t m.live ≤ 999999
   pub placed : ArePlaced m.tokens m.live
+  pub lone : AreLone m.tokens m.live
   pub chained : AllByRecursion (λ c. is_used m.tokens c.member c.entered ≡ true) m.chains
   -- every number has a count, within its limit
   pub numbered : length m.recorded ≡ 4096

@@ -3,9 +3,16 @@ pub mod Markets
 pub mod Outputs
 pub mod Executions
 pub mod Entering
+pub mod Leaving
+pub mod Replacing
+pub mod Cancelling
+pub mod Ending
 pub mod Steps
 pub mod Striking
+pub mod ShownBooks
+pub mod Laws
 pub mod Keeping
 pub mod Admitting
+pub mod Acts
 pub mod Ready
 pub mod Days

@@ -12,13 +12,15 @@ use Rattle.hx_market.specs.Markets.{Market, opening}
 use Rattle.hx_refs.specs.Numbers.{raised}
 use Rattle.hx_market.specs.Outputs.{Reply, Told, Outcome, nothing}
 use Rattle.hx_market.specs.Entering.{enter}
+use Rattle.hx_market.specs.Replacing.{replace}
+use Rattle.hx_market.specs.Cancelling.{cancel}
 
--- what a member's message does. One that is not readable has no effect; neither have, as yet, Replace and Cancel
+-- what a member's message does. One that is not readable has no effect
 abbrev pub act : Setup → Market → ℕ → ℕ → Option Inbound → Outcome
 act setup market member time None = nothing market
 act setup market member time (Some (Enter e)) = enter setup market member time e
-act setup market member time (Some (Replace r)) = nothing market
-act setup market member time (Some (Cancel c)) = nothing market
+act setup market member time (Some (Replace r)) = replace setup market member time r
+act setup market member time (Some (Cancel c)) = cancel market member time c
 
 -- what an event does, but for its record. A tick and the hours have, as yet, no effect
 abbrev pub happens : Setup → Market → Event → Outcome

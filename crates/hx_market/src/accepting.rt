@@ -3,13 +3,18 @@ ghost use Rattle.std.specs.Prelude.{◌≡◌, ℕ, ◌+◌, ◌-◌, ◌<◌, �
 ghost use Rattle.hx_levels.specs.Book.{lives};
 ghost use Rattle.hx_members.specs.Chains.{is_used};
 ghost use Rattle.hx_market.specs.Entering.{accepted_of, next_reference, after_draw};
-ghost use Rattle.hx_market.specs.Ready.{HasRoom, HasRoomFor, AreFills, incoming_of_accepting, terms_of_accepting, order_of_accepting, name_of, market_of, accepted_by};
+ghost use Rattle.hx_match.specs.Rules.{AreFills};
+ghost use Rattle.hx_market.specs.Acts.{incoming_of_accepting, terms_of_accepting, order_of_accepting};
+ghost use Rattle.hx_market.specs.declared.acting.Act.TheVariants.{Accept};
+ghost use Rattle.hx_market.specs.Keeping.{AreKeyed};
+ghost use Rattle.hx_market.specs.Ready.{HasRoom, HasRoomFor, name_of, market_of, outcome_over};
 
 use crate::acting::Accepting;
 use crate::arriving::arrive;
 use crate::executing::Taker;
 use crate::output::Output;
 use crate::rules::{is_shown, life_of};
+use crate::telling::publish;
 use hx_levels::{Book, Order};
 use hx_match::Fill;
 use hx_members::Tokens;
@@ -46,8 +51,8 @@ fn accepted(order: &Order, act: &Accepting) -> (MemberNo, Outbound)
     )
 }
 
-// Draws the reference of an order.
-fn draw(refs: &mut Refs, member: MemberNo, shown: bool) -> u64
+/// Draws the reference of an order.
+pub fn draw(refs: &mut Refs, member: MemberNo, shown: bool) -> u64
     requires public { refs.old.public < 2 ^ 62 }
     requires private { slice_index refs.old.private member < 2 ^ 40 - 1 }
     ensures value { result ≡ next_reference refs.old member shown }
@@ -110,14 +115,16 @@ pub fn accept<B: Book>(
     requires token_place { tokens.old.place ≡ Some (name_of act.now.member act.now.enter.token) }
     requires place { B.place book.old ≡ Some (terms_of_accepting act.now) }
     requires executions { AreFills (incoming_of_accepting act.now) (B.orders book.old) fills.now left }
+    requires keyed { AreKeyed tokens.old.tokens tokens.old.keys (B.orders book.old) }
     requires fits { HasRoomFor (market_of (B.orders book.old) tokens.old refs.old 0 []) act.now }
     requires room { HasRoom (length fills.now) out.old }
-    ensures live { lives (B.orders book.new) ≡ (accepted_by (market_of (B.orders book.old) tokens.old refs.old 0 []) act.now).market.live }
-    ensures tokens { tokens.new.tokens ≡ (accepted_by (market_of (B.orders book.old) tokens.old refs.old 0 []) act.now).market.tokens }
-    ensures chains { tokens.new.chains ≡ (accepted_by (market_of (B.orders book.old) tokens.old refs.old 0 []) act.now).market.chains }
-    ensures numbers { refs.new ≡ (accepted_by (market_of (B.orders book.old) tokens.old refs.old 0 []) act.now).market.numbers }
-    ensures feed { out.new.feed.items ≡ (accepted_by (market_of (B.orders book.old) tokens.old refs.old 0 []) act.now).told.feed }
-    ensures replies { out.new.replies.items ≡ (accepted_by (market_of (B.orders book.old) tokens.old refs.old 0 []) act.now).told.replies }
+    ensures live { lives (B.orders book.new) ≡ (outcome_over (B.orders book.old) tokens.old refs.old (Accept act.now)).market.live }
+    ensures tokens { tokens.new.tokens ≡ (outcome_over (B.orders book.old) tokens.old refs.old (Accept act.now)).market.tokens }
+    ensures chains { tokens.new.chains ≡ (outcome_over (B.orders book.old) tokens.old refs.old (Accept act.now)).market.chains }
+    ensures keyed { AreKeyed tokens.new.tokens tokens.new.keys (B.orders book.new) }
+    ensures numbers { refs.new ≡ (outcome_over (B.orders book.old) tokens.old refs.old (Accept act.now)).market.numbers }
+    ensures feed { out.new.feed.items ≡ (outcome_over (B.orders book.old) tokens.old refs.old (Accept act.now)).told.feed }
+    ensures replies { out.new.replies.items ≡ (outcome_over (B.orders book.old) tokens.old refs.old (Accept act.now)).told.replies }
 {
     let chain = tokens.count();
     tokens.consume(act.member, &act.enter.token);
@@ -127,7 +134,8 @@ pub fn accept<B: Book>(
     let taker = taker_of(chain, act);
     out.replies.push_reserved(accepted(&order, act));
     let immediate = act.enter.time_in_force == 0;
-    arrive(
+    let resting = arrive(
         book, tokens, refs, out, &taker, &order, immediate, fills, left,
     );
+    publish(out, act.time, act.enter.stock, resting);
 }

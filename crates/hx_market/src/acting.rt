@@ -1,19 +1,25 @@
 //! What an event will do, once it is committed.
-ghost use Rattle.std.specs.Prelude.{◌≡◌, ◌<◌, List, Some, None, IsSome, false};
+ghost use Rattle.std.specs.Prelude.{◌≡◌, ◌<◌, ℕ, List, Some, None, IsSome, false};
 ghost use Rattle.hx_ouch.specs.Inbound.{inbound_of};
 ghost use Rattle.hx_members.specs.Setups.{member_of};
-ghost use Rattle.hx_members.specs.Chains.{Used, is_used};
-ghost use Rattle.hx_market.specs.Entering.{entered_by, rejection, resolved_firm};
+ghost use Rattle.hx_members.specs.Chains.{Used, Chain, is_used};
+ghost use Rattle.hx_market.specs.Entering.{entered_by, enter, rejection, resolved_firm};
+ghost use Rattle.hx_levels.specs.declared.order.Live.{Live as LiveOrder};
+ghost use Rattle.hx_refs.specs.Numbers.{Numbers};
+ghost use Rattle.hx_market.specs.Keeping.{AreKeyed};
+ghost use Rattle.hx_market.specs.Ready.{market_of};
 ghost use Rattle.hx_market.specs.Markets.{Market};
 ghost use Rattle.hx_market.specs.Steps.{act, happens, sender, time_of};
 ghost use Rattle.hx_market.specs.Admitting.{is_from_stranger};
-ghost use Rattle.hx_market.specs.Ready.{outcome_of, IsAct, IsAccepting, IsOf, IsUnused};
+ghost use Rattle.hx_market.specs.Acts.{outcome_of, IsAct, IsAccepting, IsOf, SuitsTokens, IsAbout};
 
+use crate::amending::{cancel_act, replace_act};
 use crate::event::Event;
 use crate::rules::{rejection, side_of};
+use hx_levels::{Book, Live};
 use hx_members::{Setup, Tokens};
-use hx_ouch::{Enter, Inbound, decode_in};
-use hx_units::{Firm, MemberNo, Price, Side, Token};
+use hx_ouch::{Enter, Inbound, Replace, decode_in};
+use hx_units::{Firm, MemberNo, Price, Side, Symbol, Token};
 
 /// An Enter that is rejected.
 #[derive(Clone, Copy, Debug)]
@@ -47,6 +53,55 @@ pub struct Accepting {
     pub firm: Firm,
 }
 
+/// A Replace that fails.
+#[derive(Clone, Copy, Debug)]
+pub struct Failing {
+    /// Whose it is.
+    pub member: MemberNo,
+    /// When it came.
+    pub time: u64,
+    /// The token of the order that is cancelled.
+    pub existing: Token,
+    /// The token that is used.
+    pub replacement: Token,
+    /// The order that is cancelled.
+    pub old: Live,
+}
+
+/// A Replace that replaces.
+#[derive(Clone, Copy, Debug)]
+pub struct Replacing {
+    /// Whose it is.
+    pub member: MemberNo,
+    /// When it came.
+    pub time: u64,
+    /// The message.
+    pub replace: Replace,
+    /// Its price.
+    pub price: Price,
+    /// The stock of the old order.
+    pub stock: Symbol,
+    /// The shares that its chain has executed.
+    pub executed: u32,
+    /// The old order.
+    pub old: Live,
+}
+
+/// A Cancel that takes shares off.
+#[derive(Clone, Copy, Debug)]
+pub struct Cancelling {
+    /// Whose it is.
+    pub member: MemberNo,
+    /// When it came.
+    pub time: u64,
+    /// The order's token.
+    pub token: Token,
+    /// How many open shares are taken off.
+    pub by: u32,
+    /// The order.
+    pub old: Live,
+}
+
 /// What an event does.
 #[derive(Clone, Copy, Debug)]
 pub enum Act {
@@ -56,6 +111,12 @@ pub enum Act {
     Reject(Rejecting),
     /// An order arrives.
     Accept(Accepting),
+    /// A token is used, and an order cancelled.
+    Fail(Failing),
+    /// An order arrives in place of another.
+    Replace(Replacing),
+    /// An order has fewer shares, or is gone.
+    Cancel(Cancelling),
 }
 
 // The firm that a message is for: a blank one means the member's.
@@ -96,7 +157,8 @@ fn enter_act(setup: &Setup, hours: u8, member: MemberNo, time: u64, enter: Enter
     ensures does { (m : Market) → entered_by setup.now m member time enter false (rejection setup.now hours enter) ≡ outcome_of m result }
     ensures is_act { IsAct setup.now result }
     ensures sender { IsOf member result }
-    ensures unused { (tokens : List Used) → is_used tokens member enter.token ≡ false → IsUnused tokens result }
+    ensures suits { (tokens : List Used) (chains : List Chain) → is_used tokens member enter.token ≡ false → SuitsTokens tokens chains result }
+    ensures about { (orders : List LiveOrder) → IsAbout orders result }
 {
     if let Some(letter) = rejection(setup, hours, &enter) {
         return Act::Reject(Rejecting {
@@ -109,42 +171,74 @@ fn enter_act(setup: &Setup, hours: u8, member: MemberNo, time: u64, enter: Enter
     Act::Accept(accepting_of(setup, hours, member, time, enter))
 }
 
-// What a member's message does, at so many hours codes past.
-fn message_act(
+// What an Enter does, at so many hours codes past.
+fn entered_act(
     setup: &Setup,
     hours: u8,
     tokens: &Tokens,
+    member: MemberNo,
+    time: u64,
+    message: Enter,
+) -> Act
+    requires member { IsSome (member_of setup.now member) }
+    requires time { time < 86400000000000 }
+    ensures does { (m : Market) → m.tokens ≡ tokens.now.tokens → m.hours ≡ hours → enter setup.now m member time message ≡ outcome_of m result }
+    ensures is_act { IsAct setup.now result }
+    ensures sender { IsOf member result }
+    ensures suits { SuitsTokens tokens.now.tokens tokens.now.chains result }
+    ensures about { (orders : List LiveOrder) → IsAbout orders result }
+{
+    if tokens.state(member, &message.token).is_some() {
+        return Act::Nothing;
+    }
+    enter_act(setup, hours, member, time, message)
+}
+
+// What a member's message does, at so many hours codes past.
+fn message_act<B: Book>(
+    setup: &Setup,
+    hours: u8,
+    tokens: &Tokens,
+    book: &B,
     member: MemberNo,
     time: u64,
     bytes: &[u8],
 ) -> Act
     requires member { IsSome (member_of setup.now member) }
     requires time { time < 86400000000000 }
-    ensures does { (m : Market) → m.tokens ≡ tokens.now.tokens → m.hours ≡ hours → act setup.now m member time (inbound_of bytes.now) ≡ outcome_of m result }
+    requires keyed { AreKeyed tokens.now.tokens tokens.now.keys (B.orders book.now) }
+    ensures does { (n : Numbers) (counts : List ℕ) → act setup.now (market_of (B.orders book.now) tokens.now n hours counts) member time (inbound_of bytes.now) ≡ outcome_of (market_of (B.orders book.now) tokens.now n hours counts) result }
     ensures is_act { IsAct setup.now result }
     ensures sender { IsOf member result }
-    ensures unused { IsUnused tokens.now.tokens result }
+    ensures suits { SuitsTokens tokens.now.tokens tokens.now.chains result }
+    ensures about { IsAbout (B.orders book.now) result }
 {
     match decode_in(bytes) {
-        Some(Inbound::Enter(enter)) => {
-            if tokens.state(member, &enter.token).is_some() {
-                Act::Nothing
-            } else {
-                enter_act(setup, hours, member, time, enter)
-            }
+        Some(Inbound::Enter(enter)) => entered_act(setup, hours, tokens, member, time, enter),
+        Some(Inbound::Replace(replace)) => {
+            replace_act(setup, hours, tokens, book, member, time, replace)
         }
-        Some(Inbound::Replace(_)) | Some(Inbound::Cancel(_)) | None => Act::Nothing,
+        Some(Inbound::Cancel(cancel)) => cancel_act(tokens, book, member, time, cancel),
+        None => Act::Nothing,
     }
 }
 
 /// What an event does that is not refused, at so many hours codes past.
-pub fn act_of(setup: &Setup, hours: u8, tokens: &Tokens, event: &Event) -> Act
+pub fn act_of<B: Book>(
+    setup: &Setup,
+    hours: u8,
+    tokens: &Tokens,
+    book: &B,
+    event: &Event,
+) -> Act
     requires known { is_from_stranger setup.now event.now ≡ false }
     requires time { time_of event.now < 86400000000000 }
-    ensures does { (m : Market) → m.tokens ≡ tokens.now.tokens → m.hours ≡ hours → happens setup.now m event.now ≡ outcome_of m result }
+    requires keyed { AreKeyed tokens.now.tokens tokens.now.keys (B.orders book.now) }
+    ensures does { (n : Numbers) (counts : List ℕ) → happens setup.now (market_of (B.orders book.now) tokens.now n hours counts) event.now ≡ outcome_of (market_of (B.orders book.now) tokens.now n hours counts) result }
     ensures is_act { IsAct setup.now result }
     ensures sender { IsOf (sender event.now) result }
-    ensures unused { IsUnused tokens.now.tokens result }
+    ensures suits { SuitsTokens tokens.now.tokens tokens.now.chains result }
+    ensures about { IsAbout (B.orders book.now) result }
 {
     match event {
         Event::Message {
@@ -153,7 +247,15 @@ pub fn act_of(setup: &Setup, hours: u8, tokens: &Tokens, event: &Event) -> Act
             bytes,
         } => {
             let member = MemberNo::of(*member).unwrap();
-            message_act(setup, hours, tokens, member, *time, bytes.as_slice())
+            message_act(
+                setup,
+                hours,
+                tokens,
+                book,
+                member,
+                *time,
+                bytes.as_slice(),
+            )
         }
         Event::Tick { .. } | Event::Hours { .. } => Act::Nothing,
     }

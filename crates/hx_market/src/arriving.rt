@@ -1,68 +1,51 @@
 //! An order arrives: it executes, and what is left rests or is cancelled.
-ghost use Rattle.std.specs.Prelude.{◌≡◌, ◌+◌, ◌*◌, ◌<◌, ◌≤◌, ◌^◌, ◌++◌, [], ◌∷◌, length, map, Some, true, false};
+ghost use Rattle.std.specs.Prelude.{◌≡◌, ◌+◌, ◌*◌, ◌<◌, ◌≤◌, ◌^◌, ◌++◌, [], ◌∷◌, length, Some, true, false};
 ghost use Rattle.std.specs.Vec.{vec_len, vec_capacity};
 ghost use Rattle.hx_levels.specs.Book.{lives, terms_of};
 ghost use Rattle.hx_match.specs.Executing.{done_by, left_by, AreGood};
-ghost use Rattle.hx_market.specs.Executions.{feed_of_executions, replies_of_executions, resting_of, displays, published, shown_of, canceled_of};
-ghost use Rattle.hx_market.specs.Keeping.{CanNote, CanNoteAll, chains_by, noted_if};
+ghost use Rattle.hx_members.specs.Chains.{is_used, place_of};
+ghost use Rattle.hx_market.specs.Executions.{feed_of_executions, replies_of_executions, resting_of, displays, canceled_of};
+ghost use Rattle.hx_market.specs.Keeping.{AreKeyed, AreBefore, CanNote, CanNoteAll, chains_by, noted_if};
+ghost use Rattle.hx_market.specs.Ready.{listed};
 
 use crate::executing::{Taker, execute};
 use crate::output::Output;
-use crate::rules::published_side;
-use hx_itch::{AddOrder, AddOrderWithAttribution, Feed};
+use crate::settling::rest_order;
+use crate::telling::tell_canceled;
 use hx_levels::{Book, Order};
 use hx_match::Fill;
 use hx_members::Tokens;
-use hx_ouch::{Canceled, Outbound};
 use hx_refs::Refs;
 
-// In the feed: an order that rests.
-fn published(taker: &Taker, order: &Order) -> Feed
-    ensures { result ≡ published taker.now.time taker.now.stock order.now }
+// The order with so many open shares.
+fn with_shares(order: &Order, shares: u32) -> Order
+    ensures { result ≡ record order.now { shares = shares } }
 {
-    let side = published_side(order.side);
-    let price = order.price.get();
-    if order.display == b'A' {
-        return Feed::AddOrderWithAttribution(AddOrderWithAttribution {
-            locate: order.locate,
-            time: taker.time,
-            reference: order.reference,
-            side,
-            shares: order.shares,
-            stock: taker.stock,
-            price,
-            attribution: order.firm,
-        });
-    }
-    Feed::AddOrder(AddOrder {
-        locate: order.locate,
-        time: taker.time,
-        reference: order.reference,
-        side,
-        shares: order.shares,
-        stock: taker.stock,
-        price,
-    })
+    let mut rest = *order;
+    rest.shares = shares;
+    rest
 }
 
-// What is left of an immediate order is cancelled.
-fn cancel_rest(out: &mut Output, taker: &Taker, left: u32)
-    requires { vec_len out.old.replies < vec_capacity out.old.replies }
-    ensures feed { out.new.feed.items ≡ out.old.feed.items }
-    ensures replies { 0 < left → out.new.replies.items ≡ out.old.replies.items ++ canceled_of taker.now.time taker.now.member taker.now.token true left }
+// What is left of an order, which is no immediate one, rests.
+fn rest_of<B: Book>(book: &mut B, tokens: &mut Tokens, order: &Order, left: u32) -> Order
+    requires place { B.place book.old ≡ Some (terms_of order.now) }
+    requires used { is_used tokens.old.tokens order.now.member order.now.token ≡ true }
+    requires before { AreBefore tokens.old.tokens (place_of tokens.old.tokens order.now.member order.now.token) (B.orders book.old) }
+    requires keyed { AreKeyed tokens.old.tokens tokens.old.keys (B.orders book.old) }
+    requires own { CanNote tokens.old.tokens order.now.chain 0 tokens.old.chains }
+    ensures rest { result ≡ record order.now { shares = left } }
+    ensures live { lives (B.orders book.new) ≡ lives (B.orders book.old) ++ record order.now { shares = left } ∷ [] }
+    ensures tokens { tokens.new.tokens ≡ tokens.old.tokens }
+    ensures chains { tokens.new.chains ≡ noted_if order.now.shown tokens.old.tokens order.now.chain tokens.old.chains }
+    ensures keyed { AreKeyed tokens.new.tokens tokens.new.keys (B.orders book.new) }
 {
-    out.replies.push_reserved((
-        taker.member,
-        Outbound::Canceled(Canceled {
-            time: taker.time,
-            token: taker.token,
-            shares: left,
-            reason: b'I',
-        }),
-    ));
+    let rest = with_shares(order, left);
+    rest_order(book, tokens, &rest);
+    rest
 }
 
-/// Carries out the plan of an order whose place is reserved. What is left rests, or is cancelled.
+/// Carries out the plan of an order whose place is reserved, and gives what rests of it. What is left of an immediate
+/// one is cancelled.
 pub fn arrive<B: Book>(
     book: &mut B,
     tokens: &mut Tokens,
@@ -73,33 +56,35 @@ pub fn arrive<B: Book>(
     immediate: bool,
     fills: &[Fill],
     left: u32,
-)
+) -> Option<Order>
     requires good { AreGood fills.now (B.orders book.old) }
     requires place { B.place book.old ≡ Some (terms_of order.now) }
+    requires used { is_used tokens.old.tokens order.now.member order.now.token ≡ true }
+    requires before { AreBefore tokens.old.tokens (place_of tokens.old.tokens order.now.member order.now.token) (B.orders book.old) }
+    requires keyed { AreKeyed tokens.old.tokens tokens.old.keys (B.orders book.old) }
+    requires chain { order.now.chain ≡ taker.now.chain }
     requires counts { CanNoteAll tokens.old.tokens taker.now.chain (done_by fills.now (B.orders book.old)) tokens.old.chains }
     requires own { CanNote tokens.old.tokens taker.now.chain 0 (chains_by tokens.old.tokens taker.now.chain (done_by fills.now (B.orders book.old)) tokens.old.chains) }
     requires numbers { refs.old.matches + length fills.now < 2 ^ 62 }
-    requires feed { vec_len out.old.feed + length fills.now + 1 ≤ vec_capacity out.old.feed }
+    requires feed { vec_len out.old.feed + length fills.now ≤ vec_capacity out.old.feed }
     requires replies { vec_len out.old.replies + 2 * length fills.now + 1 ≤ vec_capacity out.old.replies }
+    ensures rests { listed result ≡ resting_of order.now immediate left }
     ensures live { lives (B.orders book.new) ≡ lives (left_by fills.now (B.orders book.old)) ++ resting_of order.now immediate left }
     ensures tokens { tokens.new.tokens ≡ tokens.old.tokens }
     ensures chains { tokens.new.chains ≡ noted_if (displays (resting_of order.now immediate left)) tokens.old.tokens taker.now.chain (chains_by tokens.old.tokens taker.now.chain (done_by fills.now (B.orders book.old)) tokens.old.chains) }
+    ensures keyed { AreKeyed tokens.new.tokens tokens.new.keys (B.orders book.new) }
     ensures numbers { refs.new ≡ record refs.old { matches = refs.old.matches + length fills.now } }
-    ensures feed { out.new.feed.items ≡ out.old.feed.items ++ (feed_of_executions taker.now.time taker.now.stock refs.old.matches (done_by fills.now (B.orders book.old)) ++ map (published taker.now.time taker.now.stock) (shown_of (resting_of order.now immediate left))) }
+    ensures feed { out.new.feed.items ≡ out.old.feed.items ++ feed_of_executions taker.now.time taker.now.stock refs.old.matches (done_by fills.now (B.orders book.old)) }
+    ensures feed_room { (vec_len out.new.feed ≡ vec_len out.old.feed + length fills.now) × (vec_capacity out.new.feed ≡ vec_capacity out.old.feed) }
     ensures replies { out.new.replies.items ≡ out.old.replies.items ++ (replies_of_executions taker.now.time taker.now.member taker.now.token refs.old.matches (done_by fills.now (B.orders book.old)) ++ canceled_of taker.now.time taker.now.member taker.now.token immediate left) }
 {
     execute(book, tokens, refs, out, taker, fills);
-    if left > 0 {
-        if immediate {
-            cancel_rest(out, taker, left);
-        } else {
-            let mut rest = *order;
-            rest.shares = left;
-            book.add(rest);
-            if rest.shown {
-                tokens.note(taker.chain, 0, true);
-                out.feed.push_reserved(published(taker, &rest));
-            }
-        }
+    if left == 0 {
+        return None;
     }
+    if immediate {
+        tell_canceled(out, taker.time, taker.member, taker.token, left, b'I');
+        return None;
+    }
+    Some(rest_of(book, tokens, order, left))
 }

@@ -124,6 +124,7 @@ pub fn execute<B: Book>(
     ensures orders { B.orders book.new ≡ left_by fills.now (B.orders book.old) }
     ensures place { B.place book.new ≡ B.place book.old }
     ensures tokens { tokens.new.tokens ≡ tokens.old.tokens }
+    ensures keys { tokens.new.keys ≡ tokens.old.keys }
     ensures chains { tokens.new.chains ≡ chains_by tokens.old.tokens taker.now.chain (done_by fills.now (B.orders book.old)) tokens.old.chains }
     ensures feed { out.new.feed.items ≡ out.old.feed.items ++ feed_of_executions taker.now.time taker.now.stock refs.old.matches (done_by fills.now (B.orders book.old)) }
     ensures replies { out.new.replies.items ≡ out.old.replies.items ++ replies_of_executions taker.now.time taker.now.member taker.now.token refs.old.matches (done_by fills.now (B.orders book.old)) }

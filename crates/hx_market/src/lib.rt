@@ -5,19 +5,26 @@
 mod accepting;
 mod acting;
 mod admitting;
+mod amending;
 mod arriving;
+mod cancelling;
 mod carrying;
 pub mod days;
 mod event;
 mod executing;
 mod fault;
+mod finding;
+pub mod laws;
 mod listing;
 mod market;
 mod output;
 mod planning;
 mod prepared;
 mod recorded;
+mod replacing;
 mod rules;
+mod settling;
+mod telling;
 #[cfg(test)]
 mod tests;
 

@@ -40,14 +40,14 @@ pub struct Market<B: Book> {
 impl<B: Book> Model for Market<B> {
     ghost use Rattle.std.specs.Prelude.{◌≡◌, Some};
     ghost use Rattle.std.specs.Option.{option_map};
-    ghost use Rattle.hx_market.specs.Keeping.{IsSound};
+    ghost use Rattle.hx_market.specs.Keeping.{IsSound, AreKeyed};
     ghost use Rattle.hx_market.specs.Ready.{Planned, Seen, IsPlanned, market_of};
 
     ghost Value = { Seen };
 
     ghost view = { λ m. record { setup = m.setup; market = market_of (B.orders m.book) m.tokens m.refs m.hours m.recorded; ready = option_map (λ s. s.value) m.ready } };
 
-    ghost invariant = { λ m. IsSound (market_of (B.orders m.book) m.tokens m.refs m.hours m.recorded) × ((p : Planned) → option_map (λ s. s.value) m.ready ≡ Some p → IsPlanned m.setup (market_of (B.orders m.book) m.tokens m.refs m.hours m.recorded) (B.orders m.book) (B.place m.book) m.tokens.place p) };
+    ghost invariant = { λ m. IsSound (market_of (B.orders m.book) m.tokens m.refs m.hours m.recorded) × AreKeyed m.tokens.tokens m.tokens.keys (B.orders m.book) × ((p : Planned) → option_map (λ s. s.value) m.ready ≡ Some p → IsPlanned m.setup (market_of (B.orders m.book) m.tokens m.refs m.hours m.recorded) (B.orders m.book) (B.place m.book) m.tokens.place p) };
 }
 
 // How many of the hours codes are past as the day begins.

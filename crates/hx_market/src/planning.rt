@@ -1,10 +1,16 @@
 //! The plan of an act, with all growths that its commit needs.
 ghost use Rattle.std.specs.Prelude.{◌≡◌, ℕ, ◌+◌, ◌*◌, ◌<◌, ◌≤◌, ◌^◌, [], Some, IfOk, OnOk, length};
-ghost use Rattle.hx_levels.specs.Book.{KeysDiffer};
-ghost use Rattle.hx_market.specs.Ready.{AreFills, incoming_of_accepting, terms_of_accepting, HasRoom, HasPlaces, act_feed_count, act_members, makers_and, members_by, feed_count_of};
+ghost use Rattle.hx_levels.specs.Book.{order_of, without, KeysDiffer};
+ghost use Rattle.hx_match.specs.Matching.{terms, matched_live};
+ghost use Rattle.hx_match.specs.Executing.{fills_of};
+ghost use Rattle.hx_match.specs.Rules.{AreFills};
+ghost use Rattle.hx_market.specs.Orders.{is_immediate, is_shown};
+ghost use Rattle.hx_market.specs.Acts.{IsReplacing, IsInRange, IsAbout, incoming_of_accepting, terms_of_accepting, incoming_of_replacing, terms_of_replacing};
+ghost use Rattle.hx_market.specs.Ready.{HasRoom, HasPlaces, act_feed_count, act_members, makers_and, arrival_members, arrival_count, one_if, replaced_count};
 
-use crate::acting::{Accepting, Act};
+use crate::acting::{Accepting, Act, Replacing};
 use crate::output::Output;
+use crate::replacing::is_one_display;
 use crate::rules::is_shown;
 use hx_levels::Book;
 use hx_match::{Fill, Incoming, Plan, plan};
@@ -24,15 +30,31 @@ fn incoming_of(act: &Accepting) -> Incoming
     }
 }
 
-// The plan of an accepted order, and a place for what rests of it.
-fn plan_order<B: Book>(alloc: Global, book: &mut B, act: &Accepting) -> Result<Plan, NoMemory>
+fn incoming_by(act: &Replacing) -> Incoming
+    requires { IsReplacing act.now }
+    ensures { result ≡ incoming_of_replacing act.now }
+{
+    let open = act.replace.shares - act.executed;
+    Incoming {
+        locate: act.old.order.locate,
+        side: act.old.order.side,
+        price: act.price,
+        shares: open,
+        minimum: act.replace.minimum_quantity.min(open),
+    }
+}
+
+// The plan of an order, and a place for what rests of it.
+fn plan_order<B: Book>(alloc: Global, book: &mut B, incoming: &Incoming) -> Result<Plan, NoMemory>
     ensures orders { B.orders book.new ≡ B.orders book.old }
-    ensures place { OnOk result (B.place book.new ≡ Some (terms_of_accepting act.now)) }
-    ensures executions { IfOk result (λ plan. AreFills (incoming_of_accepting act.now) (B.orders book.new) plan.fills.items plan.left) }
+    ensures place { OnOk result (B.place book.new ≡ Some (terms incoming.now)) }
+    ensures fills { IfOk result (λ plan. plan.fills.items ≡ fills_of incoming.now (B.orders book.new)) }
+    ensures left { IfOk result (λ plan. plan.left ≡ (matched_live incoming.now (B.orders book.new)).left) }
+    ensures executions { IfOk result (λ plan. AreFills incoming.now (B.orders book.new) plan.fills.items plan.left) }
     ensures keys { OnOk result (KeysDiffer (B.orders book.new)) }
 {
-    book.reserve(act.locate, act.side, act.price)?;
-    plan(alloc, book, &incoming_of(act))
+    book.reserve(incoming.locate, incoming.side, incoming.price)?;
+    plan(alloc, book, incoming)
 }
 
 /// Room for what so many fills tell, and for what else an event tells.
@@ -41,48 +63,67 @@ pub fn room_for(alloc: Global, fills: usize) -> Result<Output, NoMemory>
     ensures { IfOk result (HasRoom fills) }
 {
     Ok(Output {
-        feed: Vec::with_capacity(alloc, fills + 1)?,
+        feed: Vec::with_capacity(alloc, fills + 2)?,
         replies: Vec::with_capacity(alloc, 2 * fills + 2)?,
     })
 }
 
-// The members of an accepted order's replies, in order.
+// The members of the replies of an order that arrives, in order.
 fn members_of<B: Book>(
     alloc: Global,
     book: &B,
-    act: &Accepting,
+    member: MemberNo,
+    immediate: bool,
     plan: &Plan,
 ) -> Result<Vec<MemberNo>, NoMemory>
     requires { length plan.now.fills.items < 2 ^ 60 }
-    ensures { IfOk result (λ members. members.items ≡ members_by act.now (B.orders book.now) plan.now.fills.items plan.now.left) }
+    ensures { IfOk result (λ members. members.items ≡ arrival_members member immediate (B.orders book.now) plan.now.fills.items plan.now.left) }
 {
     let mut members = Vec::with_capacity(alloc, 2 * plan.fills.len() + 2)?;
-    members.push_reserved(act.member);
+    members.push_reserved(member);
     for fill in &plan.fills {
         let maker = match book.get(fill.key) {
             Some(order) => order.member,
-            None => act.member,
+            None => member,
         };
         members.push_reserved(maker);
-        members.push_reserved(act.member);
+        members.push_reserved(member);
     }
-    if plan.left > 0 && act.enter.time_in_force == 0 {
-        members.push_reserved(act.member);
+    if plan.left > 0 && immediate {
+        members.push_reserved(member);
     }
     Ok(members)
 }
 
-// How many messages of the feed an accepted order gives.
-fn feed_count_of(act: &Accepting, plan: &Plan) -> u64
+// How many messages of the feed an order gives that arrives.
+fn arrival_count(shown: bool, plan: &Plan) -> u64
     requires { length plan.now.fills.items < 2 ^ 60 }
-    ensures { result ≡ feed_count_of act.now plan.now.fills.items plan.now.left }
+    ensures { result ≡ arrival_count shown plan.now.fills.items plan.now.left }
 {
     let fills = plan.fills.len() as u64;
-    if plan.left > 0 && is_shown(act.enter.display, act.enter.time_in_force) {
+    if plan.left > 0 && shown {
         fills + 1
     } else {
         fills
     }
+}
+
+// How many an order gives that replaces another.
+fn replaced_count(act: &Replacing, plan: &Plan) -> u64
+    requires { length plan.now.fills.items < 2 ^ 60 }
+    ensures { result ≡ replaced_count act.now plan.now.fills.items plan.now.left }
+{
+    if is_one_display(act) && plan.fills.is_empty() {
+        return 1;
+    }
+    let shown = is_shown(act.replace.display, act.replace.time_in_force);
+    one_if(act.old.order.shown) + arrival_count(shown, plan)
+}
+
+fn one_if(told: bool) -> u64
+    ensures { result ≡ one_if told }
+{
+    if told { 1 } else { 0 }
 }
 
 /// What is prepared of an act: its executions, and what it will tell.
@@ -98,18 +139,20 @@ pub struct Draft {
     pub reply_members: Vec<MemberNo>,
 }
 
-// Of an order that arrives.
+// Of an order that is accepted.
 fn draft_order<B: Book>(alloc: Global, book: &mut B, act: &Accepting) -> Result<Draft, NoMemory>
     ensures orders { B.orders book.new ≡ B.orders book.old }
     ensures place { OnOk result (B.place book.new ≡ Some (terms_of_accepting act.now)) }
     ensures executions { IfOk result (λ d. AreFills (incoming_of_accepting act.now) (B.orders book.new) d.fills.items d.left) }
     ensures keys { OnOk result (KeysDiffer (B.orders book.new)) }
-    ensures feed_count { IfOk result (λ d. d.feed_count ≡ feed_count_of act.now d.fills.items d.left) }
-    ensures members { IfOk result (λ d. d.reply_members.items ≡ members_by act.now (B.orders book.new) d.fills.items d.left) }
+    ensures feed_count { IfOk result (λ d. d.feed_count ≡ arrival_count (is_shown act.now.enter.display act.now.enter.time_in_force) d.fills.items d.left) }
+    ensures members { IfOk result (λ d. d.reply_members.items ≡ arrival_members act.now.member (is_immediate act.now.enter.time_in_force) (B.orders book.new) d.fills.items d.left) }
 {
-    let plan = plan_order(alloc, book, act)?;
-    let reply_members = members_of(alloc, book, act, &plan)?;
-    let feed_count = feed_count_of(act, &plan);
+    let plan = plan_order(alloc, book, &incoming_of(act))?;
+    let immediate = act.enter.time_in_force == 0;
+    let reply_members = members_of(alloc, book, act.member, immediate, &plan)?;
+    let shown = is_shown(act.enter.display, act.enter.time_in_force);
+    let feed_count = arrival_count(shown, &plan);
     Ok(Draft {
         fills: plan.fills,
         left: plan.left,
@@ -118,17 +161,44 @@ fn draft_order<B: Book>(alloc: Global, book: &mut B, act: &Accepting) -> Result<
     })
 }
 
-// Of an act without an order: so many replies, to these members.
-fn draft_replies(alloc: Global, reply_members: Vec<MemberNo>) -> Draft
+// Of an order that replaces another, which it does not meet.
+fn draft_replacement<B: Book>(
+    alloc: Global,
+    book: &mut B,
+    act: &Replacing,
+) -> Result<Draft, NoMemory>
+    requires is_replacing { IsReplacing act.now }
+    requires old { order_of act.now.old.key.0 (B.orders book.old) ≡ Some act.now.old.order }
+    ensures orders { B.orders book.new ≡ B.orders book.old }
+    ensures place { OnOk result (B.place book.new ≡ Some (terms_of_replacing act.now)) }
+    ensures executions { IfOk result (λ d. AreFills (incoming_of_replacing act.now) (without act.now.old.key.0 (B.orders book.new)) d.fills.items d.left) }
+    ensures keys { OnOk result (KeysDiffer (B.orders book.new)) }
+    ensures feed_count { IfOk result (λ d. d.feed_count ≡ replaced_count act.now d.fills.items d.left) }
+    ensures members { IfOk result (λ d. d.reply_members.items ≡ arrival_members act.now.member (is_immediate act.now.replace.time_in_force) (B.orders book.new) d.fills.items d.left) }
+{
+    let plan = plan_order(alloc, book, &incoming_by(act))?;
+    let immediate = act.replace.time_in_force == 0;
+    let reply_members = members_of(alloc, book, act.member, immediate, &plan)?;
+    let feed_count = replaced_count(act, &plan);
+    Ok(Draft {
+        fills: plan.fills,
+        left: plan.left,
+        feed_count,
+        reply_members,
+    })
+}
+
+// Of an act without an order that arrives: so many messages of the feed, and replies to these members.
+fn draft_told(alloc: Global, feed_count: u64, reply_members: Vec<MemberNo>) -> Draft
     ensures fills { result.fills.items ≡ [] }
     ensures left { result.left ≡ 0 }
-    ensures feed_count { result.feed_count ≡ 0 }
+    ensures feed_count { result.feed_count ≡ feed_count }
     ensures members { result.reply_members.items ≡ reply_members.items }
 {
     Draft {
         fills: Vec::new(alloc),
         left: 0,
-        feed_count: 0,
+        feed_count,
         reply_members,
     }
 }
@@ -140,23 +210,38 @@ pub fn draft_act<B: Book>(
     tokens: &mut Tokens,
     act: &Act,
 ) -> Result<Draft, NoMemory>
+    requires range { IsInRange act.now }
+    requires about { IsAbout (B.orders book.old) act.now }
     ensures orders { B.orders book.new ≡ B.orders book.old }
     ensures tokens { tokens.new.tokens ≡ tokens.old.tokens }
     ensures chains { tokens.new.chains ≡ tokens.old.chains }
+    ensures token_keys { tokens.new.keys ≡ tokens.old.keys }
     ensures places { IfOk result (λ d. HasPlaces (B.orders book.new) (B.place book.new) tokens.new.place d.fills.items d.left act.now) }
     ensures feed_count { IfOk result (λ d. d.feed_count ≡ act_feed_count act.now d.fills.items d.left) }
     ensures members { IfOk result (λ d. d.reply_members.items ≡ act_members act.now (B.orders book.new) d.fills.items d.left) }
 {
     match act {
-        Act::Nothing => Ok(draft_replies(alloc, Vec::new(alloc))),
+        Act::Nothing => Ok(draft_told(alloc, 0, Vec::new(alloc))),
         Act::Reject(act) => {
             tokens.reserve(act.member, &act.token)?;
-            let members = vec![in alloc; act.member]?;
-            Ok(draft_replies(alloc, members))
+            Ok(draft_told(alloc, 0, vec![in alloc; act.member]?))
         }
         Act::Accept(act) => {
             tokens.reserve(act.member, &act.enter.token)?;
             draft_order(alloc, book, act)
+        }
+        Act::Fail(act) => {
+            tokens.reserve(act.member, &act.replacement)?;
+            let told = one_if(act.old.order.shown);
+            Ok(draft_told(alloc, told, vec![in alloc; act.member]?))
+        }
+        Act::Replace(act) => {
+            tokens.reserve(act.member, &act.replace.replacement_token)?;
+            draft_replacement(alloc, book, act)
+        }
+        Act::Cancel(act) => {
+            let told = one_if(act.old.order.shown);
+            Ok(draft_told(alloc, told, vec![in alloc; act.member]?))
         }
     }
 }

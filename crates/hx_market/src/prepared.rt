@@ -2,6 +2,7 @@
 ghost use Rattle.std.specs.Prelude.{◌≡◌, ◌+◌, ◌<◌, ◌≤◌, ◌^◌, Some, None, IfOk, OnOk, OnErr, IfErr, length, []};
 ghost use Rattle.hx_refs.specs.Numbers.{Numbers};
 ghost use Rattle.hx_market.specs.Admitting.{refusal, or_no_memory};
+ghost use Rattle.hx_market.specs.Keeping.{AreKeyed};
 ghost use Rattle.hx_market.specs.Ready.{HasRoom, IsPlanned, market_of};
 
 use crate::acting::{Act, act_of};
@@ -73,8 +74,10 @@ pub fn make<B: Book>(
     tokens: &mut Tokens,
     event: &Event,
 ) -> Result<Prepared, PrepareError>
+    requires keyed { AreKeyed tokens.old.tokens tokens.old.keys (B.orders book.old) }
     ensures orders { B.orders book.new ≡ B.orders book.old }
     ensures tokens { tokens.new.tokens ≡ tokens.old.tokens }
+    ensures keys { tokens.new.keys ≡ tokens.old.keys }
     ensures chains { tokens.new.chains ≡ tokens.old.chains }
     ensures event { IfOk result (λ p. p.event ≡ event.now) }
     ensures planned { IfOk result (λ p. (n : Numbers) → IsPlanned setup.now (market_of (B.orders book.new) tokens.new n hours recorded.now) (B.orders book.new) (B.place book.new) tokens.new.place p) }
@@ -82,7 +85,7 @@ pub fn make<B: Book>(
     ensures refused { IfErr result (λ e. e ≡ or_no_memory (refusal setup.now recorded.now event.now)) }
 {
     let number = admit(setup, recorded, event)?;
-    let act = act_of(setup, hours, tokens, event);
+    let act = act_of(setup, hours, tokens, book, event);
     let draft = draft_act(alloc, book, tokens, &act)?;
     let out = room_for(alloc, draft.fills.len())?;
     Ok(Prepared {

@@ -1,12 +1,13 @@
-//! The rules of Enter (OUCH 4.2, Enter Order).
+//! The rules of Enter and Replace (OUCH 4.2, Enter Order and Replace Order Message).
 ghost use Rattle.std.specs.Prelude.{◌≡◌, ◌<◌, ◌≤◌, ◌^◌, IfNone};
 ghost use Rattle.hx_market.specs.Orders.{is_side, side_of, is_visible, is_display, is_shown, life_of, published_side};
 ghost use Rattle.hx_market.specs.Markets.{is_open};
 ghost use Rattle.hx_market.specs.Entering.{rejection, is_bad_shares, is_bad_price, is_late};
+ghost use Rattle.hx_market.specs.Replacing.{replace_fails};
 
 use hx_levels::Life;
 use hx_members::Setup;
-use hx_ouch::Enter;
+use hx_ouch::{Enter, Replace};
 use hx_units::Side;
 
 /// The side of an order's letter.
@@ -117,4 +118,16 @@ pub fn rejection(setup: &Setup, hours: u8, enter: &Enter) -> Option<u8>
     } else {
         None
     }
+}
+
+/// Whether a Replace fails, at this many hours codes past and so many executed shares of its chain.
+pub fn replace_fails(hours: u8, executed: u32, replace: &Replace) -> bool
+    ensures { result ≡ replace_fails hours executed replace.now }
+{
+    is_bad_shares(replace.shares)
+        || is_bad_price(replace.price)
+        || !is_display(replace.display)
+        || is_late(hours, replace.time_in_force)
+        || (replace.minimum_quantity > 0 && is_shown(replace.display, replace.time_in_force))
+        || replace.shares <= executed
 }

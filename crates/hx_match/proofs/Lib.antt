@@ -3,3 +3,4 @@ pub mod OnePass
 pub mod First
 pub mod Entries
 pub mod Carried
+pub mod Unmet

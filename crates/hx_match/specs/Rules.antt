@@ -3,9 +3,11 @@ use Rattle.std.specs.Prelude.{◌≡◌, ℕ, true, false, List, ◌∷◌, ◌+
 use Rattle.std.specs.List.{AllByRecursion}
 use Rattle.hx_levels.specs.declared.order.Order.{Order}
 use Rattle.hx_levels.specs.declared.order.Live.{Live}
-use Rattle.hx_levels.specs.Book.{outranks, lives}
+use Rattle.hx_levels.specs.Book.{outranks, crosses, lives, order_of, KeysDiffer, without}
 use Rattle.hx_match.specs.declared.fills.Incoming.{Incoming}
-use Rattle.hx_match.specs.Matching.{Place, MatchedOf, Matched, passes, first_by_rank, matched, matched_entries, itself, with_shares, order_in, cut_live}
+use Rattle.hx_match.specs.declared.fills.Fill.{Fill}
+use Rattle.hx_match.specs.Executing.{fills_of, AreGood, done_by, left_by}
+use Rattle.hx_match.specs.Matching.{terms, matched_live, Place, MatchedOf, Matched, passes, first_by_rank, matched, matched_entries, itself, with_shares, order_in, cut_live}
 
 -- of the orders that pass, the one at the place is before all others: it outranks those before it in the list, and none after it outranks it
 pub record IsBeforeAll (incoming : Incoming) (r : ℕ) (p : Place) : Type 0 where
@@ -37,3 +39,18 @@ abbrev pub MatchedOfMap : Type 0
 MatchedOfMap =
     (n : ℕ) (incoming : Incoming) (r : ℕ) (orders : List Live)
     → matched_entries itself with_shares n incoming r (lives orders) ≡ orders_of_matched order_in (matched_entries order_in cut_live n incoming r orders)
+
+-- the fills, by key, are the executions of the incoming order against the orders of a book, and so much of it is left: they can be carried
+-- out one after another, what they execute is what is matched of the orders, and so are the orders that then stay
+pub record AreFills (incoming : Incoming) (orders : List Live) (fills : List Fill) (left : ℕ) : Type 0 where
+  pub good : AreGood fills orders
+  pub done : done_by fills orders ≡ (matched incoming incoming.shares (lives orders)).fills
+  pub rest : lives (left_by fills orders) ≡ (matched incoming incoming.shares (lives orders)).rest
+  pub remains : left ≡ (matched incoming incoming.shares (lives orders)).left
+
+-- an order that does not cross is not met: without it the fills are the same, and are the executions against the others
+abbrev pub UncrossedIsNotMet : Type 0
+UncrossedIsNotMet =
+    (incoming : Incoming) (key : ℕ) (x : Order) (orders : List Live)
+    → KeysDiffer orders → order_of key orders ≡ Some x → crosses (terms incoming) x ≡ false
+    → AreFills incoming (without key orders) (fills_of incoming orders) (matched_live incoming orders).left

@@ -1,5 +1,5 @@
 //! Laws of the definition of the executions.
-ghost use Rattle.hx_match.specs.Rules.{FirstIsRight, NoneIsLeft, MatchedOfMap};
+ghost use Rattle.hx_match.specs.Rules.{FirstIsRight, NoneIsLeft, MatchedOfMap, UncrossedIsNotMet};
 
 /// What is executed next is before all other orders that cross and qualify; nothing is, exactly where none does.
 pub fn first()
@@ -14,4 +14,9 @@ pub fn none_is_left()
 /// The executions of orders under keys are those of the orders.
 pub fn matched_of_map()
     ensures { MatchedOfMap }
+{}
+
+/// An order that does not cross is not met: the executions without it are the same.
+pub fn uncrossed_is_not_met()
+    ensures { UncrossedIsNotMet }
 {}

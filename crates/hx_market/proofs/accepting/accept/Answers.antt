@@ -1,24 +1,26 @@
-use Rattle.std.proofs.Common.{◌≡◌, ℕ, ◌+◌, ◌<◌, ◌++◌, ◌∷◌, [], List, Bool, true, if◌then◌else◌, length, sym, ap, ◌∙◌, arith}
+use Rattle.std.proofs.Common.{◌≡◌, ℕ, ◌+◌, ◌<◌, ◌++◌, ◌∷◌, [], List, Option, Bool, true, if◌then◌else◌, length, sym, ap, ◌∙◌, subst, arith}
 use Rattle.hx_units.specs.declared.names.Token.{Token}
 use Rattle.hx_levels.specs.declared.order.Order.{Order}
 use Rattle.hx_levels.specs.Book.{lives}
 use Rattle.hx_match.specs.Matching.{Execution, Matched, matched}
 use Rattle.hx_match.specs.Executing.{done_by}
-use Rattle.hx_members.specs.Chains.{Used, Chain, entered_of, entered_used, entered_chain}
+use Rattle.hx_members.specs.Chains.{Used, Chain, is_used, place_of, entered_of, entered_used, entered_chain}
 use Rattle.hx_refs.specs.Numbers.{Numbers}
 use Rattle.hx_market.specs.declared.executing.Taker.{Taker}
 use Rattle.hx_market.specs.Orders.{is_immediate, is_shown}
 use Rattle.hx_market.specs.Executions.{chains_after, resting_of, displays}
 use Rattle.hx_market.specs.Entering.{next_reference, after_draw}
-use Rattle.hx_market.specs.Keeping.{chains_by, noted_if}
-use Rattle.hx_market.specs.Ready.{incoming_of_accepting, order_of_accepting}
+use Rattle.hx_market.specs.Keeping.{chains_by, noted_if, AreKeyed, AreBefore}
+use Rattle.hx_market.proofs.Keyed.{keyed_pushed, before_new}
+use Rattle.hx_market.proofs.Used.{used-last}
+use Rattle.hx_market.specs.Acts.{incoming_of_accepting, order_of_accepting}
 use Rattle.hx_market.proofs.Budget.{noted-place}
 use Rattle.hx_market.proofs.Next.{draws}
 use Rattle.hx_market.proofs.Plans.{length-done}
 use Rattle.hx_market.proofs.accepting.accept.Goals as goal
 
-pub arrive-requires-clause-numbers : goal.arrive-requires-clause-numbers
-arrive-requires-clause-numbers g c =
+pub arrive-resting-requires-clause-numbers : goal.arrive-resting-requires-clause-numbers
+arrive-resting-requires-clause-numbers g c =
     let act = c.args.act.now in
     let refs = c.args.refs.now in
     let orders = g.B.Book.orders c.args.book.now in
@@ -47,7 +49,7 @@ returns-clause-chains g c =
     let resting : displays (resting_of X imm c.args.left) ≡ displays (resting_of Y imm m.left) =
     ap (λ o. displays (resting_of o imm c.args.left)) x ∙ ap (λ n. displays (resting_of Y imm n)) c.requires.executions.remains in
     let changed : chains_by ts place m.fills cs ≡ chains_after ts act.member en m.fills cs = c.requires.fits.same in
-    c.arrive.ensures.chains
+    c.arrive-resting.ensures.chains
     ∙ ap (λ (us : List Used). noted_if (displays (resting_of X imm c.args.left)) us c.taker_of-taker.result.chain (chains_by us c.taker_of-taker.result.chain (done_by c.args.fills.now orders) c.consume.new.self.chains)) c.consume.ensures.tokens
     ∙ ap (λ n. noted_if (displays (resting_of X imm c.args.left)) ts n (chains_by ts n (done_by c.args.fills.now orders) c.consume.new.self.chains)) t
     ∙ ap (λ (ds : List Chain). noted_if (displays (resting_of X imm c.args.left)) ts place (chains_by ts place (done_by c.args.fills.now orders) ds)) c.consume.ensures.chains
@@ -67,6 +69,33 @@ returns-clause-numbers g c =
     let drawn : c.draw-reference.new.refs ≡ after_draw refs act.member shown = c.draw-reference.ensures.drawn ∙ ap (after_draw refs act.member) c.is_shown-shown.ensures in
     let before : ℕ = (after_draw refs act.member shown).matches in
     let count : before + length c.args.fills.now ≡ before + length m.fills = ap (λ n. before + n) len in
-    c.arrive.ensures.numbers
+    c.arrive-resting.ensures.numbers
     ∙ ap (λ (n : Numbers). record n { matches = n.matches + length c.args.fills.now }) drawn
     ∙ ap (λ n. record (after_draw refs act.member shown) { matches = n }) count
+
+pub arrive-resting-requires-clause-used : goal.arrive-resting-requires-clause-used
+arrive-resting-requires-clause-used g c =
+    let a = c.args.act.now in
+    let x : Order = c.order_of-order.result in
+    let ts = c.args.tokens.now.tokens in
+    let u : Used = entered_used a.member a.enter.token in
+    subst (λ (o : Order). is_used c.consume.new.self.tokens o.member o.token ≡ true) (sym c.order_of-order.ensures)
+    (subst (λ (us : List Used). is_used us a.member a.enter.token ≡ true) (sym c.consume.ensures.tokens) (used-last ts a.member a.enter.token a.enter.token))
+
+pub arrive-resting-requires-clause-before : goal.arrive-resting-requires-clause-before
+arrive-resting-requires-clause-before g c =
+    let a = c.args.act.now in
+    let t = c.args.tokens.now in
+    let xs = g.B.Book.orders c.args.book.now in
+    let u : Used = entered_used a.member a.enter.token in
+    subst (λ (o : Order). AreBefore c.consume.new.self.tokens (place_of c.consume.new.self.tokens o.member o.token) xs) (sym c.order_of-order.ensures)
+    (subst (λ (us : List Used). AreBefore us (place_of us a.member a.enter.token) xs) (sym c.consume.ensures.tokens) (before_new t.tokens t.keys u xs c.requires.keyed c.requires.unused))
+
+pub arrive-resting-requires-clause-keyed : goal.arrive-resting-requires-clause-keyed
+arrive-resting-requires-clause-keyed g c =
+    let a = c.args.act.now in
+    let t = c.args.tokens.now in
+    let xs = g.B.Book.orders c.args.book.now in
+    let u : Used = entered_used a.member a.enter.token in
+    subst (λ (us : List Used). AreKeyed us c.consume.new.self.keys xs) (sym c.consume.ensures.tokens)
+    (subst (λ (ks : List (Option ℕ)). AreKeyed (t.tokens ++ u ∷ []) ks xs) (sym c.consume.ensures.keys) (keyed_pushed t.tokens t.keys u xs c.requires.keyed))

@@ -18,6 +18,7 @@ invariant-loop-fill g l =
       place : g.B.Book.place l.book ≡ g.B.Book.place l.fn.book;
       counts : CanNoteAll l.fn.tokens.tokens l.taker.chain now l.tokens.chains;
       tokens : l.tokens.tokens ≡ l.fn.tokens.tokens;
+      keys : l.tokens.keys ≡ l.fn.tokens.keys;
       chains : chains_by l.fn.tokens.tokens l.taker.chain now l.tokens.chains ≡ chains_by l.fn.tokens.tokens l.taker.chain all l.fn.tokens.chains;
       feed : l.out.feed.items ++ feed_of_executions l.taker.time l.taker.stock l.refs.matches now ≡ l.fn.out.feed.items ++ feed_of_executions l.taker.time l.taker.stock l.fn.refs.matches all;
       replies : l.out.replies.items ++ replies_of_executions l.taker.time l.taker.member l.taker.token l.refs.matches now ≡ l.fn.out.replies.items ++ replies_of_executions l.taker.time l.taker.member l.taker.token l.fn.refs.matches all;

@@ -8,7 +8,7 @@ abbrev pub invariant-loop-fill : goal.invariant-loop-fill
 invariant-loop-fill g l =
     let orders = g.B.Book.orders l.book in
     record {
-      items : l.members.items ++ makers_and l.act.member orders (drop l.fill-index l.plan.fills.items) ≡ l.act.member ∷ makers_and l.act.member orders l.plan.fills.items;
+      items : l.members.items ++ makers_and l.member orders (drop l.fill-index l.plan.fills.items) ≡ l.member ∷ makers_and l.member orders l.plan.fills.items;
       len : vec_len l.members ≡ 2 * l.fill-index + 1;
       room : 2 * length l.plan.fills.items + 2 ≤ vec_capacity l.members;
     }

@@ -1,4 +1,4 @@
-use Rattle.std.proofs.Common.{◌≡◌, ◌<◌, ◌^◌, ℕ, List, Some, sym, ap, ◌∙◌, subst}
+use Rattle.std.proofs.Common.{◌≡◌, ◌<◌, ◌^◌, ℕ, List, Some, refl, sym, ap, ◌∙◌, subst}
 use Rattle.hx_levels.specs.declared.order.Order.{Order}
 use Rattle.hx_levels.specs.Book.{lives}
 use Rattle.hx_match.specs.declared.fills.Fill.{Fill}
@@ -9,13 +9,14 @@ use Rattle.hx_market.specs.Markets.{Market}
 use Rattle.hx_market.specs.Outputs.{Outcome, Told}
 use Rattle.hx_market.specs.Steps.{step, with_record}
 use Rattle.hx_market.specs.Keeping.{IsSound}
-use Rattle.hx_market.specs.Ready.{Planned, Seen, IsPlanned, HasPlaces, market_of, outcome_of}
+use Rattle.hx_market.specs.Acts.{outcome_of}
+use Rattle.hx_market.specs.Ready.{Planned, Seen, IsPlanned, HasPlaces, market_of}
 use Rattle.hx_market.proofs.Next.{recording}
 use Rattle.hx_market.proofs.Drafts.{step_is}
 use Rattle.hx_market.proofs.Timed.{fits_feed}
 use Rattle.hx_itch.specs.Message.{feed_time}
 use Rattle.std.specs.List.{AllByRecursion}
-use Rattle.hx_market.proofs.Outcomes.{bare, parts, told_same, in_time, fits_act, sound_outcome}
+use Rattle.hx_market.proofs.Outcomes.{bare, parts, told_same, in_range, fits_act, sound_outcome}
 use Rattle.hx_market.proofs.market.Market.commit.Goals as goal
 
 -- the market by its parts
@@ -35,28 +36,41 @@ raise-requires g c =
     let p : Planned = record { event = q.event.value; feed_count = q.feed_count; reply_members = q.reply_members.items; number = q.number; act = q.act; fills = q.fills.items; left = q.left } in
     let m : Market = market_of (g.B.Book.orders s.book) s.tokens s.refs s.hours s.recorded in
     let i : IsPlanned s.setup m (g.B.Book.orders s.book) (g.B.Book.place s.book) s.tokens.place p =
-    c.self.invariant.1 p (ap (λ (v : Seen). v.ready) c.self.view_is ∙ c.requires.ready ∙ ap (λ (z : Planned). Some z) (sym c.prepared.view_is)) in
+    c.self.invariant.2 p (ap (λ (v : Seen). v.ready) c.self.view_is ∙ c.requires.ready ∙ ap (λ (z : Planned). Some z) (sym c.prepared.view_is)) in
     i.may_record
 
-pub carry_out-requires-clause-time : goal.carry_out-requires-clause-time
-carry_out-requires-clause-time g c =
+pub carry_out-requires-clause-range : goal.carry_out-requires-clause-range
+carry_out-requires-clause-range g c =
     let s = c.self.inside in
     let q = c.prepared.inside in
     let p : Planned = record { event = q.event.value; feed_count = q.feed_count; reply_members = q.reply_members.items; number = q.number; act = q.act; fills = q.fills.items; left = q.left } in
     let m : Market = market_of (g.B.Book.orders s.book) s.tokens s.refs s.hours s.recorded in
     let i : IsPlanned s.setup m (g.B.Book.orders s.book) (g.B.Book.place s.book) s.tokens.place p =
-    c.self.invariant.1 p (ap (λ (v : Seen). v.ready) c.self.view_is ∙ c.requires.ready ∙ ap (λ (z : Planned). Some z) (sym c.prepared.view_is)) in
-    in_time s.setup q.act i.is_act
+    c.self.invariant.2 p (ap (λ (v : Seen). v.ready) c.self.view_is ∙ c.requires.ready ∙ ap (λ (z : Planned). Some z) (sym c.prepared.view_is)) in
+    in_range s.setup q.act i.is_act
 
-pub carry_out-requires-clause-unused : goal.carry_out-requires-clause-unused
-carry_out-requires-clause-unused g c =
+pub carry_out-requires-clause-suits : goal.carry_out-requires-clause-suits
+carry_out-requires-clause-suits g c =
     let s = c.self.inside in
     let q = c.prepared.inside in
     let p : Planned = record { event = q.event.value; feed_count = q.feed_count; reply_members = q.reply_members.items; number = q.number; act = q.act; fills = q.fills.items; left = q.left } in
     let m : Market = market_of (g.B.Book.orders s.book) s.tokens s.refs s.hours s.recorded in
     let i : IsPlanned s.setup m (g.B.Book.orders s.book) (g.B.Book.place s.book) s.tokens.place p =
-    c.self.invariant.1 p (ap (λ (v : Seen). v.ready) c.self.view_is ∙ c.requires.ready ∙ ap (λ (z : Planned). Some z) (sym c.prepared.view_is)) in
-    i.unused
+    c.self.invariant.2 p (ap (λ (v : Seen). v.ready) c.self.view_is ∙ c.requires.ready ∙ ap (λ (z : Planned). Some z) (sym c.prepared.view_is)) in
+    i.suits
+
+pub carry_out-requires-clause-about : goal.carry_out-requires-clause-about
+carry_out-requires-clause-about g c =
+    let s = c.self.inside in
+    let q = c.prepared.inside in
+    let p : Planned = record { event = q.event.value; feed_count = q.feed_count; reply_members = q.reply_members.items; number = q.number; act = q.act; fills = q.fills.items; left = q.left } in
+    let m : Market = market_of (g.B.Book.orders s.book) s.tokens s.refs s.hours s.recorded in
+    let i : IsPlanned s.setup m (g.B.Book.orders s.book) (g.B.Book.place s.book) s.tokens.place p =
+    c.self.invariant.2 p (ap (λ (v : Seen). v.ready) c.self.view_is ∙ c.requires.ready ∙ ap (λ (z : Planned). Some z) (sym c.prepared.view_is)) in
+    i.about
+
+pub carry_out-requires-clause-keyed : goal.carry_out-requires-clause-keyed
+carry_out-requires-clause-keyed g c = c.self.invariant.1
 
 pub carry_out-requires-clause-places : goal.carry_out-requires-clause-places
 carry_out-requires-clause-places g c =
@@ -65,7 +79,7 @@ carry_out-requires-clause-places g c =
     let p : Planned = record { event = q.event.value; feed_count = q.feed_count; reply_members = q.reply_members.items; number = q.number; act = q.act; fills = q.fills.items; left = q.left } in
     let m : Market = market_of (g.B.Book.orders s.book) s.tokens s.refs s.hours s.recorded in
     let i : IsPlanned s.setup m (g.B.Book.orders s.book) (g.B.Book.place s.book) s.tokens.place p =
-    c.self.invariant.1 p (ap (λ (v : Seen). v.ready) c.self.view_is ∙ c.requires.ready ∙ ap (λ (z : Planned). Some z) (sym c.prepared.view_is)) in
+    c.self.invariant.2 p (ap (λ (v : Seen). v.ready) c.self.view_is ∙ c.requires.ready ∙ ap (λ (z : Planned). Some z) (sym c.prepared.view_is)) in
     subst (λ (fs : List Fill). HasPlaces (g.B.Book.orders s.book) (g.B.Book.place s.book) s.tokens.place fs q.left q.act) (sym c.deref.ensures.value) i.places
 
 pub carry_out-requires-clause-fits : goal.carry_out-requires-clause-fits
@@ -75,8 +89,8 @@ carry_out-requires-clause-fits g c =
     let p : Planned = record { event = q.event.value; feed_count = q.feed_count; reply_members = q.reply_members.items; number = q.number; act = q.act; fills = q.fills.items; left = q.left } in
     let m : Market = market_of (g.B.Book.orders s.book) s.tokens s.refs s.hours s.recorded in
     let i : IsPlanned s.setup m (g.B.Book.orders s.book) (g.B.Book.place s.book) s.tokens.place p =
-    c.self.invariant.1 p (ap (λ (v : Seen). v.ready) c.self.view_is ∙ c.requires.ready ∙ ap (λ (z : Planned). Some z) (sym c.prepared.view_is)) in
-    fits_act s.setup m q.number q.act c.self.invariant.0 i.may_record i.is_act i.unused i.sender
+    c.self.invariant.2 p (ap (λ (v : Seen). v.ready) c.self.view_is ∙ c.requires.ready ∙ ap (λ (z : Planned). Some z) (sym c.prepared.view_is)) in
+    fits_act s.setup m q.number q.act (g.B.Book.orders s.book) refl c.self.invariant.0 i.may_record i.is_act i.suits i.about i.sender
 
 pub invariant_of-self : goal.invariant_of-self
 invariant_of-self g c =
@@ -85,14 +99,14 @@ invariant_of-self g c =
     let p : Planned = record { event = q.event.value; feed_count = q.feed_count; reply_members = q.reply_members.items; number = q.number; act = q.act; fills = q.fills.items; left = q.left } in
     let m : Market = market_of (g.B.Book.orders s.book) s.tokens s.refs s.hours s.recorded in
     let i : IsPlanned s.setup m (g.B.Book.orders s.book) (g.B.Book.place s.book) s.tokens.place p =
-    c.self.invariant.1 p (ap (λ (v : Seen). v.ready) c.self.view_is ∙ c.requires.ready ∙ ap (λ (z : Planned). Some z) (sym c.prepared.view_is)) in
+    c.self.invariant.2 p (ap (λ (v : Seen). v.ready) c.self.view_is ∙ c.requires.ready ∙ ap (λ (z : Planned). Some z) (sym c.prepared.view_is)) in
     let k : Market = (outcome_of (bare m) q.act).market in
     let n : Market = market_of (g.B.Book.orders c.carry_out.new.book) c.carry_out.new.tokens c.carry_out.new.refs s.hours c.raise.new.self in
     let is : n ≡ (outcome_of (recording m q.number) q.act).market =
     whole (lives (g.B.Book.orders c.carry_out.new.book)) k.live c.carry_out.new.tokens.tokens k.tokens c.carry_out.new.tokens.chains k.chains c.carry_out.new.refs k.numbers s.hours c.raise.new.self (raised s.recorded q.number)
     c.carry_out.ensures.live c.carry_out.ensures.tokens c.carry_out.ensures.chains c.carry_out.ensures.numbers c.raise.ensures
     ∙ sym (parts (recording m q.number) q.act) in
-    (subst IsSound (sym is) (sound_outcome s.setup m q.number q.act c.self.invariant.0 i.may_record i.is_act i.unused i.sender), λ p h. cc)
+    (subst IsSound (sym is) (sound_outcome s.setup m q.number q.act (g.B.Book.orders s.book) refl c.self.invariant.0 i.may_record i.is_act i.suits i.about i.sender), c.carry_out.ensures.keyed, λ p h. cc)
 
 pub returns-clause-market : goal.returns-clause-market
 returns-clause-market g c =
@@ -101,7 +115,7 @@ returns-clause-market g c =
     let p : Planned = record { event = q.event.value; feed_count = q.feed_count; reply_members = q.reply_members.items; number = q.number; act = q.act; fills = q.fills.items; left = q.left } in
     let m : Market = market_of (g.B.Book.orders s.book) s.tokens s.refs s.hours s.recorded in
     let i : IsPlanned s.setup m (g.B.Book.orders s.book) (g.B.Book.place s.book) s.tokens.place p =
-    c.self.invariant.1 p (ap (λ (v : Seen). v.ready) c.self.view_is ∙ c.requires.ready ∙ ap (λ (z : Planned). Some z) (sym c.prepared.view_is)) in
+    c.self.invariant.2 p (ap (λ (v : Seen). v.ready) c.self.view_is ∙ c.requires.ready ∙ ap (λ (z : Planned). Some z) (sym c.prepared.view_is)) in
     let k : Market = (outcome_of (bare m) q.act).market in
     let n : Market = market_of (g.B.Book.orders c.carry_out.new.book) c.carry_out.new.tokens c.carry_out.new.refs s.hours c.raise.new.self in
     let is : n ≡ (outcome_of (recording m q.number) q.act).market =
@@ -119,7 +133,7 @@ returns-clause-feed g c =
     let p : Planned = record { event = q.event.value; feed_count = q.feed_count; reply_members = q.reply_members.items; number = q.number; act = q.act; fills = q.fills.items; left = q.left } in
     let m : Market = market_of (g.B.Book.orders s.book) s.tokens s.refs s.hours s.recorded in
     let i : IsPlanned s.setup m (g.B.Book.orders s.book) (g.B.Book.place s.book) s.tokens.place p =
-    c.self.invariant.1 p (ap (λ (v : Seen). v.ready) c.self.view_is ∙ c.requires.ready ∙ ap (λ (z : Planned). Some z) (sym c.prepared.view_is)) in
+    c.self.invariant.2 p (ap (λ (v : Seen). v.ready) c.self.view_is ∙ c.requires.ready ∙ ap (λ (z : Planned). Some z) (sym c.prepared.view_is)) in
     let one : outcome_of (with_record p.event m) q.act ≡ step c.args.self.now.setup c.args.self.now.market c.args.prepared.event =
     step_is s.setup c.args.self.now.setup m c.args.self.now.market p.event c.args.prepared.event (outcome_of (with_record p.event m) q.act) i.does (ap (λ (v : Seen). v.setup) c.self.view_is) (ap (λ (v : Seen). v.market) c.self.view_is) (ap (λ (v : Planned). v.event) c.prepared.view_is) in
     let told : (outcome_of (bare m) q.act).told ≡ (step c.args.self.now.setup c.args.self.now.market c.args.prepared.event).told =
@@ -133,7 +147,7 @@ returns-clause-replies g c =
     let p : Planned = record { event = q.event.value; feed_count = q.feed_count; reply_members = q.reply_members.items; number = q.number; act = q.act; fills = q.fills.items; left = q.left } in
     let m : Market = market_of (g.B.Book.orders s.book) s.tokens s.refs s.hours s.recorded in
     let i : IsPlanned s.setup m (g.B.Book.orders s.book) (g.B.Book.place s.book) s.tokens.place p =
-    c.self.invariant.1 p (ap (λ (v : Seen). v.ready) c.self.view_is ∙ c.requires.ready ∙ ap (λ (z : Planned). Some z) (sym c.prepared.view_is)) in
+    c.self.invariant.2 p (ap (λ (v : Seen). v.ready) c.self.view_is ∙ c.requires.ready ∙ ap (λ (z : Planned). Some z) (sym c.prepared.view_is)) in
     let one : outcome_of (with_record p.event m) q.act ≡ step c.args.self.now.setup c.args.self.now.market c.args.prepared.event =
     step_is s.setup c.args.self.now.setup m c.args.self.now.market p.event c.args.prepared.event (outcome_of (with_record p.event m) q.act) i.does (ap (λ (v : Seen). v.setup) c.self.view_is) (ap (λ (v : Seen). v.market) c.self.view_is) (ap (λ (v : Planned). v.event) c.prepared.view_is) in
     let told : (outcome_of (bare m) q.act).told ≡ (step c.args.self.now.setup c.args.self.now.market c.args.prepared.event).told =
@@ -147,5 +161,5 @@ returns-clause-times g c =
     let p : Planned = record { event = q.event.value; feed_count = q.feed_count; reply_members = q.reply_members.items; number = q.number; act = q.act; fills = q.fills.items; left = q.left } in
     let m : Market = market_of (g.B.Book.orders s.book) s.tokens s.refs s.hours s.recorded in
     let i : IsPlanned s.setup m (g.B.Book.orders s.book) (g.B.Book.place s.book) s.tokens.place p =
-    c.self.invariant.1 p (ap (λ (v : Seen). v.ready) c.self.view_is ∙ c.requires.ready ∙ ap (λ (z : Planned). Some z) (sym c.prepared.view_is)) in
-    subst (λ (fs : List Feed). AllByRecursion (λ f. feed_time f < 2 ^ 48) fs) (sym c.carry_out.ensures.feed) (fits_feed (bare m) q.act (in_time s.setup q.act i.is_act))
+    c.self.invariant.2 p (ap (λ (v : Seen). v.ready) c.self.view_is ∙ c.requires.ready ∙ ap (λ (z : Planned). Some z) (sym c.prepared.view_is)) in
+    subst (λ (fs : List Feed). AllByRecursion (λ f. feed_time f < 2 ^ 48) fs) (sym c.carry_out.ensures.feed) (fits_feed (bare m) q.act (in_range s.setup q.act i.is_act))

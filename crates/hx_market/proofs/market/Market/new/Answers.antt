@@ -1,11 +1,11 @@
-use Rattle.std.proofs.Common.{◌≡◌, ℕ, List, [], sym, ap, ◌∙◌, subst}
+use Rattle.std.proofs.Common.{◌≡◌, ℕ, List, [], Option, refl, sym, ap, ◌∙◌, subst}
 use Rattle.hx_levels.specs.declared.order.Live.{Live}
 use Rattle.hx_levels.specs.Book.{lives}
 use Rattle.hx_members.specs.Chains.{Used, Chain}
 use Rattle.hx_refs.specs.Numbers.{Numbers, opening_numbers}
 use Rattle.hx_members.specs.Setups.{Setup}
 use Rattle.hx_market.specs.Markets.{Market, opening, opening_hours, no_counts}
-use Rattle.hx_market.specs.Keeping.{IsSound}
+use Rattle.hx_market.specs.Keeping.{IsSound, AreKeyed}
 use Rattle.hx_market.proofs.Next.{sound_opening}
 use Rattle.hx_market.proofs.market.Market.new.Goals as goal
 
@@ -21,6 +21,11 @@ opens setup orders ts cs n hours counts o t k e h r =
     ∙ ap (λ z. (let m : Market = record { live = []; tokens = []; chains = []; numbers = opening_numbers; hours = z; recorded = counts } in m)) h
     ∙ ap (λ (z : List ℕ). (let m : Market = record { live = []; tokens = []; chains = []; numbers = opening_numbers; hours = opening_hours setup; recorded = z } in m)) r
 
+-- no order, no token, no key
+keyed_none : (ts : List Used) (ks : List (Option ℕ)) (xs : List Live) → ts ≡ [] → ks ≡ [] → xs ≡ [] → AreKeyed ts ks xs
+keyed_none ts ks xs t k x =
+    subst (λ (ts : List Used). AreKeyed ts ks xs) (sym t) (subst (λ (ks : List (Option ℕ)). AreKeyed [] ks xs) (sym k) (subst (λ (xs : List Live). AreKeyed [] [] xs) (sym x) (record { as_many = refl; each = tt })))
+
 pub returns-clause-market : goal.returns-clause-market
 returns-clause-market g c =
     opens c.args.setup (g.B.Book.orders c.args.book) c.new.result.tokens c.new.result.chains c.in_ok-new.field-0 c.opening_hours-hours.result c.in_ok-new-2.field-0
@@ -30,5 +35,6 @@ pub invariant_of-result : goal.invariant_of-result
 invariant_of-result g c = (
   subst IsSound (sym (opens c.args.setup (g.B.Book.orders c.args.book) c.new.result.tokens c.new.result.chains c.in_ok-new.field-0 c.opening_hours-hours.result c.in_ok-new-2.field-0
       c.requires c.new.ensures.tokens c.new.ensures.chains c.in_ok-new.ensures c.opening_hours-hours.ensures c.in_ok-new-2.ensures)) (sound_opening c.args.setup),
+  keyed_none c.new.result.tokens c.new.result.keys (g.B.Book.orders c.args.book) c.new.ensures.tokens c.new.ensures.keys c.requires,
   λ p h. cc,
 )

@@ -6,7 +6,8 @@ use Rattle.hx_refs.specs.Numbers.{Numbers}
 use Rattle.hx_market.specs.Markets.{Market}
 use Rattle.hx_market.specs.Outputs.{Outcome}
 use Rattle.hx_market.specs.Steps.{with_record}
-use Rattle.hx_market.specs.Ready.{Seen, market_of, outcome_of}
+use Rattle.hx_market.specs.Acts.{outcome_of}
+use Rattle.hx_market.specs.Ready.{Seen, market_of}
 use Rattle.hx_market.proofs.Drafts.{step_is}
 use Rattle.hx_market.proofs.market.Market.prepare.Goals as goal
 

@@ -1,0 +1,27 @@
+//! A broadcast log: messages of one writer for many readers, in words that all threads share without a lock.
+//!
+//! The writer stages the messages of an event and then publishes them together; a reader reads them from the
+//! first one on, in order, each once. A slot is used once: the log neither grows nor starts again. Each load
+//! and store of a word is sequentially consistent.
+//!
+//! No call waits, retries or loops until it succeeds: each loads or stores at most seven words, but for
+//! `Log::new`. Only `Log::new` takes memory. Each call asks that the log and its ends belong together.
+#![tactic(auto)]
+
+mod loads;
+mod log;
+mod reader;
+mod receipt;
+mod rule;
+mod seats;
+mod stores;
+#[cfg(test)]
+mod tests;
+mod view;
+mod words;
+mod writer;
+
+pub use log::Log;
+pub use reader::Reader;
+pub use receipt::Receipt;
+pub use writer::{Full, Writer};

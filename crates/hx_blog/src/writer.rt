@@ -1,0 +1,126 @@
+//! The writer.
+ghost use Rattle.std.specs.Prelude.{◌≡◌, ◌+◌, ◌*◌, ◌<◌, ◌≤◌, ◌∷◌, ◌++◌, [], length, IsOk, OnOk, OnErr, ◌↔◌};
+ghost use mathlib.Core.List.{IsPrefix};
+ghost use Rattle.hx_blog.specs.Ends.{room_of};
+ghost use Rattle.hx_blog.specs.Feed.{feed};
+
+use crate::log::Log;
+use crate::receipt::Receipt;
+use crate::rule::LogSeat;
+use crate::seats::{split_off, tell_writer};
+use crate::stores::{NamesEntry, NamesMessage, store_count, store_message};
+use crate::words::pack;
+use arrayvec::ArrayVec;
+use std::marker::{Brand, Model};
+use thiserror::Error;
+
+/// No slot of the log is free.
+#[derive(Debug, Drop, Error)]
+#[error("no slot is free")]
+pub struct Full;
+
+/// The one end of a log that writes. Contracts see the entries that it published, and the messages that it
+/// staged since.
+#[derive(Drop)]
+pub struct Writer<E> {
+    pub(crate) seat: LogSeat<E>,
+    pub(crate) count: u64,
+    pub(crate) staged: u64,
+}
+
+impl<E> Model for Writer<E> {
+    ghost use Rattle.hx_blog.specs.Ends.{WriterState};
+    ghost use Rattle.hx_blog.specs.Views.{KeepsWriting};
+
+    ghost Value = { WriterState E };
+
+    ghost view = { λ w. record { log = w.seat.table_id; published = w.seat.me.0.known; staged = w.seat.me.0.staged } };
+
+    ghost invariant = { λ w. KeepsWriting w.seat.table_id w.seat.me w.count w.staged };
+}
+
+impl<E> Writer<E> {
+    /// How many more messages can be staged.
+    pub fn free(&self, log: &Log<E>) -> u64
+        requires { self.now.log ≡ log.now }
+        ensures { result + length (feed self.now.published) + length self.now.staged ≡ room_of log.now }
+    {
+        log.capacity - self.count - self.staged
+    }
+
+    /// How many messages are published, at most 1,000,000.
+    pub fn count(&self) -> u64
+        ensures messages { result ≡ length (feed self.now.published) }
+        ensures limit { result ≤ 1000000 }
+    {
+        self.count
+    }
+
+    /// Stores a message above the count, where no reader looks yet. It is refused exactly where no slot is
+    /// free, and then nothing changes.
+    pub fn stage(&mut self, log: &Log<E>, message: &ArrayVec<u8, 44>) -> Result<(), Full>
+        requires { self.old.log ≡ log.now }
+        ensures ok { OnOk result (self.new ≡ record self.old { staged = self.old.staged ++ message.now.items ∷ [] }) }
+        ensures err { OnErr result (self.new ≡ self.old) }
+        ensures full { IsOk result ↔ (length (feed self.old.published) + length self.old.staged < room_of log.now) }
+    {
+        if self.free(log) == 0 {
+            return Err(Full);
+        }
+        self.stage_as::<Brand>(log, message);
+        Ok(())
+    }
+
+    fn stage_as<N: NamesMessage>(&mut self, log: &Log<E>, message: &ArrayVec<u8, 44>)
+        requires log { self.old.log ≡ log.now }
+        requires room { length (feed self.old.published) + length self.old.staged < room_of log.now }
+        requires named { N.message ≡ message.now.items }
+        ensures { self.new ≡ record self.old { staged = self.old.staged ++ N.message ∷ [] } }
+    {
+        let words = pack(message.as_slice());
+        let first = 6 * (self.count + self.staged) as usize + 1;
+        store_message::<E, N>(&log.table, &mut self.seat, first, &words);
+        self.staged += 1;
+    }
+
+    /// Publishes what was staged as the messages of this event, of which there may be none: one store of the
+    /// count, also where it stays. Contracts know the event; the log does not keep it.
+    pub fn publish(&mut self, log: &Log<E>, event: &E)
+        requires { self.old.log ≡ log.now }
+        ensures { self.new ≡ record { log = self.old.log; published = self.old.published ++ (event.now, self.old.staged) ∷ []; staged = [] } }
+    {
+        self.publish_as::<Brand>(log, event);
+    }
+
+    fn publish_as<N: NamesEntry<E>>(&mut self, log: &Log<E>, event: &E)
+        requires log { self.old.log ≡ log.now }
+        requires named { N.entry ≡ (event.now, self.old.staged) ∷ [] }
+        ensures { self.new ≡ record { log = self.old.log; published = self.old.published ++ N.entry; staged = [] } }
+    {
+        store_count::<E, N>(&log.table, &mut self.seat, self.count + self.staged);
+        self.count += self.staged;
+        self.staged = 0;
+    }
+
+    /// A receipt for all that is published.
+    pub fn receipt(&mut self, log: &Log<E>) -> Receipt<E>
+        requires { self.old.log ≡ log.now }
+        ensures same { self.new ≡ self.old }
+        ensures receipt { result ≡ record { log = self.old.log; known = self.old.published } }
+    {
+        Receipt {
+            seat: split_off(&log.table, &mut self.seat),
+        }
+    }
+
+    /// Takes in a receipt: what it knows is a beginning of what is published.
+    pub fn confirm(&mut self, log: &Log<E>, receipt: Receipt<E>)
+        requires log { self.old.log ≡ log.now }
+        requires receipt { receipt.log ≡ log.now }
+        ensures same { self.new ≡ self.old }
+        ensures beginning { IsPrefix receipt.known self.old.published }
+    {
+        let Receipt { seat } = receipt;
+        tell_writer(&log.table, &mut self.seat, seat);
+    }
+}

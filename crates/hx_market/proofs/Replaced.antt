@@ -1,0 +1,32 @@
+-- What a Replace tells.
+use Rattle.std.proofs.Common.{◌≡◌, ℕ, suc, ◌+◌, ◌<◌, Bool, true, false, cond, ltb, ◌&&◌, if◌then◌else◌, nat_lt, List, [], ◌∷◌, ◌++◌, length, Option, Some, refl, ap, ◌∙◌, sym, arith, slice_get}
+use Rattle.std.specs.Option.{option_map_or}
+use Rattle.std.proofs.lemmas.Bool.{and_parts}
+use Rattle.std.proofs.lemmas.Bool.Decides.{nat_tests}
+use Rattle.hx_units.specs.declared.names.Token.{Token}
+use Rattle.hx_units.specs.declared.names.Symbol.{Symbol}
+use Rattle.hx_itch.specs.declared.message.Feed.{Feed}
+use Rattle.hx_match.specs.Matching.{Execution}
+use Rattle.hx_members.specs.Chains.{Used, entered_of, entered_at, entered_used, IsEnteredAt}
+use Rattle.hx_market.specs.Executions.{feed_of_executions}
+
+assoc : (xs ys zs : List Feed) → (xs ++ ys) ++ zs ≡ xs ++ (ys ++ zs)
+assoc [] ys zs = refl
+assoc (x ∷ xs) ys zs = ap (λ l. x ∷ l) (assoc xs ys zs)
+
+-- one message alone, or what is told of the old order, of the executions, and of the new one
+pub told_of : (b : Bool) (one gone done new : List Feed) → (b ≡ true → done ≡ []) → ((if b then [] else gone) ++ done) ++ (if b then one else new) ≡ (if b then one else gone ++ (done ++ new))
+told_of true one gone done new h = ap (λ l. l ++ one) (h refl)
+told_of false one gone done new h = assoc gone done new
+
+-- one message tells of both only where nothing trades
+pub none_done : (time : ℕ) (stock : Symbol) (number : ℕ) (es : List Execution) (shown : Bool) → (shown && nat_lt (length es) 1) ≡ true → feed_of_executions time stock number es ≡ []
+none_done time stock number [] shown h = refl
+none_done time stock number (e ∷ es) shown h = absurd (no (length es) (and_parts shown (nat_lt (length (e ∷ es)) 1) h).1)
+  where
+    no : (n : ℕ) → ltb (suc n) 1 ≡ true → ⊥
+    no n e = grind (arith, nat_tests)
+
+-- the entered token at the place of a chain
+pub entered_there : (ts : List Used) (member : ℕ) (entered token : Token) (place : ℕ) → IsEnteredAt ts member entered place → entered_at ts place token ≡ entered
+entered_there ts member entered token place h = ap (λ o. option_map_or (λ (u : Used). u.entered) o token) h

@@ -1,0 +1,175 @@
+-- What an event does, once it is committed.
+use Rattle.std.specs.Prelude.{◌≡◌, ℕ, ◌-◌, ◌<◌, ◌≤◌, min, true, false, if◌then◌else◌, List, length, Option, Some, None, ⊤}
+use Rattle.std.specs.List.{AllByRecursion}
+use Rattle.hx_units.specs.declared.names.Token.{Token}
+use Rattle.hx_levels.specs.declared.order.Live.{Live}
+use Rattle.hx_levels.specs.declared.order.Terms.{Terms}
+use Rattle.hx_levels.specs.Book.{order_of, is_under, KeysDiffer}
+use Rattle.hx_match.specs.declared.fills.Incoming.{Incoming}
+use Rattle.hx_members.specs.Setups.{Setup, locate_of}
+use Rattle.hx_members.specs.Chains.{Used, Chain, is_used, entered_of, executed_by}
+use Rattle.hx_market.specs.declared.acting.Act.{Act}
+use Rattle.hx_market.specs.declared.acting.Act.TheVariants.{Nothing, Reject, Accept, Fail, Replace, Cancel}
+use Rattle.hx_market.specs.declared.acting.Accepting.{Accepting}
+use Rattle.hx_market.specs.declared.acting.Replacing.{Replacing}
+use Rattle.hx_market.specs.declared.acting.Cancelling.{Cancelling}
+use Rattle.hx_market.specs.Orders.{Order, side_of, is_immediate, is_shown, life_of, is_called}
+use Rattle.hx_market.specs.Markets.{Market}
+use Rattle.hx_market.specs.Outputs.{Outcome, nothing}
+use Rattle.hx_market.specs.Entering.{accept_order, reject, resolved_firm, next_reference}
+use Rattle.hx_market.specs.Replacing.{fail_replace, replacing_order, replace_order}
+use Rattle.hx_market.specs.Cancelling.{take_off}
+
+-- An Enter that is accepted.
+
+-- the stock, side, price and firm are those of the message, by the setup; its shares and time are within their limits
+pub record IsAccepting (setup : Setup) (a : Accepting) : Type 0 where
+  pub locate : locate_of setup a.enter.stock ≡ Some a.locate
+  pub side : a.side ≡ side_of a.enter.side
+  pub price : a.price ≡ a.enter.price
+  pub firm : a.firm ≡ resolved_firm setup a.member a.enter.firm
+  pub shares : a.enter.shares ≤ 999999
+  pub time : a.time < 86400000000000
+
+abbrev pub incoming_of_accepting : Accepting → Incoming
+incoming_of_accepting a = record { locate = a.locate; side = a.side; price = a.price; shares = a.enter.shares; minimum = a.enter.minimum_quantity }
+
+abbrev pub terms_of_accepting : Accepting → Terms
+terms_of_accepting a = record { locate = a.locate; side = a.side; price = a.price }
+
+-- the order, with its chain's number and its reference
+abbrev pub order_of_accepting : ℕ → ℕ → Accepting → Order
+order_of_accepting chain reference a =
+    record {
+      member = a.member;
+      token = a.enter.token;
+      chain = chain;
+      locate = a.locate;
+      side = a.side;
+      price = a.price;
+      shares = a.enter.shares;
+      minimum = a.enter.minimum_quantity;
+      display = a.enter.display;
+      shown = is_shown a.enter.display a.enter.time_in_force;
+      firm = a.firm;
+      capacity = a.enter.capacity;
+      reference = reference;
+      life = life_of a.time a.enter.time_in_force;
+    }
+
+-- the number of its chain is the next place of the used tokens, and its reference the next one
+abbrev pub accepted_by : Market → Accepting → Outcome
+accepted_by market a =
+    accept_order market a.time a.enter
+    (order_of_accepting (length market.tokens) (next_reference market.numbers a.member (is_shown a.enter.display a.enter.time_in_force)) a)
+
+-- A Replace that replaces, and a Cancel.
+
+-- the price is that of the message; its shares are more than the chain has executed, and its shares and time are within their limits
+pub record IsReplacing (a : Replacing) : Type 0 where
+  pub price : a.price ≡ a.replace.price
+  pub more : a.executed < a.replace.shares
+  pub shares : a.replace.shares ≤ 999999
+  pub time : a.time < 86400000000000
+
+-- the shares that the chain has not executed
+abbrev pub open_shares : Replacing → ℕ
+open_shares a = a.replace.shares - a.executed
+
+abbrev pub incoming_of_replacing : Replacing → Incoming
+incoming_of_replacing a =
+    record { locate = a.old.order.locate; side = a.old.order.side; price = a.replace.price; shares = open_shares a; minimum = min a.replace.minimum_quantity (open_shares a) }
+
+abbrev pub terms_of_replacing : Replacing → Terms
+terms_of_replacing a = record { locate = a.old.order.locate; side = a.old.order.side; price = a.replace.price }
+
+-- the new order, with its reference
+abbrev pub order_by_replacing : ℕ → Replacing → Order
+order_by_replacing reference a = replacing_order a.executed reference a.time a.replace a.old.order
+
+abbrev pub replaced_by_act : Market → Replacing → Outcome
+replaced_by_act market a =
+    replace_order market a.member a.time a.stock a.replace a.old.order
+    (order_by_replacing (next_reference market.numbers a.member (is_shown a.replace.display a.replace.time_in_force)) a)
+
+-- some of its open shares, or all, are taken off
+pub record IsCancelling (a : Cancelling) : Type 0 where
+  pub some : 0 < a.by
+  pub most : a.by ≤ a.old.order.shares
+  pub time : a.time < 86400000000000
+
+-- the live order under its key is the one, and the only one, that the member calls by this token
+pub record IsOnly (orders : List Live) (member : ℕ) (token : Token) (live : Live) : Type 0 where
+  pub found : order_of live.key.0 orders ≡ Some live.order
+  pub called : is_called member token live.order ≡ true
+  pub only : AllByRecursion (λ other. is_called member token other.order ≡ is_under live.key.0 other) orders
+  pub differ : KeysDiffer orders
+
+-- the order, if it is the one that the member calls by this token
+abbrev pub confirmed : ℕ → Token → Option Order → Option Order
+confirmed member token None = None
+confirmed member token (Some x) = if is_called member token x then Some x else None
+
+-- Any act.
+
+abbrev pub IsAct : Setup → Act → Type 0
+IsAct setup Nothing = ⊤
+IsAct setup (Reject r) = ⊤
+IsAct setup (Accept a) = IsAccepting setup a
+IsAct setup (Fail a) = a.time < 86400000000000
+IsAct setup (Replace a) = IsReplacing a
+IsAct setup (Cancel a) = IsCancelling a
+
+-- the member of an act, where it has one
+abbrev pub IsOf : ℕ → Act → Type 0
+IsOf member Nothing = ⊤
+IsOf member (Reject r) = r.member ≡ member
+IsOf member (Accept a) = a.member ≡ member
+IsOf member (Fail a) = a.member ≡ member
+IsOf member (Replace a) = a.member ≡ member
+IsOf member (Cancel a) = a.member ≡ member
+
+-- the token that it uses is not used before
+abbrev pub IsUnused : List Used → ℕ → Token → Type 0
+IsUnused tokens member token = is_used tokens member token ≡ false
+
+-- the replacement token is not used before, and so many shares are executed of the chain of the existing one
+pub record IsExchange (tokens : List Used) (chains : List Chain) (a : Replacing) : Type 0 where
+  pub unused : IsUnused tokens a.member a.replace.replacement_token
+  pub executed : a.executed ≡ executed_by chains a.member (entered_of tokens a.member a.replace.existing_token)
+
+-- it fits the tokens that are used
+abbrev pub SuitsTokens : List Used → List Chain → Act → Type 0
+SuitsTokens tokens chains Nothing = ⊤
+SuitsTokens tokens chains (Reject r) = IsUnused tokens r.member r.token
+SuitsTokens tokens chains (Accept a) = IsUnused tokens a.member a.enter.token
+SuitsTokens tokens chains (Fail a) = IsUnused tokens a.member a.replacement
+SuitsTokens tokens chains (Replace a) = IsExchange tokens chains a
+SuitsTokens tokens chains (Cancel a) = ⊤
+
+-- the live order that it is about, where there is one
+abbrev pub IsAbout : List Live → Act → Type 0
+IsAbout orders Nothing = ⊤
+IsAbout orders (Reject r) = ⊤
+IsAbout orders (Accept a) = ⊤
+IsAbout orders (Fail a) = IsOnly orders a.member a.existing a.old
+IsAbout orders (Replace a) = IsOnly orders a.member a.replace.existing_token a.old
+IsAbout orders (Cancel a) = IsOnly orders a.member a.token a.old
+
+-- its numbers are within their limits
+abbrev pub IsInRange : Act → Type 0
+IsInRange Nothing = ⊤
+IsInRange (Reject r) = ⊤
+IsInRange (Accept a) = a.time < 86400000000000
+IsInRange (Fail a) = a.time < 86400000000000
+IsInRange (Replace a) = IsReplacing a
+IsInRange (Cancel a) = IsCancelling a
+
+-- what an act does
+abbrev pub outcome_of : Market → Act → Outcome
+outcome_of market Nothing = nothing market
+outcome_of market (Reject r) = reject market r.member r.time r.token r.letter
+outcome_of market (Accept a) = accepted_by market a
+outcome_of market (Fail a) = fail_replace market a.member a.time a.existing a.replacement a.old.order
+outcome_of market (Replace a) = replaced_by_act market a
+outcome_of market (Cancel a) = take_off market a.member a.time a.token a.by a.old.order

@@ -1,0 +1,148 @@
+//! A session from its login to its end, byte for byte (SoupBinTCP 3.00), in the standard setup.
+use super::*;
+use arrayvec::ArrayVec;
+use hx_members::Setup;
+use hx_soup::{LoginRequest, SoupPacket, accepted};
+use hx_units::MemberNo;
+use std::test::Fail;
+
+fn packet(kind: u8, payload: &[u8]) -> SoupPacket {
+    let mut copy = ArrayVec::new();
+    let _ = copy.try_extend_from_slice(payload);
+    SoupPacket {
+        kind,
+        payload: copy,
+    }
+}
+
+// A reply of one byte.
+fn reply(letter: u8) -> ArrayVec<u8, 80> {
+    let mut bytes = ArrayVec::new();
+    bytes.push(letter);
+    bytes
+}
+
+// The payload of a login.
+const PAYLOAD: &[u8; 46] = b"alpha pwalpha                                3";
+
+// The same login: as the first member, with spaces for the session.
+const LOGIN: LoginRequest = LoginRequest {
+    user: *b"alpha ",
+    password: *b"pwalpha   ",
+    session: *b"          ",
+    sequence: 3,
+};
+
+#[test]
+fn a_login_for_the_third_reply(rt: HostRuntime) -> Result<(), Fail> {
+    let setup = Setup::standard(rt.alloc())?;
+    assert_eq!(rt;
+        Intake::new().packet(&packet(b'L', PAYLOAD)),
+        Action::Login(LOGIN)
+    );
+    let start = start(&setup, &LOGIN, 5).map_err(|_| "accepted")?;
+    assert_eq!(rt; Some(start.member), MemberNo::of(1));
+    assert_eq!(rt;
+        accepted(*setup.session(), start.first).as_slice(),
+        b"\0\x1fAHX00000001                   3".as_slice()
+    );
+    Ok(())
+}
+
+#[test]
+fn replies_from_the_third_on(rt: HostRuntime) -> Result<(), Fail> {
+    let mut delivery = Delivery::new(3, 0);
+    for letter in *b"345" {
+        assert!(rt; delivery.next() < 6);
+        let Turn::Frame(frame) = delivery.turn(&[reply(letter)], false, 0) else {
+            return Err("a reply".into());
+        };
+        assert_eq!(rt; frame.as_slice(), [0, 2, b'S', letter].as_slice());
+    }
+    assert_eq!(rt; delivery.next(), 6);
+    Ok(())
+}
+
+#[test]
+fn a_number_above_the_next(rt: HostRuntime) -> Result<(), Fail> {
+    let setup = Setup::standard(rt.alloc())?;
+    for (asked, first) in [(0, 6), (1, 1), (5, 5), (6, 6), (7, 6), (9, 6)] {
+        let login = LoginRequest {
+            sequence: asked,
+            ..LOGIN
+        };
+        let start = start(&setup, &login, 5).map_err(|_| "accepted")?;
+        assert_eq!(rt; start.first, first);
+    }
+    Ok(())
+}
+
+#[test]
+fn letters_of_rejected_logins(rt: HostRuntime) -> Result<(), Fail> {
+    let setup = Setup::standard(rt.alloc())?;
+    let sessions = [
+        (*b"HX00000001", None),
+        (*b"hx00000001", Some(b'S')),
+        (*b"HX00000002", Some(b'S')),
+        (*b" HX0000001", Some(b'S')),
+    ];
+    for (session, letter) in sessions {
+        let login = LoginRequest { session, ..LOGIN };
+        assert_eq!(rt; start(&setup, &login, 5).err(), letter);
+    }
+    let stranger = LoginRequest {
+        user: *b"BRAVO ",
+        session: *b"HX00000002",
+        ..LOGIN
+    };
+    assert_eq!(rt; start(&setup, &stranger, 5).err(), Some(b'A'));
+    Ok(())
+}
+
+#[test]
+fn packets_of_a_client(rt: HostRuntime) {
+    let mut intake = Intake::new();
+    assert_eq!(rt; intake.packet(&packet(b'L', PAYLOAD)), Action::Login(LOGIN));
+    assert_eq!(rt; intake.packet(&packet(b'U', b"O")), Action::Submit);
+    for ignored in [packet(b'U', b""), packet(b'R', b"x"), packet(b'+', b"")] {
+        assert_eq!(rt; intake.packet(&ignored), Action::Ignore);
+    }
+    assert_eq!(rt; intake.packet(&packet(b'O', b"x")), Action::Logout);
+    assert_eq!(rt; intake.packet(&packet(b'U', b"O")), Action::Ignore);
+}
+
+#[test]
+fn packets_that_are_faults(rt: HostRuntime) {
+    assert_eq!(rt;
+        Intake::new().packet(&packet(b'L', &PAYLOAD[..45])),
+        Action::Fault
+    );
+    assert_eq!(rt; Intake::new().packet(&packet(b'R', b"")), Action::Fault);
+    let mut intake = Intake::new();
+    assert_eq!(rt; intake.packet(&packet(b'L', PAYLOAD)), Action::Login(LOGIN));
+    assert_eq!(rt; intake.packet(&packet(b'L', PAYLOAD)), Action::Fault);
+    assert_eq!(rt; intake.packet(&packet(b'L', PAYLOAD)), Action::Ignore);
+    let mut intake = Intake::Open;
+    assert_eq!(rt; intake.packet(&packet(b'S', b"O")), Action::Fault);
+}
+
+#[test]
+fn heartbeats_and_the_end(rt: HostRuntime) -> Result<(), Fail> {
+    let mut delivery = Delivery::new(6, 5);
+    assert!(rt; matches!(delivery.turn(&[], false, 1_000_000_004), Turn::Idle));
+    let turns: [(u64, bool, &[u8]); 3] = [
+        (1_000_000_005, false, b"\0\x01H"),
+        (5, false, b"\0\x01H"),
+        (5, true, b"\0\x01Z"),
+    ];
+    for (now, ended, bytes) in turns {
+        assert_eq!(rt; delivery.next(), 6);
+        let Turn::Frame(frame) = delivery.turn(&[], ended, now) else {
+            return Err("a packet".into());
+        };
+        assert_eq!(rt; frame.as_slice(), bytes);
+    }
+    assert_eq!(rt; delivery.next(), 6);
+    assert!(rt; matches!(delivery.turn(&[reply(b'6')], true, 5), Turn::Over));
+    Ok(())
+}

@@ -1,0 +1,45 @@
+-- A framer is seen as the bytes that it keeps, or as None once it has failed. What it makes of a piece of its
+-- stream depends on the bytes kept and the piece behind them alone.
+use Rattle.std.specs.Prelude.{ℕ, ◌≡◌, ◌⊎◌, ◌<◌, List, [], ◌∷◌, ◌++◌, Option, Some, None}
+use Rattle.hx_soup.specs.declared.packet.SoupPacket.{SoupPacket}
+use Rattle.hx_soup.specs.declared.framer.FramerError.{FramerError}
+use Rattle.hx_soup.specs.declared.framer.FramerError.TheVariants as fault
+use Rattle.hx_soup.specs.Packets.{Cuts, HasFault}
+
+-- The bytes kept before and the piece are these packets, then the bytes kept now.
+pub record Takes (old new : Option (List ℕ)) (piece : List ℕ) (packets : List SoupPacket) : Type 0 where
+  pub kept : List ℕ
+  pub rest : List ℕ
+  pub was : old ≡ Some kept
+  pub is : new ≡ Some rest
+  pub cuts : Cuts (kept ++ piece) packets rest
+
+-- The bytes kept before and the piece have a fault right after these packets. The framer has failed.
+pub record StopsAt (old new : Option (List ℕ)) (piece : List ℕ) (packets : List SoupPacket) (bad : ℕ) : Type 0 where
+  pub kept : List ℕ
+  pub was : old ≡ Some kept
+  pub is : new ≡ None
+  pub fault : HasFault (kept ++ piece) packets bad
+
+-- A growth was refused: the framer had not failed, and is as it was.
+pub record Stays (old new : Option (List ℕ)) : Type 0 where
+  pub kept : List ℕ
+  pub was : old ≡ Some kept
+  pub is : new ≡ Some kept
+
+-- what each error says, and which framer it leaves
+abbrev pub Fails : Option (List ℕ) → Option (List ℕ) → List ℕ → FramerError → Type 0
+Fails old new piece (fault.TooLong bad before) = (1024 < bad) × StopsAt old new piece before.items bad
+Fails old new piece (fault.Empty before) = StopsAt old new piece before.items 0
+Fails old new piece fault.NoMemory = Stays old new
+Fails old new piece fault.Failed = (old ≡ None) × (new ≡ None)
+
+-- what a piece gives where memory is ample: packets, those before a fault, or nothing once the framer has failed
+abbrev pub Gives : Option (List ℕ) → Option (List ℕ) → List ℕ → List SoupPacket → Type 0
+Gives old new piece packets = Takes old new piece packets ⊎ ((bad : ℕ) × StopsAt old new piece packets bad) ⊎ ((old ≡ None) × (new ≡ None) × (packets ≡ []))
+
+-- the pieces of a stream, one after another, and all the packets that they give
+abbrev pub GivesAll : Option (List ℕ) → Option (List ℕ) → List (List ℕ) → List SoupPacket → Type 0
+GivesAll old new [] packets = (new ≡ old) × (packets ≡ [])
+GivesAll old new (piece ∷ pieces) packets = (between : Option (List ℕ)) × (first : List SoupPacket) × (others : List SoupPacket)
+    × Gives old between piece first × GivesAll between new pieces others × (packets ≡ first ++ others)

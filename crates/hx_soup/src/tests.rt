@@ -1,0 +1,134 @@
+//! Packets and logins byte for byte (SoupBinTCP 3.00).
+use super::*;
+use std::test::Fail;
+
+// A login as ALPHA, an order's first bytes, a heartbeat, and a logout with a payload.
+const STREAM: [u8; 61] =
+    *b"\0\x2fLalpha pwalpha                                3\0\x03UO1\0\x01R\0\x02Ox";
+
+#[test]
+fn packets_byte_by_byte(rt: HostRuntime) -> Result<(), Fail> {
+    let alloc = rt.alloc();
+    let mut framer = Framer::new();
+    assert!(rt; framer.feed(alloc, &[0])?.is_empty());
+    assert!(rt; framer.feed(alloc, &[1])?.is_empty());
+    let packets = framer.feed(alloc, b"R")?;
+    assert_eq!(rt; packets.len(), 1);
+    assert_eq!(rt; packets[0].kind, b'R');
+    assert!(rt; packets[0].payload.is_empty());
+    assert!(rt; framer.feed(alloc, &[0])?.is_empty());
+    let Err(FramerError::Empty { before }) = framer.feed(alloc, &[0]) else {
+        return Err("a length of 0".into());
+    };
+    assert!(rt; before.is_empty());
+    assert!(rt; matches!(framer.feed(alloc, b"R"), Err(FramerError::Failed)));
+    assert!(rt; matches!(framer.feed(alloc, &[]), Err(FramerError::Failed)));
+    Ok(())
+}
+
+#[test]
+fn a_length_above_1024(rt: HostRuntime) -> Result<(), Fail> {
+    let alloc = rt.alloc();
+    let Err(FramerError::TooLong { length, before }) = Framer::new().feed(alloc, &[4, 1]) else {
+        return Err("a length of 1,025".into());
+    };
+    assert_eq!(rt; length, 1025);
+    assert!(rt; before.is_empty());
+    let Err(FramerError::TooLong { length, before }) = Framer::new().feed(
+        alloc,
+        b"\0\x02U7\xff\xff\0",
+    ) else {
+        return Err("a length of 65,535".into());
+    };
+    assert_eq!(rt; length, 65_535);
+    assert_eq!(rt; before.len(), 1);
+    assert_eq!(rt; before[0].payload.as_slice(), b"7".as_slice());
+    Ok(())
+}
+
+#[test]
+fn the_longest_packet(rt: HostRuntime) -> Result<(), Fail> {
+    let bytes = frame(b'+', &[b'x'; 1023]);
+    assert!(rt; bytes.starts_with(b"\x04\0+x"));
+    let packets = Framer::new().feed(rt.alloc(), bytes.as_slice())?;
+    assert_eq!(rt; packets.len(), 1);
+    assert_eq!(rt; packets[0].payload.as_slice(), [b'x'; 1023].as_slice());
+    Ok(())
+}
+
+#[test]
+fn every_cut_of_a_stream(rt: HostRuntime) -> Result<(), Fail> {
+    let alloc = rt.alloc();
+    let whole = Framer::new().feed(alloc, &STREAM)?;
+    assert_eq!(rt; whole.len(), 4);
+    assert_eq!(rt; whole[1].payload.as_slice(), b"O1".as_slice());
+    assert_eq!(rt; whole[3].kind, b'O');
+    for at in 0..STREAM.len() {
+        let (front, back) = STREAM.split_at(at);
+        let mut framer = Framer::new();
+        let mut packets = framer.feed(alloc, front)?;
+        for packet in framer.feed(alloc, back)? {
+            packets.push(packet)?;
+        }
+        assert!(rt; packets == whole);
+    }
+    Ok(())
+}
+
+#[test]
+fn logins(rt: HostRuntime) {
+    let read: [(&[u8], u64); 5] = [
+        (b"alpha pwalpha                                3", 3),
+        (b"alpha pwalpha              3                  ", 3),
+        (b"alpha pwalpha                     0003        ", 3),
+        (b"alpha pwalpha                                 ", 0),
+        (
+            b"alpha pwalpha             18446744073709551615",
+            18_446_744_073_709_551_615,
+        ),
+    ];
+    for (payload, sequence) in read {
+        let login = LoginRequest {
+            user: *b"alpha ",
+            password: *b"pwalpha   ",
+            session: *b"          ",
+            sequence,
+        };
+        assert_eq!(rt; decode_login(payload), Some(login));
+    }
+}
+
+#[test]
+fn what_is_no_login(rt: HostRuntime) {
+    let bad: [&[u8]; 8] = [
+        b"alpha pwalpha             18446744073709551616",
+        b"alpha pwalpha             99999999999999999999",
+        b"alpha pwalpha                              1 2",
+        b"alpha pwalpha                               +3",
+        b"alpha pwalpha                               3x",
+        b"alpha pwalpha                               3",
+        b"alpha pwalpha                                 3",
+        b"",
+    ];
+    for payload in bad {
+        assert!(rt; decode_login(payload).is_none());
+    }
+}
+
+#[test]
+fn answers_to_a_login(rt: HostRuntime) {
+    assert_eq!(rt;
+        accepted(*b"HX00000001", 3).as_slice(),
+        b"\0\x1fAHX00000001                   3".as_slice()
+    );
+    assert_eq!(rt;
+        accepted(*b"HX00000001", 18_446_744_073_709_551_615).as_slice(),
+        b"\0\x1fAHX0000000118446744073709551615".as_slice()
+    );
+    assert_eq!(rt; rejected(NOT_AUTHORIZED).as_slice(), b"\0\x02JA".as_slice());
+    assert_eq!(rt;
+        rejected(SESSION_NOT_AVAILABLE).as_slice(),
+        b"\0\x02JS".as_slice()
+    );
+    assert_eq!(rt; trimmed(b"  a b "), b"a b".as_slice());
+}
