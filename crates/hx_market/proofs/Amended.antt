@@ -1,13 +1,13 @@
 -- The market stays sound where a Replace fails or replaces, and where a Cancel takes shares off.
-use Rattle.std.proofs.Common.{◌≡◌, ℕ, suc, ◌+◌, ◌-◌, ◌*◌, ◌<◌, ◌≤◌, Bool, true, false, cond, ltb, not, List, [], ◌∷◌, ◌++◌, length, Option, Some, None, refl, sym, ap, ◌∙◌, subst, arith, slice_index}
-use Rattle.std.specs.List.{AllByRecursion, filter, find}
+use Rattle.std.proofs.Common.{◌≡◌, ℕ, suc, ◌+◌, ◌-◌, ◌*◌, ◌≤◌, Bool, true, false, cond, ltb, not, List, [], ◌∷◌, ◌++◌, length, Some, refl, sym, ap, ◌∙◌, subst, arith, slice_index}
+use Rattle.std.specs.List.{filter, find}
 use Rattle.std.proofs.lemmas.Bool.{cond_both}
 use Rattle.hx_units.specs.declared.names.Token.{Token}
 use Rattle.hx_units.specs.declared.names.Symbol.{Symbol}
 use Rattle.hx_levels.specs.declared.order.Order.{Order}
 use Rattle.hx_levels.proofs.Lists.{found_among, all_filtered}
 use Rattle.hx_match.specs.Matching.{with_shares}
-use Rattle.hx_members.specs.Chains.{Used, Chain, is_used, entered_of, executed_by, replacing_used, entered_used, IsEnteredAt}
+use Rattle.hx_members.specs.Chains.{Used, is_used, entered_of, executed_by, entered_used, IsEnteredAt}
 use Rattle.hx_refs.specs.Numbers.{raised}
 use Rattle.hx_ouch.specs.declared.inbound.Replace.{Replace}
 use Rattle.hx_market.specs.Orders.{is_called, is_immediate}
@@ -17,12 +17,12 @@ use Rattle.hx_market.specs.Leaving.{others, less, lessened}
 use Rattle.hx_market.specs.Replacing.{handed_over, replace_order}
 use Rattle.hx_market.specs.Ready.{MayRecord}
 use Rattle.hx_market.specs.Executions.{arrive, chains_after}
-use Rattle.hx_market.specs.Keeping.{chains_by, own, is_name, open_in, IsPlaced, ArePlaced, AreLone, total, IsSound, CanAccept}
-use Rattle.hx_market.proofs.Budget.{IsWithin, open-append, open-less, placed-append, placed-shares, executed-noted, own-le}
+use Rattle.hx_market.specs.Keeping.{chains_by, own, is_name, open_in, IsPlaced, ArePlaced, total, IsSound, CanAccept}
+use Rattle.hx_market.proofs.Budget.{IsWithin, open-append, placed-append, placed-shares, own-le}
 use Rattle.hx_market.proofs.Used.{placed-more, open-more, chained-more, entered-last, used-last, get-append, same-name}
 use Rattle.hx_market.proofs.Lone.{NoneOf, open-none, none-more, lone-more, lone-filter, lone-lessened, gone}
 use Rattle.hx_market.proofs.Sound.{total-within, length-raised, raised-along, raised-limited}
-use Rattle.hx_market.proofs.Next.{recording, more, raised-le, sound_recorded, Arrives, AreReady, matched_of, counted_arrival, own_note, ends, sound_arrived, draws}
+use Rattle.hx_market.proofs.Next.{recording, more, raised-le, Arrives, matched_of, counted_arrival, own_note, ends, sound_arrived, draws}
 
 -- Orders that go.
 
@@ -118,7 +118,7 @@ within_replaced m i t old x h r k v = at (is_name i (entered_of m.tokens i t) k 
         let none : open_in m.tokens i (entered_of m.tokens i t) (others_in m i t) ≡ 0 = open-none m.tokens i (entered_of m.tokens i t) (others_in m i t) (none_left m i t old h r.names) in (
           ap (λ j. executed_by m.chains j v) (sym s.0) ∙ ap (λ (z : Token). executed_by m.chains i z) (sym s.1),
           open-more m.tokens _ k v (others_in m i t) (placed_others m i t h)
-          ∙ ap (λ j. open_in m.tokens j v (others_in m i t)) (sym s.0) ∙ ap (λ (z : Token). open_in m.tokens i z (others_in m i t)) (sym s.1) ∙ none,
+              ∙ ap (λ j. open_in m.tokens j v (others_in m i t)) (sym s.0) ∙ ap (λ (z : Token). open_in m.tokens i z (others_in m i t)) (sym s.1) ∙ none,
         )
 
     at : (b : Bool) → is_name i (entered_of m.tokens i t) k v ≡ b → executed_by m.chains k v + open_in (tokens_with m i t x.token) k v (others_in m i t) + own b x.shares ≤ 999999
@@ -176,14 +176,14 @@ sound_replaced m i time stock r old x h l s same =
     let fewer = length-filter (λ y. not (is_called i r.existing_token y)) m.live in
     subst (λ (u : Token). IsSound (arrive time (is_immediate r.time_in_force) x (drawn (handed_over (recording m i) i r.existing_token u) i x.shown)).market) same
     (sound_arrived (drawn (handed_over (recording m i) i r.existing_token x.token) i x.shown) x time (is_immediate r.time_in_force)
-        (arrives_recorded (arrives_replaced m i r.existing_token old x x.shown h s))
-        (record {
-          public = (let a = h.public in let b = d.0 in omega arith);
-          private = λ j. private_le x.shown j (raised-along m.numbers.private m.recorded i (omega arith) h.private j) (let a = h.private j in let b = raised-le m.recorded i j in omega arith);
-          matches = (let a = h.matches in let b = d.1 in omega arith);
-          numbered = length-raised m.recorded i ∙ h.numbered;
-          limited = raised-limited m.recorded i 4294967295 h.limited l.limit;
-        }))
+    (arrives_recorded (arrives_replaced m i r.existing_token old x x.shown h s))
+    (record {
+      public = (let a = h.public in let b = d.0 in omega arith);
+      private = λ j. private_le x.shown j (raised-along m.numbers.private m.recorded i (omega arith) h.private j) (let a = h.private j in let b = raised-le m.recorded i j in omega arith);
+      matches = (let a = h.matches in let b = d.1 in omega arith);
+      numbered = length-raised m.recorded i ∙ h.numbered;
+      limited = raised-limited m.recorded i 4294967295 h.limited l.limit;
+    }))
   where
     arrives_recorded : Arrives (drawn (handed_over m i r.existing_token x.token) i x.shown) x → Arrives (drawn (handed_over (recording m i) i r.existing_token x.token) i x.shown) x
     arrives_recorded a = record { used = a.used; at = a.at; within = a.within; placed = a.placed; chained = a.chained; lone = a.lone; alone = a.alone }

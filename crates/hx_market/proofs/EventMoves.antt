@@ -14,11 +14,10 @@ use Rattle.hx_market.specs.declared.event.Event.{Event}
 use Rattle.hx_market.specs.declared.event.Event.TheVariants.{Message, Tick, Hours}
 use Rattle.hx_market.specs.Orders.{Order, Token, is_called, is_immediate, is_shown}
 use Rattle.hx_market.specs.Markets.{Market, opening}
-use Rattle.hx_market.specs.Outputs.{silent}
 use Rattle.hx_market.specs.Entering.{consumed, drawn, rejection, accept_order, next_reference, entered_by, enter}
 use Rattle.hx_market.specs.Replacing.{handed_over, executed_of, replace_fails, replacing_order, replace_order, replaced_by, replace}
 use Rattle.hx_market.specs.Cancelling.{cancelled_if, cancelled_by, cancel}
-use Rattle.hx_market.specs.Ending.{is_over, ends_by_code, told_by_code, hours_by, next_hours}
+use Rattle.hx_market.specs.Ending.{ends_by_code, told_by_code, hours_by, next_hours}
 use Rattle.hx_market.specs.Steps.{act, happens, with_record, step, market_after, run}
 use Rattle.hx_market.proofs.ChainsGrow.{Grows_refl}
 use Rattle.hx_market.proofs.CoherentMarkets.{IsKnown}

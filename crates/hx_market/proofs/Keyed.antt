@@ -1,11 +1,10 @@
 -- The key of each live order stands at its token: so the order is found, and stays so.
-use Rattle.std.proofs.Common.{◌≡◌, ℕ, zero, suc, ◌+◌, ◌<◌, ◌≤◌, Bool, true, false, cond, eqb, ltb, ◌||◌, ◌&&◌, List, [], ◌∷◌, ◌++◌, length, Option, Some, None, refl, sym, ap, ◌∙◌, subst, arith, eq-eqb, eqb-true, slice_get, slice_set}
+use Rattle.std.proofs.Common.{◌≡◌, ℕ, zero, suc, ◌+◌, ◌<◌, Bool, true, false, cond, ltb, ◌||◌, List, [], ◌∷◌, ◌++◌, length, Option, Some, None, refl, sym, ap, ◌∙◌, subst, arith, eq-eqb, eqb-true, slice_get, slice_set}
 use Rattle.std.specs.Option.{option_map, option_map_or}
 use Rattle.std.specs.List.{AllByRecursion, find}
 use Rattle.std.proofs.lemmas.Bool.{cond_both}
 use Rattle.std.proofs.lemmas.Option.{slice_get_past, slice_get_within}
 use Rattle.hx_units.specs.declared.names.Token.{Token}
-use Rattle.hx_units.specs.Names.{is_token}
 use Rattle.hx_levels.specs.declared.order.Order.{Order}
 use Rattle.hx_levels.specs.declared.order.Live.{Live}
 use Rattle.hx_levels.specs.Book.{order_of, is_under, has_key, KeysDiffer, reduced, without, with_less, lives}
@@ -20,7 +19,6 @@ use Rattle.hx_members.proofs.ChainLaws.{place_of-pushed, place_of-new, slice_get
 use Rattle.hx_market.specs.Orders.{is_called}
 use Rattle.hx_market.specs.Keeping.{AreKeyed, AreBefore}
 use Rattle.hx_market.specs.Acts.{IsOnly, confirmed}
-use Rattle.hx_market.proofs.Budget.{name-self}
 use Rattle.hx_market.proofs.Used.{same-name}
 
 -- An order is found by the key at its token.
@@ -33,7 +31,7 @@ called_under : (ts : List Used) (ks : List (Option ℕ)) (m : ℕ) (t : Token) (
 called_under ts ks m t [] h = tt
 called_under ts ks m t (x ∷ xs) h = (
   (λ c. let s = same-name x.order.member m x.order.token t c in
-  ap (λ n. key_at ks (place_of ts n t)) (sym s.0) ∙ ap (λ (z : Token). key_at ks (place_of ts x.order.member z)) (sym s.1) ∙ h.0),
+      ap (λ n. key_at ks (place_of ts n t)) (sym s.0) ∙ ap (λ (z : Token). key_at ks (place_of ts x.order.member z)) (sym s.1) ∙ h.0),
   called_under ts ks m t xs h.1,
 )
 
@@ -235,7 +233,7 @@ keyed_pushed ts ks u xs h = record {
     both [] a b = tt
     both (x ∷ xs) a b = (
       ap (key_at (ks ++ None ∷ [])) (place_of-pushed ts u x.order.member x.order.token (used_place ts x.order.member x.order.token b.0))
-      ∙ ap (λ o. option_map_or (λ key. key) o None) (slice_get-pushed ks None (place_of ts x.order.member x.order.token) (Some x.key.0) (key_place ks _ x.key.0 a.0)),
+          ∙ ap (λ o. option_map_or (λ key. key) o None) (slice_get-pushed ks None (place_of ts x.order.member x.order.token) (Some x.key.0) (key_place ks _ x.key.0 a.0)),
       both xs a.1 b.1,
     )
 

@@ -1,13 +1,12 @@
 -- Each chain keeps one live order at most.
-use Rattle.std.proofs.Common.{◌≡◌, ℕ, zero, suc, ◌+◌, ◌≤◌, Bool, true, false, cond, eqb, ltb, ◌||◌, ◌&&◌, not, min, ◌-◌, List, [], ◌∷◌, ◌++◌, length, Option, Some, None, refl, sym, ap, ◌∙◌, subst, arith, eq-eqb, eqb-true}
+use Rattle.std.proofs.Common.{◌≡◌, ℕ, zero, suc, Bool, true, false, cond, ltb, ◌||◌, not, min, ◌-◌, List, [], ◌∷◌, ◌++◌, Option, Some, None, refl, sym, ap, ◌∙◌, subst, arith}
 use Rattle.std.specs.Option.{IfSome}
-use Rattle.std.specs.List.{AllByRecursion, filter, find, list_any}
+use Rattle.std.specs.List.{filter, find, list_any}
 use Rattle.std.proofs.lemmas.Bool.{or_parts, cond_both}
 use Rattle.hx_units.specs.declared.names.Token.{Token}
-use Rattle.hx_units.specs.Names.{is_token}
 use Rattle.hx_levels.specs.declared.order.Order.{Order}
 use Rattle.hx_match.specs.declared.fills.Incoming.{Incoming}
-use Rattle.hx_match.specs.Matching.{Place, Matched, less_of, matched_by, matched_entries, itself, with_shares}
+use Rattle.hx_match.specs.Matching.{Place, matched_by, matched_entries, itself, with_shares}
 use Rattle.hx_members.specs.Chains.{Used, is_used, entered_of, entered_used}
 use Rattle.hx_market.specs.Orders.{is_called}
 use Rattle.hx_market.specs.Leaving.{others, less, lessened}

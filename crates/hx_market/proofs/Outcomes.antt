@@ -92,5 +92,5 @@ sound_outcome setup m i (Fail a) orders live h l k u b e = sound_handed (recordi
 sound_outcome setup m i (Replace a) orders live h l k u b e =
     subst (λ j. IsSound (outcome_of (recording m j) (Replace a)).market) e
     (sound_replaced m a.member a.time a.stock a.replace a.old.order (order_in_place m a) h (subst (MayRecord m.recorded) (sym e) l)
-        (replaces m a orders (next_reference m.numbers a.member (is_shown a.replace.display a.replace.time_in_force)) live k u b) refl)
+    (replaces m a orders (next_reference m.numbers a.member (is_shown a.replace.display a.replace.time_in_force)) live k u b) refl)
 sound_outcome setup m i (Cancel a) orders live h l k u b e = sound_lessened (recording m i) a.member a.token a.by (sound_recorded m i h l)

@@ -1,5 +1,5 @@
 -- What a Replace tells.
-use Rattle.std.proofs.Common.{◌≡◌, ℕ, suc, ◌+◌, ◌<◌, Bool, true, false, cond, ltb, ◌&&◌, if◌then◌else◌, nat_lt, List, [], ◌∷◌, ◌++◌, length, Option, Some, refl, ap, ◌∙◌, sym, arith, slice_get}
+use Rattle.std.proofs.Common.{◌≡◌, ℕ, suc, Bool, true, false, ltb, ◌&&◌, if◌then◌else◌, nat_lt, List, [], ◌∷◌, ◌++◌, length, refl, ap, arith}
 use Rattle.std.specs.Option.{option_map_or}
 use Rattle.std.proofs.lemmas.Bool.{and_parts}
 use Rattle.std.proofs.lemmas.Bool.Decides.{nat_tests}
@@ -7,7 +7,7 @@ use Rattle.hx_units.specs.declared.names.Token.{Token}
 use Rattle.hx_units.specs.declared.names.Symbol.{Symbol}
 use Rattle.hx_itch.specs.declared.message.Feed.{Feed}
 use Rattle.hx_match.specs.Matching.{Execution}
-use Rattle.hx_members.specs.Chains.{Used, entered_of, entered_at, entered_used, IsEnteredAt}
+use Rattle.hx_members.specs.Chains.{Used, entered_at, IsEnteredAt}
 use Rattle.hx_market.specs.Executions.{feed_of_executions}
 
 assoc : (xs ys zs : List Feed) → (xs ++ ys) ++ zs ≡ xs ++ (ys ++ zs)

@@ -16,12 +16,12 @@ use Rattle.hx_market.specs.declared.event.Event.{Event}
 use Rattle.hx_market.specs.declared.event.Event.TheVariants.{Message, Tick, Hours}
 use Rattle.hx_market.specs.Orders.{Order, Token, is_called}
 use Rattle.hx_market.specs.Markets.{Market}
-use Rattle.hx_market.specs.Outputs.{Told, silent}
+use Rattle.hx_market.specs.Outputs.{Told}
 use Rattle.hx_market.specs.Entering.{rejection, entered_by, enter}
 use Rattle.hx_market.specs.Leaving.{deleted, canceled, taken_off}
 use Rattle.hx_market.specs.Replacing.{executed_of, replace_fails, fail_replace, replaced_by, replace}
 use Rattle.hx_market.specs.Cancelling.{cancelled_shares, take_off, cancelled_if, cancelled_by, cancel}
-use Rattle.hx_market.specs.Ending.{end_orders, all_deleted, is_over, hours_codes, ends_by_code, told_by_code, hours_by, next_hours}
+use Rattle.hx_market.specs.Ending.{end_orders, all_deleted, hours_codes, ends_by_code, told_by_code, hours_by, next_hours}
 use Rattle.hx_market.specs.Steps.{act, happens}
 use Rattle.hx_market.specs.Striking.{Choice, message_bears, bears, reply_lines}
 use Rattle.hx_market.specs.Laws.{AreQuietChains, IsUnknownTo}

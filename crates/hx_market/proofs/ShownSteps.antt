@@ -16,12 +16,12 @@ use Rattle.hx_market.specs.declared.event.Event.{Event}
 use Rattle.hx_market.specs.declared.event.Event.TheVariants.{Message, Tick, Hours}
 use Rattle.hx_market.specs.Orders.{Order, Token, is_called, is_shown, is_immediate}
 use Rattle.hx_market.specs.Markets.{Market}
-use Rattle.hx_market.specs.Outputs.{Told, silent}
+use Rattle.hx_market.specs.Outputs.{Told}
 use Rattle.hx_market.specs.Entering.{consumed, drawn, next_reference, rejection, reject, accept_order, entered_order, entered_by, enter}
 use Rattle.hx_market.specs.Leaving.{less, lessened}
 use Rattle.hx_market.specs.Replacing.{executed_of, replace_fails, fail_replace, replaced_by, replace}
 use Rattle.hx_market.specs.Cancelling.{take_off, cancelled_if, cancelled_by, cancel}
-use Rattle.hx_market.specs.Ending.{end_orders, all_deleted, is_over, ends_by_code, directory, told_by_code, hours_by, next_hours}
+use Rattle.hx_market.specs.Ending.{end_orders, all_deleted, ends_by_code, directory, told_by_code, hours_by, next_hours}
 use Rattle.hx_market.specs.Steps.{act, happens}
 use Rattle.hx_market.specs.ShownBooks.{ShownOrder, book_from}
 use Rattle.hx_market.proofs.CoherentMarkets.{IsKnown}

@@ -13,7 +13,7 @@ use Rattle.hx_market.specs.declared.acting.Act.TheVariants.{Nothing, Reject, Acc
 use Rattle.hx_market.specs.declared.acting.Accepting.{Accepting}
 use Rattle.hx_market.specs.declared.acting.Replacing.{Replacing}
 use Rattle.hx_market.specs.declared.acting.Cancelling.{Cancelling}
-use Rattle.hx_market.specs.Orders.{Order, side_of, is_immediate, is_shown, life_of, is_called}
+use Rattle.hx_market.specs.Orders.{Order, side_of, is_shown, life_of, is_called}
 use Rattle.hx_market.specs.Markets.{Market}
 use Rattle.hx_market.specs.Outputs.{Outcome, nothing}
 use Rattle.hx_market.specs.Entering.{accept_order, reject, resolved_firm, next_reference}

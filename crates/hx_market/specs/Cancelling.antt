@@ -1,5 +1,5 @@
 -- The rules of Cancel (OUCH 4.2, Cancel Order Message).
-use Rattle.std.specs.Prelude.{ℕ, ◌-◌, min, Bool, true, false, nat_lt, List, [], ◌∷◌, Option, Some, None}
+use Rattle.std.specs.Prelude.{ℕ, ◌-◌, min, Bool, true, false, nat_lt, [], ◌∷◌, Option, Some, None}
 use Rattle.std.specs.List.{find}
 use Rattle.hx_ouch.specs.declared.inbound.Cancel.{Cancel}
 use Rattle.hx_market.specs.Orders.{Order, Token, is_called}

@@ -1,5 +1,5 @@
 -- How an order leaves the live ones, or loses shares, other than by an execution.
-use Rattle.std.specs.Prelude.{ℕ, Bool, if◌then◌else◌, not, nat_lt, List, [], ◌∷◌, ◌++◌}
+use Rattle.std.specs.Prelude.{ℕ, if◌then◌else◌, not, nat_lt, List, [], ◌∷◌, ◌++◌}
 use Rattle.std.specs.List.{filter}
 use Rattle.hx_match.specs.Matching.{less_of, itself, with_shares}
 use Rattle.hx_itch.specs.declared.message.Feed.{Feed}

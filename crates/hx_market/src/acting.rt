@@ -224,13 +224,7 @@ fn message_act<B: Book>(
 }
 
 /// What an event does that is not refused, at so many hours codes past.
-pub fn act_of<B: Book>(
-    setup: &Setup,
-    hours: u8,
-    tokens: &Tokens,
-    book: &B,
-    event: &Event,
-) -> Act
+pub fn act_of<B: Book>(setup: &Setup, hours: u8, tokens: &Tokens, book: &B, event: &Event) -> Act
     requires known { is_from_stranger setup.now event.now ≡ false }
     requires time { time_of event.now < 86400000000000 }
     requires keyed { AreKeyed tokens.now.tokens tokens.now.keys (B.orders book.now) }
@@ -247,15 +241,7 @@ pub fn act_of<B: Book>(
             bytes,
         } => {
             let member = MemberNo::of(*member).unwrap();
-            message_act(
-                setup,
-                hours,
-                tokens,
-                book,
-                member,
-                *time,
-                bytes.as_slice(),
-            )
+            message_act(setup, hours, tokens, book, member, *time, bytes.as_slice())
         }
         Event::Tick { .. } | Event::Hours { .. } => Act::Nothing,
     }

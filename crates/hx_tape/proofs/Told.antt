@@ -1,22 +1,30 @@
 -- How much one step of the market tells.
-use Rattle.std.proofs.Common.{◌≡◌, ℕ, suc, ◌+◌, ◌*◌, ◌≤◌, ltb, ◌&&◌, not, Bool, true, false, cond, List, [], ◌∷◌, length, map, Option, Some, None, refl, arith}
+use Rattle.std.proofs.Common.{◌≡◌, ℕ, suc, ◌+◌, ◌-◌, ◌*◌, ◌≤◌, ltb, nat_lt, ◌&&◌, not, if◌then◌else◌, Bool, true, false, cond, List, [], ◌∷◌, ◌++◌, length, map, Option, Some, None, refl, arith}
+use Rattle.std.specs.List.{filter, find}
 use Rattle.std.proofs.lemmas.List.{length-append}
 use Rattle.hx_units.specs.declared.names.Symbol.{Symbol}
 use Rattle.hx_units.specs.declared.names.Token.{Token}
 use Rattle.hx_levels.specs.declared.order.Order.{Order}
-use Rattle.hx_match.specs.Matching.{Execution, Matched, matched}
-use Rattle.hx_members.specs.Setups.{Setup}
+use Rattle.hx_match.specs.Matching.{Execution, Matched, matched, with_shares}
+use Rattle.hx_members.specs.Setups.{Setup, symbol_of}
 use Rattle.hx_members.specs.Chains.{is_used}
 use Rattle.hx_ouch.specs.declared.inbound.Inbound.{Inbound}
 use Rattle.hx_ouch.specs.declared.inbound.Inbound.TheVariants as inbound
 use Rattle.hx_ouch.specs.declared.inbound.Enter.{Enter}
+use Rattle.hx_ouch.specs.declared.inbound.Replace.{Replace}
+use Rattle.hx_ouch.specs.declared.inbound.Cancel.{Cancel}
+use Rattle.hx_itch.specs.declared.message.Feed.{Feed}
+use Rattle.hx_itch.specs.declared.message.Feed.TheVariants.{OrderReplace, OrderCancel, OrderDelete}
 use Rattle.hx_ouch.specs.Inbound.{inbound_of}
 use Rattle.hx_market.specs.declared.event.Event.{Event}
 use Rattle.hx_market.specs.declared.event.Event.TheVariants.{Message, Tick, Hours}
 use Rattle.hx_market.specs.Markets.{Market}
-use Rattle.hx_market.specs.Orders.{is_immediate, is_shown}
+use Rattle.hx_market.specs.Orders.{is_immediate, is_shown, is_called}
 use Rattle.hx_market.specs.Outputs.{Reply, Outcome}
-use Rattle.hx_market.specs.Executions.{feed_of_executions, replies_of_executions, published, shown_of, resting_of, canceled_of, incoming_of, Arrival, arrive}
+use Rattle.hx_market.specs.Executions.{feed_of_executions, replies_of_executions, published, shown_of, resting_of, canceled_of, incoming_of, Arrival, arrive, arrival_feed}
+use Rattle.hx_market.specs.Leaving.{others, lessened, deleted, taken_off}
+use Rattle.hx_market.specs.Replacing.{executed_of, replace_fails, handed_over, is_one_display, replacing_order, replace_feed, replace_order, replaced_by}
+use Rattle.hx_market.specs.Cancelling.{cancelled_shares, cancelled_if, cancelled_by}
 use Rattle.hx_market.specs.Entering.{entered_by, rejection, accept_order, drawn, consumed, entered_order, next_reference}
 use Rattle.hx_market.specs.Steps.{act, step, with_record}
 use Rattle.hx_market.proofs.Sound.{ended}
@@ -84,11 +92,117 @@ entered_few setup market member time e true letter = record { feed = omega arith
 entered_few setup market member time e false (Some letter) = record { feed = omega arith; replies = omega arith }
 entered_few setup market member time e false None = accept_order_few market time e (order_in setup market member time e)
 
+-- Of a Replace and of a Cancel.
+
+fewer : (keep : Order → Bool) (xs : List Order) → length (filter keep xs) ≤ length xs
+fewer keep [] = omega arith
+fewer keep (x ∷ xs) = at (keep x) (fewer keep xs)
+  where
+    at : (b : Bool) → length (filter keep xs) ≤ length xs → length (cond b (x ∷ filter keep xs) (filter keep xs)) ≤ suc (length xs)
+    at true h = omega arith
+    at false h = omega arith
+
+-- one is gone where one is called so
+one_gone : (member : ℕ) (token : Token) (old : Order) (xs : List Order) → find (is_called member token) xs ≡ Some old → length (others member token xs) + 1 ≤ length xs
+one_gone member token old [] h = absurd (let z : None ≡ Some old = h in cc)
+one_gone member token old (x ∷ xs) h = at (is_called member token x) h (fewer (λ y. not (is_called member token y)) xs) (one_gone member token old xs)
+  where
+    at : (b : Bool) → cond b (Some x) (find (is_called member token) xs) ≡ Some old → length (others member token xs) ≤ length xs
+        → (find (is_called member token) xs ≡ Some old → length (others member token xs) + 1 ≤ length xs)
+        → length (cond (not b) (x ∷ others member token xs) (others member token xs)) + 1 ≤ suc (length xs)
+    at true e f ih = omega arith
+    at false e f ih = let more = ih e in omega arith
+
+length-deleted : (time : ℕ) (x : Order) → length (deleted time x) ≤ 1
+length-deleted time x = at x.shown
+  where
+    at : (b : Bool) → length (if b then OrderDelete (record { locate = x.locate; time = time; reference = x.reference }) ∷ [] else []) ≤ 1
+    at true = omega arith
+    at false = omega arith
+
+length-off : (time by : ℕ) (x : Order) → length (taken_off time by x) ≤ 1
+length-off time by x = at (nat_lt by x.shares) x.shown
+  where
+    at : (a b : Bool) → length (if a then (if b then OrderCancel (record { locate = x.locate; time = time; reference = x.reference; shares = by }) ∷ [] else []) else (if b then OrderDelete (record { locate = x.locate; time = time; reference = x.reference }) ∷ [] else [])) ≤ 1
+    at true true = omega arith
+    at true false = omega arith
+    at false true = omega arith
+    at false false = omega arith
+
+length-lessened : (member : ℕ) (token : Token) (by : ℕ) (xs : List Order) → length (lessened member token by xs) ≤ length xs
+length-lessened member token by [] = omega arith
+length-lessened member token by (x ∷ xs) = at (is_called member token x) (nat_lt by x.shares) (length-lessened member token by xs)
+  where
+    at : (a b : Bool) → length (lessened member token by xs) ≤ length xs
+        → length (cond a (cond b (with_shares x (x.shares - by) ∷ []) [] ++ xs) (x ∷ lessened member token by xs)) ≤ suc (length xs)
+    at true true h = omega arith
+    at true false h = omega arith
+    at false b h = omega arith
+
+either-most : (b : Bool) (one many : List Feed) (most : ℕ) → length one ≤ most → length many ≤ most → length (if b then one else many) ≤ most
+either-most true one many most h k = h
+either-most false one many most h k = k
+
+replace_order_few : (market : Market) (member time : ℕ) (stock : Symbol) (r : Replace) (old x : Order) → length (others member r.existing_token market.live) + 1 ≤ length market.live
+    → TellsFew market.live (replace_order market member time stock r old x)
+unfolding matched
+replace_order_few market member time stock r old x gone =
+    let immediate : Bool = is_immediate r.time_in_force in
+    let handed : Market = drawn (handed_over market member r.existing_token r.replacement_token) member x.shown in
+    let left : List Order = others member r.existing_token market.live in
+    let m : Matched = matched (incoming_of x) x.shares left in
+    let resting : List Order = resting_of x immediate m.left in
+    let ends : length m.fills + length m.rest ≤ length left + cond (ltb 0 x.shares) 1 0 = ended x.shares (incoming_of x) x.shares left in
+    let one = one_at_most (ltb 0 x.shares) in
+    let executions = length-executions time stock market.numbers.matches m.fills in
+    let shown = length-published time stock resting in
+    let rests : length resting ≤ 1 = length-resting (ltb 0 m.left && not immediate) (record x { shares = m.left }) in
+    let live = length-append m.rest resting in
+    let arrives : List Feed = arrival_feed time stock market.numbers.matches m.fills resting in
+    let feed = length-append (feed_of_executions time stock market.numbers.matches m.fills) (map (published time stock) (shown_of resting)) in
+    let both = length-append (deleted time old) arrives in
+    let old_gone = length-deleted time old in
+    let most : length (replace_feed time stock market.numbers.matches old x m.fills resting) ≤ length m.fills + 2 =
+    either-most (is_one_display old x && nat_lt (length m.fills) 1)
+    (OrderReplace (record { locate = x.locate; time = time; original_reference = old.reference; reference = x.reference; shares = x.shares; price = x.price }) ∷ []) (deleted time old ++ arrives) (length m.fills + 2)
+    (omega arith) (omega (arith, executions, shown, rests, feed, both, old_gone)) in
+    let executed = length-replies time x.member x.token handed.numbers.matches m.fills in
+    let canceled_one : length (canceled_of time x.member x.token immediate m.left) ≤ 1 = length-canceled (ltb 0 m.left && immediate) _ in
+    let a : Arrival = arrive time immediate x handed in
+    let replies : length a.replies ≡ length (replies_of_executions time x.member x.token handed.numbers.matches m.fills) + length (canceled_of time x.member x.token immediate m.left) =
+    length-append (replies_of_executions time x.member x.token handed.numbers.matches m.fills) (canceled_of time x.member x.token immediate m.left) in
+    record { feed = omega (arith, ends, one, most, rests, live, gone); replies = omega (arith, ends, one, executed, canceled_one, rests, live, replies, gone) }
+
+replaced_few : (setup : Setup) (market : Market) (member time : ℕ) (r : Replace) (o : Option Order) (used fails : Bool) → find (is_called member r.existing_token) market.live ≡ o
+    → TellsFew market.live (replaced_by setup market member time r o used fails)
+replaced_few setup market member time r None used fails e = record { feed = omega arith; replies = omega arith }
+replaced_few setup market member time r (Some old) true fails e = record { feed = omega arith; replies = omega arith }
+replaced_few setup market member time r (Some old) false true e =
+    let gone = one_gone member r.existing_token old market.live e in
+    let told = length-deleted time old in
+    record { feed = omega (arith, gone, told); replies = omega (arith, gone) }
+replaced_few setup market member time r (Some old) false false e =
+    replace_order_few market member time (symbol_of setup old.locate) r old
+    (replacing_order (executed_of market member r.existing_token) (next_reference market.numbers member (is_shown r.display r.time_in_force)) time r old) (one_gone member r.existing_token old market.live e)
+
+cancelled_few : (market : Market) (member time : ℕ) (c : Cancel) (o : Option Order) → TellsFew market.live (cancelled_by market member time c o)
+cancelled_few market member time c None = record { feed = omega arith; replies = omega arith }
+cancelled_few market member time c (Some x) = at (cancelled_shares (executed_of market member c.token) c x) (nat_lt 0 (cancelled_shares (executed_of market member c.token) c x))
+  where
+    at : (by : ℕ) (b : Bool) → TellsFew market.live (cancelled_if market member time c.token by x b)
+    at by false = record { feed = omega arith; replies = omega arith }
+    at by true =
+        let less = length-lessened member c.token by market.live in
+        let told = length-off time by x in
+        record { feed = omega (arith, less, told); replies = omega (arith, less) }
+
 act_few : (setup : Setup) (market : Market) (member time : ℕ) (o : Option Inbound) → TellsFew market.live (act setup market member time o)
 act_few setup market member time None = record { feed = omega arith; replies = omega arith }
 act_few setup market member time (Some (inbound.Enter e)) = entered_few setup market member time e (is_used market.tokens member e.token) (rejection setup market.hours e)
-act_few setup market member time (Some (inbound.Replace r)) = record { feed = omega arith; replies = omega arith }
-act_few setup market member time (Some (inbound.Cancel c)) = record { feed = omega arith; replies = omega arith }
+act_few setup market member time (Some (inbound.Replace r)) =
+    replaced_few setup market member time r (find (is_called member r.existing_token) market.live) (is_used market.tokens member r.replacement_token)
+    (replace_fails market.hours (executed_of market member r.existing_token) r) refl
+act_few setup market member time (Some (inbound.Cancel c)) = cancelled_few market member time c (find (is_called member c.token) market.live)
 
 pub told_few : (setup : Setup) (market : Market) (event : Event) → TellsFew market.live (step setup market event)
 unfolding step

@@ -1,4 +1,4 @@
-use Rattle.std.proofs.Common.{◌≡◌, List, Bool, Option, Some, sym, ap, ◌∙◌, false}
+use Rattle.std.proofs.Common.{◌≡◌, List, Bool, Option, sym, ap, ◌∙◌, false}
 use Rattle.std.specs.Prelude.{is_some}
 use Rattle.hx_ouch.specs.declared.inbound.Enter.{Enter}
 use Rattle.hx_members.specs.declared.name.TokenState.{TokenState}

@@ -29,7 +29,7 @@ rest_of-requires-clause-before g c =
     let x = c.args.order.now in
     subst (λ (us : List Used). AreBefore us (place_of us x.member x.token) (g.B.Book.orders c.execute.new.book)) (sym c.execute.ensures.tokens)
     (subst (λ (ys : List Live). AreBefore t.tokens (place_of t.tokens x.member x.token) ys) (sym c.execute.ensures.orders)
-        (before_left t.tokens (place_of t.tokens x.member x.token) c.args.fills.now xs c.requires.before))
+    (before_left t.tokens (place_of t.tokens x.member x.token) c.args.fills.now xs c.requires.before))
 
 pub rest_of-requires-clause-keyed : goal.rest_of-requires-clause-keyed
 rest_of-requires-clause-keyed g c =

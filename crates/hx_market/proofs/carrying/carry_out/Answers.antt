@@ -1,4 +1,4 @@
-use Rattle.std.proofs.Common.{◌≡◌, ℕ, List, ◌∷◌, [], ◌++◌, Option, None, sym, subst}
+use Rattle.std.proofs.Common.{ℕ, List, ◌∷◌, [], ◌++◌, Option, sym, subst}
 use Rattle.hx_members.specs.Chains.{Used, entered_used}
 use Rattle.hx_market.specs.Keeping.{AreKeyed}
 use Rattle.hx_market.proofs.Keyed.{keyed_pushed}

@@ -1,4 +1,4 @@
-use Rattle.std.proofs.Common.{◌≡◌, Some, None, ℕ, Option, sym, ap, ◌∙◌, subst}
+use Rattle.std.proofs.Common.{◌≡◌, Some, sym, ap, ◌∙◌}
 use Rattle.std.specs.Option.{option_map}
 use Rattle.hx_levels.specs.declared.order.Key.{Key}
 use Rattle.hx_levels.specs.declared.order.Order.{Order}
@@ -26,7 +26,7 @@ returns-in_err-state-2-clause-found g c =
     let t = c.args.token.now in
     ap (option_map order_in) c.from_residual-in_err-state-2.ensures
     ∙ sym (none_found tokens.tokens tokens.keys m t (g.B.Book.orders c.args.book.now) c.requires
-        ((told_used tokens.tokens tokens.chains tokens.keys m t c.in_ok-state.state c.in_ok-state.ensures.state).0 ∙ c.in_err-state-2.was))
+    ((told_used tokens.tokens tokens.chains tokens.keys m t c.in_ok-state.state c.in_ok-state.ensures.state).0 ∙ c.in_err-state-2.was))
 
 pub returns-in_err-live-clause-found : goal.returns-in_err-live-clause-found
 returns-in_err-live-clause-found g c =
@@ -35,7 +35,7 @@ returns-in_err-live-clause-found g c =
     let t = c.args.token.now in
     ap (option_map order_in) c.from_residual-in_err-live.ensures ∙ c.in_err-live.ensures.confirmed
     ∙ sym (found_is tokens.tokens tokens.keys m t (g.B.Book.orders c.args.book.now) c.in_ok-state-2.field-0 c.requires c.confirm.ensures.keys
-        ((told_used tokens.tokens tokens.chains tokens.keys m t c.in_ok-state.state c.in_ok-state.ensures.state).0 ∙ c.in_ok-state-2.was))
+    ((told_used tokens.tokens tokens.chains tokens.keys m t c.in_ok-state.state c.in_ok-state.ensures.state).0 ∙ c.in_ok-state-2.was))
 
 pub returns-clause-found : goal.returns-clause-found
 returns-clause-found g c =
@@ -44,7 +44,7 @@ returns-clause-found g c =
     let t = c.args.token.now in
     c.in_ok-live.ensures.confirmed
     ∙ sym (found_is tokens.tokens tokens.keys m t (g.B.Book.orders c.args.book.now) c.in_ok-state-2.field-0 c.requires c.confirm.ensures.keys
-        ((told_used tokens.tokens tokens.chains tokens.keys m t c.in_ok-state.state c.in_ok-state.ensures.state).0 ∙ c.in_ok-state-2.was))
+    ((told_used tokens.tokens tokens.chains tokens.keys m t c.in_ok-state.state c.in_ok-state.ensures.state).0 ∙ c.in_ok-state-2.was))
 
 pub returns-clause-only : goal.returns-clause-only
 returns-clause-only g c =

@@ -1,13 +1,12 @@
-use Rattle.std.proofs.Common.{◌≡◌, ℕ, List, Some, Bool, true, false, cond, ◌&&◌, ◌==◌, if◌then◌else◌, nat_le, sym, ap, ◌∙◌, subst, refl}
+use Rattle.std.proofs.Common.{◌≡◌, List, Some, Bool, true, false, ◌&&◌, ◌==◌, if◌then◌else◌, nat_le, sym, ap, ◌∙◌, subst, refl}
 use Rattle.hx_units.specs.declared.side.Side.{Side}
 use Rattle.hx_units.specs.Side.{is_buy}
 use Rattle.hx_units.specs.declared.side.Side.TheVariants.{Buy, Sell, Short, ShortExempt}
-use Rattle.hx_levels.specs.declared.order.Order.{Order}
 use Rattle.hx_levels.specs.declared.order.Live.{Live}
-use Rattle.hx_levels.specs.Book.{order_of, without, crosses, is_other_side}
+use Rattle.hx_levels.specs.Book.{order_of, without, is_other_side}
 use Rattle.hx_match.specs.declared.fills.Fill.{Fill}
 use Rattle.hx_match.specs.declared.fills.Incoming.{Incoming}
-use Rattle.hx_match.specs.Matching.{terms, matched_live}
+use Rattle.hx_match.specs.Matching.{matched_live}
 use Rattle.hx_match.specs.Executing.{fills_of}
 use Rattle.hx_match.specs.Rules.{AreFills}
 use Rattle.hx_match.proofs.Unmet.{unmet}

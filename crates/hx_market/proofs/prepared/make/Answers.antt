@@ -21,7 +21,7 @@ does_here setup e act n hours counts os ps t u o k c h =
     let at : List Live → List Used → List Chain → Market = λ os ts cs. record { live = lives os; tokens = ts; chains = cs; numbers = n; hours = hours; recorded = counts } in
     subst (λ (cs : List Chain). happens setup (at ps u.tokens cs) e ≡ outcome_of (at ps u.tokens cs) act) c
     (subst (λ (ts : List Used). happens setup (at ps ts t.chains) e ≡ outcome_of (at ps ts t.chains) act) k
-        (subst (λ (xs : List Live). happens setup (at xs t.tokens t.chains) e ≡ outcome_of (at xs t.tokens t.chains) act) o h))
+    (subst (λ (xs : List Live). happens setup (at xs t.tokens t.chains) e ≡ outcome_of (at xs t.tokens t.chains) act) o h))
 
 pub returns-clause-planned : goal.returns-clause-planned
 returns-clause-planned g c = λ n.

@@ -1,6 +1,5 @@
-use Rattle.std.proofs.Common.{◌≡◌, ap, ◌∙◌}
+use Rattle.std.proofs.Common.{ap, ◌∙◌}
 use Rattle.hx_levels.specs.Book.{lives}
-use Rattle.hx_members.specs.Chains.{entered_of}
 use Rattle.hx_market.proofs.Called.{has_found, others_lives}
 use Rattle.hx_market.proofs.replacing.fail.Goals as goal
 

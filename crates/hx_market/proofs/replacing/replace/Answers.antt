@@ -54,8 +54,8 @@ arrive-resting-requires-clause-counts g c =
     let at : c.taker_of-taker.result.chain ≡ place = ap (λ (v : Taker). v.chain) c.taker_of-taker.ensures in
     subst (λ (vs : List Used). CanNoteAll vs c.taker_of-taker.result.chain (done_by fills (g.B.Book.orders c.hand_over.new.book)) c.hand_over.new.tokens.chains) (sym used)
     (subst (λ n. CanNoteAll us n (done_by fills (g.B.Book.orders c.hand_over.new.book)) c.hand_over.new.tokens.chains) (sym at)
-        (subst (λ (es : List Execution). CanNoteAll us place es c.hand_over.new.tokens.chains) (sym done)
-            (subst (λ (ds : List Chain). CanNoteAll us place m.fills ds) (sym c.hand_over.ensures.chains) c.requires.fits.notes)))
+    (subst (λ (es : List Execution). CanNoteAll us place es c.hand_over.new.tokens.chains) (sym done)
+    (subst (λ (ds : List Chain). CanNoteAll us place m.fills ds) (sym c.hand_over.ensures.chains) c.requires.fits.notes)))
 
 pub arrive-resting-requires-clause-own : goal.arrive-resting-requires-clause-own
 arrive-resting-requires-clause-own g c =
@@ -80,8 +80,8 @@ arrive-resting-requires-clause-own g c =
     let at : c.taker_of-taker.result.chain ≡ place = ap (λ (v : Taker). v.chain) c.taker_of-taker.ensures in
     subst (λ (vs : List Used). CanNote vs c.taker_of-taker.result.chain 0 (chains_by vs c.taker_of-taker.result.chain (done_by fills (g.B.Book.orders c.hand_over.new.book)) c.hand_over.new.tokens.chains)) (sym used)
     (subst (λ n. CanNote us n 0 (chains_by us n (done_by fills (g.B.Book.orders c.hand_over.new.book)) c.hand_over.new.tokens.chains)) (sym at)
-        (subst (λ (es : List Execution). CanNote us place 0 (chains_by us place es c.hand_over.new.tokens.chains)) (sym done)
-            (subst (λ (ds : List Chain). CanNote us place 0 (chains_by us place m.fills ds)) (sym c.hand_over.ensures.chains) c.requires.fits.own)))
+    (subst (λ (es : List Execution). CanNote us place 0 (chains_by us place es c.hand_over.new.tokens.chains)) (sym done)
+    (subst (λ (ds : List Chain). CanNote us place 0 (chains_by us place m.fills ds)) (sym c.hand_over.ensures.chains) c.requires.fits.own)))
 
 pub arrive-resting-requires-clause-numbers : goal.arrive-resting-requires-clause-numbers
 arrive-resting-requires-clause-numbers g c =
@@ -271,4 +271,3 @@ returns-clause-replies g c =
     ∙ ap (λ n. R ++ (replies_of_executions a.time a.old.order.member token n (done_by fills (g.B.Book.orders c.hand_over.new.book)) ++ canceled_of a.time a.old.order.member token imm c.args.left)) number
     ∙ ap (λ (es : List Execution). R ++ (replies_of_executions a.time a.old.order.member token (after_draw refs a.member shown).matches es ++ canceled_of a.time a.old.order.member token imm c.args.left)) done
     ∙ ap (λ n. R ++ (replies_of_executions a.time a.old.order.member token (after_draw refs a.member shown).matches m.fills ++ canceled_of a.time a.old.order.member token imm n)) left
-
