@@ -49,9 +49,10 @@ zeros (suc n) zero = refl
 zeros (suc n) (suc k) = zeros n k
 
 pub few-start : (setup : Setup) → IsFew (start setup)
-unfolding opening
+unfolding opening start
 few-start setup = record { feed = omega arith; replies = omega arith; numbered = refl; each = λ member. omega (arith, zeros 4096 member) }
 
 pub started : (setup s : Setup) (m : Market) (counts : List ℕ) → s ≡ setup → m ≡ opening setup → counts ≡ replicate 4096 0
     → (let p : Progress = record { setup = s; market = m; events = 0; feed = 0; replies = 0; counts = counts } in p) ≡ start setup
+unfolding start
 started setup s m counts a b c = rw (a, b, c) refl

@@ -12,7 +12,7 @@ output_from p [] = refl
 output_from p (e ∷ es) = ap (λ (x : List ℕ). output_of p e ++ x) (output_from (after p e) es)
 
 pub output_is_told : (setup : Setup) (es : List Entry) → output_all (start setup) es ≡ told_lines 0 (replicate 4096 0) (told setup (map event_of es))
-unfolding told
+unfolding told start
 output_is_told setup es = output_from (start setup) es
 
 market_from : (p : Progress) (es : List Entry) → (after_all p es).market ≡ market_after p.setup p.market (map event_of es)
@@ -21,5 +21,5 @@ market_from p [] = refl
 market_from p (e ∷ es) = market_from (after p e) es
 
 pub market_is_run : (setup : Setup) (es : List Entry) → (after_all (start setup) es).market ≡ run setup (map event_of es)
-unfolding run
+unfolding run start
 market_is_run setup es = market_from (start setup) es

@@ -100,6 +100,7 @@ so_far_kept setup r s s' w v c pending turn h kept = record {
 
 -- how large the counts are
 pub so_far_counts : (setup : Setup) (r s w v : Option (List ℕ)) (c : Progress) (pending : List ℕ) (turn : ℕ) → SoFar setup r s w v c pending turn → (c.events + length pending ≤ 8192 * turn) × IsFew c
+unfolding start
 so_far_counts setup r s w v c pending turn h =
     let counted = replays_counts (start setup) c h.text w v pending h.plays (few-start setup) in
     (omega (arith, counted, h.short), counted.1)

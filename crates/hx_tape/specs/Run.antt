@@ -30,7 +30,7 @@ pub record Progress : Type 0 where
   pub replies : ℕ
   pub counts : List ℕ
 
-abbrev pub start : Setup → Progress
+unfoldable pub start : Setup → Progress
 start setup = record { setup = setup; market = opening setup; events = 0; feed = 0; replies = 0; counts = replicate 4096 0 }
 
 abbrev pub event_of : Entry → Event

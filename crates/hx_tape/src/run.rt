@@ -1,5 +1,5 @@
 //! A replay as it goes: its market, and what was counted.
-ghost use Rattle.std.specs.Prelude.{◌≡◌, ◌≢◌, ◌≤◌, ◌<◌, ◌^◌, ◌+◌, ◌++◌, [], ℕ, None, IfOk, IfErr, OnOk, OnErr, string_bytes, length, slice_index};
+ghost use Rattle.std.specs.Prelude.{◌≡◌, ◌≢◌, ◌≤◌, ◌<◌, ◌^◌, ◌+◌, ◌++◌, [], ℕ, None, IfOk, IfErr, OnOk, OnErr, string_bytes, length, replicate, slice_index};
 ghost use Rattle.std.specs.List.{AllByRecursion};
 ghost use Rattle.hx_itch.specs.Message.{feed_time};
 ghost use Rattle.hx_market.specs.Steps.{step};
@@ -112,6 +112,13 @@ fn write_replies(
     Ok(())
 }
 
+// The counts of no reply to any member number.
+fn no_replies(alloc: Global) -> Result<Vec<u64>, AllocError>
+    ensures { IfOk result (λ counts. counts.items ≡ replicate 4096 0) }
+{
+    vec![in alloc; 0; 4096]
+}
+
 // The fault of the line of this number, where the market refuses its event.
 fn fault_of(line: u64, error: PrepareError) -> TapeError
     ensures { result ≡ fault_of line error }
@@ -138,7 +145,7 @@ impl<B: Book + Drop> Run<B> {
                 feed: 0,
                 replies: 0,
             },
-            replies: vec![in alloc; 0; 4096]?,
+            replies: no_replies(alloc)?,
             alloc,
         })
     }

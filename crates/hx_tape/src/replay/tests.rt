@@ -1,7 +1,9 @@
 mod days;
+mod market;
 
 use super::*;
 use days::Day;
+use hx_units::NoMemory;
 use std::io;
 use std::process::Abort;
 use std::test::Fail;
@@ -48,13 +50,27 @@ impl Write for Full {
     }
 }
 
-// What a replay wrote over the standard setup, and how it ended.
-fn replayed(alloc: Global, text: &[u8]) -> Result<(Vec<u8>, Result<Counts, TapeError>), TapeError> {
-    let setup = Setup::standard(alloc)?;
+// The standard setup, of which callers know nothing.
+fn standard(alloc: Global) -> Result<Setup, NoMemory> {
+    Setup::standard(alloc)
+}
+
+// A replay over the standard setup, of which callers know nothing.
+fn play<R: Read, W: Write>(
+    alloc: Global,
+    reader: &mut R,
+    writer: &mut W,
+) -> Result<Counts, TapeError> {
+    let setup = standard(alloc)?;
+    replay(alloc, &setup, reader, writer)
+}
+
+// What a replay wrote, and how it ended.
+fn replayed(alloc: Global, text: &[u8]) -> (Vec<u8>, Result<Counts, TapeError>) {
     let mut output = Vec::new(alloc);
     let mut reader = text;
-    let result = replay(alloc, &setup, &mut reader, &mut output);
-    Ok((output, result))
+    let result = play(alloc, &mut reader, &mut output);
+    (output, result)
 }
 
 // How many lines begin with this byte.
@@ -71,7 +87,7 @@ fn lines_of(text: &[u8], kind: u8) -> u64 {
 }
 
 fn expect_day<R: AllocGlobal + Abort>(rt: &R, day: &Day) -> Result<(), Fail> {
-    let (output, result) = replayed(rt.alloc(), day.tape)?;
+    let (output, result) = replayed(rt.alloc(), day.tape);
     assert_eq!(rt; output.as_slice(), day.output);
     let counts = result?;
     assert_eq!(rt; counts.feed, lines_of(day.output, b'F'));
@@ -113,7 +129,7 @@ fn minimum_passed_over_without_its_first_line(rt: HostRuntime) -> Result<(), Fai
     let Some((_, output)) = split_once(day.output, b'\n') else {
         panic!(&rt; "there is a line");
     };
-    let (written, _) = replayed(rt.alloc(), tape)?;
+    let (written, _) = replayed(rt.alloc(), tape);
     assert_eq!(rt; written.as_slice(), output);
     Ok(())
 }
@@ -144,8 +160,33 @@ fn limits_of_fields(rt: HostRuntime) -> Result<(), Fail> {
 }
 
 #[test]
+fn failed_replace(rt: HostRuntime) -> Result<(), Fail> {
+    expect_day(&rt, &days::FAILED_REPLACE)
+}
+
+#[test]
+fn chain_that_traded(rt: HostRuntime) -> Result<(), Fail> {
+    expect_day(&rt, &days::CHAIN_THAT_TRADED)
+}
+
+#[test]
+fn display_changes(rt: HostRuntime) -> Result<(), Fail> {
+    expect_day(&rt, &days::DISPLAY_CHANGES)
+}
+
+#[test]
+fn cancels(rt: HostRuntime) -> Result<(), Fail> {
+    expect_day(&rt, &days::CANCELS)
+}
+
+#[test]
+fn replaces_that_trade(rt: HostRuntime) -> Result<(), Fail> {
+    expect_day(&rt, &days::REPLACES_THAT_TRADE)
+}
+
+#[test]
 fn empty_tape(rt: HostRuntime) -> Result<(), Fail> {
-    let (output, result) = replayed(rt.alloc(), b"")?;
+    let (output, result) = replayed(rt.alloc(), b"");
     let counts = result?;
     assert_eq!(rt; output.len(), 0);
     assert_eq!(rt; (counts.events, counts.feed, counts.replies), (0, 0, 0));
@@ -154,16 +195,28 @@ fn empty_tape(rt: HostRuntime) -> Result<(), Fail> {
 
 #[test]
 fn an_event_without_output(rt: HostRuntime) -> Result<(), Fail> {
-    let (output, result) = replayed(rt.alloc(), b"20 1 00\n")?;
+    let (output, result) = replayed(rt.alloc(), b"20 1 00\n");
     let counts = result?;
     assert_eq!(rt; output.len(), 0);
     assert_eq!(rt; counts.events, 1);
     Ok(())
 }
 
+// The line behind the tape of one displayed order is bad.
+fn expect_bad<R: AllocGlobal + Abort>(rt: &R, text: &[u8], want: Kind) -> Result<(), Fail> {
+    let day = days::ONE_DISPLAYED_ORDER;
+    let mut output = Vec::new(rt.alloc());
+    let mut reader = day.tape.chain(text);
+    match play(rt.alloc(), &mut reader, &mut output) {
+        Err(TapeError::Line { line, kind }) => assert_eq!(rt; (line, kind), (2, want)),
+        _ => panic!(rt; "the second line fails"),
+    }
+    assert_eq!(rt; output.as_slice(), day.output);
+    Ok(())
+}
+
 #[test]
 fn bad_lines(rt: HostRuntime) -> Result<(), Fail> {
-    let day = days::ONE_DISPLAYED_ORDER;
     let cases: [(&[u8], Kind); 10] = [
         (b"20 1 zz\n", Kind::Bad),
         (b"020 1 00\n", Kind::Bad),
@@ -177,14 +230,7 @@ fn bad_lines(rt: HostRuntime) -> Result<(), Fail> {
         (b"20 9999 00\n", Kind::Member),
     ];
     for (text, want) in cases {
-        let setup = Setup::standard(rt.alloc())?;
-        let mut output = Vec::new(rt.alloc());
-        let mut reader = day.tape.chain(text);
-        match replay(rt.alloc(), &setup, &mut reader, &mut output) {
-            Err(TapeError::Line { line, kind }) => assert_eq!(rt; (line, kind), (2, want)),
-            _ => panic!(&rt; "the second line fails"),
-        }
-        assert_eq!(rt; output.as_slice(), day.output);
+        expect_bad(&rt, text, want)?;
     }
     Ok(())
 }
@@ -195,7 +241,7 @@ fn member_at_limit(rt: HostRuntime) -> Result<(), Fail> {
     for _ in 0..1001 {
         text.extend_from_slice(b"20 1 00\n")?;
     }
-    let (_, result) = replayed(rt.alloc(), &text)?;
+    let (_, result) = replayed(rt.alloc(), &text);
     match result {
         Err(TapeError::Line { line, kind }) => assert_eq!(rt; (line, kind), (1001, Kind::Limit)),
         _ => panic!(&rt; "the member may send 1,000 messages"),
@@ -206,10 +252,9 @@ fn member_at_limit(rt: HostRuntime) -> Result<(), Fail> {
 #[test]
 fn reader_fails(rt: HostRuntime) -> Result<(), Fail> {
     let day = days::TWO_LEVELS_TAKEN;
-    let setup = Setup::standard(rt.alloc())?;
     let mut output = Vec::new(rt.alloc());
     let mut reader = Faulty { text: day.tape };
-    let result = replay(rt.alloc(), &setup, &mut reader, &mut output);
+    let result = play(rt.alloc(), &mut reader, &mut output);
     assert!(rt; matches!(result, Err(TapeError::Read)));
     assert_eq!(rt; output.as_slice(), day.output);
     Ok(())
@@ -218,26 +263,33 @@ fn reader_fails(rt: HostRuntime) -> Result<(), Fail> {
 #[test]
 fn writer_fails(rt: HostRuntime) -> Result<(), Fail> {
     let day = days::TWO_LEVELS_TAKEN;
-    let setup = Setup::standard(rt.alloc())?;
     let mut output = Full {
         taken: Vec::new(rt.alloc()),
         room: 400,
     };
     let mut text = day.tape;
-    let result = replay(rt.alloc(), &setup, &mut text, &mut output);
+    let result = play(rt.alloc(), &mut text, &mut output);
     assert!(rt; matches!(result, Err(TapeError::Write)));
     assert_eq!(rt; output.taken.as_slice(), &day.output[..400]);
     Ok(())
 }
 
+// A replay over the standard setup and a given book, of which callers know nothing.
+fn play_on_list(
+    alloc: Global,
+    reader: &mut &[u8],
+    writer: &mut Vec<u8>,
+) -> Result<Counts, TapeError> {
+    let setup = standard(alloc)?;
+    replay_on(alloc, &setup, ListBook::new(alloc), reader, writer)
+}
+
 #[test]
 fn over_a_book(rt: HostRuntime) -> Result<(), Fail> {
     let day = days::DISPLAY_BEATS_TIME;
-    let alloc = rt.alloc();
-    let setup = Setup::standard(alloc)?;
-    let mut output = Vec::new(alloc);
+    let mut output = Vec::new(rt.alloc());
     let mut text = day.tape;
-    let counts = replay_on(alloc, &setup, ListBook::new(alloc), &mut text, &mut output)?;
+    let counts = play_on_list(rt.alloc(), &mut text, &mut output)?;
     assert_eq!(rt; counts.events, 3);
     assert_eq!(rt; output.as_slice(), day.output);
     Ok(())

@@ -3,5 +3,5 @@ use Rattle.hx_tape.proofs.run.Run.new.Goals as goal
 
 pub returns : goal.returns
 returns g c =
-    started c.args.setup c.in_ok-new.field-0.setup c.in_ok-new.field-0.market c.in_ok-vec.field-0.items c.in_ok-new.ensures.setup c.in_ok-new.ensures.market
-    (c.in_ok-vec.ensures.items_if_clones_equal (λ w h. h))
+    started c.args.setup c.in_ok-new.field-0.setup c.in_ok-new.field-0.market c.in_ok-no_replies.field-0.items c.in_ok-new.ensures.setup c.in_ok-new.ensures.market
+    c.in_ok-no_replies.ensures
