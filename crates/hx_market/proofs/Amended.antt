@@ -42,6 +42,19 @@ length-filter keep (x ∷ xs) = at (keep x) (length-filter keep xs)
     at true h = omega arith
     at false h = omega arith
 
+pub sound_filtered : (m : Market) (keep : Order → Bool) (hours : ℕ) → IsSound m → IsSound (record m { live = filter keep m.live; hours = hours })
+sound_filtered m keep hours h = record {
+  public = h.public;
+  private = h.private;
+  matches = (let a = h.matches in let b = length-filter keep m.live in omega arith);
+  within = λ i t. let a = h.within i t in let b = open-filter m.tokens i t keep m.live in omega arith;
+  placed = all_filtered (IsPlaced m.tokens) keep m.live h.placed;
+  lone = lone-filter m.tokens keep m.live h.lone;
+  chained = h.chained;
+  numbered = h.numbered;
+  limited = h.limited;
+}
+
 -- The old order, where a member's token names it.
 
 -- the member calls this live order by this token

@@ -10,7 +10,7 @@ use Rattle.hx_levels.specs.Book.{lives}
 use Rattle.hx_match.specs.declared.fills.Fill.{Fill}
 use Rattle.hx_members.specs.declared.name.Name.{Name}
 use Rattle.hx_market.specs.declared.acting.Act.{Act}
-use Rattle.hx_market.specs.declared.acting.Act.TheVariants.{Nothing, Reject, Accept, Fail, Replace, Cancel}
+use Rattle.hx_market.specs.declared.acting.Act.TheVariants.{Nothing, Reject, Accept, Fail, Replace, Cancel, End}
 use Rattle.hx_market.specs.Markets.{Market}
 use Rattle.hx_market.specs.Acts.{outcome_of, IsAbout}
 use Rattle.hx_market.specs.Ready.{HasPlaces, act_feed_count, act_members}
@@ -24,6 +24,7 @@ tells m (Accept a) orders place name fills left live about h = (feed_accepted m 
 tells m (Fail a) orders place name fills left live about h = (length-deleted a.time a.old.order, refl)
 tells m (Replace a) orders place name fills left live about h = (feed_replaced m a orders fills left live about h.2, members_replaced m a orders fills left live about h.2)
 tells m (Cancel a) orders place name fills left live about h = (length-off a.time a.by a.old.order, refl)
+tells m (End e) orders place name fills left live about h = (refl, refl)
 
 -- what an event does, as one step
 pub step_is : (s t : Setup) (m k : Market) (e f : Event) (o : Outcome) → happens s (with_record e m) e ≡ o → s ≡ t → m ≡ k → e ≡ f → o ≡ step t k f

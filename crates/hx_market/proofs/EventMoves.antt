@@ -17,7 +17,8 @@ use Rattle.hx_market.specs.Markets.{Market, opening}
 use Rattle.hx_market.specs.Entering.{consumed, drawn, rejection, accept_order, next_reference, entered_by, enter}
 use Rattle.hx_market.specs.Replacing.{handed_over, executed_of, replace_fails, replacing_order, replace_order, replaced_by, replace}
 use Rattle.hx_market.specs.Cancelling.{cancelled_if, cancelled_by, cancel}
-use Rattle.hx_market.specs.Ending.{ends_by_code, told_by_code, hours_by, next_hours}
+use Rattle.hx_market.specs.Outputs.{silent}
+use Rattle.hx_market.specs.Ending.{is_over, ends_by_code, told_by_code, hours_by, next_hours}
 use Rattle.hx_market.specs.Steps.{act, happens, with_record, step, market_after, run}
 use Rattle.hx_market.proofs.ChainsGrow.{Grows_refl}
 use Rattle.hx_market.proofs.CoherentMarkets.{IsKnown}
@@ -100,8 +101,8 @@ act_moves setup a m time (Some (Cancel c)) s = cancel_moves a m time c
 
 pub happens_moves : (setup : Setup) (a : Market) (event : Event) → Coherent a → Moves a (happens setup a event).market
 happens_moves setup a (Message m time bytes) s = act_moves setup a m time (inbound_of bytes) s
-happens_moves setup a (Tick time) s = Moves_refl a
-happens_moves setup a (Hours time code) s = Moves_refl a
+happens_moves setup a (Tick time) s = end_moves (λ x. is_over time x.life) time a silent
+happens_moves setup a (Hours time code) s = hours_moves setup a time code
 
 pub step_moves : (setup : Setup) (a : Market) (event : Event) → Coherent a → Moves a (step setup a event).market
 unfolding step

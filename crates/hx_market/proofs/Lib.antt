@@ -6,6 +6,7 @@ pub mod Replaced
 pub mod Lone
 pub mod Sound
 pub mod Next
+pub mod Ended
 pub mod Amended
 pub mod Plans
 pub mod Passing

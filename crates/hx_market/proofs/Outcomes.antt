@@ -1,9 +1,9 @@
 -- What an act leaves: a sound market again.
-use Rattle.std.proofs.Common.{◌≡◌, ℕ, List, [], length, refl, sym, ap, ◌∙◌, subst, arith}
+use Rattle.std.proofs.Common.{◌≡◌, ℕ, List, [], length, not, refl, sym, ap, ◌∙◌, subst, arith}
 use Rattle.hx_levels.specs.declared.order.Order.{Order}
 use Rattle.hx_members.specs.Setups.{Setup}
 use Rattle.hx_market.specs.declared.acting.Act.{Act}
-use Rattle.hx_market.specs.declared.acting.Act.TheVariants.{Nothing, Reject, Accept, Fail, Replace, Cancel}
+use Rattle.hx_market.specs.declared.acting.Act.TheVariants.{Nothing, Reject, Accept, Fail, Replace, Cancel, End}
 use Rattle.hx_market.specs.declared.acting.Accepting.{Accepting}
 use Rattle.hx_market.specs.Markets.{Market}
 use Rattle.hx_market.specs.Orders.{is_shown, is_called}
@@ -11,10 +11,10 @@ use Rattle.std.specs.List.{find}
 use Rattle.hx_levels.specs.declared.order.Live.{Live}
 use Rattle.hx_levels.specs.Book.{lives}
 use Rattle.hx_market.proofs.Called.{only_found}
-use Rattle.hx_market.proofs.Amended.{Replaces, chain_old, can_replace, sound_handed, sound_replaced, sound_lessened}
+use Rattle.hx_market.proofs.Amended.{Replaces, chain_old, can_replace, sound_handed, sound_replaced, sound_lessened, sound_filtered}
 use Rattle.hx_market.specs.Entering.{next_reference}
 use Rattle.hx_market.specs.Keeping.{IsSound}
-use Rattle.hx_market.specs.Acts.{IsAct, SuitsTokens, IsAbout, IsOnly, IsExchange, IsReplacing, IsOf, IsInRange, order_of_accepting, order_by_replacing, outcome_of}
+use Rattle.hx_market.specs.Acts.{IsAct, SuitsTokens, IsAbout, IsOnly, IsExchange, IsReplacing, IsOf, IsInRange, is_due, hours_after, order_of_accepting, order_by_replacing, outcome_of}
 use Rattle.hx_market.specs.declared.acting.Replacing.{Replacing}
 use Rattle.hx_market.specs.Ready.{FitsAct, MayRecord}
 use Rattle.hx_market.proofs.Next.{recording, can_accept, sound_recorded, sound_rejected, sound_accepted}
@@ -23,15 +23,16 @@ use Rattle.hx_market.proofs.Next.{recording, can_accept, sound_recorded, sound_r
 abbrev pub bare : Market → Market
 bare m = record m { hours = 0; recorded = [] }
 
--- what an act changes, and that hours and counts stay
+-- what an act changes, and that the counts stay
 pub parts : (m : Market) (act : Act) → let k : Market = (outcome_of (bare m) act).market in
-    (outcome_of m act).market ≡ record { live = k.live; tokens = k.tokens; chains = k.chains; numbers = k.numbers; hours = m.hours; recorded = m.recorded }
+    (outcome_of m act).market ≡ record { live = k.live; tokens = k.tokens; chains = k.chains; numbers = k.numbers; hours = hours_after act m.hours; recorded = m.recorded }
 parts m Nothing = refl
 parts m (Reject r) = refl
 parts m (Accept a) = refl
 parts m (Fail a) = refl
 parts m (Replace a) = refl
 parts m (Cancel a) = refl
+parts m (End e) = refl
 
 pub told_same : (m : Market) (act : Act) → (outcome_of m act).told ≡ (outcome_of (bare m) act).told
 told_same m Nothing = refl
@@ -40,6 +41,7 @@ told_same m (Accept a) = refl
 told_same m (Fail a) = refl
 told_same m (Replace a) = refl
 told_same m (Cancel a) = refl
+told_same m (End e) = refl
 
 abbrev order_by : Market → Accepting → Order
 order_by m a = order_of_accepting (length m.tokens) (next_reference m.numbers a.member (is_shown a.enter.display a.enter.time_in_force)) a
@@ -54,6 +56,7 @@ in_range setup (Accept a) h = h.time
 in_range setup (Fail a) h = h
 in_range setup (Replace a) h = h
 in_range setup (Cancel a) h = h
+in_range setup (End e) h = h
 
 -- what an order that replaces has to be
 replaces : (m : Market) (a : Replacing) (orders : List Live) (reference : ℕ) → m.live ≡ lives orders → IsReplacing a → IsExchange m.tokens m.chains a → IsOnly orders a.member a.replace.existing_token a.old
@@ -79,6 +82,7 @@ fits_act setup m i (Replace a) orders live h l k u b e =
       chain_old m a.member a.replace.existing_token a.old.order h r.names,
     )
 fits_act setup m i (Cancel a) orders live h l k u b e = tt
+fits_act setup m i (End x) orders live h l k u b e = tt
 
 pub sound_outcome : (setup : Setup) (m : Market) (i : ℕ) (act : Act) (orders : List Live) → m.live ≡ lives orders → IsSound m → MayRecord m.recorded i → IsAct setup act → SuitsTokens m.tokens m.chains act → IsAbout orders act → IsOf i act
     → IsSound (outcome_of (recording m i) act).market
@@ -94,3 +98,4 @@ sound_outcome setup m i (Replace a) orders live h l k u b e =
     (sound_replaced m a.member a.time a.stock a.replace a.old.order (order_in_place m a) h (subst (MayRecord m.recorded) (sym e) l)
     (replaces m a orders (next_reference m.numbers a.member (is_shown a.replace.display a.replace.time_in_force)) live k u b) refl)
 sound_outcome setup m i (Cancel a) orders live h l k u b e = sound_lessened (recording m i) a.member a.token a.by (sound_recorded m i h l)
+sound_outcome setup m i (End x) orders live h l k u b e = sound_filtered (recording m i) (λ y. not (is_due x.due x.time y)) x.hours (sound_recorded m i h l)

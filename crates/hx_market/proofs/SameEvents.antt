@@ -16,12 +16,12 @@ use Rattle.hx_market.specs.declared.event.Event.{Event}
 use Rattle.hx_market.specs.declared.event.Event.TheVariants.{Message, Tick, Hours}
 use Rattle.hx_market.specs.Orders.{Order, Token, is_called}
 use Rattle.hx_market.specs.Markets.{Market}
-use Rattle.hx_market.specs.Outputs.{Told}
+use Rattle.hx_market.specs.Outputs.{Told, silent}
 use Rattle.hx_market.specs.Entering.{rejection, entered_by, enter}
 use Rattle.hx_market.specs.Leaving.{deleted, canceled, taken_off}
 use Rattle.hx_market.specs.Replacing.{executed_of, replace_fails, fail_replace, replaced_by, replace}
 use Rattle.hx_market.specs.Cancelling.{cancelled_shares, take_off, cancelled_if, cancelled_by, cancel}
-use Rattle.hx_market.specs.Ending.{end_orders, all_deleted, hours_codes, ends_by_code, told_by_code, hours_by, next_hours}
+use Rattle.hx_market.specs.Ending.{end_orders, is_over, all_deleted, hours_codes, ends_by_code, told_by_code, hours_by, next_hours}
 use Rattle.hx_market.specs.Steps.{act, happens}
 use Rattle.hx_market.specs.Striking.{Choice, message_bears, bears, reply_lines}
 use Rattle.hx_market.specs.Laws.{AreQuietChains, IsUnknownTo}
@@ -187,5 +187,5 @@ same_act s see blind setup a b coherent r m time (Some (Cancel c)) h q = same_ca
 pub same_happens : (s : Choice) (see : ℕ → Bool) → IsUnknownTo see s → (setup : Setup) (a b : Market) → Coherent a → IsAlike s a b → AreQuietChains s a → (event : Event) → bears s event ≡ false
     → AreQuietChains s (happens setup a event).market → IsSame s see (happens setup a event) (happens setup b event)
 same_happens s see blind setup a b coherent r quiet (Message m time bytes) h q = same_act s see blind setup a b coherent r m time (inbound_of bytes) h q
-same_happens s see blind setup a b coherent r quiet (Tick time) h q = record { market = r; seen = refl }
-same_happens s see blind setup a b coherent r quiet (Hours time code) h q = record { market = r; seen = refl }
+same_happens s see blind setup a b coherent r quiet (Tick time) h q = same_end s see blind a b coherent r quiet (λ x. is_over time x.life) (λ x. refl) time silent
+same_happens s see blind setup a b coherent r quiet (Hours time code) h q = same_hours s see blind setup a b coherent r quiet time code

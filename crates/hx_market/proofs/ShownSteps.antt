@@ -16,12 +16,12 @@ use Rattle.hx_market.specs.declared.event.Event.{Event}
 use Rattle.hx_market.specs.declared.event.Event.TheVariants.{Message, Tick, Hours}
 use Rattle.hx_market.specs.Orders.{Order, Token, is_called, is_shown, is_immediate}
 use Rattle.hx_market.specs.Markets.{Market}
-use Rattle.hx_market.specs.Outputs.{Told}
+use Rattle.hx_market.specs.Outputs.{Told, silent}
 use Rattle.hx_market.specs.Entering.{consumed, drawn, next_reference, rejection, reject, accept_order, entered_order, entered_by, enter}
 use Rattle.hx_market.specs.Leaving.{less, lessened}
 use Rattle.hx_market.specs.Replacing.{executed_of, replace_fails, fail_replace, replaced_by, replace}
 use Rattle.hx_market.specs.Cancelling.{take_off, cancelled_if, cancelled_by, cancel}
-use Rattle.hx_market.specs.Ending.{end_orders, all_deleted, ends_by_code, directory, told_by_code, hours_by, next_hours}
+use Rattle.hx_market.specs.Ending.{end_orders, is_over, all_deleted, ends_by_code, directory, told_by_code, hours_by, next_hours}
 use Rattle.hx_market.specs.Steps.{act, happens}
 use Rattle.hx_market.specs.ShownBooks.{ShownOrder, book_from}
 use Rattle.hx_market.proofs.CoherentMarkets.{IsKnown}
@@ -181,5 +181,5 @@ act_keeps setup a m time (Some (Cancel c)) s g = cancel_keeps setup a m time c g
 
 pub happens_keeps : (setup : Setup) (a : Market) (event : Event) → Coherent a → IsBooked a → KeepsBook setup a (happens setup a event)
 happens_keeps setup a (Message m time bytes) s g = act_keeps setup a m time (inbound_of bytes) s g
-happens_keeps setup a (Tick time) s g = idle_keeps setup a g
-happens_keeps setup a (Hours time code) s g = idle_keeps setup a g
+happens_keeps setup a (Tick time) s g = end_keeps setup (λ x. is_over time x.life) time a silent g (λ b. refl)
+happens_keeps setup a (Hours time code) s g = hours_keeps setup a time code g

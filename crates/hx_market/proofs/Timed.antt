@@ -7,16 +7,19 @@ use Rattle.hx_itch.specs.declared.message.Feed.{Feed}
 use Rattle.hx_itch.specs.Message.{feed_time}
 use Rattle.hx_match.specs.Matching.{Execution}
 use Rattle.hx_market.specs.declared.acting.Act.{Act}
-use Rattle.hx_market.specs.declared.acting.Act.TheVariants.{Nothing, Reject, Accept, Fail, Replace, Cancel}
+use Rattle.hx_market.specs.declared.acting.Act.TheVariants.{Nothing, Reject, Accept, Fail, Replace, Cancel, End}
 use Rattle.hx_market.specs.Orders.{Order, is_immediate, is_shown}
 use Rattle.hx_market.specs.Markets.{Market}
 use Rattle.hx_market.specs.Executions.{feed_of_executions, published, arrival_feed, shown_of, arrive}
 use Rattle.hx_market.specs.Entering.{next_reference, drawn, consumed}
 use Rattle.hx_market.specs.Acts.{IsInRange, order_of_accepting, order_by_replacing, outcome_of}
+use Rattle.hx_members.specs.Setups.{Setup}
+use Rattle.hx_members.specs.declared.stock.Stock.{Stock}
 use Rattle.hx_market.specs.Leaving.{deleted}
+use Rattle.hx_market.specs.Ending.{all_deleted, directory, told_by_code}
 use Rattle.hx_market.specs.Replacing.{handed_over, is_one_display}
 
-abbrev AreIn : List Feed → Type 0
+abbrev pub AreIn : List Feed → Type 0
 AreIn fs = AllByRecursion (λ f. feed_time f < 2 ^ 48) fs
 
 executions_in : (time : ℕ) (stock : Symbol) (number : ℕ) (es : List Execution) → time < 2 ^ 48 → AreIn (feed_of_executions time stock number es)
@@ -30,7 +33,7 @@ published_in : (time : ℕ) (stock : Symbol) (xs : List Order) → time < 2 ^ 48
 published_in time stock [] h = tt
 published_in time stock (x ∷ xs) h = (cond_both (eqb x.display 65) _ _ (λ f. feed_time f < 2 ^ 48) (λ _. h) (λ _. h), published_in time stock xs h)
 
-both_in : (xs ys : List Feed) → AreIn xs → AreIn ys → AreIn (xs ++ ys)
+pub both_in : (xs ys : List Feed) → AreIn xs → AreIn ys → AreIn (xs ++ ys)
 both_in [] ys h k = k
 both_in (x ∷ xs) ys h k = (h.0, both_in xs ys h.1 k)
 
@@ -64,3 +67,17 @@ fits_feed m (Cancel a) h =
     let t = h.time in
     let l : a.time < 2 ^ 48 = omega arith in
     cond_both (nat_lt a.by a.old.order.shares) _ _ AreIn (λ _. cond_both a.old.order.shown _ _ AreIn (λ _. (l, tt)) (λ _. tt)) (λ _. deleted_in a.time a.old.order l)
+fits_feed m (End e) h = h
+
+-- What orders that end tell, and what the hours' codes tell.
+
+pub all_deleted_in : (time : ℕ) (xs : List Order) → time < 2 ^ 48 → AreIn (all_deleted time xs)
+all_deleted_in time [] h = tt
+all_deleted_in time (x ∷ xs) h = both_in (deleted time x) (all_deleted time xs) (deleted_in time x h) (all_deleted_in time xs h)
+
+directory_in : (time n : ℕ) (stocks : List Stock) → time < 2 ^ 48 → AreIn (directory time n stocks)
+directory_in time n [] h = tt
+directory_in time n (s ∷ stocks) h = (h, directory_in time (n + 1) stocks h)
+
+pub code_in : (setup : Setup) (time code : ℕ) → time < 2 ^ 48 → AreIn (told_by_code setup time code).feed
+code_in setup time code h = (h, cond_both (eqb code 79) (directory time 1 setup.stocks) [] AreIn (λ _. directory_in time 1 setup.stocks h) (λ _. tt))

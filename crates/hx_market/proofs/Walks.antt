@@ -93,3 +93,21 @@ is_step after orders key x h e f =
       before = ap lives n.3 ∙ ap (λ (y : Order). y ∷ lives n.1) same;
       shorter = ap (λ (l : List Live). length l) n.3;
     }
+
+-- the same with the order's key
+pub record IsNext (after : Option Key) (orders : List Live) (key : Key) (x : Order) : Type 0 where
+  pub rest : List Live
+  pub behind_is : behind (Some key) orders ≡ rest
+  pub before : behind after orders ≡ (let live : Live = record { key = key; order = x } in live) ∷ rest
+  pub shorter : length (behind after orders) ≡ suc (length rest)
+
+pub is_next : (after : Option Key) (orders : List Live) (key : Key) (x : Order) → KeysDiffer orders → next_by_time after orders ≡ Some key → order_of key.0 orders ≡ Some x → IsNext after orders key x
+is_next after orders key x h e f =
+    let n = next_stands after orders key h e in
+    let same : n.0.order ≡ x = let z : Some n.0.order ≡ Some x = sym n.4.order ∙ ap (λ (k : Key). order_of k.0 orders) n.2 ∙ f in cc in
+    record {
+      rest = n.1;
+      behind_is = ap (λ (k : Key). behind (Some k) orders) (sym n.2) ∙ n.4.behind_is;
+      before = n.3 ∙ ap (λ (k : Key). (let live : Live = record { key = k; order = n.0.order } in live) ∷ n.1) n.2 ∙ ap (λ (y : Order). (let live : Live = record { key = key; order = y } in live) ∷ n.1) same;
+      shorter = ap (λ (l : List Live). length l) n.3;
+    }

@@ -1,6 +1,6 @@
 -- What an event does, once it is committed.
-use Rattle.std.specs.Prelude.{◌≡◌, ℕ, ◌-◌, ◌<◌, ◌≤◌, min, true, false, if◌then◌else◌, List, length, Option, Some, None, ⊤}
-use Rattle.std.specs.List.{AllByRecursion}
+use Rattle.std.specs.Prelude.{◌≡◌, ℕ, ◌-◌, ◌<◌, ◌≤◌, ◌^◌, min, Bool, true, false, if◌then◌else◌, not, List, length, Option, Some, None, ⊤}
+use Rattle.std.specs.List.{AllByRecursion, filter}
 use Rattle.hx_units.specs.declared.names.Token.{Token}
 use Rattle.hx_levels.specs.declared.order.Live.{Live}
 use Rattle.hx_levels.specs.declared.order.Terms.{Terms}
@@ -9,16 +9,21 @@ use Rattle.hx_match.specs.declared.fills.Incoming.{Incoming}
 use Rattle.hx_members.specs.Setups.{Setup, locate_of}
 use Rattle.hx_members.specs.Chains.{Used, Chain, is_used, entered_of, executed_by}
 use Rattle.hx_market.specs.declared.acting.Act.{Act}
-use Rattle.hx_market.specs.declared.acting.Act.TheVariants.{Nothing, Reject, Accept, Fail, Replace, Cancel}
+use Rattle.hx_market.specs.declared.acting.Act.TheVariants.{Nothing, Reject, Accept, Fail, Replace, Cancel, End}
+use Rattle.hx_market.specs.declared.acting.Due.{Due}
+use Rattle.hx_market.specs.declared.acting.Due.TheVariants.{Over, ByCode}
+use Rattle.hx_market.specs.declared.acting.Ending.{Ending}
 use Rattle.hx_market.specs.declared.acting.Accepting.{Accepting}
 use Rattle.hx_market.specs.declared.acting.Replacing.{Replacing}
 use Rattle.hx_market.specs.declared.acting.Cancelling.{Cancelling}
 use Rattle.hx_market.specs.Orders.{Order, side_of, is_shown, life_of, is_called}
 use Rattle.hx_market.specs.Markets.{Market}
+use Rattle.hx_itch.specs.Message.{feed_time}
 use Rattle.hx_market.specs.Outputs.{Outcome, nothing}
 use Rattle.hx_market.specs.Entering.{accept_order, reject, resolved_firm, next_reference}
 use Rattle.hx_market.specs.Replacing.{fail_replace, replacing_order, replace_order}
 use Rattle.hx_market.specs.Cancelling.{take_off}
+use Rattle.hx_market.specs.Ending.{is_over, ends_by_code}
 
 -- An Enter that is accepted.
 
@@ -110,6 +115,25 @@ abbrev pub confirmed : ℕ → Token → Option Order → Option Order
 confirmed member token None = None
 confirmed member token (Some x) = if is_called member token x then Some x else None
 
+-- Orders that end.
+
+abbrev pub is_due : Due → ℕ → Order → Bool
+is_due Over time x = is_over time x.life
+is_due (ByCode code) time x = ends_by_code code x
+
+-- they are the due ones of the live orders
+pub record IsEnding (orders : List Live) (e : Ending) : Type 0 where
+  pub due : e.orders.items ≡ filter (λ live. is_due e.due e.time live.order) orders
+  pub differ : KeysDiffer orders
+
+-- the orders end, so many hours codes are past, and this is told
+abbrev pub ended_by : Market → Ending → Outcome
+ended_by market e =
+    record {
+      market = record market { live = filter (λ x. not (is_due e.due e.time x)) market.live; hours = e.hours };
+      told = record { feed = e.told.feed.items; replies = e.told.replies.items };
+    }
+
 -- Any act.
 
 abbrev pub IsAct : Setup → Act → Type 0
@@ -119,6 +143,7 @@ IsAct setup (Accept a) = IsAccepting setup a
 IsAct setup (Fail a) = a.time < 86400000000000
 IsAct setup (Replace a) = IsReplacing a
 IsAct setup (Cancel a) = IsCancelling a
+IsAct setup (End e) = AllByRecursion (λ f. feed_time f < 2 ^ 48) e.told.feed.items
 
 -- the member of an act, where it has one
 abbrev pub IsOf : ℕ → Act → Type 0
@@ -128,6 +153,7 @@ IsOf member (Accept a) = a.member ≡ member
 IsOf member (Fail a) = a.member ≡ member
 IsOf member (Replace a) = a.member ≡ member
 IsOf member (Cancel a) = a.member ≡ member
+IsOf member (End e) = ⊤
 
 -- the token that it uses is not used before
 abbrev pub IsUnused : List Used → ℕ → Token → Type 0
@@ -146,8 +172,9 @@ SuitsTokens tokens chains (Accept a) = IsUnused tokens a.member a.enter.token
 SuitsTokens tokens chains (Fail a) = IsUnused tokens a.member a.replacement
 SuitsTokens tokens chains (Replace a) = IsExchange tokens chains a
 SuitsTokens tokens chains (Cancel a) = ⊤
+SuitsTokens tokens chains (End e) = ⊤
 
--- the live order that it is about, where there is one
+-- the live orders that it is about, where there are any
 abbrev pub IsAbout : List Live → Act → Type 0
 IsAbout orders Nothing = ⊤
 IsAbout orders (Reject r) = ⊤
@@ -155,6 +182,7 @@ IsAbout orders (Accept a) = ⊤
 IsAbout orders (Fail a) = IsOnly orders a.member a.existing a.old
 IsAbout orders (Replace a) = IsOnly orders a.member a.replace.existing_token a.old
 IsAbout orders (Cancel a) = IsOnly orders a.member a.token a.old
+IsAbout orders (End e) = IsEnding orders e
 
 -- its numbers are within their limits
 abbrev pub IsInRange : Act → Type 0
@@ -164,6 +192,7 @@ IsInRange (Accept a) = a.time < 86400000000000
 IsInRange (Fail a) = a.time < 86400000000000
 IsInRange (Replace a) = IsReplacing a
 IsInRange (Cancel a) = IsCancelling a
+IsInRange (End e) = AllByRecursion (λ f. feed_time f < 2 ^ 48) e.told.feed.items
 
 -- what an act does
 abbrev pub outcome_of : Market → Act → Outcome
@@ -173,3 +202,14 @@ outcome_of market (Accept a) = accepted_by market a
 outcome_of market (Fail a) = fail_replace market a.member a.time a.existing a.replacement a.old.order
 outcome_of market (Replace a) = replaced_by_act market a
 outcome_of market (Cancel a) = take_off market a.member a.time a.token a.by a.old.order
+outcome_of market (End e) = ended_by market e
+
+-- how many hours codes are past after it
+abbrev pub hours_after : Act → ℕ → ℕ
+hours_after Nothing hours = hours
+hours_after (Reject r) hours = hours
+hours_after (Accept a) hours = hours
+hours_after (Fail a) hours = hours
+hours_after (Replace a) hours = hours
+hours_after (Cancel a) hours = hours
+hours_after (End e) hours = e.hours

@@ -1,13 +1,14 @@
--- Worked days: the messages of each, and what each tells. All orders are for the stock ABCD, with a blank firm, over the standard setup.
-use Rattle.std.specs.Prelude.{ℕ, codes, ◌==◌, if◌then◌else◌, List, [], ◌∷◌}
+-- Worked days: the messages of each, and what each tells. All orders are for the stock ABCD, with a blank firm, over the standard setup, but for the hours of a day.
+use Rattle.std.specs.Prelude.{ℕ, codes, ◌==◌, if◌then◌else◌, List, [], ◌∷◌, false}
+use Rattle.hx_members.specs.Setups.{Setup, stock_named, member_with}
 use Rattle.hx_refs.specs.Numbers.{private_reference}
 use Rattle.hx_itch.specs.declared.message.Feed.{Feed}
-use Rattle.hx_itch.specs.declared.message.Feed.TheVariants.{AddOrder, AddOrderWithAttribution, OrderExecuted, OrderCancel, OrderDelete, OrderReplace, Trade}
-use Rattle.hx_ouch.specs.declared.outbound.Outbound.TheVariants.{Accepted, Canceled, Executed, Rejected, Replaced}
+use Rattle.hx_itch.specs.declared.message.Feed.TheVariants.{AddOrder, AddOrderWithAttribution, OrderExecuted, OrderCancel, OrderDelete, OrderReplace, Trade, SystemEvent, StockDirectory}
+use Rattle.hx_ouch.specs.declared.outbound.Outbound.TheVariants.{Accepted, Canceled, Executed, Rejected, Replaced, SystemEvent as SystemReply}
 use Rattle.hx_ouch.specs.Inbound.{enter_bytes, replace_bytes, cancel_bytes}
 use Rattle.hx_units.specs.declared.names.Symbol.{Symbol}
 use Rattle.hx_market.specs.declared.event.Event.{Event}
-use Rattle.hx_market.specs.declared.event.Event.TheVariants.{Message}
+use Rattle.hx_market.specs.declared.event.Event.TheVariants.{Message, Tick, Hours}
 use Rattle.hx_market.specs.Outputs.{Reply, Told}
 
 abbrev pub abcd : Symbol
@@ -366,3 +367,67 @@ replaces_that_trade_tells =
     tells ([]) ([]) ∷
     tells ([]) ([]) ∷
     tells ([]) ([]) ∷ []
+
+-- seconds run out at ticks only
+abbrev pub ticks : List Event
+ticks =
+    entered 1000 1 (codes "H1            ") 66 100 100000 1 78 0 ∷
+    entered 2000 2 (codes "T1            ") 66 100 100000 1 89 0 ∷
+    called_off 1000001500 3 (codes "T9            ") 0 ∷
+    Tick 1000001999 ∷
+    Tick 1000002000 ∷ []
+
+abbrev pub ticks_tells : List Told
+ticks_tells =
+    tells ([]) (accepted 1 1000 (codes "H1            ") 66 100 100000 1 78 (private_reference 1 1) 0 ∷ []) ∷
+    tells (added 2000 1 66 100 100000 ∷ []) (accepted 2 2000 (codes "T1            ") 66 100 100000 1 89 1 0 ∷ []) ∷
+    tells ([]) ([]) ∷
+    tells ([]) (canceled 1 1000001999 (codes "H1            ") 100 84 ∷ []) ∷
+    tells (deleted 1000002000 1 ∷ []) (canceled 2 1000002000 (codes "T1            ") 100 84 ∷ []) ∷ []
+
+-- a day that begins closed, with one stock and two members
+abbrev pub closed : Setup
+closed = record {
+  session = codes "HX00000002";
+  start_open = false;
+  stocks = stock_named (codes "ABCD    ") ∷ [];
+  members = member_with 1 (codes "FMA1") (codes "ALPHA ") (codes "PWALPHA   ") 1000 ∷ member_with 2 (codes "FMB2") (codes "BRAVO ") (codes "PWBRAVO   ") 1000 ∷ [];
+}
+
+abbrev pub system_event : (time code : ℕ) → Feed
+system_event time code = SystemEvent (record { locate = 0; time = time; event_code = code })
+
+abbrev pub told_event : (member time code : ℕ) → Reply
+told_event member time code = (member, SystemReply (record { time = time; event_code = code }))
+
+abbrev pub listed_stock : (time : ℕ) → Feed
+listed_stock time = StockDirectory (record { locate = 1; time = time; stock = abcd; tail = (stock_named (codes "ABCD    ")).tail })
+
+-- the hours of a day
+abbrev pub hours_of_a_day : List Event
+hours_of_a_day =
+    Hours 1 79 ∷
+    entered 2 1 (codes "T0            ") 66 100 100000 99999 89 0 ∷
+    Hours 3 83 ∷
+    entered 4 1 (codes "T1            ") 66 100 100000 99998 89 0 ∷
+    entered 5 2 (codes "H1            ") 66 100 100000 99999 78 0 ∷
+    Hours 6 77 ∷
+    Hours 7 81 ∷
+    Hours 8 77 ∷
+    entered 9 1 (codes "T2            ") 66 100 100000 99998 89 0 ∷
+    Hours 10 69 ∷
+    Hours 11 67 ∷ []
+
+abbrev pub hours_of_a_day_tells : List Told
+hours_of_a_day_tells =
+    tells (system_event 1 79 ∷ listed_stock 1 ∷ []) ([]) ∷
+    tells ([]) (rejected 1 2 (codes "T0            ") 67 ∷ []) ∷
+    tells (system_event 3 83 ∷ []) (told_event 1 3 83 ∷ told_event 2 3 83 ∷ []) ∷
+    tells (added 4 1 66 100 100000 ∷ []) (accepted 1 4 (codes "T1            ") 66 100 100000 99998 89 1 0 ∷ []) ∷
+    tells ([]) (accepted 2 5 (codes "H1            ") 66 100 100000 99999 78 (private_reference 2 1) 0 ∷ []) ∷
+    tells ([]) ([]) ∷
+    tells (system_event 7 81 ∷ []) ([]) ∷
+    tells (system_event 8 77 ∷ deleted 8 1 ∷ []) (canceled 1 8 (codes "T1            ") 100 84 ∷ []) ∷
+    tells ([]) (rejected 1 9 (codes "T2            ") 67 ∷ []) ∷
+    tells (system_event 10 69 ∷ []) (told_event 1 10 69 ∷ told_event 2 10 69 ∷ canceled 2 10 (codes "H1            ") 100 84 ∷ []) ∷
+    tells (system_event 11 67 ∷ []) ([]) ∷ []

@@ -75,5 +75,9 @@ abbrev pub hours_by : Setup → Market → ℕ → ℕ → Bool → Outcome
 hours_by setup market time code false = nothing market
 hours_by setup market time code true = end_orders (ends_by_code code) time (record market { hours = market.hours + 1 }) (told_by_code setup time code)
 
+-- the code is the next one, so many being past
+abbrev pub is_next : ℕ → ℕ → Bool
+is_next hours code = nat_lt hours 6 && (slice_index hours_codes hours == code)
+
 abbrev pub next_hours : Setup → Market → ℕ → ℕ → Outcome
-next_hours setup market time code = hours_by setup market time code (nat_lt market.hours 6 && (slice_index hours_codes market.hours == code))
+next_hours setup market time code = hours_by setup market time code (is_next market.hours code)

@@ -7,6 +7,7 @@ pub mod Leaving
 pub mod Replacing
 pub mod Cancelling
 pub mod Ending
+pub mod Operating
 pub mod Steps
 pub mod Striking
 pub mod ShownBooks

@@ -19,7 +19,7 @@ use Rattle.hx_market.specs.Keeping.{CanAccept}
 use Rattle.hx_market.specs.declared.event.Event.{Event}
 use Rattle.hx_market.specs.declared.output.Output.{Output}
 use Rattle.hx_market.specs.declared.acting.Act.{Act}
-use Rattle.hx_market.specs.declared.acting.Act.TheVariants.{Nothing, Reject, Accept, Fail, Replace, Cancel}
+use Rattle.hx_market.specs.declared.acting.Act.TheVariants.{Nothing, Reject, Accept, Fail, Replace, Cancel, End}
 use Rattle.hx_market.specs.declared.acting.Accepting.{Accepting}
 use Rattle.hx_market.specs.declared.acting.Replacing.{Replacing}
 use Rattle.hx_market.specs.Orders.{Order, is_immediate, is_shown}
@@ -127,6 +127,7 @@ act_feed_count (Accept a) fills left = arrival_count (is_shown a.enter.display a
 act_feed_count (Fail a) fills left = one_if a.old.order.shown
 act_feed_count (Replace a) fills left = replaced_count a fills left
 act_feed_count (Cancel a) fills left = one_if a.old.order.shown
+act_feed_count (End e) fills left = length e.told.feed.items
 
 abbrev pub act_members : Act → List Live → List Fill → ℕ → List ℕ
 act_members Nothing orders fills left = []
@@ -135,6 +136,7 @@ act_members (Accept a) orders fills left = arrival_members a.member (is_immediat
 act_members (Fail a) orders fills left = a.member ∷ []
 act_members (Replace a) orders fills left = arrival_members a.member (is_immediate a.replace.time_in_force) orders fills left
 act_members (Cancel a) orders fills left = a.member ∷ []
+act_members (End e) orders fills left = map (λ r. r.0) e.told.replies.items
 
 -- the places and the plan that an act needs: a place for the token that it uses, one for the order that may rest, and the executions
 abbrev pub HasPlaces : List Live → Option Terms → Option Name → List Fill → ℕ → Act → Type 0
@@ -147,6 +149,7 @@ HasPlaces orders book_place name_place fills left (Replace a) =
     (name_place ≡ Some (name_of a.member a.replace.replacement_token)) × (book_place ≡ Some (terms_of_replacing a))
     × AreFills (incoming_of_replacing a) (without a.old.key.0 orders) fills left
 HasPlaces orders book_place name_place fills left (Cancel a) = ⊤
+HasPlaces orders book_place name_place fills left (End e) = ⊤
 
 -- the numbers and the chains have room for an act
 abbrev pub FitsAct : Market → Act → Type 0
@@ -156,6 +159,7 @@ FitsAct market (Accept a) = HasRoomFor market a
 FitsAct market (Fail a) = IsChainOf market.tokens a.member a.existing a.old.order.chain
 FitsAct market (Replace a) = HasRoomToReplace market a × IsChainOf market.tokens a.member a.replace.existing_token a.old.order.chain
 FitsAct market (Cancel a) = ⊤
+FitsAct market (End e) = ⊤
 
 -- it was made for this event, over this market: it does what the event does, and its growths are made
 pub record IsPlanned (setup : Setup) (market : Market) (orders : List Live) (book_place : Option Terms) (name_place : Option Name) (p : Planned) : Type 0 where

@@ -14,6 +14,7 @@ use Rattle.hx_market.specs.Outputs.{Reply, Told, Outcome, nothing}
 use Rattle.hx_market.specs.Entering.{enter}
 use Rattle.hx_market.specs.Replacing.{replace}
 use Rattle.hx_market.specs.Cancelling.{cancel}
+use Rattle.hx_market.specs.Ending.{tick, next_hours}
 
 -- what a member's message does. One that is not readable has no effect
 abbrev pub act : Setup → Market → ℕ → ℕ → Option Inbound → Outcome
@@ -22,11 +23,11 @@ act setup market member time (Some (Enter e)) = enter setup market member time e
 act setup market member time (Some (Replace r)) = replace setup market member time r
 act setup market member time (Some (Cancel c)) = cancel market member time c
 
--- what an event does, but for its record. A tick and the hours have, as yet, no effect
+-- what an event does, but for its record
 abbrev pub happens : Setup → Market → Event → Outcome
 happens setup market (Message member time bytes) = act setup market member time (inbound_of bytes)
-happens setup market (Tick time) = nothing market
-happens setup market (Hours time code) = nothing market
+happens setup market (Tick time) = tick market time
+happens setup market (Hours time code) = next_hours setup market time code
 
 -- the number under which an event is recorded: its member's, or the operator's
 abbrev pub sender : Event → ℕ

@@ -1,5 +1,5 @@
 //! What an event will do, once it is committed.
-ghost use Rattle.std.specs.Prelude.{◌≡◌, ◌<◌, ℕ, List, Some, None, IsSome, false};
+ghost use Rattle.std.specs.Prelude.{◌≡◌, ◌<◌, ℕ, List, Some, None, IsSome, IfOk, false};
 ghost use Rattle.hx_ouch.specs.Inbound.{inbound_of};
 ghost use Rattle.hx_members.specs.Setups.{member_of};
 ghost use Rattle.hx_members.specs.Chains.{Used, Chain, is_used};
@@ -14,12 +14,15 @@ ghost use Rattle.hx_market.specs.Admitting.{is_from_stranger};
 ghost use Rattle.hx_market.specs.Acts.{outcome_of, IsAct, IsAccepting, IsOf, SuitsTokens, IsAbout};
 
 use crate::amending::{cancel_act, replace_act};
+use crate::ending::{hours_act, tick_act};
 use crate::event::Event;
+use crate::output::Output;
 use crate::rules::{rejection, side_of};
 use hx_levels::{Book, Live};
 use hx_members::{Setup, Tokens};
 use hx_ouch::{Enter, Inbound, Replace, decode_in};
-use hx_units::{Firm, MemberNo, Price, Side, Symbol, Token};
+use hx_units::{Firm, MemberNo, NoMemory, Price, Side, Symbol, Token};
+use std::alloc::Global;
 
 /// An Enter that is rejected.
 #[derive(Clone, Copy, Debug)]
@@ -102,8 +105,32 @@ pub struct Cancelling {
     pub old: Live,
 }
 
-/// What an event does.
+/// Which orders end.
 #[derive(Clone, Copy, Debug)]
+pub enum Due {
+    /// Those in seconds whose time has come.
+    Over,
+    /// Those that this code of the hours ends.
+    ByCode(u8),
+}
+
+/// Orders that end, and all that is told.
+#[derive(Drop)]
+pub struct Ending {
+    /// When they end.
+    pub time: u64,
+    /// Which of the live orders.
+    pub due: Due,
+    /// How many of the hours codes are past then.
+    pub hours: u8,
+    /// They, the earlier ones first.
+    pub orders: Vec<Live>,
+    /// What is told.
+    pub told: Output,
+}
+
+/// What an event does.
+#[derive(Drop)]
 pub enum Act {
     /// No more than that it is recorded.
     Nothing,
@@ -117,6 +144,8 @@ pub enum Act {
     Replace(Replacing),
     /// An order has fewer shares, or is gone.
     Cancel(Cancelling),
+    /// Orders end.
+    End(Ending),
 }
 
 // The firm that a message is for: a blank one means the member's.
@@ -223,16 +252,24 @@ fn message_act<B: Book>(
     }
 }
 
-/// What an event does that is not refused, at so many hours codes past.
-pub fn act_of<B: Book>(setup: &Setup, hours: u8, tokens: &Tokens, book: &B, event: &Event) -> Act
+/// What an event does that is not refused, at so many hours codes past. `NoMemory` where the orders that end, and
+/// what they tell, find no room.
+pub fn act_of<B: Book>(
+    alloc: Global,
+    setup: &Setup,
+    hours: u8,
+    tokens: &Tokens,
+    book: &B,
+    event: &Event,
+) -> Result<Act, NoMemory>
     requires known { is_from_stranger setup.now event.now ≡ false }
     requires time { time_of event.now < 86400000000000 }
     requires keyed { AreKeyed tokens.now.tokens tokens.now.keys (B.orders book.now) }
-    ensures does { (n : Numbers) (counts : List ℕ) → happens setup.now (market_of (B.orders book.now) tokens.now n hours counts) event.now ≡ outcome_of (market_of (B.orders book.now) tokens.now n hours counts) result }
-    ensures is_act { IsAct setup.now result }
-    ensures sender { IsOf (sender event.now) result }
-    ensures suits { SuitsTokens tokens.now.tokens tokens.now.chains result }
-    ensures about { IsAbout (B.orders book.now) result }
+    ensures does { IfOk result (λ a. (n : Numbers) (counts : List ℕ) → happens setup.now (market_of (B.orders book.now) tokens.now n hours counts) event.now ≡ outcome_of (market_of (B.orders book.now) tokens.now n hours counts) a) }
+    ensures is_act { IfOk result (λ a. IsAct setup.now a) }
+    ensures sender { IfOk result (λ a. IsOf (sender event.now) a) }
+    ensures suits { IfOk result (λ a. SuitsTokens tokens.now.tokens tokens.now.chains a) }
+    ensures about { IfOk result (λ a. IsAbout (B.orders book.now) a) }
 {
     match event {
         Event::Message {
@@ -241,8 +278,9 @@ pub fn act_of<B: Book>(setup: &Setup, hours: u8, tokens: &Tokens, book: &B, even
             bytes,
         } => {
             let member = MemberNo::of(*member).unwrap();
-            message_act(setup, hours, tokens, book, member, *time, bytes.as_slice())
+            Ok(message_act(setup, hours, tokens, book, member, *time, bytes.as_slice()))
         }
-        Event::Tick { .. } | Event::Hours { .. } => Act::Nothing,
+        Event::Tick { time } => tick_act(alloc, hours, book, *time),
+        Event::Hours { time, code } => hours_act(alloc, setup, hours, book, *time, *code),
     }
 }

@@ -11,6 +11,7 @@ ghost use Rattle.hx_ouch.specs.declared.outbound.Outbound.TheVariants.{Rejected 
 use crate::accepting::accept;
 use crate::acting::{Act, Rejecting};
 use crate::cancelling::cancel;
+use crate::ending::end;
 use crate::output::Output;
 use crate::replacing::{fail, replace};
 use hx_levels::Book;
@@ -47,31 +48,32 @@ pub fn carry_out<B: Book>(
     tokens: &mut Tokens,
     refs: &mut Refs,
     out: &mut Output,
-    act: &Act,
+    act: Act,
     fills: &[Fill],
     left: u32,
 )
-    requires range { IsInRange act.now }
-    requires suits { SuitsTokens tokens.old.tokens tokens.old.chains act.now }
-    requires about { IsAbout (B.orders book.old) act.now }
-    requires places { HasPlaces (B.orders book.old) (B.place book.old) tokens.old.place fills.now left act.now }
+    requires range { IsInRange act }
+    requires suits { SuitsTokens tokens.old.tokens tokens.old.chains act }
+    requires about { IsAbout (B.orders book.old) act }
+    requires places { HasPlaces (B.orders book.old) (B.place book.old) tokens.old.place fills.now left act }
     requires keyed { AreKeyed tokens.old.tokens tokens.old.keys (B.orders book.old) }
-    requires fits { FitsAct (market_of (B.orders book.old) tokens.old refs.old 0 []) act.now }
+    requires fits { FitsAct (market_of (B.orders book.old) tokens.old refs.old 0 []) act }
     requires room { HasRoom (length fills.now) out.old }
-    ensures live { lives (B.orders book.new) ≡ (outcome_over (B.orders book.old) tokens.old refs.old act.now).market.live }
-    ensures tokens { tokens.new.tokens ≡ (outcome_over (B.orders book.old) tokens.old refs.old act.now).market.tokens }
-    ensures chains { tokens.new.chains ≡ (outcome_over (B.orders book.old) tokens.old refs.old act.now).market.chains }
+    ensures live { lives (B.orders book.new) ≡ (outcome_over (B.orders book.old) tokens.old refs.old act).market.live }
+    ensures tokens { tokens.new.tokens ≡ (outcome_over (B.orders book.old) tokens.old refs.old act).market.tokens }
+    ensures chains { tokens.new.chains ≡ (outcome_over (B.orders book.old) tokens.old refs.old act).market.chains }
     ensures keyed { AreKeyed tokens.new.tokens tokens.new.keys (B.orders book.new) }
-    ensures numbers { refs.new ≡ (outcome_over (B.orders book.old) tokens.old refs.old act.now).market.numbers }
-    ensures feed { out.new.feed.items ≡ (outcome_over (B.orders book.old) tokens.old refs.old act.now).told.feed }
-    ensures replies { out.new.replies.items ≡ (outcome_over (B.orders book.old) tokens.old refs.old act.now).told.replies }
+    ensures numbers { refs.new ≡ (outcome_over (B.orders book.old) tokens.old refs.old act).market.numbers }
+    ensures feed { out.new.feed.items ≡ (outcome_over (B.orders book.old) tokens.old refs.old act).told.feed }
+    ensures replies { out.new.replies.items ≡ (outcome_over (B.orders book.old) tokens.old refs.old act).told.replies }
 {
     match act {
         Act::Nothing => {}
-        Act::Reject(act) => reject(tokens, out, act),
-        Act::Accept(act) => accept(book, tokens, refs, out, act, fills, left),
-        Act::Fail(act) => fail(book, tokens, out, act),
-        Act::Replace(act) => replace(book, tokens, refs, out, act, fills, left),
-        Act::Cancel(act) => cancel(book, out, act),
+        Act::Reject(act) => reject(tokens, out, &act),
+        Act::Accept(act) => accept(book, tokens, refs, out, &act, fills, left),
+        Act::Fail(act) => fail(book, tokens, out, &act),
+        Act::Replace(act) => replace(book, tokens, refs, out, &act, fills, left),
+        Act::Cancel(act) => cancel(book, out, &act),
+        Act::End(act) => end(book, out, act),
     }
 }

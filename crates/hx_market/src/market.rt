@@ -5,8 +5,10 @@ ghost use Rattle.hx_itch.specs.Message.{feed_time};
 ghost use Rattle.hx_market.specs.Admitting.{refusal, or_no_memory};
 ghost use Rattle.hx_market.specs.Markets.{opening, opening_hours};
 ghost use Rattle.hx_market.specs.Steps.{step};
+ghost use Rattle.hx_market.specs.Acts.{hours_after};
 ghost use Rattle.hx_market.specs.Ready.{chain_facts};
 
+use crate::acting::Act;
 use crate::carrying::carry_out;
 use crate::event::Event;
 use crate::fault::PrepareError;
@@ -55,6 +57,21 @@ fn opening_hours(setup: &Setup) -> u8
     ensures { result ≡ opening_hours setup.now }
 {
     if setup.start_open() { 2 } else { 0 }
+}
+
+// How many of the hours codes are past after an act.
+fn hours_after(act: &Act, hours: u8) -> u8
+    ensures { result ≡ hours_after act.now hours }
+{
+    match act {
+        Act::Nothing
+        | Act::Reject(_)
+        | Act::Accept(_)
+        | Act::Fail(_)
+        | Act::Replace(_)
+        | Act::Cancel(_) => hours,
+        Act::End(ending) => ending.hours,
+    }
 }
 
 impl<B: Book + Drop> Market<B> {
@@ -129,12 +146,13 @@ impl<B: Book + Drop> Market<B> {
             ..
         } = prepared;
         self.recorded.raise(number);
+        self.hours = hours_after(&act, self.hours);
         carry_out(
             &mut self.book,
             &mut self.tokens,
             &mut self.refs,
             &mut out,
-            &act,
+            act,
             &fills,
             left,
         );

@@ -1,5 +1,5 @@
 //! The plan of an act, with all growths that its commit needs.
-ghost use Rattle.std.specs.Prelude.{◌≡◌, ℕ, ◌+◌, ◌*◌, ◌<◌, ◌≤◌, ◌^◌, [], Some, IfOk, OnOk, length};
+ghost use Rattle.std.specs.Prelude.{◌≡◌, ℕ, ◌+◌, ◌*◌, ◌<◌, ◌≤◌, ◌^◌, [], Some, IfOk, OnOk, length, map};
 ghost use Rattle.hx_levels.specs.Book.{order_of, without, KeysDiffer};
 ghost use Rattle.hx_match.specs.Matching.{terms, matched_live};
 ghost use Rattle.hx_match.specs.Executing.{fills_of};
@@ -15,6 +15,7 @@ use crate::rules::is_shown;
 use hx_levels::Book;
 use hx_match::{Fill, Incoming, Plan, plan};
 use hx_members::Tokens;
+use hx_ouch::Outbound;
 use hx_units::{MemberNo, NoMemory};
 use std::alloc::Global;
 
@@ -203,6 +204,17 @@ fn draft_told(alloc: Global, feed_count: u64, reply_members: Vec<MemberNo>) -> D
     }
 }
 
+// The members of replies, in order.
+fn told_members(alloc: Global, replies: &[(MemberNo, Outbound)]) -> Result<Vec<MemberNo>, NoMemory>
+    ensures { IfOk result (λ members. members.items ≡ map (λ r. r.0) replies.now) }
+{
+    let mut members = Vec::with_capacity(alloc, replies.len())?;
+    for (member, _) in replies {
+        members.push(*member)?;
+    }
+    Ok(members)
+}
+
 /// What is prepared of an act, with a place for the token that it uses and one for the order that may rest.
 pub fn draft_act<B: Book>(
     alloc: Global,
@@ -242,6 +254,10 @@ pub fn draft_act<B: Book>(
         Act::Cancel(act) => {
             let told = one_if(act.old.order.shown);
             Ok(draft_told(alloc, told, vec![in alloc; act.member]?))
+        }
+        Act::End(act) => {
+            let members = told_members(alloc, &act.told.replies)?;
+            Ok(draft_told(alloc, act.told.feed.len() as u64, members))
         }
     }
 }

@@ -85,7 +85,7 @@ pub fn make<B: Book>(
     ensures refused { IfErr result (λ e. e ≡ or_no_memory (refusal setup.now recorded.now event.now)) }
 {
     let number = admit(setup, recorded, event)?;
-    let act = act_of(setup, hours, tokens, book, event);
+    let act = act_of(alloc, setup, hours, tokens, book, event)?;
     let draft = draft_act(alloc, book, tokens, &act)?;
     let out = room_for(alloc, draft.fills.len())?;
     Ok(Prepared {

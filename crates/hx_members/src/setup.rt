@@ -1,5 +1,5 @@
 //! The setup of a day.
-ghost use Rattle.std.specs.Prelude.{◌≡◌, ◌≤◌, ◌<◌, ◌+◌, length, map, IfOk, true};
+ghost use Rattle.std.specs.Prelude.{◌≡◌, ◌≤◌, ◌<◌, ◌+◌, length, map, IfOk, OnOk, true};
 ghost use Rattle.std.specs.Option.{option_map};
 ghost use Rattle.hx_units.specs.Ranges.{IsMember};
 ghost use Rattle.hx_members.specs.Setups.{is_login, names_differ, numbers_rise, locates_of, places_of, stock_named, member_with};
@@ -111,7 +111,8 @@ impl Setup {
 
     /// An equal setup. It fails only for want of memory.
     pub fn copy(&self, alloc: Global) -> Result<Self, NoMemory>
-        ensures { IfOk result (λ setup. setup ≡ self.now) }
+        ensures equal { IfOk result (λ setup. setup ≡ self.now) }
+        ensures is_setup { OnOk result (IsSetup self.now) }
     {
         let stocks = self.stocks.to_vec(alloc)?;
         let members = self.members.to_vec(alloc)?;
@@ -134,7 +135,8 @@ impl Setup {
 
     /// The stocks, in order of their locates, which count from 1.
     pub fn stocks(&self) -> &[Stock]
-        ensures { result.now ≡ self.now.stocks }
+        ensures stocks { result.now ≡ self.now.stocks }
+        ensures few { length result.now ≤ 1000 }
     {
         &self.stocks
     }

@@ -1,6 +1,6 @@
 -- The counts of a replay fit.
 use Rattle.std.proofs.Common.{◌≡◌, ℕ, zero, suc, ◌+◌, ◌≤◌, List, [], ◌∷◌, length, replicate, refl, ap, ◌∙◌, arith, slice_index}
-use Rattle.hx_members.specs.Setups.{Setup}
+use Rattle.hx_members.specs.Setups.{Setup, IsSetup}
 use Rattle.hx_refs.specs.Numbers.{raised}
 use Rattle.hx_market.specs.Markets.{Market, opening}
 use Rattle.hx_market.specs.Outputs.{Reply}
@@ -35,8 +35,10 @@ counts-most counts (r ∷ rs) k =
 pub few-after : (p : Progress) (e : Entry) → IsFew p → IsFew (after p e)
 unfolding after
 few-after p e h =
-    let told = told_few p.setup p.market (event_of e) in
+    let told = told_few p.setup p.market (event_of e) h.stocks h.members in
     record {
+      stocks = h.stocks;
+      members = h.members;
       feed = omega (arith, h.feed, told.feed);
       replies = omega (arith, h.replies, told.replies);
       numbered = counts-length p.counts (step p.setup p.market (event_of e)).told.replies ∙ h.numbered;
@@ -48,9 +50,9 @@ zeros zero k = refl
 zeros (suc n) zero = refl
 zeros (suc n) (suc k) = zeros n k
 
-pub few-start : (setup : Setup) → IsFew (start setup)
+pub few-start : (setup : Setup) → IsSetup setup → IsFew (start setup)
 unfolding opening start
-few-start setup = record { feed = omega arith; replies = omega arith; numbered = refl; each = λ member. omega (arith, zeros 4096 member) }
+few-start setup h = record { stocks = h.most_stocks; members = h.most_members; feed = omega arith; replies = omega arith; numbered = refl; each = λ member. omega (arith, zeros 4096 member) }
 
 pub started : (setup s : Setup) (m : Market) (counts : List ℕ) → s ≡ setup → m ≡ opening setup → counts ≡ replicate 4096 0
     → (let p : Progress = record { setup = s; market = m; events = 0; feed = 0; replies = 0; counts = counts } in p) ≡ start setup

@@ -7,13 +7,14 @@ use Rattle.hx_tape.specs.declared.fault.TapeError.{TapeError}
 use Rattle.hx_tape.specs.declared.fault.TapeError.TheVariants as fault
 use Rattle.hx_tape.specs.declared.fault.Kind.{Kind}
 use Rattle.hx_tape.specs.declared.fault.Kind.TheVariants as kinds
-use Rattle.hx_members.specs.Setups.{Setup}
+use Rattle.hx_members.specs.Setups.{Setup, IsSetup}
 use Rattle.hx_tape.specs.Text.{Entry, HasNone}
 use Rattle.hx_tape.specs.Run.{Progress, tape, after_all, output_all, start, counts_of, FailsAs, IsFew, AreEvents, Replays, Stops, EndsBy, BeginsBadly, IsFront, ReplaysAll, StopsAt}
 use Rattle.hx_tape.proofs.Few.{few-start}
 use Rattle.hx_tape.proofs.Runs.{tape-append, after-append, output-append, events-append, events_counted, replays_none, replays_counts, stops_at_rest}
 
 pub record SoFar (setup : Setup) (r s w v : Option (List ℕ)) (counts : Progress) (pending : List ℕ) (turn : ℕ) : Type 0 where
+  pub is_setup : IsSetup setup
   pub text : List ℕ
   pub read : Consumes r s text
   pub plays : Replays (start setup) counts text w v pending
@@ -70,18 +71,19 @@ stops_then End b c text pending piece w v u e p q = record {
 
 -- ---- the loop
 
-pub so_far_none : (setup : Setup) (r w : Option (List ℕ)) → SoFar setup r r w w (start setup) [] 0
-so_far_none setup r w = record { text = []; read = Consumes-nil r; plays = replays_none (start setup) [] w; no_feed = λ k d below. absurd (omega arith); short = omega arith }
+pub so_far_none : (setup : Setup) (r w : Option (List ℕ)) → IsSetup setup → SoFar setup r r w w (start setup) [] 0
+so_far_none setup r w i = record { is_setup = i; text = []; read = Consumes-nil r; plays = replays_none (start setup) [] w; no_feed = λ k d below. absurd (omega arith); short = omega arith }
 
 -- the same over an equal setup
-pub starts_so : (setup copied : Setup) (c : Progress) (pending : List ℕ) (r w : Option (List ℕ)) → copied ≡ setup → c ≡ start copied → pending ≡ [] → SoFar setup r r w w c pending 0
-starts_so setup copied c pending r w copy is none =
+pub starts_so : (setup copied : Setup) (c : Progress) (pending : List ℕ) (r w : Option (List ℕ)) → copied ≡ setup → IsSetup setup → c ≡ start copied → pending ≡ [] → SoFar setup r r w w c pending 0
+starts_so setup copied c pending r w copy i is none =
     let start_is : start setup ≡ c = ap start (sym copy) ∙ sym is in
-    subst (λ (x : List ℕ). SoFar setup r r w w c x 0) (sym none) (subst (λ (x : Progress). SoFar setup r r w w x [] 0) start_is (so_far_none setup r w))
+    subst (λ (x : List ℕ). SoFar setup r r w w c x 0) (sym none) (subst (λ (x : Progress). SoFar setup r r w w x [] 0) start_is (so_far_none setup r w i))
 
 pub so_far_more : (setup : Setup) (r s s' w v u : Option (List ℕ)) (c c' : Progress) (pending piece pending' : List ℕ) (turn : ℕ) → SoFar setup r s w v c pending turn → Consumes s s' piece → length piece ≤ 8192
     → Replays c c' (pending ++ piece) v u pending' → HasNone 10 pending' → SoFar setup r s' w u c' pending' (turn + 1)
 so_far_more setup r s s' w v u c c' pending piece pending' turn h took small plays none = record {
+  is_setup = h.is_setup;
   text = h.text ++ piece;
   read = Consumes-trans r s s' h.text piece h.read took;
   plays = replays_then (start setup) c c' h.text pending piece pending' w v u h.plays plays;
@@ -91,6 +93,7 @@ so_far_more setup r s s' w v u c c' pending piece pending' turn h took small pla
 
 pub so_far_kept : (setup : Setup) (r s s' w v : Option (List ℕ)) (c : Progress) (pending : List ℕ) (turn : ℕ) → SoFar setup r s w v c pending turn → Keeps s s' → SoFar setup r s' w v c pending (turn + 1)
 so_far_kept setup r s s' w v c pending turn h kept = record {
+  is_setup = h.is_setup;
   text = h.text;
   read = Consumes-kept r s s' h.text h.read kept;
   plays = h.plays;
@@ -102,7 +105,7 @@ so_far_kept setup r s s' w v c pending turn h kept = record {
 pub so_far_counts : (setup : Setup) (r s w v : Option (List ℕ)) (c : Progress) (pending : List ℕ) (turn : ℕ) → SoFar setup r s w v c pending turn → (c.events + length pending ≤ 8192 * turn) × IsFew c
 unfolding start
 so_far_counts setup r s w v c pending turn h =
-    let counted = replays_counts (start setup) c h.text w v pending h.plays (few-start setup) in
+    let counted = replays_counts (start setup) c h.text w v pending h.plays (few-start setup h.is_setup) in
     (omega (arith, counted, h.short), counted.1)
 
 pub stops_in_piece : (setup : Setup) (r s s' w v u : Option (List ℕ)) (c : Progress) (pending piece : List ℕ) (turn : ℕ) (e : TapeError) → SoFar setup r s w v c pending turn → Consumes s s' piece → Stops ⊥ c (pending ++ piece) v u e → StopsAt setup e r s' w u

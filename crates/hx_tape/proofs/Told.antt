@@ -1,7 +1,8 @@
 -- How much one step of the market tells.
-use Rattle.std.proofs.Common.{◌≡◌, ℕ, suc, ◌+◌, ◌-◌, ◌*◌, ◌≤◌, ltb, nat_lt, ◌&&◌, not, if◌then◌else◌, Bool, true, false, cond, List, [], ◌∷◌, ◌++◌, length, map, Option, Some, None, refl, arith}
+use Rattle.std.proofs.Common.{◌≡◌, ℕ, suc, ◌+◌, ◌-◌, ◌*◌, ◌≤◌, ltb, nat_lt, ◌&&◌, ◌||◌, not, if◌then◌else◌, Bool, true, false, cond, List, [], ◌∷◌, ◌++◌, length, map, Option, Some, None, refl, arith}
+use Rattle.std.specs.Prelude.{◌==◌}
 use Rattle.std.specs.List.{filter, find}
-use Rattle.std.proofs.lemmas.List.{length-append}
+use Rattle.std.proofs.lemmas.List.{length-append, length-map}
 use Rattle.hx_units.specs.declared.names.Symbol.{Symbol}
 use Rattle.hx_units.specs.declared.names.Token.{Token}
 use Rattle.hx_levels.specs.declared.order.Order.{Order}
@@ -20,19 +21,21 @@ use Rattle.hx_market.specs.declared.event.Event.{Event}
 use Rattle.hx_market.specs.declared.event.Event.TheVariants.{Message, Tick, Hours}
 use Rattle.hx_market.specs.Markets.{Market}
 use Rattle.hx_market.specs.Orders.{is_immediate, is_shown, is_called}
-use Rattle.hx_market.specs.Outputs.{Reply, Outcome}
+use Rattle.hx_members.specs.declared.stock.Stock.{Stock}
+use Rattle.hx_market.specs.Outputs.{Reply, Told, Outcome, silent}
+use Rattle.hx_market.specs.Ending.{all_deleted, end_orders, directory, to_all, told_by_code, is_over, ends_by_code, hours_by, is_next}
 use Rattle.hx_market.specs.Executions.{feed_of_executions, replies_of_executions, published, shown_of, resting_of, canceled_of, incoming_of, Arrival, arrive, arrival_feed}
-use Rattle.hx_market.specs.Leaving.{others, lessened, deleted, taken_off}
+use Rattle.hx_market.specs.Leaving.{others, lessened, deleted, taken_off, canceled}
 use Rattle.hx_market.specs.Replacing.{executed_of, replace_fails, handed_over, is_one_display, replacing_order, replace_feed, replace_order, replaced_by}
 use Rattle.hx_market.specs.Cancelling.{cancelled_shares, cancelled_if, cancelled_by}
 use Rattle.hx_market.specs.Entering.{entered_by, rejection, accept_order, drawn, consumed, entered_order, next_reference}
 use Rattle.hx_market.specs.Steps.{act, step, with_record}
 use Rattle.hx_market.proofs.Sound.{ended}
 
--- all messages of an event but few end a live order
+-- all messages of an event but few end a live order, or are a code's to all
 pub record TellsFew (live : List Order) (o : Outcome) : Type 0 where
-  pub feed : length o.told.feed + length o.market.live ≤ length live + 3
-  pub replies : length o.told.replies + 2 * length o.market.live ≤ 2 * length live + 6
+  pub feed : length o.told.feed + length o.market.live ≤ length live + 1004
+  pub replies : length o.told.replies + 2 * length o.market.live ≤ 2 * length live + 4101
 
 length-executions : (time : ℕ) (stock : Symbol) (n : ℕ) (es : List Execution) → length (feed_of_executions time stock n es) ≡ length es
 length-executions time stock n [] = refl
@@ -204,8 +207,54 @@ act_few setup market member time (Some (inbound.Replace r)) =
     (replace_fails market.hours (executed_of market member r.existing_token) r) refl
 act_few setup market member time (Some (inbound.Cancel c)) = cancelled_few market member time c (find (is_called member c.token) market.live)
 
-pub told_few : (setup : Setup) (market : Market) (event : Event) → TellsFew market.live (step setup market event)
+-- Of a tick and of the hours.
+
+-- an order is due or stays
+parted : (due : Order → Bool) (xs : List Order) → length (filter due xs) + length (filter (λ x. not (due x)) xs) ≡ length xs
+parted due [] = refl
+parted due (x ∷ xs) = at (due x) (parted due xs)
+  where
+    at : (b : Bool) → length (filter due xs) + length (filter (λ y. not (due y)) xs) ≡ length xs
+        → length (cond b (x ∷ filter due xs) (filter due xs)) + length (cond (not b) (x ∷ filter (λ y. not (due y)) xs) (filter (λ y. not (due y)) xs)) ≡ suc (length xs)
+    at true h = omega arith
+    at false h = omega arith
+
+length-all-deleted : (time : ℕ) (xs : List Order) → length (all_deleted time xs) ≤ length xs
+length-all-deleted time [] = omega arith
+length-all-deleted time (x ∷ xs) =
+    let one = length-deleted time x in
+    let more = length-all-deleted time xs in
+    let both = length-append (deleted time x) (all_deleted time xs) in omega arith
+
+ended_few : (due : Order → Bool) (time : ℕ) (market : Market) (first : Told) → length first.feed ≤ 1004 → length first.replies ≤ 4101 → TellsFew market.live (end_orders due time market first)
+ended_few due time market first h k =
+    let ended : List Order = filter due market.live in
+    let all = parted due market.live in
+    let gone = length-all-deleted time ended in
+    let feed = length-append first.feed (all_deleted time ended) in
+    let canceled_all : Order → Reply = λ x. canceled time x.member x.token x.shares 84 in
+    let told : length (map canceled_all ended) ≡ length ended = length-map ended canceled_all in
+    let replies = length-append first.replies (map canceled_all ended) in
+    record { feed = omega (arith, all, gone, feed, h); replies = omega (arith, all, told, replies, k) }
+
+length-directory : (time n : ℕ) (stocks : List Stock) → length (directory time n stocks) ≡ length stocks
+length-directory time n [] = refl
+length-directory time n (s ∷ stocks) = let more : length (directory time (n + 1) stocks) ≡ length stocks = length-directory time (n + 1) stocks in omega arith
+
+either-few : {X : Type 0} (b : Bool) (xs : List X) (most : ℕ) → length xs ≤ most → length (if b then xs else []) ≤ most
+either-few true xs most h = h
+either-few false xs most h = omega arith
+
+hours_few : (setup : Setup) (market : Market) (time code : ℕ) (b : Bool) → length setup.stocks ≤ 1000 → length setup.members ≤ 4095 → TellsFew market.live (hours_by setup market time code b)
+hours_few setup market time code false s m = record { feed = omega arith; replies = omega arith }
+hours_few setup market time code true s m =
+    let listed = either-few (code == 79) (directory time 1 setup.stocks) 1000 (let l = length-directory time 1 setup.stocks in omega arith) in
+    let all : length (to_all setup.members time code) ≡ length setup.members = length-map setup.members _ in
+    let told = either-few (code == 83 || code == 69) (to_all setup.members time code) 4095 (omega arith) in
+    ended_few (ends_by_code code) time (record market { hours = market.hours + 1 }) (told_by_code setup time code) (omega arith) (omega arith)
+
+pub told_few : (setup : Setup) (market : Market) (event : Event) → length setup.stocks ≤ 1000 → length setup.members ≤ 4095 → TellsFew market.live (step setup market event)
 unfolding step
-told_few setup market (Message member time bytes) = act_few setup (with_record (Message member time bytes) market) member time (inbound_of bytes)
-told_few setup market (Tick time) = record { feed = omega arith; replies = omega arith }
-told_few setup market (Hours time code) = record { feed = omega arith; replies = omega arith }
+told_few setup market (Message member time bytes) s m = act_few setup (with_record (Message member time bytes) market) member time (inbound_of bytes)
+told_few setup market (Tick time) s m = ended_few (λ x. is_over time x.life) time (with_record (Tick time) market) silent (omega arith) (omega arith)
+told_few setup market (Hours time code) s m = hours_few setup (with_record (Hours time code) market) time code (is_next market.hours code) s m

@@ -1,6 +1,7 @@
 -- What is written for a tape.
-use Rattle.std.specs.Prelude.{◌≡◌, ◌≢◌, ◌⊎◌, ℕ, ◌+◌, ◌*◌, ◌<◌, ◌≤◌, ◌==◌, if◌then◌else◌, List, [], ◌∷◌, ◌++◌, length, replicate, slice_index, Option, Some, None}
+use Rattle.std.specs.Prelude.{◌≡◌, ◌≢◌, ◌⊎◌, ℕ, ◌+◌, ◌*◌, ◌<◌, ◌≤◌, ◌==◌, if◌then◌else◌, List, [], ◌∷◌, ◌++◌, length, replicate, slice_index, Option, Some, None, Bool, ◌&&◌, is_none}
 use Rattle.std.specs.List.{flat_map}
+use Rattle.std.specs.Option.{option_map_or}
 use Rattle.std.specs.Io.KnownBytes.{Consumes, Appends, IsAtEnd}
 use Rattle.hx_members.specs.Setups.{Setup}
 use Rattle.hx_market.specs.declared.event.Event.{Event}
@@ -10,6 +11,7 @@ use Rattle.hx_market.specs.declared.fault.PrepareError.TheVariants as refused
 use Rattle.hx_market.specs.Markets.{Market, opening}
 use Rattle.hx_market.specs.Outputs.{Outcome}
 use Rattle.hx_market.specs.Admitting.{refusal}
+use Rattle.hx_market.specs.Operating.{operator_event}
 use Rattle.hx_market.specs.Steps.{step}
 use Rattle.hx_tape.specs.declared.fault.Kind.{Kind}
 use Rattle.hx_tape.specs.declared.fault.Kind.TheVariants as kind
@@ -33,8 +35,20 @@ pub record Progress : Type 0 where
 unfoldable pub start : Setup → Progress
 start setup = record { setup = setup; market = opening setup; events = 0; feed = 0; replies = 0; counts = replicate 4096 0 }
 
+-- the operator has number 0
+abbrev pub is_operator : Entry → Bool
+is_operator e = e.member == 0
+
+abbrev pub message_of : Entry → Event
+message_of e = event.Message e.member e.time e.bytes
+
+-- the event of an entry: a member's message, or what the operator's bytes say
 abbrev pub event_of : Entry → Event
-event_of e = event.Message e.member e.time e.bytes
+event_of e = if is_operator e then option_map_or (λ x. x) (operator_event e.time e.bytes) (message_of e) else message_of e
+
+-- the operator's bytes say nothing
+abbrev pub is_unknown : Entry → Bool
+is_unknown e = is_operator e && is_none (operator_event e.time e.bytes)
 
 -- the kind of fault that a refusal is
 abbrev pub kind_of : Option PrepareError → Option Kind
@@ -51,9 +65,9 @@ fault_of n refused.NoMember = fault.Line n kind.Member
 fault_of n (refused.Limit member) = fault.Line n kind.Limit
 fault_of n refused.NoMemory = fault.NoMemory
 
--- What is wrong with an entry: the operator's lines are bad lines, and else the market may refuse the event, for its time, its member or his limit, in this order.
+-- What is wrong with an entry: the operator's bytes say nothing, or the market refuses the event, for its time, its member or his limit, in this order.
 unfoldable pub check_of : Progress → Entry → Option Kind
-check_of p e = if e.member == 0 then Some kind.Bad else kind_of (refusal p.setup p.market.recorded (event_of e))
+check_of p e = if is_unknown e then Some kind.Bad else kind_of (refusal p.setup p.market.recorded (event_of e))
 
 abbrev pub outcome_of : Progress → Entry → Outcome
 outcome_of p e = step p.setup p.market (event_of e)
@@ -189,9 +203,11 @@ pub record StopsAt (setup : Setup) (e : TapeError) (r s w v : Option (List ℕ))
 
 -- ---- numbers that fit
 
--- each event makes one order at most, and all but few of its messages end one
+-- each event makes one order at most, and all its messages end one but few, or those of a code of the hours to all members and of all stocks
 pub record IsFew (p : Progress) : Type 0 where
-  pub feed : p.feed + length p.market.live ≤ 3 * p.events
-  pub replies : p.replies + 2 * length p.market.live ≤ 6 * p.events
+  pub stocks : length p.setup.stocks ≤ 1000
+  pub members : length p.setup.members ≤ 4095
+  pub feed : p.feed + length p.market.live ≤ 1004 * p.events
+  pub replies : p.replies + 2 * length p.market.live ≤ 4101 * p.events
   pub numbered : length p.counts ≡ 4096
   pub each : (member : ℕ) → slice_index p.counts member ≤ p.replies

@@ -44,7 +44,7 @@ fn play_lines<'a, B: Book + Drop, W: Write>(
     writer: &mut W,
     text: &'a [u8],
 ) -> Result<&'a [u8], TapeError>
-    requires events { run.old.events + length text.now < 2 ^ 60 }
+    requires events { run.old.events + length text.now < 2 ^ 48 }
     requires few { IsFew run.old }
     ensures ok { IfOk result (λ rest. Replays run.old run.new text.now (W.contents writer.old) (W.contents writer.new) rest.now
         × HasNone 10 rest.now) }
@@ -123,7 +123,7 @@ fn play_piece<B: Book + Drop, W: Write>(
     pending: &mut Vec<u8>,
     piece: &[u8],
 ) -> Result<(), TapeError>
-    requires events { run.old.events + length (pending.old.items ++ piece.now) < 2 ^ 60 }
+    requires events { run.old.events + length (pending.old.items ++ piece.now) < 2 ^ 48 }
     requires few { IsFew run.old }
     ensures ok { OnOk result (Replays run.old run.new (pending.old.items ++ piece.now) (W.contents writer.old) (W.contents writer.new)
         pending.new.items × HasNone 10 pending.new.items × (length pending.new.items ≤ 2066)) }

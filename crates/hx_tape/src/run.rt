@@ -1,18 +1,18 @@
 //! A replay as it goes: its market, and what was counted.
-ghost use Rattle.std.specs.Prelude.{◌≡◌, ◌≢◌, ◌≤◌, ◌<◌, ◌^◌, ◌+◌, ◌++◌, [], ℕ, None, IfOk, IfErr, OnOk, OnErr, string_bytes, length, replicate, slice_index};
+ghost use Rattle.std.specs.Prelude.{◌≡◌, ◌≢◌, ◌≤◌, ◌<◌, ◌^◌, ◌+◌, ◌++◌, [], ℕ, None, true, false, IfOk, IfErr, IfSome, IfNone, OnSome, OnOk, OnErr, string_bytes, length, replicate, slice_index};
 ghost use Rattle.std.specs.List.{AllByRecursion};
 ghost use Rattle.hx_itch.specs.Message.{feed_time};
 ghost use Rattle.hx_market.specs.Steps.{step};
 ghost use Rattle.hx_market.specs.Admitting.{refusal, or_no_memory};
 ghost use Rattle.hx_tape.specs.Text.{Entry, entry_of, line};
 ghost use Rattle.hx_tape.specs.Output.{feed_line, reply_line, feed_lines, reply_lines, counts_after};
-ghost use Rattle.hx_tape.specs.Run.{event_of, fault_of, counts_of, start, Plays, Faults, IsFew};
+ghost use Rattle.hx_tape.specs.Run.{event_of, is_unknown, fault_of, counts_of, start, Plays, Faults, IsFew};
 
 use crate::fault::{Kind, TapeError};
 use crate::line::{self, Fields};
 use hx_itch::{Feed, encode};
 use hx_levels::Book;
-use hx_market::{Bytes, Event, Market, Output, PrepareError};
+use hx_market::{Bytes, Event, Market, Output, PrepareError, decode_operator};
 use hx_members::Setup;
 use hx_ouch::{Outbound, encode_out};
 use hx_units::{MemberNo, NoMemory};
@@ -119,6 +119,22 @@ fn no_replies(alloc: Global) -> Result<Vec<u64>, AllocError>
     vec![in alloc; 0; 4096]
 }
 
+// The event of an entry: a member's message, or what the operator's bytes say, where they say something.
+fn event_of(fields: Fields) -> Option<Event>
+    ensures event { IfSome result (λ event. event ≡ event_of (entry_of fields)) }
+    ensures known { OnSome result (is_unknown (entry_of fields) ≡ false) }
+    ensures unknown { IfNone result (is_unknown (entry_of fields) ≡ true) }
+{
+    if fields.member == 0 {
+        return decode_operator(fields.time, &fields.bytes);
+    }
+    Some(Event::Message {
+        member: fields.member,
+        time: fields.time,
+        bytes: Bytes::of(fields.bytes),
+    })
+}
+
 // The fault of the line of this number, where the market refuses its event.
 fn fault_of(line: u64, error: PrepareError) -> TapeError
     ensures { result ≡ fault_of line error }
@@ -159,7 +175,7 @@ impl<B: Book + Drop> Run<B> {
 
     /// Plays the next line, and gives its output lines.
     pub fn play(&mut self, text: &[u8]) -> Result<String, TapeError>
-        requires events { self.old.events < 2 ^ 60 }
+        requires events { self.old.events < 2 ^ 48 }
         requires few { IsFew self.old }
         ensures ok { IfOk result (λ output. Plays self.old self.new text.now (string_bytes output)) }
         ensures faults { IfErr result (Faults self.old text.now) }
@@ -172,29 +188,24 @@ impl<B: Book + Drop> Run<B> {
         let Some(fields) = line::read(self.alloc, text)? else {
             return Err(bad);
         };
-        if fields.member == 0 {
+        let Some(event) = event_of(fields) else {
             return Err(bad);
-        }
-        let output = self.step(fields)?;
+        };
+        let output = self.step(&event)?;
         Ok(self.tell(&output)?)
     }
 
     // One step of the market.
-    fn step(&mut self, fields: Fields) -> Result<Output, TapeError>
-        requires { self.old.events < 2 ^ 60 }
-        ensures passes { OnOk result (refusal self.old.setup self.old.market.recorded (event_of (entry_of fields)) ≡ None) }
-        ensures run { OnOk result (self.new ≡ record self.old { market = (step self.old.setup self.old.market (event_of (entry_of fields))).market }) }
-        ensures feed { IfOk result (λ output. output.feed.items ≡ (step self.old.setup self.old.market (event_of (entry_of fields))).told.feed) }
-        ensures replies { IfOk result (λ output. output.replies.items ≡ (step self.old.setup self.old.market (event_of (entry_of fields))).told.replies) }
+    fn step(&mut self, event: &Event) -> Result<Output, TapeError>
+        requires { self.old.events < 2 ^ 48 }
+        ensures passes { OnOk result (refusal self.old.setup self.old.market.recorded event.now ≡ None) }
+        ensures run { OnOk result (self.new ≡ record self.old { market = (step self.old.setup self.old.market event.now).market }) }
+        ensures feed { IfOk result (λ output. output.feed.items ≡ (step self.old.setup self.old.market event.now).told.feed) }
+        ensures replies { IfOk result (λ output. output.replies.items ≡ (step self.old.setup self.old.market event.now).told.replies) }
         ensures times { IfOk result (λ output. AllByRecursion (λ message. feed_time message < 2 ^ 48) output.feed.items) }
-        ensures refused { IfErr result (λ e. e ≡ fault_of (self.old.events + 1) (or_no_memory (refusal self.old.setup self.old.market.recorded (event_of (entry_of fields))))) }
+        ensures refused { IfErr result (λ e. e ≡ fault_of (self.old.events + 1) (or_no_memory (refusal self.old.setup self.old.market.recorded event.now))) }
     {
-        let event = Event::Message {
-            member: fields.member,
-            time: fields.time,
-            bytes: Bytes::of(fields.bytes),
-        };
-        match self.market.prepare(&event) {
+        match self.market.prepare(event) {
             Ok(prepared) => Ok(self.market.commit(prepared)),
             Err(error) => Err(fault_of(self.counts.events + 1, error)),
         }
@@ -203,7 +214,7 @@ impl<B: Book + Drop> Run<B> {
     // Counts what a step gave, and gives its output lines.
     fn tell(&mut self, output: &Output) -> Result<String, AllocError>
         requires times { AllByRecursion (λ message. feed_time message < 2 ^ 48) output.now.feed.items }
-        requires events { self.old.events < 2 ^ 60 }
+        requires events { self.old.events < 2 ^ 48 }
         requires feed { self.old.feed + length output.now.feed.items < 2 ^ 64 }
         requires replies { self.old.replies + length output.now.replies.items < 2 ^ 64 }
         requires numbered { length self.old.counts ≡ 4096 }

@@ -30,20 +30,20 @@ returns-clause-planned g c = λ n.
     let name = c.draft_act.new.tokens.place in
     let m : Market = market_of orders c.draft_act.new.tokens n c.args.hours c.args.recorded.now in
     let e : Event = c.args.event.now in
-    let act : Act = c.act_of-act.result in
+    let act : Act = c.in_ok-act.act in
     let d = c.in_ok-draft.draft in
-    let about : IsAbout orders act = subst (λ (xs : List Live). IsAbout xs act) (sym c.draft_act.ensures.orders) c.act_of-act.ensures.about in
+    let about : IsAbout orders act = subst (λ (xs : List Live). IsAbout xs act) (sym c.draft_act.ensures.orders) c.in_ok-act.ensures.about in
     let told = tells (with_record e m) act orders place name d.fills.items d.left refl about c.in_ok-draft.ensures.places in
     let made : Event → Planned = λ ev. record { event = ev; feed_count = d.feed_count; reply_members = d.reply_members.items; number = c.in_ok-number.number; act = act; fills = d.fills.items; left = d.left } in
     subst (λ (ev : Event). IsPlanned c.args.setup.now m orders place name (made ev)) (sym c.of.ensures)
     (record {
       number = c.in_ok-number.ensures.number;
       may_record = c.in_ok-number.ensures.may_record;
-      does = does_here c.args.setup.now e act n c.args.hours (raised c.args.recorded.now (sender e)) (g.B.Book.orders c.args.book.now) orders c.args.tokens.now c.draft_act.new.tokens (sym c.draft_act.ensures.orders) (sym c.draft_act.ensures.tokens) (sym c.draft_act.ensures.chains) (c.act_of-act.ensures.does n (raised c.args.recorded.now (sender e)));
-      is_act = c.act_of-act.ensures.is_act;
-      suits = subst (λ (us : List Used). SuitsTokens us c.draft_act.new.tokens.chains act) (sym c.draft_act.ensures.tokens) (subst (λ (cs : List Chain). SuitsTokens c.args.tokens.now.tokens cs act) (sym c.draft_act.ensures.chains) c.act_of-act.ensures.suits);
+      does = does_here c.args.setup.now e act n c.args.hours (raised c.args.recorded.now (sender e)) (g.B.Book.orders c.args.book.now) orders c.args.tokens.now c.draft_act.new.tokens (sym c.draft_act.ensures.orders) (sym c.draft_act.ensures.tokens) (sym c.draft_act.ensures.chains) (c.in_ok-act.ensures.does n (raised c.args.recorded.now (sender e)));
+      is_act = c.in_ok-act.ensures.is_act;
+      suits = subst (λ (us : List Used). SuitsTokens us c.draft_act.new.tokens.chains act) (sym c.draft_act.ensures.tokens) (subst (λ (cs : List Chain). SuitsTokens c.args.tokens.now.tokens cs act) (sym c.draft_act.ensures.chains) c.in_ok-act.ensures.suits);
       about = about;
-      sender = subst (λ i. IsOf i act) (sym c.in_ok-number.ensures.number) c.act_of-act.ensures.sender;
+      sender = subst (λ i. IsOf i act) (sym c.in_ok-number.ensures.number) c.in_ok-act.ensures.sender;
       places = c.in_ok-draft.ensures.places;
       feed_count = c.in_ok-draft.ensures.feed_count ∙ told.0;
       reply_members = c.in_ok-draft.ensures.members ∙ told.1;

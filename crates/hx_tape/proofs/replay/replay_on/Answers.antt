@@ -65,7 +65,7 @@ returns-in_err-run-clause-err g c =
 pub loop-init : goal.loop-init
 loop-init g c =
     starts_so c.args.setup.now c.in_ok-copy.field-0 c.in_ok-run.run' c.new-pending.result.items (g.R.Read.remaining c.args.reader.now) (g.W.Write.contents c.args.writer.now)
-    c.in_ok-copy.ensures c.in_ok-run.ensures c.new-pending.ensures.items
+    c.in_ok-copy.ensures.equal c.in_ok-copy.ensures.is_setup c.in_ok-run.ensures c.new-pending.ensures.items
 
 pub returns-then-ne-clause-err : goal.returns-then-ne-clause-err
 returns-then-ne-clause-err g c =

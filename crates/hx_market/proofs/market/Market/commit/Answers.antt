@@ -9,7 +9,7 @@ use Rattle.hx_market.specs.Markets.{Market}
 use Rattle.hx_market.specs.Outputs.{Outcome, Told}
 use Rattle.hx_market.specs.Steps.{step, with_record}
 use Rattle.hx_market.specs.Keeping.{IsSound}
-use Rattle.hx_market.specs.Acts.{outcome_of}
+use Rattle.hx_market.specs.Acts.{outcome_of, hours_after}
 use Rattle.hx_market.specs.Ready.{Planned, Seen, IsPlanned, HasPlaces, market_of}
 use Rattle.hx_market.proofs.Next.{recording}
 use Rattle.hx_market.proofs.Drafts.{step_is}
@@ -20,14 +20,15 @@ use Rattle.hx_market.proofs.Outcomes.{bare, parts, told_same, in_range, fits_act
 use Rattle.hx_market.proofs.market.Market.commit.Goals as goal
 
 -- the market by its parts
-whole : (xs ys : List Order) (ts us : List Used) (cs ds : List Chain) (n k : Numbers) (hours : ℕ) (rs qs : List ℕ) → xs ≡ ys → ts ≡ us → cs ≡ ds → n ≡ k → rs ≡ qs
-    → (let m : Market = record { live = xs; tokens = ts; chains = cs; numbers = n; hours = hours; recorded = rs } in m) ≡ (let m : Market = record { live = ys; tokens = us; chains = ds; numbers = k; hours = hours; recorded = qs } in m)
-whole xs ys ts us cs ds n k hours rs qs l t c e r =
+whole : (xs ys : List Order) (ts us : List Used) (cs ds : List Chain) (n k : Numbers) (hours then : ℕ) (rs qs : List ℕ) → xs ≡ ys → ts ≡ us → cs ≡ ds → n ≡ k → hours ≡ then → rs ≡ qs
+    → (let m : Market = record { live = xs; tokens = ts; chains = cs; numbers = n; hours = hours; recorded = rs } in m) ≡ (let m : Market = record { live = ys; tokens = us; chains = ds; numbers = k; hours = then; recorded = qs } in m)
+whole xs ys ts us cs ds n k hours then rs qs l t c e o r =
     ap (λ (z : List Order). (let m : Market = record { live = z; tokens = ts; chains = cs; numbers = n; hours = hours; recorded = rs } in m)) l
     ∙ ap (λ (z : List Used). (let m : Market = record { live = ys; tokens = z; chains = cs; numbers = n; hours = hours; recorded = rs } in m)) t
     ∙ ap (λ (z : List Chain). (let m : Market = record { live = ys; tokens = us; chains = z; numbers = n; hours = hours; recorded = rs } in m)) c
     ∙ ap (λ (z : Numbers). (let m : Market = record { live = ys; tokens = us; chains = ds; numbers = z; hours = hours; recorded = rs } in m)) e
-    ∙ ap (λ (z : List ℕ). (let m : Market = record { live = ys; tokens = us; chains = ds; numbers = k; hours = hours; recorded = z } in m)) r
+    ∙ ap (λ (z : ℕ). (let m : Market = record { live = ys; tokens = us; chains = ds; numbers = k; hours = z; recorded = rs } in m)) o
+    ∙ ap (λ (z : List ℕ). (let m : Market = record { live = ys; tokens = us; chains = ds; numbers = k; hours = then; recorded = z } in m)) r
 
 pub raise-requires : goal.raise-requires
 raise-requires g c =
@@ -101,10 +102,10 @@ invariant_of-self g c =
     let i : IsPlanned s.setup m (g.B.Book.orders s.book) (g.B.Book.place s.book) s.tokens.place p =
     c.self.invariant.2 p (ap (λ (v : Seen). v.ready) c.self.view_is ∙ c.requires.ready ∙ ap (λ (z : Planned). Some z) (sym c.prepared.view_is)) in
     let k : Market = (outcome_of (bare m) q.act).market in
-    let n : Market = market_of (g.B.Book.orders c.carry_out.new.book) c.carry_out.new.tokens c.carry_out.new.refs s.hours c.raise.new.self in
+    let n : Market = market_of (g.B.Book.orders c.carry_out.new.book) c.carry_out.new.tokens c.carry_out.new.refs c.hours_after-self-inside.result c.raise.new.self in
     let is : n ≡ (outcome_of (recording m q.number) q.act).market =
-    whole (lives (g.B.Book.orders c.carry_out.new.book)) k.live c.carry_out.new.tokens.tokens k.tokens c.carry_out.new.tokens.chains k.chains c.carry_out.new.refs k.numbers s.hours c.raise.new.self (raised s.recorded q.number)
-    c.carry_out.ensures.live c.carry_out.ensures.tokens c.carry_out.ensures.chains c.carry_out.ensures.numbers c.raise.ensures
+    whole (lives (g.B.Book.orders c.carry_out.new.book)) k.live c.carry_out.new.tokens.tokens k.tokens c.carry_out.new.tokens.chains k.chains c.carry_out.new.refs k.numbers c.hours_after-self-inside.result (hours_after q.act s.hours) c.raise.new.self (raised s.recorded q.number)
+    c.carry_out.ensures.live c.carry_out.ensures.tokens c.carry_out.ensures.chains c.carry_out.ensures.numbers c.hours_after-self-inside.ensures c.raise.ensures
     ∙ sym (parts (recording m q.number) q.act) in
     (subst IsSound (sym is) (sound_outcome s.setup m q.number q.act (g.B.Book.orders s.book) refl c.self.invariant.0 i.may_record i.is_act i.suits i.about i.sender), c.carry_out.ensures.keyed, λ p h. cc)
 
@@ -117,10 +118,10 @@ returns-clause-market g c =
     let i : IsPlanned s.setup m (g.B.Book.orders s.book) (g.B.Book.place s.book) s.tokens.place p =
     c.self.invariant.2 p (ap (λ (v : Seen). v.ready) c.self.view_is ∙ c.requires.ready ∙ ap (λ (z : Planned). Some z) (sym c.prepared.view_is)) in
     let k : Market = (outcome_of (bare m) q.act).market in
-    let n : Market = market_of (g.B.Book.orders c.carry_out.new.book) c.carry_out.new.tokens c.carry_out.new.refs s.hours c.raise.new.self in
+    let n : Market = market_of (g.B.Book.orders c.carry_out.new.book) c.carry_out.new.tokens c.carry_out.new.refs c.hours_after-self-inside.result c.raise.new.self in
     let is : n ≡ (outcome_of (recording m q.number) q.act).market =
-    whole (lives (g.B.Book.orders c.carry_out.new.book)) k.live c.carry_out.new.tokens.tokens k.tokens c.carry_out.new.tokens.chains k.chains c.carry_out.new.refs k.numbers s.hours c.raise.new.self (raised s.recorded q.number)
-    c.carry_out.ensures.live c.carry_out.ensures.tokens c.carry_out.ensures.chains c.carry_out.ensures.numbers c.raise.ensures
+    whole (lives (g.B.Book.orders c.carry_out.new.book)) k.live c.carry_out.new.tokens.tokens k.tokens c.carry_out.new.tokens.chains k.chains c.carry_out.new.refs k.numbers c.hours_after-self-inside.result (hours_after q.act s.hours) c.raise.new.self (raised s.recorded q.number)
+    c.carry_out.ensures.live c.carry_out.ensures.tokens c.carry_out.ensures.chains c.carry_out.ensures.numbers c.hours_after-self-inside.ensures c.raise.ensures
     ∙ sym (parts (recording m q.number) q.act) in
     let one : outcome_of (with_record p.event m) q.act ≡ step c.args.self.now.setup c.args.self.now.market c.args.prepared.event =
     step_is s.setup c.args.self.now.setup m c.args.self.now.market p.event c.args.prepared.event (outcome_of (with_record p.event m) q.act) i.does (ap (λ (v : Seen). v.setup) c.self.view_is) (ap (λ (v : Seen). v.market) c.self.view_is) (ap (λ (v : Planned). v.event) c.prepared.view_is) in
