@@ -9,3 +9,4 @@ pub mod Runs
 pub mod Pieces
 pub mod OneReading
 pub mod OutputIsTold
+pub mod NoTrace

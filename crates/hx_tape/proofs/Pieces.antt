@@ -9,7 +9,9 @@ use Rattle.hx_tape.specs.declared.fault.Kind.{Kind}
 use Rattle.hx_tape.specs.declared.fault.Kind.TheVariants as kinds
 use Rattle.hx_members.specs.Setups.{Setup, IsSetup}
 use Rattle.hx_tape.specs.Text.{Entry, HasNone}
-use Rattle.hx_tape.specs.Run.{Progress, tape, after_all, output_all, start, counts_of, FailsAs, IsFew, AreEvents, Replays, Stops, EndsBy, BeginsBadly, IsFront, ReplaysAll, StopsAt}
+use Rattle.hx_tape.specs.Run.{Progress, tape, after_all, output_all, start, counts_of, FailsAs, IsFew, AreEvents, Replays, Stops, EndsBy, BeginsBadly, IsFront}
+use Rattle.hx_tape.specs.Whole.{ReplaysAll, StopsAt}
+use Rattle.hx_tape.proofs.NoTrace.{no_trace}
 use Rattle.hx_tape.proofs.Few.{few-start}
 use Rattle.hx_tape.proofs.Runs.{tape-append, after-append, output-append, events-append, events_counted, replays_none, replays_counts, stops_at_rest}
 
@@ -113,6 +115,7 @@ stops_in_piece setup r s s' w v u c pending piece turn e h took stops = record {
   text = h.text ++ piece;
   read = Consumes-trans r s s' h.text piece h.read took;
   stops = stops_then (IsAtEnd s') (start setup) c h.text pending piece w v u e h.plays stops;
+  no_trace = no_trace setup _;
 }
 
 stops_between : (setup : Setup) (e : TapeError) (r s s' w v : Option (List ℕ)) (c : Progress) (pending : List ℕ) (turn : ℕ) → ((events : List Entry) → EndsBy (IsAtEnd s') (start setup) events pending (output_all (start setup) events) e) → SoFar setup r s w v c pending turn
@@ -121,6 +124,7 @@ stops_between setup e r s s' w v c pending turn why h kept = record {
   text = h.text;
   read = Consumes-kept r s s' h.text h.read kept;
   stops = record { events = h.plays.events; are_events = h.plays.are_events; rest = pending; text_is = h.plays.text_is; written = output_all (start setup) h.plays.events; wrote = h.plays.wrote; why = why h.plays.events };
+  no_trace = no_trace setup h.plays.events;
 }
 
 pub stops_in_read : (setup : Setup) (r s s' w v : Option (List ℕ)) (c : Progress) (pending : List ℕ) (turn : ℕ) → SoFar setup r s w v c pending turn → Keeps s s' → StopsAt setup fault.Read r s' w v
@@ -135,6 +139,7 @@ stops_at_start setup r w = record {
   text = [];
   read = Consumes-nil r;
   stops = record { events = []; are_events = tt; rest = []; text_is = refl; written = []; wrote = Appends-nil w; why = ([], refl) };
+  no_trace = no_trace setup [];
 }
 
 -- ---- the end
@@ -152,6 +157,7 @@ ends_well setup r s s' w v c pending turn h took end empty =
       at_end = end;
       counts_are = ap counts_of h.plays.after_is;
       wrote = h.plays.wrote;
+      no_trace = no_trace setup h.plays.events;
     }
 
 pub ends_in_line : (setup : Setup) (r s s' w v : Option (List ℕ)) (c : Progress) (pending : List ℕ) (turn : ℕ) → SoFar setup r s w v c pending turn → Consumes s s' [] → IsAtEnd s' → 0 < length pending → StopsAt setup (fault.Line (c.events + 1) kinds.Bad) r s' w v
@@ -159,6 +165,7 @@ ends_in_line setup r s s' w v c pending turn h took end some = record {
   text = h.text;
   read = read_on r s s' h.text h.read took;
   stops = stops_at_rest (IsAtEnd s') (start setup) c h.text w v pending h.plays h.no_feed (inr (some, end));
+  no_trace = no_trace setup _;
 }
 
 -- a read of nothing, which had room

@@ -1,3 +1,5 @@
 pub mod Text
 pub mod Output
 pub mod Run
+pub mod Seen
+pub mod Whole

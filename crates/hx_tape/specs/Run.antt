@@ -2,7 +2,7 @@
 use Rattle.std.specs.Prelude.{◌≡◌, ◌≢◌, ◌⊎◌, ℕ, ◌+◌, ◌*◌, ◌<◌, ◌≤◌, ◌==◌, if◌then◌else◌, List, [], ◌∷◌, ◌++◌, length, replicate, slice_index, Option, Some, None, Bool, ◌&&◌, is_none}
 use Rattle.std.specs.List.{flat_map}
 use Rattle.std.specs.Option.{option_map_or}
-use Rattle.std.specs.Io.KnownBytes.{Consumes, Appends, IsAtEnd}
+use Rattle.std.specs.Io.KnownBytes.{Appends}
 use Rattle.hx_members.specs.Setups.{Setup}
 use Rattle.hx_market.specs.declared.event.Event.{Event}
 use Rattle.hx_market.specs.declared.event.Event.TheVariants as event
@@ -185,21 +185,6 @@ pub record Stops (End : Type 0) (p : Progress) (text : List ℕ) (w v : Option (
 
 abbrev pub counts_of : Progress → Counts
 counts_of p = record { events = p.events; feed = p.feed; replies = p.replies }
-
--- What was read is the text of events and their output text was written, all of it.
-pub record ReplaysAll (setup : Setup) (counts : Counts) (r s w v : Option (List ℕ)) : Type 0 where
-  pub events : List Entry
-  pub are_events : AreEvents (start setup) events
-  pub read : Consumes r s (tape events)
-  pub at_end : IsAtEnd s
-  pub counts_are : counts ≡ counts_of (after_all (start setup) events)
-  pub wrote : Appends w v (output_all (start setup) events)
-
--- What was read, and how much of its output text was written.
-pub record StopsAt (setup : Setup) (e : TapeError) (r s w v : Option (List ℕ)) : Type 0 where
-  pub text : List ℕ
-  pub read : Consumes r s text
-  pub stops : Stops (IsAtEnd s) (start setup) text w v e
 
 -- ---- numbers that fit
 

@@ -2,7 +2,8 @@
 ghost use Rattle.std.specs.Prelude.{List, ℕ, ◌≡◌, ◌≤◌, ◌<◌, ◌^◌, ◌+◌, ◌*◌, ◌++◌, [], OnOk, OnErr, IfOk, IfErr, length};
 ghost use Rattle.std.specs.Io.KnownBytes.{Appends};
 ghost use Rattle.hx_tape.specs.Text.{HasNone};
-ghost use Rattle.hx_tape.specs.Run.{Writes, Replays, Stops, ReplaysAll, StopsAt, IsFew, counts_of};
+ghost use Rattle.hx_tape.specs.Run.{Writes, Replays, Stops, IsFew, counts_of};
+ghost use Rattle.hx_tape.specs.Whole.{ReplaysAll, StopsAt};
 ghost use Rattle.hx_tape.specs.declared.fault.TapeError.TheVariants as fault;
 ghost use Rattle.hx_tape.specs.declared.fault.Kind.TheVariants as kinds;
 
@@ -72,10 +73,10 @@ pub fn replay<R: Read, W: Write>(
     reader: &mut R,
     writer: &mut W,
 ) -> Result<Counts, TapeError>
-    // All was read, and the output text of its events was written.
+    // All was read, and the output text of its events was written; in it quiet orders leave no trace.
     ensures ok { IfOk result (λ counts.
         ReplaysAll setup.now counts (R.remaining reader.old) (R.remaining reader.new) (W.contents writer.old) (W.contents writer.new)) }
-    // What was read, and which part of its output text was written.
+    // What was read, and which part of the output text of its events was written; the same of it.
     ensures err { IfErr result (λ e.
         StopsAt setup.now e (R.remaining reader.old) (R.remaining reader.new) (W.contents writer.old) (W.contents writer.new)) }
 {

@@ -2,8 +2,8 @@ use Rattle.std.proofs.Common.{◌≡◌, length, arith, sym, ap, ◌∙◌, take
 use Rattle.std.proofs.lemmas.List.{length-append, length-take}
 use Rattle.std.proofs.lemmas.Result.{err_from_is_err_and, IfOk-weaker, IfErr-weaker}
 use Rattle.hx_tape.specs.declared.run.Counts.{Counts}
-use Rattle.hx_tape.specs.Run.{ReplaysAll, StopsAt}
-use Rattle.hx_tape.proofs.Pieces.{so_far_counts, so_far_more, so_far_kept, ends_well, ends_in_line, stops_in_piece, stops_at_start, stops_in_read, starts_so, at_end_after}
+use Rattle.hx_tape.specs.Whole.{ReplaysAll, StopsAt}
+use Rattle.hx_tape.proofs.Pieces.{so_far_counts, so_far_more, so_far_kept, ends_well, ends_in_line, stops_in_piece, stops_at_start, stops_in_read, stops_after_turns, starts_so, at_end_after}
 use Rattle.hx_tape.proofs.replay.replay_on.Goals as goal
 use Rattle.hx_tape.proofs.replay.replay_on.Goals.{in-Ok+in_ok-play_piece-in-Ok, in-Err+else-ne}
 
@@ -71,3 +71,6 @@ pub returns-then-ne-clause-err : goal.returns-then-ne-clause-err
 returns-then-ne-clause-err g c =
     stops_in_read c.args.setup.now (g.R.Read.remaining c.args.reader.now) (g.R.Read.remaining c.loop.reader) (g.R.Read.remaining c.read.new.self) (g.W.Write.contents c.args.writer.now) (g.W.Write.contents c.loop.writer)
     c.loop.run c.loop.pending.items c.loop.counter c.loop.invariant c.in-Err.ensures.bytes
+
+pub returns-clause-err : goal.returns-clause-err
+returns-clause-err g c = stops_after_turns c.args.setup.now (g.R.Read.remaining c.args.reader.now) (g.R.Read.remaining c.loop.reader) (g.W.Write.contents c.args.writer.now) (g.W.Write.contents c.loop.writer) c.loop.run c.loop.pending.items c.loop.counter c.loop.invariant
