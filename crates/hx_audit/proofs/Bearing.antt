@@ -1,0 +1,81 @@
+-- Which messages bear a quiet token of a member, and what is left without them.
+use Rattle.std.proofs.Common.{◌≡◌, ℕ, suc, ◌+◌, ◌<◌, ◌≤◌, Bool, true, false, cond, not, refl, sym, ap, ◌∙◌, eqb, ◌&&◌, List, [], ◌∷◌, ◌++◌, length, drop, get_or, Some, None, Option, add-one, append-nil, append_assoc}
+use Rattle.std.proofs.Math.Seq.{drop-cons}
+use Rattle.std.proofs.lemmas.List.{drop_all}
+use Rattle.std.proofs.lemmas.Bool.Decides.{Decides-eqb}
+use Rattle.hx_units.specs.declared.names.Token.{Token}
+use Rattle.hx_members.specs.declared.name.ChainFacts.{ChainFacts}
+use Rattle.hx_members.specs.Chains.{is_used, entered_of, is_loud}
+use Rattle.hx_members.specs.Tokens.{facts_of}
+use Rattle.hx_ouch.specs.declared.inbound.Inbound.{Inbound}
+use Rattle.hx_ouch.specs.declared.inbound.Inbound.TheVariants.{Enter, Replace, Cancel}
+use Rattle.hx_market.specs.declared.event.Event.{Event}
+use Rattle.hx_market.specs.Markets.{Market}
+use Rattle.hx_market.specs.Ready.{chain_facts}
+use Rattle.hx_market.specs.Striking.{Choice, is_quiet, quiet_of_one, message_bears, bears, strike}
+use Rattle.hx_audit.specs.Facts.{are_loud, FactsTell}
+
+-- a message of another bears none
+pub of_another : (m n : ℕ) (a : Market) (x : Option Inbound) → (n ≡ m → ⊥) → message_bears (quiet_of_one m a) n x ≡ false
+unfolding quiet_of_one
+of_another m n a x h = choose (eqb n m) refl x
+  where
+    choose : (b : Bool) → eqb n m ≡ b → (x : Option Inbound) → message_bears (quiet_of_one m a) n x ≡ false
+    choose true e x = absurd (h ((Decides-eqb n m).0 e))
+    choose false e None = refl
+    choose false e (Some (Enter t)) = rw e refl
+    choose false e (Some (Replace t)) = rw e refl
+    choose false e (Some (Cancel t)) = rw e refl
+
+-- of a message of the member all tokens are his
+pub of_member : (m n : ℕ) (a : Market) (x : Option Inbound) → n ≡ m → message_bears (quiet_of_one m a) n x ≡ message_bears (is_quiet a) m x
+unfolding quiet_of_one
+of_member m n a x h = rw h (choose x)
+  where
+    itself : eqb m m ≡ true
+    itself = (Decides-eqb m m).1 refl
+
+    choose : (x : Option Inbound) → message_bears (quiet_of_one m a) m x ≡ message_bears (is_quiet a) m x
+    choose None = refl
+    choose (Some (Enter t)) = rw itself refl
+    choose (Some (Replace t)) = rw itself refl
+    choose (Some (Cancel t)) = rw itself refl
+
+-- by what is told of its chain a token is quiet or not
+pub told_quiet : (a : Market) (m : ℕ) (t : Token) (f : ChainFacts) → FactsTell a.chains → Some f ≡ chain_facts a.tokens a.chains m t → not (are_loud f) ≡ is_quiet a m t
+unfolding is_quiet
+told_quiet a m t f tell h = choose (is_used a.tokens m t) h
+  where
+    choose : (b : Bool) → Some f ≡ cond b (Some (facts_of a.chains m (entered_of a.tokens m t))) None → not (are_loud f) ≡ (b && not (is_loud a.chains m (entered_of a.tokens m t)))
+    choose true h = let same : f ≡ facts_of a.chains m (entered_of a.tokens m t) = cc in ap (λ (g : ChainFacts). not (are_loud g)) same ∙ ap not (sym (tell m (entered_of a.tokens m t)))
+    choose false h = absurd (let z : Some f ≡ None = h in cc)
+
+pub untold_quiet : (a : Market) (m : ℕ) (t : Token) → None ≡ chain_facts a.tokens a.chains m t → false ≡ is_quiet a m t
+unfolding is_quiet
+untold_quiet a m t h = choose (is_used a.tokens m t) h
+  where
+    choose : (b : Bool) → None ≡ cond b (Some (facts_of a.chains m (entered_of a.tokens m t))) None → false ≡ (b && not (is_loud a.chains m (entered_of a.tokens m t)))
+    choose true h = absurd (let z : None ≡ Some (facts_of a.chains m (entered_of a.tokens m t)) = h in cc)
+    choose false h = refl
+
+-- What is kept so far, and what will be kept of the rest.
+
+pub kept_more : (s : Choice) (xs : List Event) (i : ℕ) (x : Event) (kept all : List Event) → i < length xs → x ≡ get_or xs i x → bears s x ≡ false → kept ++ strike s (drop i xs) ≡ all
+    → (kept ++ x ∷ []) ++ strike s (drop (i + 1) xs) ≡ all
+unfolding strike
+kept_more s xs i x kept all h e b p =
+    let rest : drop i xs ≡ x ∷ drop (i + 1) xs = rw (add-one, drop-cons xs i x h) (ap (λ (y : Event). y ∷ drop (suc i) xs) (sym e)) in
+    append_assoc kept (x ∷ []) _ ∙ ap (λ (c : Bool). kept ++ cond (not c) (x ∷ strike s (drop (i + 1) xs)) (strike s (drop (i + 1) xs))) (sym b)
+    ∙ ap (λ (l : List Event). kept ++ strike s l) (sym rest) ∙ p
+
+pub left_out : (s : Choice) (xs : List Event) (i : ℕ) (x : Event) (kept all : List Event) → i < length xs → x ≡ get_or xs i x → bears s x ≡ true → kept ++ strike s (drop i xs) ≡ all
+    → kept ++ strike s (drop (i + 1) xs) ≡ all
+unfolding strike
+left_out s xs i x kept all h e b p =
+    let rest : drop i xs ≡ x ∷ drop (i + 1) xs = rw (add-one, drop-cons xs i x h) (ap (λ (y : Event). y ∷ drop (suc i) xs) (sym e)) in
+    ap (λ (c : Bool). kept ++ cond (not c) (x ∷ strike s (drop (i + 1) xs)) (strike s (drop (i + 1) xs))) (sym b)
+    ∙ ap (λ (l : List Event). kept ++ strike s l) (sym rest) ∙ p
+
+pub all_kept : (s : Choice) (xs : List Event) (i : ℕ) (kept all : List Event) → length xs ≤ i → kept ++ strike s (drop i xs) ≡ all → kept ≡ all
+unfolding strike
+all_kept s xs i kept all h p = sym (append-nil kept) ∙ ap (λ (l : List Event). kept ++ strike s l) (sym (drop_all i xs h)) ∙ p

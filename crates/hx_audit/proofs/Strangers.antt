@@ -1,0 +1,80 @@
+-- A number that the setup has not sends no recorded message: it has no chains, and nothing is struck for it.
+use Rattle.std.proofs.Common.{◌≡◌, ℕ, Bool, true, false, cond, not, eqb, leb, ◌&&◌, refl, sym, ap, ◌∙◌, subst, List, [], ◌∷◌, map, Option, Some, None}
+use Rattle.std.specs.Prelude.{is_none}
+use Rattle.std.proofs.lemmas.Bool.Decides.{Decides-eqb}
+use Rattle.hx_members.specs.Setups.{Setup, member_of}
+use Rattle.hx_ouch.specs.Inbound.{inbound_of}
+use Rattle.hx_market.specs.declared.event.Event.{Event}
+use Rattle.hx_market.specs.declared.event.Event.TheVariants.{Message, Tick, Hours}
+use Rattle.hx_market.specs.declared.fault.PrepareError.{PrepareError}
+use Rattle.hx_market.specs.declared.fault.PrepareError.TheVariants.{NoMember, BadTime}
+use Rattle.hx_market.specs.Admitting.{known_member, refusal}
+use Rattle.hx_market.specs.Markets.{Market, opening}
+use Rattle.hx_market.specs.Steps.{step, market_after, run}
+use Rattle.hx_market.specs.Striking.{quiet_of_one, bears, strike, strike_one}
+use Rattle.hx_audit.specs.Listing.{Use, uses_of, chains_of, grouped, told_chain}
+use Rattle.hx_audit.specs.Finding.{named}
+use Rattle.hx_audit.specs.Recording.{AreAccepted, AreRecorded}
+use Rattle.hx_audit.proofs.Bearing.{of_another}
+use Rattle.hx_audit.proofs.Rooted.{none_listed}
+use Rattle.hx_audit.proofs.Uses.{Lists, step_lists}
+
+unknown : (setup : Setup) (m : ℕ) → member_of setup m ≡ None → is_none (known_member setup m) ≡ true
+unknown setup m h = at (leb 1 m && leb m 4095)
+  where
+    at : (b : Bool) → is_none (cond b (member_of setup m) None) ≡ true
+    at true = ap is_none h
+    at false = refl
+
+-- an accepted message is from another
+sent_by_another : (setup : Setup) (m : ℕ) → member_of setup m ≡ None → (counts : List ℕ) (k time : ℕ) (bytes : List ℕ) → refusal setup counts (Message k time bytes) ≡ None → eqb k m ≡ false
+sent_by_another setup m h counts k time bytes r = choose (eqb k m) refl
+  where
+    refused : (b c : Bool) (rest : Option PrepareError) → c ≡ true → cond b (Some BadTime) (cond c (Some NoMember) rest) ≡ None → false ≡ true
+    refused true c rest e n = absurd (let z : Some BadTime ≡ None = n in cc)
+    refused false true rest e n = absurd (let z : Some NoMember ≡ None = n in cc)
+    refused false false rest e n = e
+
+    choose : (b : Bool) → eqb k m ≡ b → eqb k m ≡ false
+    choose false e = e
+    choose true e =
+        let same : k ≡ m = (Decides-eqb k m).0 e in
+        absurd (let z : false ≡ true = refused (leb 86400000000000 time) (is_none (known_member setup k)) _ (subst (λ j. is_none (known_member setup j) ≡ true) (sym same) (unknown setup m h)) r in cc)
+
+bears_none : (setup : Setup) (m : ℕ) → member_of setup m ≡ None → (counts : List ℕ) (a : Market) (event : Event) → refusal setup counts event ≡ None → bears (quiet_of_one m a) event ≡ false
+bears_none setup m h counts a (Message k time bytes) r =
+    let other = sent_by_another setup m h counts k time bytes r in
+    of_another m k a (inbound_of bytes) (λ e. absurd (let z : true ≡ false = sym ((Decides-eqb k m).1 e) ∙ other in cc))
+bears_none setup m h counts a (Tick time) r = refl
+bears_none setup m h counts a (Hours time code) r = refl
+
+all_left : (setup : Setup) (m : ℕ) → member_of setup m ≡ None → (a b : Market) (events : List Event) → AreAccepted setup b events → strike (quiet_of_one m a) events ≡ events
+unfolding strike
+all_left setup m h a b [] r = refl
+all_left setup m h a b (event ∷ events) r =
+    ap (λ (c : Bool). cond (not c) (event ∷ strike (quiet_of_one m a) events) (strike (quiet_of_one m a) events)) (bears_none setup m h b.recorded a event r.0)
+    ∙ ap (λ (l : List Event). event ∷ l) (all_left setup m h a (step setup b event).market events r.1)
+
+pub nothing_struck : (setup : Setup) (m : ℕ) (events : List Event) → AreRecorded setup events → member_of setup m ≡ None → strike_one setup m events ≡ events
+unfolding strike_one
+nothing_struck setup m events r h = all_left setup m h (run setup events) (opening setup) events r
+
+-- its list stays empty
+
+names_none : (setup : Setup) (m : ℕ) → member_of setup m ≡ None → (counts : List ℕ) (event : Event) → refusal setup counts event ≡ None → named m event ≡ None
+names_none setup m h counts (Message k time bytes) r = rw (sent_by_another setup m h counts k time bytes r) refl
+names_none setup m h counts (Tick time) r = refl
+names_none setup m h counts (Hours time code) r = refl
+
+uses_none : (setup : Setup) (m : ℕ) → member_of setup m ≡ None → (a : Market) (events : List Event) → AreAccepted setup a events → uses_of a.tokens m ≡ [] → uses_of (market_after setup a events).tokens m ≡ []
+unfolding market_after
+uses_none setup m h a [] r e = e
+uses_none setup m h a (event ∷ events) r e =
+    let b : Market = (step setup a event).market in
+    let same : Lists a b m None = subst (Lists a b m) (names_none setup m h a.recorded event r.0) (step_lists setup a event m) in
+    uses_none setup m h b events r.1 (same ∙ e)
+
+pub no_chains : (setup : Setup) (m : ℕ) (events : List Event) → AreRecorded setup events → member_of setup m ≡ None → chains_of (run setup events) m ≡ []
+unfolding run
+no_chains setup m events r h =
+    ap (λ (us : List Use). map (told_chain (run setup events).chains m) (grouped us)) (uses_none setup m h (opening setup) events r (none_listed setup (opening setup) m refl))

@@ -1,0 +1,26 @@
+use Rattle.std.proofs.Common.{[], ◌∷◌, ◌++◌, ap, sym, ◌∙◌}
+use Rattle.hx_market.specs.declared.event.Event.{Event}
+use Rattle.hx_market.specs.Striking.{quiet_of_one}
+use Rattle.hx_audit.proofs.Bearing.{kept_more, left_out, all_kept}
+use Rattle.hx_audit.proofs.striking.keep.Goals as goal
+use Rattle.hx_audit.proofs.striking.keep.Goals.{then-not-bears_quiet+in_ok-copy+in_ok-push, else-not-bears_quiet}
+
+pub loop-event-preserved : goal.loop-event-preserved
+loop-event-preserved c =
+    let s = quiet_of_one c.args.member c.args.market.now.market in
+    let xs = c.args.events.now in
+    let i = c.loop-event.event-index in
+    let x = c.event-item.result in
+    elim c.if-not-bears_quiet.branch [
+      | then-not-bears_quiet+in_ok-copy+in_ok-push w ↦
+          let new = w.in_ok-push.ensures.items ∙ ap (λ (y : Event). c.loop-event.kept.items ++ y ∷ []) w.in_ok-copy.ensures in
+          rw (w.kept-is, new)
+          (kept_more s xs i x c.loop-event.kept.items _ c.loop-event-test.true c.event-item.is (sym c.bears_quiet.ensures ∙ w.if-not-bears_quiet.true) c.loop-event.invariant)
+      | else-not-bears_quiet w ↦
+          rw w.kept-is
+          (left_out s xs i x c.loop-event.kept.items _ c.loop-event-test.true c.event-item.is (sym c.bears_quiet.ensures ∙ w.if-not-bears_quiet.false) c.loop-event.invariant)
+    ]
+
+pub returns : goal.returns
+returns c =
+    all_kept (quiet_of_one c.args.member c.args.market.now.market) c.args.events.now c.loop-event.event-index c.loop-event.kept.items _ c.loop-event-test.false c.loop-event.invariant

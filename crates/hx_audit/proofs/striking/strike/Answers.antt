@@ -1,0 +1,29 @@
+use Rattle.std.proofs.Common.{ap, ◌∙◌}
+use Rattle.std.proofs.lemmas.Result.{err_from_is_err_and}
+use Rattle.hx_market.specs.Markets.{Market}
+use Rattle.hx_market.specs.Striking.{quiet_of_one, strike, strike_one}
+use Rattle.hx_audit.proofs.Led.{facts_tell}
+use Rattle.hx_audit.proofs.Goes.{led_run}
+use Rattle.hx_audit.proofs.Strangers.{nothing_struck}
+use Rattle.hx_audit.proofs.striking.strike.Goals as goal
+
+pub keep-requires : goal.keep-requires
+keep-requires c = rw c.in_ok-market.ensures.market (facts_tell _ (led_run c.args.setup.now c.args.events.now))
+
+pub returns-in_err-keep-clause-refused : goal.returns-in_err-keep-clause-refused
+returns-in_err-keep-clause-refused c =
+    let p = err_from_is_err_and c.from_residual-in_err-keep.result c.from_residual-in_err-keep.ensures.1 in
+    rw (p.1, p.2) tt
+
+pub returns-clause-struck : goal.returns-clause-struck
+unfolding strike_one
+returns-clause-struck c =
+    c.in_ok-keep.ensures
+    ∙ ap (λ (a : Market). strike (quiet_of_one c.args.member a) c.args.events.now) c.in_ok-market.ensures.market
+
+pub returns-clause-stranger : goal.returns-clause-stranger
+unfolding strike_one
+returns-clause-stranger c h =
+    c.in_ok-keep.ensures
+    ∙ ap (λ (a : Market). strike (quiet_of_one c.args.member a) c.args.events.now) c.in_ok-market.ensures.market
+    ∙ nothing_struck c.args.setup.now c.args.member c.args.events.now c.in_ok-market.ensures.recorded h

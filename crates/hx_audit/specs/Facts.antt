@@ -1,0 +1,14 @@
+-- What is told of a chain.
+use Rattle.std.specs.Prelude.{◌≡◌, ℕ, ◌||◌, Bool, List}
+use Rattle.hx_units.specs.declared.names.Token.{Token}
+use Rattle.hx_members.specs.declared.name.ChainFacts.{ChainFacts}
+use Rattle.hx_members.specs.Chains.{Chain, is_loud}
+use Rattle.hx_members.specs.Tokens.{facts_of}
+
+-- the chain was displayed or has traded
+abbrev pub are_loud : ChainFacts → Bool
+are_loud facts = facts.displayed || facts.traded
+
+-- what is told of each chain says whether it was displayed or has traded
+abbrev pub FactsTell : List Chain → Type 0
+FactsTell chains = (member : ℕ) (entered : Token) → is_loud chains member entered ≡ are_loud (facts_of chains member entered)

@@ -1,0 +1,36 @@
+-- How the chains of a member are found in a run.
+use Rattle.std.specs.Prelude.{◌≡◌, ℕ, ◌==◌, List, [], ◌∷◌, ◌++◌, Option, Some, None, if◌then◌else◌}
+use Rattle.std.specs.List.{AllByRecursion}
+use Rattle.hx_units.specs.Names.{is_token}
+use Rattle.hx_units.specs.declared.names.Token.{Token}
+use Rattle.hx_members.specs.Tokens.{facts_of}
+use Rattle.hx_ouch.specs.declared.inbound.Inbound.{Inbound}
+use Rattle.hx_ouch.specs.declared.inbound.Inbound.TheVariants.{Enter, Replace, Cancel}
+use Rattle.hx_ouch.specs.Inbound.{inbound_of}
+use Rattle.hx_market.specs.declared.event.Event.{Event}
+use Rattle.hx_market.specs.declared.event.Event.TheVariants.{Message, Tick, Hours}
+use Rattle.hx_market.specs.Markets.{Market}
+use Rattle.hx_market.specs.Ready.{chain_facts}
+use Rattle.hx_audit.specs.declared.listing.Naming.{Naming}
+
+-- the token that a message would use, and the token whose chain it would join: at an Enter its own
+abbrev pub named_by : Option Inbound → Option Naming
+named_by None = None
+named_by (Some (Enter e)) = Some (record { token = e.token; existing = e.token })
+named_by (Some (Replace r)) = Some (record { token = r.replacement_token; existing = r.existing_token })
+named_by (Some (Cancel c)) = None
+
+-- the same of an event, where it is a message of the member
+abbrev pub named : ℕ → Event → Option Naming
+named member (Message sender time bytes) = if sender == member then named_by (inbound_of bytes) else None
+named member (Tick time) = None
+named member (Hours time code) = None
+
+-- a use is put to those of its chain, or begins one
+abbrev pub with_use : List (Token × List Token) → Token → Token → List (Token × List Token)
+with_use [] entered token = (entered, token ∷ []) ∷ []
+with_use (g ∷ groups) entered token = if is_token entered g.0 then (g.0, g.1 ++ token ∷ []) ∷ groups else g ∷ with_use groups entered token
+
+-- what is asked of each of these chains is there
+abbrev pub AreTold : Market → ℕ → List (Token × List Token) → Type 0
+AreTold market member groups = AllByRecursion (λ g. chain_facts market.tokens market.chains member g.0 ≡ Some (facts_of market.chains member g.0)) groups

@@ -1,0 +1,4 @@
+pub mod Recording
+pub mod Facts
+pub mod Listing
+pub mod Finding

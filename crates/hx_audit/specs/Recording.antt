@@ -1,0 +1,46 @@
+-- Which histories the market records: each event is accepted at its turn, after those before it.
+use Rattle.std.specs.Prelude.{◌≡◌, ℕ, List, [], ◌∷◌, ◌++◌, length, Option, Some, None, ⊤, ◌⊎◌}
+use Rattle.hx_members.specs.Setups.{Setup}
+use Rattle.hx_market.specs.declared.event.Event.{Event}
+use Rattle.hx_market.specs.declared.fault.PrepareError.{PrepareError}
+use Rattle.hx_market.specs.declared.fault.PrepareError.TheVariants.{NoMemory as NoRoom, Limit, NoMember, BadTime}
+use Rattle.hx_market.specs.Markets.{Market, opening}
+use Rattle.hx_market.specs.Admitting.{refusal, or_no_memory}
+use Rattle.hx_market.specs.Steps.{step, run}
+use Rattle.hx_audit.specs.declared.fault.StrikeError.{StrikeError}
+use Rattle.hx_audit.specs.declared.fault.StrikeError.TheVariants.{NoMemory, Refused}
+
+-- the market accepts each of these events at its turn
+abbrev pub AreAccepted : Setup → Market → List Event → Type 0
+AreAccepted setup market [] = ⊤
+AreAccepted setup market (event ∷ events) = (refusal setup market.recorded event ≡ None) × AreAccepted setup (step setup market event).market events
+
+-- a history that is recorded whole
+abbrev pub AreRecorded : Setup → List Event → Type 0
+AreRecorded setup events = AreAccepted setup (opening setup) events
+
+-- those before the event at this index are recorded, and it is refused at its turn, for this reason
+pub record IsRefusedAt (setup : Setup) (events : List Event) (index : ℕ) (error : PrepareError) : Type 0 where
+  pub before : List Event
+  pub event : Event
+  pub after : List Event
+  pub split : events ≡ before ++ event ∷ after
+  pub place : length before ≡ index
+  pub recorded : AreRecorded setup before
+  pub refused : refusal setup (run setup before).recorded event ≡ Some error
+
+-- what an error says of a history
+abbrev pub Explains : Setup → List Event → StrikeError → Type 0
+Explains setup events NoMemory = ⊤
+Explains setup events (Refused index error) = IsRefusedAt setup events index error
+
+-- the error of a refusal at an index
+abbrev pub error_at : ℕ → PrepareError → StrikeError
+error_at index NoRoom = NoMemory
+error_at index (Limit member) = Refused index (Limit member)
+error_at index NoMember = Refused index NoMember
+error_at index BadTime = Refused index BadTime
+
+-- want of memory, or the error of a refusal at an index where there is one
+abbrev pub IsErrorAt : ℕ → Option PrepareError → StrikeError → Type 0
+IsErrorAt index reason error = (error ≡ NoMemory) ⊎ (error ≡ error_at index (or_no_memory reason))

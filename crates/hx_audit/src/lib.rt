@@ -1,0 +1,17 @@
+//! Audits of a recorded history, which is the list of a day's events: the chains of a member, and the same history
+//! without the messages of his quiet chains. Each call runs one market over the events.
+#![tactic(auto)]
+
+mod chain;
+mod chaining;
+mod fault;
+mod listing;
+mod playing;
+mod striking;
+#[cfg(test)]
+mod tests;
+
+pub use chain::{Chain, ChainTokens};
+pub use chaining::chains;
+pub use fault::StrikeError;
+pub use striking::strike;
