@@ -62,12 +62,7 @@ fn keep_due(orders: &mut Vec<Live>, due: Due, time: u64, live: Live) -> Result<(
 }
 
 // The orders that end, the earlier ones first.
-fn due_orders<B: Book>(
-    alloc: Global,
-    book: &B,
-    due: Due,
-    time: u64,
-) -> Result<Vec<Live>, NoMemory>
+fn due_orders<B: Book>(alloc: Global, book: &B, due: Due, time: u64) -> Result<Vec<Live>, NoMemory>
     ensures due { IfOk result (λ orders. orders.items ≡ filter (λ l. is_due due time l.order) (B.orders book.now)) }
     ensures differ { OnOk result (KeysDiffer (B.orders book.now)) }
 {
@@ -143,12 +138,7 @@ fn tell_members(
 }
 
 // What an hours code itself tells.
-fn told_by_code(
-    alloc: Global,
-    setup: &Setup,
-    time: u64,
-    code: u8,
-) -> Result<Output, NoMemory>
+fn told_by_code(alloc: Global, setup: &Setup, time: u64, code: u8) -> Result<Output, NoMemory>
     ensures feed { IfOk result (λ out. out.feed.items ≡ (told_by_code setup.now time code).feed) }
     ensures replies { IfOk result (λ out. out.replies.items ≡ (told_by_code setup.now time code).replies) }
 {
@@ -199,12 +189,7 @@ fn end_orders<B: Book>(
 
 /// What a tick does, at so many hours codes past. `NoMemory` where the orders that end, and what they tell, find no
 /// room.
-pub fn tick_act<B: Book>(
-    alloc: Global,
-    hours: u8,
-    book: &B,
-    time: u64,
-) -> Result<Act, NoMemory>
+pub fn tick_act<B: Book>(alloc: Global, hours: u8, book: &B, time: u64) -> Result<Act, NoMemory>
     requires { time < 86400000000000 }
     ensures does { IfOk result (λ a. (t : TokenList) (n : Numbers) (counts : List ℕ) → tick (market_of (B.orders book.now) t n hours counts) time ≡ outcome_of (market_of (B.orders book.now) t n hours counts) a) }
     ensures is_act { IfOk result (λ a. (setup : SetupOf) → IsAct setup a) }

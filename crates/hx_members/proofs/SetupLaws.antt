@@ -80,7 +80,7 @@ all-at p [] i x h n = absurd cc
 all-at p (y ∷ ys) zero x h n = ap p (sym (some_same y x h)) ∙ (and_parts (p y) (list_all p ys) n).0
 all-at p (y ∷ ys) (suc i) x h n = all-at p ys i x h (and_parts (p y) (list_all p ys) n).1
 
-symbol-flip : (s t : Symbol) → is_symbol s t ≡ is_symbol t s
+pub symbol-flip : (s t : Symbol) → is_symbol s t ≡ is_symbol t s
 symbol-flip s t = same_bools (is_symbol s t) (is_symbol t s) (λ h. (bytes_eq-Decides t.0 s.0).1 (sym ((bytes_eq-Decides s.0 t.0).0 h))) (λ h. (bytes_eq-Decides s.0 t.0).1 (sym ((bytes_eq-Decides t.0 s.0).0 h)))
 
 pub apart-names : (stocks : List Stock) → names_differ stocks ≡ true → AreApart is_symbol (λ (s : Stock). s.symbol) stocks
@@ -108,7 +108,7 @@ drop-next (y ∷ ys) zero x h = λ j. some_same y x h j ∷ ys
 drop-next (y ∷ ys) (suc i) x h = drop-next ys i x h
 
 -- texts of the same length are the same, if they are so without the spaces on their right
-without_spaces-same : (a b : List ℕ) → length a ≡ length b → without_spaces a ≡ without_spaces b → a ≡ b
+pub without_spaces-same : (a b : List ℕ) → length a ≡ length b → without_spaces a ≡ without_spaces b → a ≡ b
 without_spaces-same [] [] l h = refl
 without_spaces-same [] (y ∷ ys) l h = absurd (omega (arith, l))
 without_spaces-same (x ∷ xs) [] l h = absurd (omega (arith, l))

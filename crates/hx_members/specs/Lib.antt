@@ -2,3 +2,5 @@ pub mod Chains
 pub mod Rows
 pub mod Tokens
 pub mod Setups
+pub mod SetupText
+pub mod Reading

@@ -70,13 +70,17 @@ login_of setup user password =
 abbrev pub is_capital_or_digit : ℕ → Bool
 is_capital_or_digit b = (nat_le 48 b && nat_le b 57) || (nat_le 65 b && nat_le b 90)
 
+-- a character that is seen
+abbrev pub is_visible : ℕ → Bool
+is_visible b = nat_le 33 b && nat_le b 126
+
 -- a text that is filled with spaces on its right, not empty and of such characters only
 abbrev pub is_filled : (ℕ → Bool) → List ℕ → Bool
 is_filled test bytes = nat_lt 0 (length (without_spaces bytes)) && list_all test (without_spaces bytes)
 
 -- a name of 1 to 8 visible characters
 abbrev pub is_stock : Stock → Bool
-is_stock stock = is_filled (λ b. nat_le 33 b && nat_le b 126) stock.symbol.0
+is_stock stock = is_filled is_visible stock.symbol.0
 
 -- a firm of 4 capital letters or digits, a user of 1 to 6 and a password of 1 to 10 letters or digits, and a limit
 abbrev pub is_member : Member → Bool

@@ -1,12 +1,18 @@
 //! The setup of a day, the used tokens of its members, and what their chains have done.
 #![tactic(auto)]
 
+mod fault;
+mod fields;
+pub mod laws;
+mod lines;
 mod name;
+mod reading;
 mod rows;
 mod setup;
 mod stock;
 mod tokens;
 
+pub use fault::SetupError;
 pub use name::{ChainFacts, Name, TokenState};
 pub use setup::Setup;
 pub use stock::{Member, Stock};

@@ -1,9 +1,12 @@
 //! The setup of a day.
-ghost use Rattle.std.specs.Prelude.{◌≡◌, ◌≤◌, ◌<◌, ◌+◌, length, map, IfOk, OnOk, true};
+ghost use Rattle.std.specs.Prelude.{◌≡◌, ◌≤◌, ◌<◌, ◌+◌, length, map, IfOk, IfErr, OnOk, true};
 ghost use Rattle.std.specs.Option.{option_map};
 ghost use Rattle.hx_units.specs.Ranges.{IsMember};
 ghost use Rattle.hx_members.specs.Setups.{is_login, names_differ, numbers_rise, locates_of, places_of, stock_named, member_with};
 
+use crate::fault::SetupError;
+use crate::lines::{next_session, next_start};
+use crate::reading::{read_members, read_stocks};
 use crate::stock::{Member, Stock};
 use hx_units::{Firm, MemberNo, NoMemory, Symbol};
 use indexmap::IndexMap;
@@ -71,6 +74,7 @@ fn index_members(alloc: Global, members: &[Member]) -> Result<IndexMap<MemberNo,
 }
 
 impl Setup {
+    ghost use Rattle.hx_members.specs.SetupText.{HasText, setup_text, IsFault};
     ghost use Rattle.hx_members.specs.Setups.{IsSetup, standard, locate_of, stock_at, member_of, login_of};
 
     /// The setup of these fields.
@@ -94,6 +98,37 @@ impl Setup {
             locates,
             places,
         })
+    }
+
+    /// The setup that a text spells. Its lines are `session` with 10 letters or digits; `start` with `open` or `closed`;
+    /// 1 to 1,000 of `stock` with a name of 1 to 8 visible characters, no name twice, and a tail of 20 bytes in
+    /// lower-case hexadecimal; and 1 to 4,095 of `member` with a number, from 1 to 4,095 and rising, a firm of 4 capital
+    /// letters or digits, a user of 1 to 6 and a password of 1 to 10 letters or digits, no user twice without regard to
+    /// case, and a limit from 1 to 4,294,967,295. One space stands between fields, numbers are decimal without leading
+    /// zeros, and each line ends with a line feed.
+    ///
+    /// `Bad` names the first line that does not fit, or that is missing; `NoMemory` is answered for want of memory alone.
+    pub fn read(alloc: Global, text: &[u8]) -> Result<Self, SetupError>
+        ensures ok { IfOk result (λ setup. HasText setup × (text.now ≡ setup_text setup)) }
+        ensures err { IfErr result (λ e. IsFault text.now e) }
+    {
+        let Some(first) = next_session(text) else {
+            return Err(SetupError::Bad { line: 1 });
+        };
+        let session = first.0;
+        let Some((start_open, rest)) = next_start(first.1) else {
+            return Err(SetupError::Bad { line: 2 });
+        };
+        let (stocks, rest) = read_stocks(alloc, rest)?;
+        if stocks.is_empty() {
+            return Err(SetupError::Bad { line: 3 });
+        }
+        let (members, rest) = read_members(alloc, rest)?;
+        if members.is_empty() || !rest.is_empty() {
+            let line = 3 + stocks.len() as u64 + members.len() as u64;
+            return Err(SetupError::Bad { line });
+        }
+        Ok(Setup::of(alloc, session, start_open, stocks, members)?)
     }
 
     /// The standard setup: two stocks, three members, and a day that begins open. It fails only for want of memory.

@@ -1,6 +1,8 @@
+mod texts;
+
 use super::*;
 use hx_units::{Firm, MemberNo, NoMemory, Symbol, Token};
-use std::alloc::Global;
+use std::alloc::{AllocError, Global};
 use std::process::Abort;
 use std::test::Fail;
 

@@ -1,4 +1,5 @@
 pub mod Numbers
+pub mod Pairs
 pub mod Splits
 pub mod Lines
 pub mod Writing
@@ -10,3 +11,4 @@ pub mod Pieces
 pub mod OneReading
 pub mod OutputIsTold
 pub mod NoTrace
+pub mod Strikes

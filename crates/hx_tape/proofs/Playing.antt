@@ -15,7 +15,7 @@ use Rattle.hx_tape.specs.Output.{feed_lines, reply_lines, counts_after}
 use Rattle.hx_tape.specs.Run.{Progress, event_of, is_unknown, kind_of, fault_of, check_of, outcome_of, output_of, after, Plays, Faults}
 
 -- an entry that says something is checked by the market
-checked : (p : Progress) (e : Entry) → is_unknown e ≡ false → check_of p e ≡ kind_of (refusal p.setup p.market.recorded (event_of e))
+pub checked : (p : Progress) (e : Entry) → is_unknown e ≡ false → check_of p e ≡ kind_of (refusal p.setup p.market.recorded (event_of e))
 unfolding check_of
 checked p e h = cond-false (is_unknown e) (Some kind.Bad) (kind_of (refusal p.setup p.market.recorded (event_of e))) h
 

@@ -3,3 +3,4 @@ pub mod Output
 pub mod Run
 pub mod Seen
 pub mod Whole
+pub mod Struck

@@ -1,5 +1,5 @@
 -- The text of a tape.
-use Rattle.std.specs.Prelude.{◌≢◌, ℕ, ◌^◌, ◌<◌, ◌≤◌, List, ◌∷◌, ◌++◌, length}
+use Rattle.std.specs.Prelude.{◌≡◌, ◌≢◌, ℕ, ◌^◌, ◌<◌, ◌≤◌, List, ◌∷◌, ◌++◌, length}
 use Rattle.std.specs.List.{All}
 use Rattle.std.specs.Fmt.{decimal}
 use Rattle.hex.specs.Hex.{encode_lower, IsBytes}
@@ -25,6 +25,14 @@ pub record IsEntry (e : Entry) : Type 0 where
 -- its one line, without the line feed
 abbrev pub line : Entry → List ℕ
 line e = decimal e.time ++ 32 ∷ (decimal e.member ++ 32 ∷ encode_lower e.bytes)
+
+-- the text is a time, a member's number, and up to 2,046 digits
+pub record HasParts (text : List ℕ) (t m : ℕ) (digits : List ℕ) : Type 0 where
+  pub text_is : text ≡ decimal t ++ 32 ∷ (decimal m ++ 32 ∷ digits)
+  pub time : t < 10 ^ 14
+  pub member : m < 10 ^ 4
+  pub some : 0 < length digits
+  pub few : length digits ≤ 2046
 
 -- no place has this byte
 abbrev pub HasNone : ℕ → List ℕ → Type 0

@@ -1,21 +1,26 @@
-//! Replays a tape from standard input to standard output.
+//! Replays a tape, or writes it without quiet chains, from standard input to standard output.
 #![tactic(auto)]
 
+mod decimal;
 mod fault;
+mod hexadecimal;
 pub mod laws;
 mod line;
 mod replay;
 mod run;
+mod striking;
 
 use clap::error::ErrorKind;
-use clap::{ArgMatches, Command, Error};
+use clap::{Arg, ArgMatches, Command, Error, value_parser};
 use fault::TapeError;
-use hx_members::Setup;
-use hx_units::NoMemory;
+use hx_members::{Setup, SetupError};
+use hx_units::{MemberNo, NoMemory};
+use run::Counts;
 use std::alloc::{AllocError, Global};
+use std::io::{BufWriter, Write};
 use std::process::ExitCode;
-use std::rt::Env;
-use std::{env, io};
+use std::rt::{Env, Files};
+use std::{env, fs, io};
 
 /// Why the program ends without success.
 #[derive(Debug, Drop, thiserror::Error)]
@@ -24,6 +29,8 @@ enum Failure {
     #[error("")]
     CommandLine,
     #[error(transparent)]
+    Setup(SetupError),
+    #[error(transparent)]
     Tape(TapeError),
 }
 
@@ -31,8 +38,8 @@ impl Failure {
     fn status(&self) -> u8 {
         match self {
             Failure::CommandLine => 2,
-            Failure::Tape(TapeError::Line { .. }) => 1,
-            Failure::Tape(TapeError::NoMemory) => 3,
+            Failure::Setup(SetupError::Bad { .. }) | Failure::Tape(TapeError::Line { .. }) => 1,
+            Failure::Setup(SetupError::NoMemory) | Failure::Tape(TapeError::NoMemory) => 3,
             Failure::Tape(TapeError::Read | TapeError::Write | TapeError::Turns) => 4,
         }
     }
@@ -56,21 +63,91 @@ impl From<TapeError> for Failure {
     }
 }
 
-fn command<'a>(alloc: Global) -> Result<Command<'a>, AllocError> {
-    let replay = Command::new(alloc, "replay").about("Writes the output lines of a tape");
-    Command::new(alloc, "hx_tape")
-        .subcommand_required(true)
-        .subcommand(replay)
+// The file of the setup.
+fn setup_file<'a>(alloc: Global) -> Arg<'a> {
+    Arg::new(alloc, "setup")
+        .long("setup")
+        .value_name("FILE")
+        .help("The setup of the day, in place of the standard one")
 }
 
-fn replay_input<R: AllocGlobal + Input + Print>(rt: &R) -> Result<(), Failure> {
+fn command<'a>(alloc: Global) -> Result<Command<'a>, AllocError> {
+    let replay = Command::new(alloc, "replay")
+        .about("Writes the output lines of a tape")
+        .arg(setup_file(alloc))?;
+    let member = Arg::new(alloc, "member")
+        .long("member")
+        .value_name("N")
+        .required(true)
+        .value_parser(value_parser!(u16).range(1..=4095))
+        .help("The number of the member");
+    let strike = Command::new(alloc, "strike")
+        .about("Writes a tape without the messages of a member's quiet chains")
+        .arg(member)?
+        .arg(setup_file(alloc))?;
+    Command::new(alloc, "hx_tape")
+        .subcommand_required(true)
+        .subcommand(replay)?
+        .subcommand(strike)
+}
+
+// The setup of a file, or the standard one where none is named.
+fn read_setup<R: AllocGlobal + Files>(rt: &R, matches: &ArgMatches<'_>) -> Result<Setup, Failure> {
     let alloc = rt.alloc();
-    let setup = Setup::standard(alloc)?;
-    replay::replay(alloc, &setup, &mut rt.reader(), &mut io::writer(rt))?;
+    let Some(file) = matches.get_str("setup") else {
+        return Ok(Setup::standard(alloc)?);
+    };
+    match fs::read(rt, file) {
+        Ok(text) => match Setup::read(alloc, &text) {
+            Ok(setup) => Ok(setup),
+            Err(error) => Err(Failure::Setup(error)),
+        },
+        Err(e) if e.kind() == io::ErrorKind::OutOfMemory => Err(Failure::Tape(TapeError::NoMemory)),
+        Err(_) => Err(Failure::Tape(TapeError::Read)),
+    }
+}
+
+// How many bytes of output are written at once.
+const BUFFER: usize = 1 << 16;
+
+// The answer of a run whose output was written out in the end.
+fn ended(run: Result<Counts, TapeError>, written: io::Result<()>) -> Result<(), Failure> {
+    run?;
+    match written {
+        Ok(()) => Ok(()),
+        Err(_) => Err(Failure::Tape(TapeError::Write)),
+    }
+}
+
+// Replays the input. What was written before a fault is written out as well.
+fn replay_input<R: AllocGlobal + Input + Print + Files>(
+    rt: &R,
+    matches: &ArgMatches<'_>,
+) -> Result<(), Failure> {
+    let alloc = rt.alloc();
+    let setup = read_setup(rt, matches)?;
+    let Ok(mut writer) = BufWriter::with_capacity(alloc, BUFFER, io::writer(rt)) else {
+        return Err(Failure::Tape(TapeError::NoMemory));
+    };
+    let run = replay::replay(alloc, &setup, &mut rt.reader(), &mut writer);
+    ended(run, writer.flush())
+}
+
+// Writes the input without the messages of a member's quiet chains.
+fn strike_input<R: AllocGlobal + Input + Print + Files>(
+    rt: &R,
+    matches: &ArgMatches<'_>,
+) -> Result<(), Failure> {
+    let alloc = rt.alloc();
+    let Some(member) = matches.get_one::<u16>("member").and_then(MemberNo::of) else {
+        return Err(Failure::CommandLine);
+    };
+    let setup = read_setup(rt, matches)?;
+    striking::strike_tape(alloc, &setup, &mut rt.reader(), &mut io::writer(rt), member)?;
     Ok(())
 }
 
-fn answer<R: AllocGlobal + Input + Print + Eprint + Env>(rt: &R) -> Result<(), Failure> {
+fn answer<R: AllocGlobal + Input + Print + Eprint + Env + Files>(rt: &R) -> Result<(), Failure> {
     let alloc = rt.alloc();
     let words = match env::args(rt) {
         Ok(words) => words,
@@ -86,12 +163,13 @@ fn answer<R: AllocGlobal + Input + Print + Eprint + Env>(rt: &R) -> Result<(), F
     }
 }
 
-fn perform<R: AllocGlobal + Input + Print>(
+fn perform<R: AllocGlobal + Input + Print + Files>(
     rt: &R,
     matches: &ArgMatches<'_>,
 ) -> Result<(), Failure> {
-    match matches.subcommand_name() {
-        Some("replay") => replay_input(rt),
+    match matches.subcommand() {
+        Some(("replay", matches)) => replay_input(rt, matches),
+        Some(("strike", matches)) => strike_input(rt, matches),
         _ => Err(Failure::CommandLine),
     }
 }
@@ -115,8 +193,8 @@ fn main(rt: HostRuntime) -> ExitCode {
     match answer(&rt) {
         Ok(()) => ExitCode::SUCCESS,
         Err(failure) => {
-            if let Failure::Tape(error) = &failure {
-                let _ = eprintln!(rt; "{error}");
+            if !matches!(failure, Failure::CommandLine) {
+                let _ = eprintln!(rt; "{failure}");
             }
             ExitCode::from(failure.status())
         }

@@ -10,13 +10,13 @@ ghost use Rattle.hx_tape.specs.declared.fault.Kind.TheVariants as kinds;
 use crate::fault::{Kind, TapeError};
 use crate::line::split_once;
 use crate::run::{Counts, Run};
-use hx_levels::{Book, ListBook};
+use hx_levels::{Book, LevelBook};
 use hx_members::Setup;
 use std::alloc::Global;
 use std::io::{ErrorKind, Read, Write};
 
 // Writes the bytes. Where it fails, a front of them was written.
-fn write_whole<W: Write>(writer: &mut W, bytes: &[u8]) -> Result<(), TapeError>
+pub fn write_whole<W: Write>(writer: &mut W, bytes: &[u8]) -> Result<(), TapeError>
     ensures ok { OnOk result (Appends (W.contents writer.old) (W.contents writer.new) bytes.now) }
     ensures write { IfErr result (λ e. e ≡ fault.Write) }
     ensures err { OnErr result ((rest : List ℕ) × Writes (W.contents writer.old) (W.contents writer.new) bytes.now rest) }
@@ -41,6 +41,7 @@ fn write_whole<W: Write>(writer: &mut W, bytes: &[u8]) -> Result<(), TapeError>
 
 // Plays the whole lines of the text, and answers the bytes behind them.
 fn play_lines<'a, B: Book + Drop, W: Write>(
+    alloc: Global,
     run: &mut Run<B>,
     writer: &mut W,
     text: &'a [u8],
@@ -51,16 +52,17 @@ fn play_lines<'a, B: Book + Drop, W: Write>(
         × HasNone 10 rest.now) }
     ensures err { IfErr result (Stops ⊥ run.old text.now (W.contents writer.old) (W.contents writer.new)) }
 {
+    let mut output = Vec::new(alloc);
     let mut rest = text;
     while let Some((line, others)) = split_once(rest, b'\n') {
-        let output = run.play(line)?;
-        write_whole(writer, output.as_bytes())?;
+        run.play(line, &mut output)?;
+        write_whole(writer, &output)?;
         rest = others;
     }
     Ok(rest)
 }
 
-const READS: u64 = 1_000_000_000;
+pub const READS: u64 = 1_000_000_000;
 
 // The greatest line, without its line feed.
 const LONGEST: usize = 2066;
@@ -80,7 +82,7 @@ pub fn replay<R: Read, W: Write>(
     ensures err { IfErr result (λ e.
         StopsAt setup.now e (R.remaining reader.old) (R.remaining reader.new) (W.contents writer.old) (W.contents writer.new)) }
 {
-    replay_on(alloc, setup, ListBook::new(alloc), reader, writer)
+    replay_on(alloc, setup, LevelBook::new(alloc), reader, writer)
 }
 
 /// The same over any empty book.
@@ -131,7 +133,7 @@ fn play_piece<B: Book + Drop, W: Write>(
     ensures err { IfErr result (Stops ⊥ run.old (pending.old.items ++ piece.now) (W.contents writer.old) (W.contents writer.new)) }
 {
     pending.extend_from_slice(piece)?;
-    let rest = play_lines(run, writer, pending)?;
+    let rest = play_lines(alloc, run, writer, pending)?;
     let rest = Vec::from_slice(alloc, rest)?;
     *pending = rest;
     if pending.len() > LONGEST {

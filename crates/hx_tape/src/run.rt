@@ -1,5 +1,5 @@
 //! A replay as it goes: its market, and what was counted.
-ghost use Rattle.std.specs.Prelude.{◌≡◌, ◌≢◌, ◌≤◌, ◌<◌, ◌^◌, ◌+◌, ◌++◌, [], ℕ, None, true, false, IfOk, IfErr, IfSome, IfNone, OnSome, OnOk, OnErr, string_bytes, length, replicate, slice_index};
+ghost use Rattle.std.specs.Prelude.{◌≡◌, ◌≢◌, ◌≤◌, ◌<◌, ◌^◌, ◌+◌, ◌++◌, [], ℕ, None, true, false, IfOk, IfErr, IfSome, IfNone, OnSome, OnOk, OnErr, length, replicate, slice_index};
 ghost use Rattle.std.specs.List.{AllByRecursion};
 ghost use Rattle.hx_itch.specs.Message.{feed_time};
 ghost use Rattle.hx_market.specs.Steps.{step};
@@ -8,7 +8,9 @@ ghost use Rattle.hx_tape.specs.Text.{Entry, entry_of, line};
 ghost use Rattle.hx_tape.specs.Output.{feed_line, reply_line, feed_lines, reply_lines, counts_after};
 ghost use Rattle.hx_tape.specs.Run.{event_of, is_unknown, fault_of, counts_of, start, Plays, Faults, IsFew};
 
+use crate::decimal::write_number;
 use crate::fault::{Kind, TapeError};
+use crate::hexadecimal::write_bytes;
 use crate::line::{self, Fields};
 use hx_itch::{Feed, encode};
 use hx_levels::Book;
@@ -48,66 +50,67 @@ impl<B: Book> Model for Run<B> {
     ghost view = { λ r. record { setup = r.market.setup; market = r.market.market; events = r.counts.events; feed = r.counts.feed; replies = r.counts.replies; counts = r.replies.items } };
 }
 
-// Message n of the feed.
-fn feed_line(alloc: Global, number: u64, message: &Feed) -> Result<String, AllocError>
+// Appends the line of message n of the feed.
+fn write_feed_line(text: &mut Vec<u8>, number: u64, message: &Feed) -> Result<(), AllocError>
     requires { feed_time message.now < 2 ^ 48 }
-    ensures { IfOk result (λ text. string_bytes text ≡ feed_line number message.now) }
+    ensures { OnOk result (text.new.items ≡ text.old.items ++ feed_line number message.now) }
 {
-    let hex = hex::encode(alloc, &encode(message))?;
-    format!(in alloc; "F {number} {hex}\n")
+    text.extend_from_slice(b"F ")?;
+    write_number(text, number)?;
+    text.push(b' ')?;
+    write_bytes(text, &encode(message))?;
+    text.push(b'\n')?;
+    Ok(())
 }
 
-// Reply n to a member.
-fn reply_line(
-    alloc: Global,
+// Appends the line of reply n to a member.
+fn write_reply_line(
+    text: &mut Vec<u8>,
     member: MemberNo,
     number: u64,
     reply: &Outbound,
-) -> Result<String, AllocError>
-    ensures { IfOk result (λ text. string_bytes text ≡ reply_line member number reply.now) }
+) -> Result<(), AllocError>
+    ensures { OnOk result (text.new.items ≡ text.old.items ++ reply_line member number reply.now) }
 {
-    let member = member.get();
-    let hex = hex::encode(alloc, &encode_out(reply))?;
-    format!(in alloc; "M {member} {number} {hex}\n")
+    text.extend_from_slice(b"M ")?;
+    write_number(text, u64::from(member.get()))?;
+    text.push(b' ')?;
+    write_number(text, number)?;
+    text.push(b' ')?;
+    write_bytes(text, &encode_out(reply))?;
+    text.push(b'\n')?;
+    Ok(())
 }
 
-// Writes the lines of messages of the feed, after so many others.
-fn write_feed(
-    alloc: Global,
-    text: &mut String,
-    before: u64,
-    feed: &[Feed],
-) -> Result<(), AllocError>
+// Appends the lines of messages of the feed, after so many others.
+fn write_feed(text: &mut Vec<u8>, before: u64, feed: &[Feed]) -> Result<(), AllocError>
     requires times { AllByRecursion (λ message. feed_time message < 2 ^ 48) feed.now }
     requires room { before + length feed.now < 2 ^ 64 }
-    ensures { OnOk result (string_bytes text.new ≡ string_bytes text.old ++ feed_lines before feed.now) }
+    ensures { OnOk result (text.new.items ≡ text.old.items ++ feed_lines before feed.now) }
 {
     let mut number = before;
     for message in feed {
         number += 1;
-        let line = feed_line(alloc, number, message)?;
-        text.push_str(&line)?;
+        write_feed_line(text, number, message)?;
     }
     Ok(())
 }
 
-// Writes the lines of replies, after so many others of each member.
+// Appends the lines of replies, after so many others of each member.
 fn write_replies(
-    alloc: Global,
-    text: &mut String,
+    text: &mut Vec<u8>,
     counts: &mut [u64],
     replies: &[(MemberNo, Outbound)],
 ) -> Result<(), AllocError>
     requires numbered { length counts.old ≡ 4096 }
     requires room { (member : ℕ) → slice_index counts.old member + length replies.now < 2 ^ 64 }
-    ensures lines { OnOk result (string_bytes text.new ≡ string_bytes text.old ++ reply_lines counts.old replies.now) }
+    ensures lines { OnOk result (text.new.items ≡ text.old.items ++ reply_lines counts.old replies.now) }
     ensures counts { OnOk result (counts.new ≡ counts_after counts.old replies.now) }
 {
     for (member, reply) in replies {
         let count = &mut counts[member.get() as usize];
         *count += 1;
-        let line = reply_line(alloc, *member, *count, reply)?;
-        text.push_str(&line)?;
+        write_reply_line(text, *member, *count, reply)?;
     }
     Ok(())
 }
@@ -120,7 +123,7 @@ fn no_replies(alloc: Global) -> Result<Vec<u64>, AllocError>
 }
 
 // The event of an entry: a member's message, or what the operator's bytes say, where they say something.
-fn event_of(fields: Fields) -> Option<Event>
+pub fn event_of(fields: Fields) -> Option<Event>
     ensures event { IfSome result (λ event. event ≡ event_of (entry_of fields)) }
     ensures known { OnSome result (is_unknown (entry_of fields) ≡ false) }
     ensures unknown { IfNone result (is_unknown (entry_of fields) ≡ true) }
@@ -136,7 +139,7 @@ fn event_of(fields: Fields) -> Option<Event>
 }
 
 // The fault of the line of this number, where the market refuses its event.
-fn fault_of(line: u64, error: PrepareError) -> TapeError
+pub fn fault_of(line: u64, error: PrepareError) -> TapeError
     ensures { result ≡ fault_of line error }
 {
     let kind = match error {
@@ -173,11 +176,11 @@ impl<B: Book + Drop> Run<B> {
         self.counts
     }
 
-    /// Plays the next line, and gives its output lines.
-    pub fn play(&mut self, text: &[u8]) -> Result<String, TapeError>
+    /// Plays the next line, and leaves its output lines in the place of what stood in `lines`.
+    pub fn play(&mut self, text: &[u8], lines: &mut Vec<u8>) -> Result<(), TapeError>
         requires events { self.old.events < 2 ^ 48 }
         requires few { IsFew self.old }
-        ensures ok { IfOk result (λ output. Plays self.old self.new text.now (string_bytes output)) }
+        ensures ok { OnOk result (Plays self.old self.new text.now lines.new.items) }
         ensures faults { IfErr result (Faults self.old text.now) }
     {
         let line = self.counts.events + 1;
@@ -192,7 +195,7 @@ impl<B: Book + Drop> Run<B> {
             return Err(bad);
         };
         let output = self.step(&event)?;
-        Ok(self.tell(&output)?)
+        Ok(self.tell(&output, lines)?)
     }
 
     // One step of the market.
@@ -211,15 +214,15 @@ impl<B: Book + Drop> Run<B> {
         }
     }
 
-    // Counts what a step gave, and gives its output lines.
-    fn tell(&mut self, output: &Output) -> Result<String, AllocError>
+    // Counts what a step gave, and leaves its output lines in `lines`.
+    fn tell(&mut self, output: &Output, lines: &mut Vec<u8>) -> Result<(), AllocError>
         requires times { AllByRecursion (λ message. feed_time message < 2 ^ 48) output.now.feed.items }
         requires events { self.old.events < 2 ^ 48 }
         requires feed { self.old.feed + length output.now.feed.items < 2 ^ 64 }
         requires replies { self.old.replies + length output.now.replies.items < 2 ^ 64 }
         requires numbered { length self.old.counts ≡ 4096 }
         requires each { (member : ℕ) → slice_index self.old.counts member ≤ self.old.replies }
-        ensures lines { IfOk result (λ text. string_bytes text ≡ feed_lines self.old.feed output.now.feed.items ++ reply_lines self.old.counts output.now.replies.items) }
+        ensures lines { OnOk result (lines.new.items ≡ feed_lines self.old.feed output.now.feed.items ++ reply_lines self.old.counts output.now.replies.items) }
         ensures run { OnOk result (self.new ≡ record self.old {
           events = self.old.events + 1;
           feed = self.old.feed + length output.now.feed.items;
@@ -227,12 +230,12 @@ impl<B: Book + Drop> Run<B> {
           counts = counts_after self.old.counts output.now.replies.items;
         }) }
     {
-        let mut text = String::new(self.alloc);
-        write_feed(self.alloc, &mut text, self.counts.feed, &output.feed)?;
-        write_replies(self.alloc, &mut text, &mut self.replies, &output.replies)?;
+        lines.clear();
+        write_feed(lines, self.counts.feed, &output.feed)?;
+        write_replies(lines, &mut self.replies, &output.replies)?;
         self.counts.events += 1;
         self.counts.feed += output.feed.len() as u64;
         self.counts.replies += output.replies.len() as u64;
-        Ok(text)
+        Ok(())
     }
 }

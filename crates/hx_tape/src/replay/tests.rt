@@ -1,8 +1,11 @@
 mod days;
 mod market;
+mod striking;
 
 use super::*;
 use days::Day;
+use hx_levels::ListBook;
+use hx_members::SetupError;
 use hx_units::NoMemory;
 use std::io;
 use std::process::Abort;
@@ -65,11 +68,30 @@ fn play<R: Read, W: Write>(
     replay(alloc, &setup, reader, writer)
 }
 
-// What a replay wrote, and how it ended.
-fn replayed(alloc: Global, text: &[u8]) -> (Vec<u8>, Result<Counts, TapeError>) {
+// The same over a plain list of orders.
+fn play_on_list<R: Read, W: Write>(
+    alloc: Global,
+    reader: &mut R,
+    writer: &mut W,
+) -> Result<Counts, TapeError> {
+    let setup = standard(alloc)?;
+    replay_on(alloc, &setup, ListBook::new(alloc), reader, writer)
+}
+
+/// What a replay wrote, and how it ended.
+type Replayed = (Vec<u8>, Result<Counts, TapeError>);
+
+fn replayed(alloc: Global, text: &[u8]) -> Replayed {
     let mut output = Vec::new(alloc);
     let mut reader = text;
     let result = play(alloc, &mut reader, &mut output);
+    (output, result)
+}
+
+fn replayed_on_list(alloc: Global, text: &[u8]) -> Replayed {
+    let mut output = Vec::new(alloc);
+    let mut reader = text;
+    let result = play_on_list(alloc, &mut reader, &mut output);
     (output, result)
 }
 
@@ -86,13 +108,59 @@ fn lines_of(text: &[u8], kind: u8) -> u64 {
     count
 }
 
-fn expect_day<R: AllocGlobal + Abort>(rt: &R, day: &Day) -> Result<(), Fail> {
-    let (output, result) = replayed(rt.alloc(), day.tape);
+fn expect_output<R: Abort>(rt: &R, day: &Day, replayed: Replayed) -> Result<(), Fail> {
+    let (output, result) = replayed;
     assert_eq!(rt; output.as_slice(), day.output);
     let counts = result?;
     assert_eq!(rt; counts.feed, lines_of(day.output, b'F'));
     assert_eq!(rt; counts.replies, lines_of(day.output, b'M'));
     Ok(())
+}
+
+// A day over price levels, and over a plain list of orders.
+fn expect_day<R: AllocGlobal + Abort>(rt: &R, day: &Day) -> Result<(), Fail> {
+    expect_output(rt, day, replayed(rt.alloc(), day.tape))?;
+    expect_output(rt, day, replayed_on_list(rt.alloc(), day.tape))
+}
+
+// The setup of a day that begins closed, of which callers know nothing.
+fn closed(alloc: Global) -> Result<Setup, TapeError> {
+    match Setup::read(alloc, days::CLOSED) {
+        Ok(setup) => Ok(setup),
+        Err(SetupError::NoMemory) => Err(TapeError::NoMemory),
+        Err(SetupError::Bad { .. }) => Err(TapeError::Read),
+    }
+}
+
+// A day that begins closed, over price levels.
+fn replayed_closed(alloc: Global, text: &[u8]) -> Result<Replayed, TapeError> {
+    let setup = closed(alloc)?;
+    let mut output = Vec::new(alloc);
+    let mut reader = text;
+    let result = replay(alloc, &setup, &mut reader, &mut output);
+    Ok((output, result))
+}
+
+// The same over a plain list of orders.
+fn replayed_closed_on_list(alloc: Global, text: &[u8]) -> Result<Replayed, TapeError> {
+    let setup = closed(alloc)?;
+    let mut output = Vec::new(alloc);
+    let mut reader = text;
+    let result = replay_on(
+        alloc,
+        &setup,
+        ListBook::new(alloc),
+        &mut reader,
+        &mut output,
+    );
+    Ok((output, result))
+}
+
+#[test]
+fn hours_of_a_day(rt: HostRuntime) -> Result<(), Fail> {
+    let day = &days::HOURS_OF_A_DAY;
+    expect_output(&rt, day, replayed_closed(rt.alloc(), day.tape)?)?;
+    expect_output(&rt, day, replayed_closed_on_list(rt.alloc(), day.tape)?)
 }
 
 #[test]
@@ -129,9 +197,7 @@ fn minimum_passed_over_without_its_first_line(rt: HostRuntime) -> Result<(), Fai
     let Some((_, output)) = split_once(day.output, b'\n') else {
         panic!(&rt; "there is a line");
     };
-    let (written, _) = replayed(rt.alloc(), tape);
-    assert_eq!(rt; written.as_slice(), output);
-    Ok(())
+    expect_day(&rt, &Day { tape, output })
 }
 
 #[test]
@@ -185,6 +251,11 @@ fn replaces_that_trade(rt: HostRuntime) -> Result<(), Fail> {
 }
 
 #[test]
+fn ticks(rt: HostRuntime) -> Result<(), Fail> {
+    expect_day(&rt, &days::TICKS)
+}
+
+#[test]
 fn empty_tape(rt: HostRuntime) -> Result<(), Fail> {
     let (output, result) = replayed(rt.alloc(), b"");
     let counts = result?;
@@ -217,13 +288,14 @@ fn expect_bad<R: AllocGlobal + Abort>(rt: &R, text: &[u8], want: Kind) -> Result
 
 #[test]
 fn bad_lines(rt: HostRuntime) -> Result<(), Fail> {
-    let cases: [(&[u8], Kind); 10] = [
+    let cases: [(&[u8], Kind); 11] = [
         (b"20 1 zz\n", Kind::Bad),
         (b"020 1 00\n", Kind::Bad),
         (b"20 1 4F\n", Kind::Bad),
         (b"20 1 \n", Kind::Bad),
         (b"20 1 00", Kind::Bad),
-        (b"5 0 4b\n", Kind::Bad),
+        (b"5 0 5a\n", Kind::Bad),
+        (b"5 0 4b4b\n", Kind::Bad),
         (b"86400000000000 1 00\n", Kind::Time),
         (b"86400000000000 9 00\n", Kind::Time),
         (b"20 9 00\n", Kind::Member),
@@ -271,26 +343,5 @@ fn writer_fails(rt: HostRuntime) -> Result<(), Fail> {
     let result = play(rt.alloc(), &mut text, &mut output);
     assert!(rt; matches!(result, Err(TapeError::Write)));
     assert_eq!(rt; output.taken.as_slice(), &day.output[..400]);
-    Ok(())
-}
-
-// A replay over the standard setup and a given book, of which callers know nothing.
-fn play_on_list(
-    alloc: Global,
-    reader: &mut &[u8],
-    writer: &mut Vec<u8>,
-) -> Result<Counts, TapeError> {
-    let setup = standard(alloc)?;
-    replay_on(alloc, &setup, ListBook::new(alloc), reader, writer)
-}
-
-#[test]
-fn over_a_book(rt: HostRuntime) -> Result<(), Fail> {
-    let day = days::DISPLAY_BEATS_TIME;
-    let mut output = Vec::new(rt.alloc());
-    let mut text = day.tape;
-    let counts = play_on_list(rt.alloc(), &mut text, &mut output)?;
-    assert_eq!(rt; counts.events, 3);
-    assert_eq!(rt; output.as_slice(), day.output);
     Ok(())
 }

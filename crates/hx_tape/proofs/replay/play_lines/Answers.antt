@@ -9,16 +9,16 @@ play-requires-clause-events g c = omega (arith, replays_counts _ _ _ _ _ _ c.loo
 pub play-requires-clause-few : goal.play-requires-clause-few
 play-requires-clause-few g c = (replays_counts _ _ _ _ _ _ c.loop-line.invariant c.requires.few).1
 
-pub returns-in_err-output-clause-err : goal.returns-in_err-output-clause-err
-returns-in_err-output-clause-err g c =
+pub returns-in_err-play-clause-err : goal.returns-in_err-play-clause-err
+returns-in_err-play-clause-err g c =
     let p = err_from_is_err_and c.from_residual.result c.from_residual.ensures.1 in
-    rw (p.1, p.2) (stops_at_line _ _ _ _ _ _ _ _ _ c.loop-line.invariant c.in-Some.ensures.some.0 c.in-Some.ensures.some.1 c.in_err-output.ensures.faults)
+    rw (p.1, p.2) (stops_at_line _ _ _ _ _ _ _ _ _ c.loop-line.invariant c.in-Some.ensures.some.0 c.in-Some.ensures.some.1 c.in_err-play.ensures.faults)
 
 pub returns-in_err-write_whole-clause-err : goal.returns-in_err-write_whole-clause-err
 returns-in_err-write_whole-clause-err g c =
     let p = err_from_is_err_and c.from_residual-in_err-write_whole.result c.from_residual-in_err-write_whole.ensures.1 in
     let some = c.in_err-write_whole.ensures.err in
-    rw (p.1, p.2, c.in_err-write_whole.ensures.write) (stops_in_write _ _ _ _ _ _ _ _ _ _ _ some.0 c.loop-line.invariant c.in-Some.ensures.some.0 c.in_ok-output.ensures.ok (rw (← c.as_bytes.ensures.value) some.1))
+    rw (p.1, p.2, c.in_err-write_whole.ensures.write) (stops_in_write _ _ _ _ _ _ _ _ _ _ _ some.0 c.loop-line.invariant c.in-Some.ensures.some.0 c.in_ok-play.ensures.ok (rw (← c.deref.ensures.value) some.1))
 
 pub loop-line-preserved : goal.loop-line-preserved
-loop-line-preserved g c = replays_more _ _ _ _ _ _ _ _ _ _ _ c.loop-line.invariant c.in-Some.ensures.some.0 c.in_ok-output.ensures.ok (rw (← c.as_bytes.ensures.value) c.in_ok-write_whole.ensures.ok)
+loop-line-preserved g c = replays_more _ _ _ _ _ _ _ _ _ _ _ c.loop-line.invariant c.in-Some.ensures.some.0 c.in_ok-play.ensures.ok (rw (← c.deref.ensures.value) c.in_ok-write_whole.ensures.ok)

@@ -1,0 +1,153 @@
+use super::*;
+
+const STANDARD: &[u8] = b"session HX00000001
+start open
+stock ABCD 5120000000644e435a20502020314e000000004e
+stock WXYZ 5120000000644e435a20502020314e000000004e
+member 1 FMA1 ALPHA PWALPHA 1000
+member 2 FMB2 BRAVO PWBRAVO 1000
+member 3 FMC3 CHARLI PWCHARLI 1000
+";
+
+const CLOSED: &[u8] = b"session HX00000002
+start closed
+stock ABCD 5120000000644e435a20502020314e000000004e
+member 1 FMA1 ALPHA PWALPHA 1000
+member 2 FMB2 BRAVO PWBRAVO 1000
+";
+
+const TWO_LINES: &[u8] = b"session HX00000002
+start closed
+";
+
+const THREE_LINES: &[u8] = b"session HX00000002
+start closed
+stock ABCD 5120000000644e435a20502020314e000000004e
+";
+
+const SHORT_TAIL: &[u8] = b"session HX00000002
+start closed
+stock ABCD 5120000000644e435a20502020314e00000000
+member 1 FMA1 ALPHA PWALPHA 1000
+member 2 FMB2 BRAVO PWBRAVO 1000
+";
+
+const OTHER_ORDER: &[u8] = b"session HX00000002
+start closed
+stock ABCD 5120000000644e435a20502020314e000000004e
+member 2 FMB2 BRAVO PWBRAVO 1000
+member 1 FMA1 ALPHA PWALPHA 1000
+";
+
+const SAME_USER: &[u8] = b"session HX00000002
+start closed
+stock ABCD 5120000000644e435a20502020314e000000004e
+member 1 FMA1 ALPHA PWALPHA 1000
+member 2 FMB2 alpha PWBRAVO 1000
+";
+
+fn read(alloc: Global, text: &[u8]) -> Result<Setup, Fail> {
+    match Setup::read(alloc, text) {
+        Ok(setup) => Ok(setup),
+        Err(SetupError::Bad { .. }) => Err(Fail::new("a bad line")),
+        Err(SetupError::NoMemory) => Err(Fail::new("no memory")),
+    }
+}
+
+// The number of the bad line, if there is one.
+fn bad_line(alloc: Global, text: &[u8]) -> Result<Option<u64>, NoMemory> {
+    match Setup::read(alloc, text) {
+        Ok(_) => Ok(None),
+        Err(SetupError::Bad { line }) => Ok(Some(line)),
+        Err(SetupError::NoMemory) => Err(NoMemory),
+    }
+}
+
+#[test]
+fn bad_setups(rt: HostRuntime) -> Result<(), Fail> {
+    let alloc = rt.alloc();
+    assert_eq!(rt; bad_line(alloc, b"")?, Some(1));
+    assert_eq!(rt; bad_line(alloc, TWO_LINES)?, Some(3));
+    assert_eq!(rt; bad_line(alloc, THREE_LINES)?, Some(4));
+    assert_eq!(rt; bad_line(alloc, SHORT_TAIL)?, Some(3));
+    assert_eq!(rt; bad_line(alloc, OTHER_ORDER)?, Some(5));
+    assert_eq!(rt; bad_line(alloc, &CLOSED[..CLOSED.len() - 1])?, Some(5));
+    assert_eq!(rt; bad_line(alloc, CLOSED)?, None);
+    Ok(())
+}
+
+#[test]
+fn a_user_in_another_case(rt: HostRuntime) -> Result<(), Fail> {
+    assert_eq!(rt; bad_line(rt.alloc(), SAME_USER)?, Some(5));
+    Ok(())
+}
+
+#[test]
+fn standard_text(rt: HostRuntime) -> Result<(), Fail> {
+    let setup = read(rt.alloc(), STANDARD)?;
+    expect_day(&rt, &setup);
+    expect_locates(&rt, &setup);
+    expect_stocks(&rt, &setup);
+    expect_members(&rt, &setup);
+    expect_login(&rt, &setup, b"bravo ", b"pwBravo   ");
+    Ok(())
+}
+
+fn expect_closed<R: Abort>(rt: &R, setup: &Setup) {
+    assert_eq!(rt; setup.session(), b"HX00000002");
+    assert!(rt; !setup.start_open());
+    assert_eq!(rt; setup.stocks().len(), 1);
+    assert_eq!(rt; setup.members().len(), 2);
+}
+
+#[test]
+fn closed_text(rt: HostRuntime) -> Result<(), Fail> {
+    let setup = read(rt.alloc(), CLOSED)?;
+    expect_closed(&rt, &setup);
+    Ok(())
+}
+
+// The text of as many stocks and members as may be.
+fn widest(alloc: Global) -> Result<Vec<u8>, AllocError> {
+    let mut text = Vec::from_slice(alloc, TWO_LINES)?;
+    for n in 1..=1000 {
+        let tail = "5120000000644e435a20502020314e000000004e";
+        let line = format!(in alloc; "stock S{n} {tail}\n")?;
+        text.extend_from_slice(line.as_bytes())?;
+    }
+    for n in 1..=4095 {
+        let line = format!(in alloc; "member {n} FMA1 U{n} P 4294967295\n")?;
+        text.extend_from_slice(line.as_bytes())?;
+    }
+    Ok(text)
+}
+
+fn expect_widest<R: Abort>(rt: &R, setup: &Setup) {
+    assert_eq!(rt; setup.locate(Symbol(*b"S1000   ")), Some(1000));
+    assert_eq!(rt;
+        setup.login(b"u4095 ", b"p         "),
+        Some(number(rt, 4095))
+    );
+}
+
+#[test]
+fn widest_text(rt: HostRuntime) -> Result<(), Fail> {
+    let alloc = rt.alloc();
+    let mut text = widest(alloc)?;
+    let setup = read(alloc, &text)?;
+    expect_widest(&rt, &setup);
+    text.extend_from_slice(b"member 4096 FMA1 U4096 P 1\n")?;
+    assert_eq!(rt; bad_line(alloc, &text)?, Some(5098));
+    Ok(())
+}
+
+#[test]
+fn texts_of_errors(rt: HostRuntime) -> Result<(), Fail> {
+    let bad = SetupError::Bad { line: 3 };
+    let text = format!(in rt.alloc(); "{bad}")?;
+    assert_eq!(rt; text.as_str(), "setup line 3: bad line");
+    let want = SetupError::from(NoMemory);
+    let text = format!(in rt.alloc(); "{want}")?;
+    assert_eq!(rt; text.as_str(), "no memory");
+    Ok(())
+}

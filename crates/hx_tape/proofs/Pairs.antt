@@ -1,0 +1,69 @@
+-- Bytes and the pairs of their digits.
+use Rattle.std.proofs.Common.{◌≡◌, ℕ, zero, suc, ◌+◌, ◌*◌, ◌/◌, ◌%◌, ◌<◌, ◌≤◌, List, [], ◌∷◌, ◌++◌, length, take, drop, set, get_or, slice_index, refl, sym, ap, ◌∙◌, append_assoc, arith, Fits, w8}
+use Rattle.std.specs.Prelude.{◌≢◌}
+use Rattle.std.proofs.lemmas.List.{take_more_set, take_all}
+use Rattle.std.proofs.Math.Seq.{take-suc, take-append_seam}
+use Rattle.hex.specs.Hex.{encode_lower, encode_with, lower_digits, IsBytes}
+use Rattle.hex.proofs.HexLemmas.{length-encode_with}
+
+abbrev pub high_digit : ℕ → ℕ
+high_digit b = slice_index lower_digits (b / 16)
+
+abbrev pub low_digit : ℕ → ℕ
+low_digit b = slice_index lower_digits (b % 16)
+
+encode_more : (xs : List ℕ) (b : ℕ) → encode_lower (xs ++ b ∷ []) ≡ encode_lower xs ++ high_digit b ∷ low_digit b ∷ []
+unfolding encode_with
+encode_more [] b = refl
+encode_more (x ∷ xs) b = ap (λ (t : List ℕ). high_digit x ∷ low_digit x ∷ t) (encode_more xs b)
+
+take_two : (text : List ℕ) (i : ℕ) → 2 * i + 1 < length text → take (2 * (i + 1)) text ≡ take (2 * i) text ++ get_or text (2 * i) 0 ∷ get_or text (2 * i + 1) 0 ∷ []
+take_two text i lt =
+    let twice : 2 * (i + 1) ≡ suc (2 * i + 1) = omega arith in
+    let next : 2 * i + 1 ≡ suc (2 * i) = omega arith in
+    ap (λ (k : ℕ). take k text) twice ∙ take-suc text (2 * i + 1) 0 lt
+    ∙ ap (λ (xs : List ℕ). xs ++ get_or text (2 * i + 1) 0 ∷ []) (ap (λ (k : ℕ). take k text) next ∙ take-suc text (2 * i) 0 (omega arith))
+    ∙ append_assoc (take (2 * i) text) (get_or text (2 * i) 0 ∷ []) (get_or text (2 * i + 1) 0 ∷ [])
+
+-- one byte more is read
+pub read_more : (text bytes : List ℕ) (i b : ℕ) → length text ≡ 2 * length bytes → i < length bytes → encode_lower (take i bytes) ≡ take (2 * i) text → get_or text (2 * i) 0 ≡ high_digit b → get_or text (2 * i + 1) 0 ≡ low_digit b
+    → encode_lower (take (i + 1) (set bytes i b)) ≡ take (2 * (i + 1)) text
+read_more text bytes i b size lt so_far high low =
+    ap encode_lower (take_more_set bytes i b lt) ∙ encode_more (take i bytes) b ∙ ap (λ (xs : List ℕ). xs ++ high_digit b ∷ low_digit b ∷ []) so_far
+    ∙ ap (λ (x : ℕ). take (2 * i) text ++ x ∷ low_digit b ∷ []) (sym high) ∙ ap (λ (x : ℕ). take (2 * i) text ++ get_or text (2 * i) 0 ∷ x ∷ []) (sym low)
+    ∙ sym (take_two text i (omega arith))
+
+-- all are read
+pub read_all : (text bytes : List ℕ) (i : ℕ) → length text ≡ 2 * length bytes → length bytes ≤ i → encode_lower (take i bytes) ≡ take (2 * i) text → text ≡ encode_lower bytes
+read_all text bytes i size le so_far = sym (ap encode_lower (sym (take_all i bytes le)) ∙ so_far ∙ take_all (2 * i) text (omega arith))
+
+digits_at : (xs : List ℕ) (i : ℕ) → i < length xs → (get_or (encode_lower xs) (2 * i) 0 ≡ high_digit (get_or xs i 0)) × (get_or (encode_lower xs) (2 * i + 1) 0 ≡ low_digit (get_or xs i 0))
+unfolding encode_with
+digits_at [] i lt = absurd (omega arith)
+digits_at (x ∷ xs) zero lt = (refl, refl)
+digits_at (x ∷ xs) (suc i) lt =
+    let first : 2 * suc i ≡ suc (suc (2 * i)) = omega arith in
+    let second : 2 * suc i + 1 ≡ suc (suc (2 * i + 1)) = omega arith in
+    let more = digits_at xs i (omega arith) in
+    (ap (λ (k : ℕ). get_or (encode_lower (x ∷ xs)) k 0) first ∙ more.0, ap (λ (k : ℕ). get_or (encode_lower (x ∷ xs)) k 0) second ∙ more.1)
+
+-- what is no pair of digits stands in no text of bytes
+pub read_none : (text others : List ℕ) (i : ℕ) → 2 * i + 1 < length text → ((b : ℕ) → b < 256 → get_or text (2 * i) 0 ≡ high_digit b → get_or text (2 * i + 1) 0 ≢ low_digit b) → IsBytes others → text ≡ encode_lower others → ⊥
+read_none text others i lt none fits is =
+    let size : length text ≡ 2 * length others = ap length is ∙ length-encode_with lower_digits others in
+    let digits = digits_at others i (omega arith) in
+    none (get_or others i 0) (fits i) (ap (λ (t : List ℕ). get_or t (2 * i) 0) is ∙ digits.0) (ap (λ (t : List ℕ). get_or t (2 * i + 1) 0) is ∙ digits.1)
+
+pub set_bytes : (xs : List ℕ) (i b : ℕ) → IsBytes xs → b < 256 → IsBytes (set xs i b)
+set_bytes [] i b h lt k = h k
+set_bytes (x ∷ xs) zero b h lt zero = lt
+set_bytes (x ∷ xs) zero b h lt (suc k) = h (suc k)
+set_bytes (x ∷ xs) (suc i) b h lt zero = h 0
+set_bytes (x ∷ xs) (suc i) b h lt (suc k) = set_bytes xs i b (λ j. h (suc j)) lt k
+
+pub byte_fits : (b : ℕ) → Fits w8 b → b < 256
+byte_fits b h = omega (arith, h)
+
+-- a slice that was written whole
+pub written_whole : (xs ys : List ℕ) (n : ℕ) → n ≡ length xs → take n (xs ++ drop (length xs) ys) ≡ xs
+written_whole xs ys n e = ap (λ (k : ℕ). take k (xs ++ drop (length xs) ys)) e ∙ take-append_seam xs (drop (length xs) ys)
