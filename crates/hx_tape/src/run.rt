@@ -194,21 +194,21 @@ impl<B: Book + Drop> Run<B> {
         let Some(event) = event_of(fields) else {
             return Err(bad);
         };
-        let output = self.step(&event)?;
+        let output = self.step(event)?;
         Ok(self.tell(&output, lines)?)
     }
 
     // One step of the market.
-    fn step(&mut self, event: &Event) -> Result<Output, TapeError>
+    fn step(&mut self, event: Event) -> Result<Output, TapeError>
         requires { self.old.events < 2 ^ 48 }
-        ensures passes { OnOk result (refusal self.old.setup self.old.market.recorded event.now ≡ None) }
-        ensures run { OnOk result (self.new ≡ record self.old { market = (step self.old.setup self.old.market event.now).market }) }
-        ensures feed { IfOk result (λ output. output.feed.items ≡ (step self.old.setup self.old.market event.now).told.feed) }
-        ensures replies { IfOk result (λ output. output.replies.items ≡ (step self.old.setup self.old.market event.now).told.replies) }
+        ensures passes { OnOk result (refusal self.old.setup self.old.market.recorded event ≡ None) }
+        ensures run { OnOk result (self.new ≡ record self.old { market = (step self.old.setup self.old.market event).market }) }
+        ensures feed { IfOk result (λ output. output.feed.items ≡ (step self.old.setup self.old.market event).told.feed) }
+        ensures replies { IfOk result (λ output. output.replies.items ≡ (step self.old.setup self.old.market event).told.replies) }
         ensures times { IfOk result (λ output. AllByRecursion (λ message. feed_time message < 2 ^ 48) output.feed.items) }
-        ensures refused { IfErr result (λ e. e ≡ fault_of (self.old.events + 1) (or_no_memory (refusal self.old.setup self.old.market.recorded event.now))) }
+        ensures refused { IfErr result (λ e. e ≡ fault_of (self.old.events + 1) (or_no_memory (refusal self.old.setup self.old.market.recorded event))) }
     {
-        match self.market.prepare(event) {
+        match self.market.prepare(&event) {
             Ok(prepared) => Ok(self.market.commit(prepared)),
             Err(error) => Err(fault_of(self.counts.events + 1, error)),
         }
