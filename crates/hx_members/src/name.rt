@@ -18,7 +18,7 @@ pub struct ChainFacts {
 }
 
 /// What is told of a used token: the place of its chain's entered token in the order of use of all members, from 0;
-/// what that chain has done; and the key of the token's own live order, if it has one.
+/// what that chain has done; and the key that was last settled for the token. The order under that key may be gone.
 #[derive(Clone, Copy, Debug, PartialEq, Eq)]
 pub struct TokenState {
     pub chain: u64,

@@ -112,7 +112,7 @@ impl Tokens {
         self.kept.push(name, UsedToken::fresh(entered, chain));
     }
 
-    /// Sets the key of a used token's live order.
+    /// Sets the key of a used token: that of the order which the book keeps under it.
     pub fn settle(&mut self, member: MemberNo, token: &Token, key: Option<usize>)
         requires used { is_used self.old.tokens member token.now ≡ true }
         ensures tokens { self.new.tokens ≡ self.old.tokens }
