@@ -5,6 +5,7 @@ ghost use Rattle.hx_units.specs.Names.{is_token};
 ghost use Rattle.hx_members.specs.Chains.{is_used};
 ghost use Rattle.hx_members.specs.Setups.{member_of};
 ghost use Rattle.hx_market.specs.Admitting.{refusal};
+ghost use Rattle.hx_market.specs.Markets.{opening};
 ghost use Rattle.hx_market.specs.Steps.{step, run};
 ghost use Rattle.hx_audit.specs.Listing.{uses_of, grouped, told_chain, chains_of};
 ghost use Rattle.hx_audit.specs.Finding.{AreTold};
@@ -62,6 +63,27 @@ fn take_and_list(
     Ok(())
 }
 
+// The opening market takes the events, and the tokens that the member uses by them are listed.
+fn take_all(
+    market: &mut Market<LevelBook>,
+    listing: &mut Listing,
+    member: MemberNo,
+    events: &[Event],
+) -> Result<(), StrikeError>
+    requires opening { market.old.market ≡ opening market.old.setup }
+    requires none { listing.old.uses.entries ≡ [] }
+    requires grouped { listing.old.chains.entries ≡ [] }
+    ensures recorded { OnOk result (AreRecorded market.old.setup events.now) }
+    ensures market { OnOk result (market.new.market ≡ run market.old.setup events.now) }
+    ensures chains { OnOk result (listing.new.chains.entries ≡ grouped (uses_of (run market.old.setup events.now).tokens member)) }
+    ensures refused { IfErr result (Explains market.old.setup events.now) }
+{
+    for (index, event) in events.iter().enumerate() {
+        take_and_list(market, listing, member, index as u64, event)?;
+    }
+    Ok(())
+}
+
 // Each chain with what it has done.
 fn tell(
     alloc: Global,
@@ -97,9 +119,6 @@ pub fn chains(
 {
     let mut market = open(alloc, setup)?;
     let mut listing = Listing::new(alloc);
-    for (index, event) in events.iter().enumerate() {
-        take_and_list(&mut market, &mut listing, member, index as u64, event)?;
-    }
-    let Listing { chains, .. } = listing;
-    Ok(tell(alloc, &market, member, chains)?)
+    take_all(&mut market, &mut listing, member, events)?;
+    Ok(tell(alloc, &market, member, listing.into_chains())?)
 }

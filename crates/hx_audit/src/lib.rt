@@ -8,8 +8,6 @@ mod fault;
 mod listing;
 mod playing;
 mod striking;
-#[cfg(test)]
-mod tests;
 
 pub use chain::{Chain, ChainTokens};
 pub use chaining::chains;

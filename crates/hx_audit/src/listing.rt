@@ -121,4 +121,12 @@ impl Listing {
         self.uses.insert(token, entered)?;
         put(self.alloc, &mut self.chains, token, entered)
     }
+
+    /// The chains, given out.
+    pub(crate) fn into_chains(self) -> IndexMap<Token, ChainTokens>
+        ensures { result.entries ≡ self.chains.entries }
+    {
+        let Listing { chains, .. } = self;
+        chains
+    }
 }

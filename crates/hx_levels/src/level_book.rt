@@ -17,7 +17,6 @@ use std::marker::Model;
 
 /// A book by levels of price: the orders in a slab, linked in time order, and in queues by price and by
 /// whether they are shown. A call takes time in proportion to the logarithm of the number of levels at most.
-#[derive(Drop)]
 pub struct LevelBook {
     nodes: Slab<Node>,
     levels: BTreeMap<Rung, Level>,
@@ -25,6 +24,19 @@ pub struct LevelBook {
     place: Option<Terms>,
     // The level that was reserved last. It stays also where it is empty.
     kept: Option<Rung>,
+}
+
+// By hand, so that where a value is dropped its owner's proof sees one call.
+impl Drop for LevelBook {
+    fn drop(self) {
+        let LevelBook {
+            nodes: _,
+            levels: _,
+            time: _,
+            place: _,
+            kept: _,
+        } = self;
+    }
 }
 
 impl Model for LevelBook {

@@ -16,11 +16,21 @@ use std::marker::Model;
 
 /// A book as a plain list: the orders in time order, and the keys that are in use. Each call takes time in
 /// proportion to the number of orders.
-#[derive(Drop)]
 pub struct ListBook {
     entries: Vec<Live>,
     keys: Slab<bool>,
     place: Option<Terms>,
+}
+
+// By hand, so that where a value is dropped its owner's proof sees one call.
+impl Drop for ListBook {
+    fn drop(self) {
+        let ListBook {
+            entries: _,
+            keys: _,
+            place: _,
+        } = self;
+    }
 }
 
 impl Model for ListBook {

@@ -14,7 +14,6 @@ pub mod Drafts
 pub mod Outcomes
 pub mod Walks
 pub mod Timed
-pub mod Computing
 pub mod KeptViews
 pub mod KeptChoices
 pub mod ChainsGrow

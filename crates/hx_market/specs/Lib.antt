@@ -16,4 +16,3 @@ pub mod Keeping
 pub mod Admitting
 pub mod Acts
 pub mod Ready
-pub mod Days

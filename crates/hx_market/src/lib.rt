@@ -9,7 +9,6 @@ mod amending;
 mod arriving;
 mod cancelling;
 mod carrying;
-pub mod days;
 mod ending;
 mod event;
 mod executing;
@@ -27,8 +26,6 @@ mod replacing;
 mod rules;
 mod settling;
 mod telling;
-#[cfg(test)]
-mod tests;
 
 pub use event::{Bytes, Event};
 pub use fault::PrepareError;

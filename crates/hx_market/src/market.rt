@@ -25,7 +25,6 @@ use std::marker::Model;
 use std::snapshot::Snapshot;
 
 /// The market over a book.
-#[derive(Drop)]
 pub struct Market<B: Book> {
     setup: Setup,
     book: B,
@@ -37,6 +36,22 @@ pub struct Market<B: Book> {
     // What the last `prepare` gave, known to contracts alone.
     ready: Option<Snapshot<Prepared>>,
     alloc: Global,
+}
+
+// By hand, so that where a value is dropped its owner's proof sees one call.
+impl<B: Book + Drop> Drop for Market<B> {
+    fn drop(self) {
+        let Market {
+            setup: _,
+            book: _,
+            tokens: _,
+            refs: _,
+            hours: _,
+            recorded: _,
+            ready: _,
+            alloc: _,
+        } = self;
+    }
 }
 
 impl<B: Book> Model for Market<B> {

@@ -17,6 +17,3 @@ pub use name::{ChainFacts, Name, TokenState};
 pub use setup::Setup;
 pub use stock::{Member, Stock};
 pub use tokens::Tokens;
-
-#[cfg(test)]
-mod tests;

@@ -14,7 +14,6 @@ use std::alloc::Global;
 use std::marker::Model;
 
 /// The setup of a day: its session, its stocks, its members, and how it begins.
-#[derive(Drop)]
 pub struct Setup {
     session: [u8; 10],
     start_open: bool,
@@ -22,6 +21,20 @@ pub struct Setup {
     members: Vec<Member>,
     locates: IndexMap<Symbol, u16>,
     places: IndexMap<MemberNo, u16>,
+}
+
+// By hand, so that where a value is dropped its owner's proof sees one call.
+impl Drop for Setup {
+    fn drop(self) {
+        let Setup {
+            session: _,
+            start_open: _,
+            stocks: _,
+            members: _,
+            locates: _,
+            places: _,
+        } = self;
+    }
 }
 
 impl Model for Setup {

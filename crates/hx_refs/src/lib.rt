@@ -14,11 +14,21 @@ use std::marker::Model;
 /// A displayed order has a public reference, counted 1, 2, .. over the whole market. Any other order has a private
 /// one, above `2^63`, counted 1, 2, .. over its member's own: so a reference that is shown tells nothing of orders
 /// that are not.
-#[derive(Drop)]
 pub struct Refs {
     public: u64,
     private: Vec<u64>,
     matches: u64,
+}
+
+// By hand, so that where a value is dropped its owner's proof sees one call.
+impl Drop for Refs {
+    fn drop(self) {
+        let Refs {
+            public: _,
+            private: _,
+            matches: _,
+        } = self;
+    }
 }
 
 impl Model for Refs {

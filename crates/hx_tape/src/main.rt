@@ -1,21 +1,11 @@
 //! Replays a tape, or writes it without quiet chains, from standard input to standard output.
 #![tactic(auto)]
 
-mod decimal;
-mod fault;
-mod hexadecimal;
-pub mod laws;
-mod line;
-mod replay;
-mod run;
-mod striking;
-
 use clap::error::ErrorKind;
 use clap::{Arg, ArgMatches, Command, Error, value_parser};
-use fault::TapeError;
 use hx_members::{Setup, SetupError};
+use hx_replay::{Counts, TapeError, replay, strike_tape};
 use hx_units::{MemberNo, NoMemory};
-use run::Counts;
 use std::alloc::{AllocError, Global};
 use std::io::{BufWriter, Write};
 use std::process::ExitCode;
@@ -129,7 +119,7 @@ fn replay_input<R: AllocGlobal + Input + Print + Files>(
     let Ok(mut writer) = BufWriter::with_capacity(alloc, BUFFER, io::writer(rt)) else {
         return Err(Failure::Tape(TapeError::NoMemory));
     };
-    let run = replay::replay(alloc, &setup, &mut rt.reader(), &mut writer);
+    let run = replay(alloc, &setup, &mut rt.reader(), &mut writer);
     ended(run, writer.flush())
 }
 
@@ -143,7 +133,7 @@ fn strike_input<R: AllocGlobal + Input + Print + Files>(
         return Err(Failure::CommandLine);
     };
     let setup = read_setup(rt, matches)?;
-    striking::strike_tape(alloc, &setup, &mut rt.reader(), &mut io::writer(rt), member)?;
+    strike_tape(alloc, &setup, &mut rt.reader(), &mut io::writer(rt), member)?;
     Ok(())
 }
 

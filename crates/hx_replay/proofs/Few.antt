@@ -1,0 +1,60 @@
+-- The counts of a replay fit.
+use Rattle.std.proofs.Common.{◌≡◌, ℕ, zero, suc, ◌+◌, ◌≤◌, List, [], ◌∷◌, length, replicate, refl, ap, ◌∙◌, arith, slice_index}
+use Rattle.hx_members.specs.Setups.{Setup, IsSetup}
+use Rattle.hx_refs.specs.Numbers.{raised}
+use Rattle.hx_market.specs.Markets.{Market, opening}
+use Rattle.hx_market.specs.Outputs.{Reply}
+use Rattle.hx_market.specs.Steps.{step}
+use Rattle.hx_replay.specs.Text.{Entry}
+use Rattle.hx_replay.specs.Output.{counts_after}
+use Rattle.hx_replay.specs.Run.{Progress, IsFew, start, after, event_of}
+use Rattle.hx_replay.proofs.Told.{told_few}
+
+raised-length : (xs : List ℕ) (i : ℕ) → length (raised xs i) ≡ length xs
+raised-length [] i = refl
+raised-length (x ∷ xs) zero = refl
+raised-length (x ∷ xs) (suc i) = ap (λ n. suc n) (raised-length xs i)
+
+pub raised-most : (xs : List ℕ) (i k : ℕ) → slice_index (raised xs i) k ≤ slice_index xs k + 1
+raised-most [] i k = omega arith
+raised-most (x ∷ xs) zero zero = omega arith
+raised-most (x ∷ xs) zero (suc k) = omega arith
+raised-most (x ∷ xs) (suc i) zero = omega arith
+raised-most (x ∷ xs) (suc i) (suc k) = raised-most xs i k
+
+counts-length : (counts : List ℕ) (rs : List Reply) → length (counts_after counts rs) ≡ length counts
+counts-length counts [] = refl
+counts-length counts (r ∷ rs) = counts-length (raised counts r.0) rs ∙ raised-length counts r.0
+
+counts-most : (counts : List ℕ) (rs : List Reply) (k : ℕ) → slice_index (counts_after counts rs) k ≤ slice_index counts k + length rs
+counts-most counts [] k = omega arith
+counts-most counts (r ∷ rs) k =
+    let more : slice_index (counts_after (raised counts r.0) rs) k ≤ slice_index (raised counts r.0) k + length rs = counts-most (raised counts r.0) rs k in
+    let one = raised-most counts r.0 k in omega arith
+
+pub few-after : (p : Progress) (e : Entry) → IsFew p → IsFew (after p e)
+unfolding after
+few-after p e h =
+    let told = told_few p.setup p.market (event_of e) h.stocks h.members in
+    record {
+      stocks = h.stocks;
+      members = h.members;
+      feed = omega (arith, h.feed, told.feed);
+      replies = omega (arith, h.replies, told.replies);
+      numbered = counts-length p.counts (step p.setup p.market (event_of e)).told.replies ∙ h.numbered;
+      each = λ member. omega (arith, h.each member, counts-most p.counts (step p.setup p.market (event_of e)).told.replies member);
+    }
+
+zeros : (n k : ℕ) → slice_index (replicate n 0) k ≡ 0
+zeros zero k = refl
+zeros (suc n) zero = refl
+zeros (suc n) (suc k) = zeros n k
+
+pub few-start : (setup : Setup) → IsSetup setup → IsFew (start setup)
+unfolding opening start
+few-start setup h = record { stocks = h.most_stocks; members = h.most_members; feed = omega arith; replies = omega arith; numbered = refl; each = λ member. omega (arith, zeros 4096 member) }
+
+pub started : (setup s : Setup) (m : Market) (counts : List ℕ) → s ≡ setup → m ≡ opening setup → counts ≡ replicate 4096 0
+    → (let p : Progress = record { setup = s; market = m; events = 0; feed = 0; replies = 0; counts = counts } in p) ≡ start setup
+unfolding start
+started setup s m counts a b c = rw (a, b, c) refl

@@ -1,0 +1,51 @@
+-- One line is played.
+use Rattle.std.proofs.Common.{◌≡◌, ℕ, ◌+◌, eqb, Bool, true, false, List, ◌++◌, length, Option, Some, None, refl, sym, ap, ◌∙◌, subst, inr, eqb-true}
+use Rattle.std.proofs.lemmas.Bool.{cond-true, cond-false}
+use Rattle.hx_itch.specs.declared.message.Feed.{Feed}
+use Rattle.hx_market.specs.declared.fault.PrepareError.{PrepareError}
+use Rattle.hx_market.specs.declared.fault.PrepareError.TheVariants as refused
+use Rattle.hx_market.specs.declared.event.Event.{Event}
+use Rattle.hx_market.specs.Outputs.{Reply}
+use Rattle.hx_market.specs.Steps.{step}
+use Rattle.hx_market.specs.Admitting.{refusal, or_no_memory}
+use Rattle.hx_replay.specs.declared.fault.Kind.TheVariants as kind
+use Rattle.hx_replay.specs.declared.fault.TapeError.{TapeError}
+use Rattle.hx_replay.specs.Text.{Entry, IsEntry, line}
+use Rattle.hx_replay.specs.Output.{feed_lines, reply_lines, counts_after}
+use Rattle.hx_replay.specs.Run.{Progress, event_of, is_unknown, kind_of, fault_of, check_of, outcome_of, output_of, after, Plays, Faults}
+
+-- an entry that says something is checked by the market
+pub checked : (p : Progress) (e : Entry) → is_unknown e ≡ false → check_of p e ≡ kind_of (refusal p.setup p.market.recorded (event_of e))
+unfolding check_of
+checked p e h = cond-false (is_unknown e) (Some kind.Bad) (kind_of (refusal p.setup p.market.recorded (event_of e))) h
+
+-- the line of an operator who says nothing is a bad line
+pub unknown_is_bad : (p : Progress) (e : Entry) → is_unknown e ≡ true → check_of p e ≡ Some kind.Bad
+unfolding check_of
+unknown_is_bad p e h = cond-true (is_unknown e) (Some kind.Bad) (kind_of (refusal p.setup p.market.recorded (event_of e))) h
+
+pub refused_line : (p : Progress) (text : List ℕ) (e : Entry) (event : Event) (x : TapeError) → IsEntry e → text ≡ line e → event ≡ event_of e → is_unknown e ≡ false
+    → x ≡ fault_of (p.events + 1) (or_no_memory (refusal p.setup p.market.recorded event)) → Faults p text x
+refused_line p text e event x entry is_line same known is =
+    subst (Faults p text) (sym (is ∙ ap (λ (v : Event). fault_of (p.events + 1) (or_no_memory (refusal p.setup p.market.recorded v))) same)) (at (refusal p.setup p.market.recorded (event_of e)) (checked p e known))
+  where
+    at : (r : Option PrepareError) → check_of p e ≡ kind_of r → Faults p text (fault_of (p.events + 1) (or_no_memory r))
+    at None h = tt
+    at (Some refused.NoMemory) h = tt
+    at (Some (refused.Limit m)) h = (refl, inr (e, entry, is_line, h))
+    at (Some refused.NoMember) h = (refl, inr (e, entry, is_line, h))
+    at (Some refused.BadTime) h = (refl, inr (e, entry, is_line, h))
+
+pub plays_line : (p run new : Progress) (text output : List ℕ) (e : Entry) (event : Event) (feed : List Feed) (replies : List Reply) → IsEntry e → text ≡ line e → event ≡ event_of e → is_unknown e ≡ false
+    → refusal p.setup p.market.recorded event ≡ None → run ≡ record p { market = (step p.setup p.market event).market } → feed ≡ (step p.setup p.market event).told.feed → replies ≡ (step p.setup p.market event).told.replies
+    → output ≡ feed_lines run.feed feed ++ reply_lines run.counts replies
+    → new ≡ record run { events = run.events + 1; feed = run.feed + length feed; replies = run.replies + length replies; counts = counts_after run.counts replies }
+    → Plays p new text output
+unfolding output_of after
+plays_line p run new text output e event feed replies entry is_line same known passes run_is feed_is replies_is output_is new_is = record {
+  entry = e;
+  is_event = record { entry = entry; passes = checked p e known ∙ ap (λ (v : Event). kind_of (refusal p.setup p.market.recorded v)) (sym same) ∙ ap kind_of passes };
+  is_line = is_line;
+  output_is = output_is ∙ rw (run_is, feed_is, replies_is, same) refl;
+  after_is = new_is ∙ rw (run_is, feed_is, replies_is, same) refl;
+}

@@ -1,0 +1,39 @@
+-- The text of a tape.
+use Rattle.std.specs.Prelude.{◌≡◌, ◌≢◌, ℕ, ◌^◌, ◌<◌, ◌≤◌, List, ◌∷◌, ◌++◌, length}
+use Rattle.std.specs.List.{All}
+use Rattle.std.specs.Fmt.{decimal}
+use Rattle.hex.specs.Hex.{encode_lower, IsBytes}
+use Rattle.hx_replay.specs.declared.line.Fields.{Fields}
+
+-- what a line says: the time, the member's number and the bytes of his message
+pub record Entry : Type 0 where
+  pub time : ℕ
+  pub member : ℕ
+  pub bytes : List ℕ
+
+abbrev pub entry_of : Fields → Entry
+entry_of e = record { time = e.time; member = e.member; bytes = e.bytes.items }
+
+-- what has a line: a time of 14 digits at most, a member of 4, and 1 to 1,023 bytes
+pub record IsEntry (e : Entry) : Type 0 where
+  pub time : e.time < 10 ^ 14
+  pub member : e.member < 10 ^ 4
+  pub some : 0 < length e.bytes
+  pub few : length e.bytes ≤ 1023
+  pub are_bytes : IsBytes e.bytes
+
+-- its one line, without the line feed
+abbrev pub line : Entry → List ℕ
+line e = decimal e.time ++ 32 ∷ (decimal e.member ++ 32 ∷ encode_lower e.bytes)
+
+-- the text is a time, a member's number, and up to 2,046 digits
+pub record HasParts (text : List ℕ) (t m : ℕ) (digits : List ℕ) : Type 0 where
+  pub text_is : text ≡ decimal t ++ 32 ∷ (decimal m ++ 32 ∷ digits)
+  pub time : t < 10 ^ 14
+  pub member : m < 10 ^ 4
+  pub some : 0 < length digits
+  pub few : length digits ≤ 2046
+
+-- no place has this byte
+abbrev pub HasNone : ℕ → List ℕ → Type 0
+HasNone byte xs = All (λ x. x ≢ byte) xs

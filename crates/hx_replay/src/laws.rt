@@ -1,0 +1,28 @@
+//! What holds of tapes, whatever their events.
+ghost use Rattle.std.specs.Prelude.{◌≡◌, List, map, replicate};
+ghost use Rattle.std.specs.List.{AllByRecursion};
+ghost use Rattle.hx_members.specs.Setups.{Setup};
+ghost use Rattle.hx_market.specs.Steps.{run, told};
+ghost use Rattle.hx_replay.specs.Text.{Entry, IsEntry};
+ghost use Rattle.hx_replay.specs.Output.{told_lines};
+ghost use Rattle.hx_replay.specs.Seen.{LeavesNoTrace};
+ghost use Rattle.hx_replay.specs.Run.{tape, start, event_of, output_all, after_all};
+
+/// A text is the tape of one list of entries.
+#[tactic(auto, using(crate::proofs::OneReading::tape_same))]
+pub fn one_reading()
+    ensures { (es fs : List Entry) → AllByRecursion IsEntry es → AllByRecursion IsEntry fs → tape es ≡ tape fs → es ≡ fs }
+{}
+
+/// The output text of a tape is the text of what the market tells, and its last market is the one after the run.
+#[tactic(auto, using(crate::proofs::OutputIsTold::output_is_told, crate::proofs::OutputIsTold::market_is_run))]
+pub fn output_is_told()
+    ensures text { (setup : Setup) (es : List Entry) → output_all (start setup) es ≡ told_lines 0 (replicate 4096 0) (told setup (map event_of es)) }
+    ensures market { (setup : Setup) (es : List Entry) → (after_all (start setup) es).market ≡ run setup (map event_of es) }
+{}
+
+/// The headline, of tapes: the output text of a tape is that of the market's lines, and for every member the lines that
+/// do not go to him are, numbers included, those of the tape without the messages of his quiet chains.
+pub fn leaves_no_trace()
+    ensures { (setup : Setup) (es : List Entry) → LeavesNoTrace setup es }
+{}

@@ -1,0 +1,16 @@
+//! Tapes: a replay from a tape's lines to its output lines, and a tape without a member's quiet chains.
+#![tactic(auto)]
+
+mod decimal;
+mod fault;
+mod hexadecimal;
+pub mod laws;
+mod line;
+mod replaying;
+mod run;
+mod striking;
+
+pub use fault::{Kind, TapeError};
+pub use replaying::{replay, replay_on};
+pub use run::Counts;
+pub use striking::strike_tape;

@@ -1,0 +1,165 @@
+//! A tape from its lines to its output lines.
+ghost use Rattle.std.specs.Prelude.{List, ℕ, ◌≡◌, ◌≤◌, ◌<◌, ◌^◌, ◌+◌, ◌*◌, ◌++◌, [], OnOk, OnErr, IfOk, IfErr, length};
+ghost use Rattle.std.specs.Io.KnownBytes.{Appends};
+ghost use Rattle.hx_replay.specs.Text.{HasNone};
+ghost use Rattle.hx_replay.specs.Run.{Writes, Replays, Stops, IsFew, counts_of};
+ghost use Rattle.hx_replay.specs.Whole.{ReplaysAll, StopsAt};
+ghost use Rattle.hx_replay.specs.declared.fault.TapeError.TheVariants as fault;
+ghost use Rattle.hx_replay.specs.declared.fault.Kind.TheVariants as kinds;
+
+use crate::fault::{Kind, TapeError};
+use crate::line::split_once;
+use crate::run::{Counts, Run};
+use hx_levels::{Book, LevelBook};
+use hx_members::Setup;
+use std::alloc::Global;
+use std::io::{ErrorKind, Read, Write};
+
+// Writes the bytes. Where it fails, a front of them was written.
+pub fn write_whole<W: Write>(writer: &mut W, bytes: &[u8]) -> Result<(), TapeError>
+    ensures ok { OnOk result (Appends (W.contents writer.old) (W.contents writer.new) bytes.now) }
+    ensures write { IfErr result (λ e. e ≡ fault.Write) }
+    ensures err { OnErr result ((rest : List ℕ) × Writes (W.contents writer.old) (W.contents writer.new) bytes.now rest) }
+{
+    let mut rest = bytes;
+    for _ in 0..u64::MAX {
+        if rest.is_empty() {
+            return Ok(());
+        }
+        match writer.write(rest) {
+            Ok(0) => return Err(TapeError::Write),
+            Ok(count) => rest = &rest[count..],
+            Err(e) => {
+                if e.kind() != ErrorKind::Interrupted {
+                    return Err(TapeError::Write);
+                }
+            }
+        }
+    }
+    Err(TapeError::Write)
+}
+
+// Plays the whole lines of the text, and answers the bytes behind them.
+fn play_lines<'a, B: Book + Drop, W: Write>(
+    alloc: Global,
+    run: &mut Run<B>,
+    writer: &mut W,
+    text: &'a [u8],
+) -> Result<&'a [u8], TapeError>
+    requires events { run.old.events + length text.now < 2 ^ 48 }
+    requires few { IsFew run.old }
+    ensures ok { IfOk result (λ rest. Replays run.old run.new text.now (W.contents writer.old) (W.contents writer.new) rest.now
+        × HasNone 10 rest.now) }
+    ensures err { IfErr result (Stops ⊥ run.old text.now (W.contents writer.old) (W.contents writer.new)) }
+{
+    let mut output = Vec::new(alloc);
+    let mut rest = text;
+    while let Some((line, others)) = split_once(rest, b'\n') {
+        run.play(line, &mut output)?;
+        write_whole(writer, &output)?;
+        rest = others;
+    }
+    Ok(rest)
+}
+
+pub const READS: u64 = 1_000_000_000;
+
+// The greatest line, without its line feed.
+const LONGEST: usize = 2066;
+
+/// Replays a tape over the market of a setup: reads it to its end, and writes the output lines of each event
+/// before it takes the next line. A read is one call of the reader, and 1,000,000,000 of them are too many.
+pub fn replay<R: Read, W: Write>(
+    alloc: Global,
+    setup: &Setup,
+    reader: &mut R,
+    writer: &mut W,
+) -> Result<Counts, TapeError>
+    // All was read, and the output text of its events was written; in it quiet orders leave no trace.
+    ensures ok { IfOk result (λ counts.
+        ReplaysAll setup.now counts (R.remaining reader.old) (R.remaining reader.new) (W.contents writer.old) (W.contents writer.new)) }
+    // What was read, and which part of the output text of its events was written; the same of it.
+    ensures err { IfErr result (λ e.
+        StopsAt setup.now e (R.remaining reader.old) (R.remaining reader.new) (W.contents writer.old) (W.contents writer.new)) }
+{
+    replay_on(alloc, setup, LevelBook::new(alloc), reader, writer)
+}
+
+/// The same over any empty book.
+pub fn replay_on<B: Book + Drop, R: Read, W: Write>(
+    alloc: Global,
+    setup: &Setup,
+    book: B,
+    reader: &mut R,
+    writer: &mut W,
+) -> Result<Counts, TapeError>
+    requires { B.orders book ≡ [] }
+    ensures ok { IfOk result (λ counts.
+        ReplaysAll setup.now counts (R.remaining reader.old) (R.remaining reader.new) (W.contents writer.old) (W.contents writer.new)) }
+    ensures err { IfErr result (λ e.
+        StopsAt setup.now e (R.remaining reader.old) (R.remaining reader.new) (W.contents writer.old) (W.contents writer.new)) }
+{
+    let mut run = Run::new(alloc, setup.copy(alloc)?, book)?;
+    let mut pending = Vec::new(alloc);
+    let mut chunk = [0; 8192];
+    for _ in 0..READS {
+        match reader.read(&mut chunk) {
+            Ok(0) => return finish(run.counts(), &pending),
+            Ok(count) => {
+                play_piece(alloc, &mut run, writer, &mut pending, &chunk[..count])?;
+            }
+            Err(e) => {
+                if e.kind() != ErrorKind::Interrupted {
+                    return Err(TapeError::Read);
+                }
+            }
+        }
+    }
+    Err(TapeError::Turns)
+}
+
+// Plays the next piece of a tape. What is pending are the bytes behind the last whole line.
+fn play_piece<B: Book + Drop, W: Write>(
+    alloc: Global,
+    run: &mut Run<B>,
+    writer: &mut W,
+    pending: &mut Vec<u8>,
+    piece: &[u8],
+) -> Result<(), TapeError>
+    requires events { run.old.events + length (pending.old.items ++ piece.now) < 2 ^ 48 }
+    requires few { IsFew run.old }
+    ensures ok { OnOk result (Replays run.old run.new (pending.old.items ++ piece.now) (W.contents writer.old) (W.contents writer.new)
+        pending.new.items × HasNone 10 pending.new.items × (length pending.new.items ≤ 2066)) }
+    ensures err { IfErr result (Stops ⊥ run.old (pending.old.items ++ piece.now) (W.contents writer.old) (W.contents writer.new)) }
+{
+    pending.extend_from_slice(piece)?;
+    let rest = play_lines(alloc, run, writer, pending)?;
+    let rest = Vec::from_slice(alloc, rest)?;
+    *pending = rest;
+    if pending.len() > LONGEST {
+        return Err(bad_line(run.counts()));
+    }
+    Ok(())
+}
+
+// The answer at the end of a tape.
+fn finish(counts: Counts, pending: &[u8]) -> Result<Counts, TapeError>
+    requires { counts.events < 2 ^ 63 }
+    ensures ok { IfOk result (λ c. (c ≡ counts) × (length pending.now ≡ 0)) }
+    ensures err { IfErr result (λ e. (e ≡ fault.Line (counts.events + 1) kinds.Bad) × (0 < length pending.now)) }
+{
+    if !pending.is_empty() {
+        return Err(bad_line(counts));
+    }
+    Ok(counts)
+}
+
+fn bad_line(counts: Counts) -> TapeError
+    requires { counts.events < 2 ^ 63 }
+    ensures { result ≡ fault.Line (counts.events + 1) kinds.Bad }
+{
+    TapeError::Line {
+        line: counts.events + 1,
+        kind: Kind::Bad,
+    }
+}

@@ -1,0 +1,99 @@
+//! The chains of a member.
+
+use super::{CHAIN_THAT_TRADED, FAILED_REPLACE, Line, events_of, with_second};
+use hx_audit::{Chain, StrikeError, chains};
+use hx_market::PrepareError;
+use hx_members::{ChainFacts, Setup};
+use hx_units::{MemberNo, Token};
+use std::alloc::Global;
+use std::process::Abort;
+use std::test::Fail;
+
+// The chains of a member after the events of these lines, by the standard setup.
+fn chains_after(alloc: Global, lines: &[Line], member: u16) -> Result<Vec<Chain>, Fail> {
+    let setup = Setup::standard(alloc)?;
+    let events = events_of(alloc, lines)?;
+    let member = MemberNo::of(member).ok_or("no number of a member")?;
+    Ok(chains(alloc, &setup, &events, member)?)
+}
+
+// Why these lines are not audited.
+fn refused(alloc: Global, lines: &[Line]) -> Result<StrikeError, Fail> {
+    let setup = Setup::standard(alloc)?;
+    let events = events_of(alloc, lines)?;
+    let member = MemberNo::of(1).ok_or("no number of a member")?;
+    match chains(alloc, &setup, &events, member) {
+        Ok(_) => Err("all events are accepted".into()),
+        Err(error) => Ok(error),
+    }
+}
+
+// The one chain of a member after these lines.
+fn expect_chain<R: AllocGlobal + Abort>(
+    rt: &R,
+    lines: &[Line],
+    member: u16,
+    tokens: &[Token],
+    facts: ChainFacts,
+) -> Result<(), Fail> {
+    let mut chains = chains_after(rt.alloc(), lines, member)?;
+    assert_eq!(rt; chains.len(), 1);
+    let chain = chains.pop().ok_or("no chain")?;
+    assert_eq!(rt; chain.tokens.as_slice(), tokens);
+    assert_eq!(rt; chain.facts, facts);
+    assert_eq!(rt; chain.tokens.into_vec().len(), tokens.len());
+    Ok(())
+}
+
+#[test]
+fn a_chain_holds_all_its_tokens(rt: HostRuntime) -> Result<(), Fail> {
+    let tokens = [
+        Token(*b"H1            "),
+        Token(*b"H2            "),
+        Token(*b"H3            "),
+        Token(*b"H4            "),
+        Token(*b"H5            "),
+    ];
+    let facts = ChainFacts {
+        executed: 1,
+        displayed: false,
+        traded: true,
+    };
+    expect_chain(&rt, &CHAIN_THAT_TRADED, 1, &tokens, facts)?;
+    expect_chain(
+        &rt,
+        &CHAIN_THAT_TRADED,
+        2,
+        &[Token(*b"S1            ")],
+        facts,
+    )
+}
+
+#[test]
+fn a_failed_replace_keeps_its_token(rt: HostRuntime) -> Result<(), Fail> {
+    let tokens = [Token(*b"T1            "), Token(*b"T2            ")];
+    let facts = ChainFacts {
+        executed: 0,
+        displayed: true,
+        traded: false,
+    };
+    expect_chain(&rt, &FAILED_REPLACE, 1, &tokens, facts)
+}
+
+#[test]
+fn a_stranger_has_no_chains(rt: HostRuntime) -> Result<(), Fail> {
+    let none = chains_after(rt.alloc(), &CHAIN_THAT_TRADED, 77)?;
+    assert_eq!(rt; none.len(), 0);
+    Ok(())
+}
+
+#[test]
+fn a_refusal_tells_its_event(rt: HostRuntime) -> Result<(), Fail> {
+    let error = refused(rt.alloc(), &with_second(86_400_000_000_000, 1))?;
+    let late = StrikeError::Refused {
+        index: 1,
+        error: PrepareError::BadTime,
+    };
+    assert_eq!(rt; error, late);
+    Ok(())
+}

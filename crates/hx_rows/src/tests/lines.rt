@@ -1,0 +1,24 @@
+//! Lines of a tape.
+
+use hx_market::{Bytes, Event};
+use memchr::memchr;
+use std::alloc::Global;
+use std::test::Fail;
+
+/// The first line of a text, without its line feed, and the text behind it.
+pub fn split_line(text: &[u8]) -> Option<(&[u8], &[u8])> {
+    let at = memchr(b'\n', text)?;
+    Some((&text[..at], &text[at + 1..]))
+}
+
+/// The event of a member's line.
+pub fn event_of(alloc: Global, line: &[u8]) -> Result<Event, Fail> {
+    let text = str::from_utf8(line)?;
+    let (time, others) = text.split_once(' ').ok_or("no time")?;
+    let (member, digits) = others.split_once(' ').ok_or("no member")?;
+    Ok(Event::Message {
+        member: member.parse::<u16>()?,
+        time: time.parse::<u64>()?,
+        bytes: Bytes::of(hex::decode(alloc, digits)?),
+    })
+}

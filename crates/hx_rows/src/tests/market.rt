@@ -1,0 +1,103 @@
+//! The market's own calls over a worked day.
+
+use super::lines::{event_of, split_line};
+use super::tapes::REPLACES_THAT_TRADE;
+use hx_levels::ListBook;
+use hx_market::{Event, Market};
+use hx_members::Setup;
+use hx_units::{MemberNo, Token};
+use std::alloc::Global;
+use std::process::Abort;
+use std::test::Fail;
+
+// A market of the standard setup.
+fn opened(alloc: Global) -> Result<Market<ListBook>, Fail> {
+    let setup = Setup::standard(alloc)?;
+    Ok(Market::new(alloc, setup, ListBook::new(alloc))?)
+}
+
+/// How many messages of the feed, and how many replies.
+#[derive(Clone, Copy, Debug, PartialEq, Eq)]
+struct Told {
+    feed: u64,
+    replies: usize,
+}
+
+// What an event was said to give, and what it gave.
+fn played(market: &mut Market<ListBook>, event: &Event) -> Result<(Told, Told), Fail> {
+    let prepared = market.prepare(event)?;
+    let said = Told {
+        feed: prepared.feed_count(),
+        replies: prepared.reply_members().len(),
+    };
+    let output = market.commit(prepared);
+    let gave = Told {
+        feed: output.feed.len() as u64,
+        replies: output.replies.len(),
+    };
+    Ok((said, gave))
+}
+
+fn expect_told<R: AllocGlobal + Abort>(
+    rt: &R,
+    market: &mut Market<ListBook>,
+    text: &[u8],
+    told: Told,
+) -> Result<(), Fail> {
+    let event = event_of(rt.alloc(), text)?;
+    let (said, gave) = played(market, &event)?;
+    assert_eq!(rt; said, told);
+    assert_eq!(rt; gave, told);
+    Ok(())
+}
+
+// The one live order in the end.
+fn expect_live<R: Abort>(rt: &R, market: &Market<ListBook>) -> Result<(), Fail> {
+    let live = market.live()?;
+    assert_eq!(rt; live.len(), 1);
+    assert_eq!(rt; live[0].token, Token(*b"S2            "));
+    assert_eq!(rt; live[0].shares, 130);
+    Ok(())
+}
+
+// What the chain of the replaced order has done, and that an ignored token is not used.
+fn expect_chains<R: Abort>(rt: &R, market: &Market<ListBook>) -> Result<(), Fail> {
+    let member = MemberNo::of(1).ok_or("no member")?;
+    let facts = market
+        .chain(member, &Token(*b"T3            "))
+        .ok_or("unused")?;
+    assert_eq!(rt; facts.executed, 100);
+    assert!(rt; facts.displayed);
+    assert!(rt; facts.traded);
+    assert!(rt; market.chain(member, &Token(*b"T4            ")).is_none());
+    Ok(())
+}
+
+// Plays the lines of the day, each with what it tells.
+fn play_day<R: AllocGlobal + Abort>(rt: &R, market: &mut Market<ListBook>) -> Result<(), Fail> {
+    let mut tape = REPLACES_THAT_TRADE.tape;
+    let told = [
+        (1, 1),
+        (1, 3),
+        (1, 1),
+        (1, 1),
+        (2, 3),
+        (0, 0),
+        (0, 0),
+        (0, 0),
+    ];
+    for (feed, replies) in told {
+        let (text, others) = split_line(tape).ok_or("no line")?;
+        tape = others;
+        expect_told(rt, market, text, Told { feed, replies })?;
+    }
+    Ok(())
+}
+
+#[test]
+fn replaces_that_trade_leave_one_order(rt: HostRuntime) -> Result<(), Fail> {
+    let mut market = opened(rt.alloc())?;
+    play_day(&rt, &mut market)?;
+    expect_live(&rt, &market)?;
+    expect_chains(&rt, &market)
+}

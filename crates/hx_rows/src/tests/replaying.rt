@@ -1,0 +1,347 @@
+//! Days as tapes, replayed over both books.
+
+use super::lines::split_line;
+use super::tapes::{self, Day};
+use hx_levels::ListBook;
+use hx_members::{Setup, SetupError};
+use hx_replay::{Counts, Kind, TapeError, replay, replay_on};
+use hx_units::NoMemory;
+use std::alloc::Global;
+use std::io::{self, ErrorKind, Read, Write};
+use std::process::Abort;
+use std::test::Fail;
+
+/// Gives its bytes in small pieces, and then fails.
+#[derive(Drop)]
+pub struct Faulty<'a> {
+    pub text: &'a [u8],
+}
+
+impl Read for Faulty<'_> {
+    fn read(&mut self, buf: &mut [u8]) -> io::Result<usize> {
+        let count = self.text.len().min(buf.len()).min(7);
+        if count == 0 {
+            return Err(io::Error::from(ErrorKind::ConnectionReset));
+        }
+        let (front, others) = self.text.split_at(count);
+        buf[..count].copy_from_slice(front);
+        self.text = others;
+        Ok(count)
+    }
+}
+
+/// Takes so many bytes, in small pieces, and then fails.
+#[derive(Drop)]
+pub struct Full {
+    pub taken: Vec<u8>,
+    pub room: usize,
+}
+
+impl Write for Full {
+    fn write(&mut self, buf: &[u8]) -> io::Result<usize> {
+        let count = buf.len().min(self.room).min(11);
+        if count == 0 {
+            return Err(io::Error::from(ErrorKind::StorageFull));
+        }
+        self.taken.extend_from_slice(&buf[..count])?;
+        self.room -= count;
+        Ok(count)
+    }
+
+    fn flush(&mut self) -> io::Result<()> {
+        Ok(())
+    }
+}
+
+// The standard setup, of which callers know nothing.
+pub fn standard(alloc: Global) -> Result<Setup, NoMemory> {
+    Setup::standard(alloc)
+}
+
+// A replay over the standard setup, of which callers know nothing.
+fn play<R: Read, W: Write>(
+    alloc: Global,
+    reader: &mut R,
+    writer: &mut W,
+) -> Result<Counts, TapeError> {
+    let setup = standard(alloc)?;
+    replay(alloc, &setup, reader, writer)
+}
+
+// The same over a plain list of orders.
+fn play_on_list<R: Read, W: Write>(
+    alloc: Global,
+    reader: &mut R,
+    writer: &mut W,
+) -> Result<Counts, TapeError> {
+    let setup = standard(alloc)?;
+    replay_on(alloc, &setup, ListBook::new(alloc), reader, writer)
+}
+
+/// What a replay wrote, and how it ended.
+pub type Replayed = (Vec<u8>, Result<Counts, TapeError>);
+
+pub fn replayed(alloc: Global, text: &[u8]) -> Replayed {
+    let mut output = Vec::new(alloc);
+    let mut reader = text;
+    let result = play(alloc, &mut reader, &mut output);
+    (output, result)
+}
+
+fn replayed_on_list(alloc: Global, text: &[u8]) -> Replayed {
+    let mut output = Vec::new(alloc);
+    let mut reader = text;
+    let result = play_on_list(alloc, &mut reader, &mut output);
+    (output, result)
+}
+
+// How many lines begin with this byte.
+fn lines_of(text: &[u8], kind: u8) -> u64 {
+    let mut count = 0;
+    let mut begins = true;
+    for byte in text {
+        if begins && *byte == kind && count < u64::MAX {
+            count += 1;
+        }
+        begins = *byte == b'\n';
+    }
+    count
+}
+
+pub fn expect_output<R: Abort>(rt: &R, day: &Day, replayed: Replayed) -> Result<(), Fail> {
+    let (output, result) = replayed;
+    assert_eq!(rt; output.as_slice(), day.output);
+    let counts = result?;
+    assert_eq!(rt; counts.feed, lines_of(day.output, b'F'));
+    assert_eq!(rt; counts.replies, lines_of(day.output, b'M'));
+    Ok(())
+}
+
+// A day over price levels, and over a plain list of orders.
+fn expect_day<R: AllocGlobal + Abort>(rt: &R, day: &Day) -> Result<(), Fail> {
+    expect_output(rt, day, replayed(rt.alloc(), day.tape))?;
+    expect_output(rt, day, replayed_on_list(rt.alloc(), day.tape))
+}
+
+// The setup of a day that begins closed, of which callers know nothing.
+fn closed(alloc: Global) -> Result<Setup, TapeError> {
+    match Setup::read(alloc, tapes::CLOSED) {
+        Ok(setup) => Ok(setup),
+        Err(SetupError::NoMemory) => Err(TapeError::NoMemory),
+        Err(SetupError::Bad { .. }) => Err(TapeError::Read),
+    }
+}
+
+// A day that begins closed, over price levels.
+fn replayed_closed(alloc: Global, text: &[u8]) -> Result<Replayed, TapeError> {
+    let setup = closed(alloc)?;
+    let mut output = Vec::new(alloc);
+    let mut reader = text;
+    let result = replay(alloc, &setup, &mut reader, &mut output);
+    Ok((output, result))
+}
+
+// The same over a plain list of orders.
+fn replayed_closed_on_list(alloc: Global, text: &[u8]) -> Result<Replayed, TapeError> {
+    let setup = closed(alloc)?;
+    let mut output = Vec::new(alloc);
+    let mut reader = text;
+    let result = replay_on(
+        alloc,
+        &setup,
+        ListBook::new(alloc),
+        &mut reader,
+        &mut output,
+    );
+    Ok((output, result))
+}
+
+#[test]
+fn hours_of_a_day(rt: HostRuntime) -> Result<(), Fail> {
+    let day = &tapes::HOURS_OF_A_DAY;
+    expect_output(&rt, day, replayed_closed(rt.alloc(), day.tape)?)?;
+    expect_output(&rt, day, replayed_closed_on_list(rt.alloc(), day.tape)?)
+}
+
+#[test]
+fn one_displayed_order(rt: HostRuntime) -> Result<(), Fail> {
+    expect_day(&rt, &tapes::ONE_DISPLAYED_ORDER)
+}
+
+#[test]
+fn hidden_then_displayed(rt: HostRuntime) -> Result<(), Fail> {
+    expect_day(&rt, &tapes::HIDDEN_THEN_DISPLAYED)
+}
+
+#[test]
+fn display_beats_time(rt: HostRuntime) -> Result<(), Fail> {
+    expect_day(&rt, &tapes::DISPLAY_BEATS_TIME)
+}
+
+#[test]
+fn hidden_executions_on_both_sides(rt: HostRuntime) -> Result<(), Fail> {
+    expect_day(&rt, &tapes::HIDDEN_EXECUTIONS_ON_BOTH_SIDES)
+}
+
+#[test]
+fn minimum_passed_over(rt: HostRuntime) -> Result<(), Fail> {
+    expect_day(&rt, &tapes::MINIMUM_PASSED_OVER)
+}
+
+#[test]
+fn minimum_passed_over_without_its_first_line(rt: HostRuntime) -> Result<(), Fail> {
+    let day = tapes::MINIMUM_PASSED_OVER;
+    let Some((_, tape)) = split_line(day.tape) else {
+        panic!(&rt; "there is a line");
+    };
+    let Some((_, output)) = split_line(day.output) else {
+        panic!(&rt; "there is a line");
+    };
+    expect_day(&rt, &Day { tape, output })
+}
+
+#[test]
+fn minimum_stays(rt: HostRuntime) -> Result<(), Fail> {
+    expect_day(&rt, &tapes::MINIMUM_STAYS)
+}
+
+#[test]
+fn displayed_immediate_or_cancel(rt: HostRuntime) -> Result<(), Fail> {
+    expect_day(&rt, &tapes::DISPLAYED_IMMEDIATE_OR_CANCEL)
+}
+
+#[test]
+fn two_levels_taken(rt: HostRuntime) -> Result<(), Fail> {
+    expect_day(&rt, &tapes::TWO_LEVELS_TAKEN)
+}
+
+#[test]
+fn times_going_back(rt: HostRuntime) -> Result<(), Fail> {
+    expect_day(&rt, &tapes::TIMES_GOING_BACK)
+}
+
+#[test]
+fn limits_of_fields(rt: HostRuntime) -> Result<(), Fail> {
+    expect_day(&rt, &tapes::LIMITS_OF_FIELDS)
+}
+
+#[test]
+fn failed_replace(rt: HostRuntime) -> Result<(), Fail> {
+    expect_day(&rt, &tapes::FAILED_REPLACE)
+}
+
+#[test]
+fn chain_that_traded(rt: HostRuntime) -> Result<(), Fail> {
+    expect_day(&rt, &tapes::CHAIN_THAT_TRADED)
+}
+
+#[test]
+fn display_changes(rt: HostRuntime) -> Result<(), Fail> {
+    expect_day(&rt, &tapes::DISPLAY_CHANGES)
+}
+
+#[test]
+fn cancels(rt: HostRuntime) -> Result<(), Fail> {
+    expect_day(&rt, &tapes::CANCELS)
+}
+
+#[test]
+fn replaces_that_trade(rt: HostRuntime) -> Result<(), Fail> {
+    expect_day(&rt, &tapes::REPLACES_THAT_TRADE)
+}
+
+#[test]
+fn ticks(rt: HostRuntime) -> Result<(), Fail> {
+    expect_day(&rt, &tapes::TICKS)
+}
+
+#[test]
+fn empty_tape(rt: HostRuntime) -> Result<(), Fail> {
+    let (output, result) = replayed(rt.alloc(), b"");
+    let counts = result?;
+    assert_eq!(rt; output.len(), 0);
+    assert_eq!(rt; (counts.events, counts.feed, counts.replies), (0, 0, 0));
+    Ok(())
+}
+
+#[test]
+fn an_event_without_output(rt: HostRuntime) -> Result<(), Fail> {
+    let (output, result) = replayed(rt.alloc(), b"20 1 00\n");
+    let counts = result?;
+    assert_eq!(rt; output.len(), 0);
+    assert_eq!(rt; counts.events, 1);
+    Ok(())
+}
+
+// The line behind the tape of one displayed order is bad.
+fn expect_bad<R: AllocGlobal + Abort>(rt: &R, text: &[u8], want: Kind) -> Result<(), Fail> {
+    let day = tapes::ONE_DISPLAYED_ORDER;
+    let mut output = Vec::new(rt.alloc());
+    let mut reader = day.tape.chain(text);
+    match play(rt.alloc(), &mut reader, &mut output) {
+        Err(TapeError::Line { line, kind }) => assert_eq!(rt; (line, kind), (2, want)),
+        _ => panic!(rt; "the second line fails"),
+    }
+    assert_eq!(rt; output.as_slice(), day.output);
+    Ok(())
+}
+
+#[test]
+fn bad_lines(rt: HostRuntime) -> Result<(), Fail> {
+    let cases: [(&[u8], Kind); 11] = [
+        (b"20 1 zz\n", Kind::Bad),
+        (b"020 1 00\n", Kind::Bad),
+        (b"20 1 4F\n", Kind::Bad),
+        (b"20 1 \n", Kind::Bad),
+        (b"20 1 00", Kind::Bad),
+        (b"5 0 5a\n", Kind::Bad),
+        (b"5 0 4b4b\n", Kind::Bad),
+        (b"86400000000000 1 00\n", Kind::Time),
+        (b"86400000000000 9 00\n", Kind::Time),
+        (b"20 9 00\n", Kind::Member),
+        (b"20 9999 00\n", Kind::Member),
+    ];
+    for (text, want) in cases {
+        expect_bad(&rt, text, want)?;
+    }
+    Ok(())
+}
+
+#[test]
+fn member_at_limit(rt: HostRuntime) -> Result<(), Fail> {
+    let mut text = Vec::new(rt.alloc());
+    for _ in 0..1001 {
+        text.extend_from_slice(b"20 1 00\n")?;
+    }
+    let (_, result) = replayed(rt.alloc(), &text);
+    match result {
+        Err(TapeError::Line { line, kind }) => assert_eq!(rt; (line, kind), (1001, Kind::Limit)),
+        _ => panic!(&rt; "the member may send 1,000 messages"),
+    }
+    Ok(())
+}
+
+#[test]
+fn reader_fails(rt: HostRuntime) -> Result<(), Fail> {
+    let day = tapes::TWO_LEVELS_TAKEN;
+    let mut output = Vec::new(rt.alloc());
+    let mut reader = Faulty { text: day.tape };
+    let result = play(rt.alloc(), &mut reader, &mut output);
+    assert!(rt; matches!(result, Err(TapeError::Read)));
+    assert_eq!(rt; output.as_slice(), day.output);
+    Ok(())
+}
+
+#[test]
+fn writer_fails(rt: HostRuntime) -> Result<(), Fail> {
+    let day = tapes::TWO_LEVELS_TAKEN;
+    let mut output = Full {
+        taken: Vec::new(rt.alloc()),
+        room: 400,
+    };
+    let mut text = day.tape;
+    let result = play(rt.alloc(), &mut text, &mut output);
+    assert!(rt; matches!(result, Err(TapeError::Write)));
+    assert_eq!(rt; output.taken.as_slice(), &day.output[..400]);
+    Ok(())
+}

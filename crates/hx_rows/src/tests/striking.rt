@@ -1,0 +1,160 @@
+//! Tapes without the messages of a member's quiet chains.
+
+use super::lines::split_line;
+use super::replaying::{Faulty, Full, Replayed, expect_output, replayed, standard};
+use super::tapes::{self, Day};
+use hx_replay::{Counts, Kind, TapeError, strike_tape};
+use hx_units::MemberNo;
+use std::alloc::Global;
+use std::io::{Read, Write};
+use std::process::Abort;
+use std::test::Fail;
+
+// Strikes over the standard setup.
+fn strike<R: Read, W: Write>(
+    alloc: Global,
+    reader: &mut R,
+    writer: &mut W,
+    number: u16,
+) -> Result<Counts, TapeError> {
+    let setup = standard(alloc)?;
+    let Some(member) = MemberNo::of(number) else {
+        return Err(TapeError::Turns);
+    };
+    strike_tape(alloc, &setup, reader, writer, member)
+}
+
+fn struck(alloc: Global, text: &[u8], number: u16) -> Replayed {
+    let mut output = Vec::new(alloc);
+    let mut reader = text;
+    let result = strike(alloc, &mut reader, &mut output, number);
+    (output, result)
+}
+
+// So many lines at the front of a text.
+fn first_lines(text: &[u8], count: u64) -> &[u8] {
+    let mut rest = text;
+    for _ in 0..count {
+        if let Some((_, others)) = split_line(rest) {
+            rest = others;
+        }
+    }
+    &text[..text.len().saturating_sub(rest.len())]
+}
+
+// So many lines stay of a text, and they are these.
+fn expect_kept<R: Abort>(rt: &R, struck: Replayed, kept: &[u8], events: u64) -> Result<(), Fail> {
+    let (output, result) = struck;
+    assert_eq!(rt; output.as_slice(), kept);
+    let counts = result?;
+    assert_eq!(rt;
+        (counts.events, counts.feed, counts.replies),
+        (events, 0, 0)
+    );
+    Ok(())
+}
+
+// All lines stay.
+fn expect_whole<R: AllocGlobal + Abort>(
+    rt: &R,
+    text: &[u8],
+    number: u16,
+    events: u64,
+) -> Result<(), Fail> {
+    expect_kept(rt, struck(rt.alloc(), text, number), text, events)
+}
+
+// The first line goes, and with it the first output line alone.
+fn expect_first_struck<R: AllocGlobal + Abort>(rt: &R, day: &Day, events: u64) -> Result<(), Fail> {
+    let (_, tape) = split_line(day.tape).ok_or("no line")?;
+    let (_, output) = split_line(day.output).ok_or("no line")?;
+    expect_kept(rt, struck(rt.alloc(), day.tape, 1), tape, events)?;
+    expect_output(rt, &Day { tape, output }, replayed(rt.alloc(), tape))
+}
+
+#[test]
+fn hidden_then_displayed_leaves_the_second_line(rt: HostRuntime) -> Result<(), Fail> {
+    expect_first_struck(&rt, &tapes::HIDDEN_THEN_DISPLAYED, 1)
+}
+
+#[test]
+fn minimum_passed_over_leaves_the_others(rt: HostRuntime) -> Result<(), Fail> {
+    expect_first_struck(&rt, &tapes::MINIMUM_PASSED_OVER, 2)
+}
+
+#[test]
+fn chain_that_traded_stays(rt: HostRuntime) -> Result<(), Fail> {
+    expect_whole(&rt, tapes::CHAIN_THAT_TRADED.tape, 1, 6)
+}
+
+#[test]
+fn chain_before_it_traded_goes(rt: HostRuntime) -> Result<(), Fail> {
+    let text = first_lines(tapes::CHAIN_THAT_TRADED.tape, 4);
+    expect_kept(&rt, struck(rt.alloc(), text, 1), b"", 0)
+}
+
+#[test]
+fn display_changes_stay(rt: HostRuntime) -> Result<(), Fail> {
+    expect_whole(&rt, tapes::DISPLAY_CHANGES.tape, 1, 5)
+}
+
+#[test]
+fn first_display_change_stays(rt: HostRuntime) -> Result<(), Fail> {
+    expect_whole(&rt, first_lines(tapes::DISPLAY_CHANGES.tape, 2), 1, 2)
+}
+
+#[test]
+fn other_members_keep_their_lines(rt: HostRuntime) -> Result<(), Fail> {
+    expect_whole(&rt, tapes::HIDDEN_THEN_DISPLAYED.tape, 4095, 2)
+}
+
+// The line behind the tape of one displayed order is at fault, and nothing is written.
+fn expect_fault<R: AllocGlobal + Abort>(rt: &R, text: &[u8], want: Kind) {
+    let mut output = Vec::new(rt.alloc());
+    let mut reader = tapes::ONE_DISPLAYED_ORDER.tape.chain(text);
+    match strike(rt.alloc(), &mut reader, &mut output, 1) {
+        Err(TapeError::Line { line, kind }) => assert_eq!(rt; (line, kind), (2, want)),
+        _ => panic!(rt; "the second line is at fault"),
+    }
+    assert_eq!(rt; output.len(), 0);
+}
+
+#[test]
+fn lines_at_fault(rt: HostRuntime) {
+    let cases: [(&[u8], Kind); 7] = [
+        (b"20 1 zz\n", Kind::Bad),
+        (b"5 0 5a\n", Kind::Bad),
+        (b"20 1 00", Kind::Bad),
+        (b"86400000000000 1 00\n", Kind::Time),
+        (b"20 9 00\n", Kind::Member),
+        (b"20 1 zz\n20 9 00\n", Kind::Bad),
+        (b"20 9 00\n20 1 zz\n", Kind::Member),
+    ];
+    for (text, want) in cases {
+        expect_fault(&rt, text, want);
+    }
+}
+
+#[test]
+fn reader_fails_before_anything_is_written(rt: HostRuntime) {
+    let mut output = Vec::new(rt.alloc());
+    let mut reader = Faulty {
+        text: tapes::TWO_LEVELS_TAKEN.tape,
+    };
+    let result = strike(rt.alloc(), &mut reader, &mut output, 1);
+    assert!(rt; matches!(result, Err(TapeError::Read)));
+    assert_eq!(rt; output.len(), 0);
+}
+
+#[test]
+fn writer_fails_within_the_lines_that_stay(rt: HostRuntime) {
+    let day = tapes::TWO_LEVELS_TAKEN;
+    let mut output = Full {
+        taken: Vec::new(rt.alloc()),
+        room: 150,
+    };
+    let mut text = day.tape;
+    let result = strike(rt.alloc(), &mut text, &mut output, 1);
+    assert!(rt; matches!(result, Err(TapeError::Write)));
+    assert_eq!(rt; output.taken.as_slice(), &day.tape[..150]);
+}

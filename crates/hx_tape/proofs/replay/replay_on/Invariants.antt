@@ -1,5 +1,0 @@
-use Rattle.hx_tape.proofs.Pieces.{SoFar}
-use Rattle.hx_tape.proofs.replay.replay_on.Given as goal
-
-abbrev pub invariant-loop : goal.invariant-loop
-invariant-loop g l = SoFar l.fn.setup (g.R.Read.remaining l.fn.reader) (g.R.Read.remaining l.reader) (g.W.Write.contents l.fn.writer) (g.W.Write.contents l.writer) l.run l.pending.items l.counter
