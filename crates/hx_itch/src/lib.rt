@@ -7,8 +7,6 @@ ghost use Rattle.std.specs.Prelude.{◌≡◌, ◌≤◌, ◌+◌, ◌++◌, len
 ghost use Rattle.arrayvec.specs.ArrayVec.{array_vec_len};
 
 mod message;
-#[cfg(test)]
-mod tests;
 
 use arrayvec::ArrayVec;
 pub use message::{

@@ -7,8 +7,6 @@ mod levels;
 mod list_book;
 mod nodes;
 mod order;
-#[cfg(test)]
-mod tests;
 
 pub use book::Book;
 pub use level_book::LevelBook;

@@ -10,8 +10,6 @@ mod blocks;
 mod messages;
 mod packet;
 mod request;
-#[cfg(test)]
-mod tests;
 
 use arrayvec::ArrayVec;
 pub use blocks::Blocks;

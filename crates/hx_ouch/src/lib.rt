@@ -9,8 +9,6 @@ ghost use Rattle.arrayvec.specs.ArrayVec.{array_vec_len};
 
 mod inbound;
 mod outbound;
-#[cfg(test)]
-mod tests;
 
 use arrayvec::ArrayVec;
 pub use inbound::{Cancel, Enter, Inbound, Replace, decode_in, encode_in};

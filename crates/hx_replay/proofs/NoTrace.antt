@@ -7,7 +7,7 @@ use Rattle.hx_refs.specs.Numbers.{raised}
 use Rattle.hx_market.specs.declared.event.Event.{Event}
 use Rattle.hx_market.specs.Outputs.{Reply, Told}
 use Rattle.hx_market.specs.Steps.{told}
-use Rattle.hx_market.specs.Striking.{Line, reply_lines, lines_of, lines_of_all, all_but, seen, strike_one}
+use Rattle.hx_market.specs.Striking.{Line, reply_lines, lines_of_all, all_but, seen, strike_one}
 use Rattle.hx_market.specs.Striking.Line.{ToFeed, ToMember}
 use Rattle.hx_market.proofs.StruckChoices.{one_member}
 use Rattle.hx_replay.specs.Text.{Entry}
@@ -15,7 +15,7 @@ use Rattle.hx_replay.specs.Output.{feed_lines, counts_after, told_lines}
 use Rattle.hx_replay.specs.Output as output
 use Rattle.hx_replay.specs.Run.{start, event_of, output_all}
 use Rattle.hx_replay.specs.Seen.Numbered.{OfFeed, OfMember}
-use Rattle.hx_replay.specs.Seen.{Numbered, text_of, texts_of, numbered, output_lines, is_to, but_to, LeavesNoTrace}
+use Rattle.hx_replay.specs.Seen.{Numbered, texts_of, numbered, output_lines, but_to, LeavesNoTrace}
 use Rattle.hx_replay.proofs.OutputIsTold.{output_is_told}
 
 -- The text of the lines.

@@ -1,5 +1,5 @@
 -- One line is played.
-use Rattle.std.proofs.Common.{◌≡◌, ℕ, ◌+◌, eqb, Bool, true, false, List, ◌++◌, length, Option, Some, None, refl, sym, ap, ◌∙◌, subst, inr, eqb-true}
+use Rattle.std.proofs.Common.{◌≡◌, ℕ, ◌+◌, true, false, List, ◌++◌, length, Option, Some, None, refl, sym, ap, ◌∙◌, subst, inr}
 use Rattle.std.proofs.lemmas.Bool.{cond-true, cond-false}
 use Rattle.hx_itch.specs.declared.message.Feed.{Feed}
 use Rattle.hx_market.specs.declared.fault.PrepareError.{PrepareError}
@@ -12,7 +12,7 @@ use Rattle.hx_replay.specs.declared.fault.Kind.TheVariants as kind
 use Rattle.hx_replay.specs.declared.fault.TapeError.{TapeError}
 use Rattle.hx_replay.specs.Text.{Entry, IsEntry, line}
 use Rattle.hx_replay.specs.Output.{feed_lines, reply_lines, counts_after}
-use Rattle.hx_replay.specs.Run.{Progress, event_of, is_unknown, kind_of, fault_of, check_of, outcome_of, output_of, after, Plays, Faults}
+use Rattle.hx_replay.specs.Run.{Progress, event_of, is_unknown, kind_of, fault_of, check_of, output_of, after, Plays, Faults}
 
 -- an entry that says something is checked by the market
 pub checked : (p : Progress) (e : Entry) → is_unknown e ≡ false → check_of p e ≡ kind_of (refusal p.setup p.market.recorded (event_of e))

@@ -1,20 +1,20 @@
 -- A tape is struck: events and entries, and the first fault.
-use Rattle.std.proofs.Common.{◌≡◌, ℕ, ◌+◌, eqb, Bool, true, false, cond, not, ◌&&◌, List, [], ◌∷◌, ◌++◌, map, length, Option, Some, None, refl, sym, ap, ◌∙◌, subst, arith, append_assoc, inl, inr, eqb-true}
+use Rattle.std.proofs.Common.{◌≡◌, ℕ, ◌+◌, eqb, Bool, true, false, cond, not, ◌&&◌, List, [], ◌∷◌, ◌++◌, map, length, Option, Some, None, refl, sym, ap, ◌∙◌, subst, append_assoc, inl, inr, eqb-true}
 use Rattle.std.specs.Prelude.{is_none, if◌then◌else◌}
 use Rattle.std.specs.List.{AllByRecursion, filter, list_any}
 use Rattle.std.specs.Option.{option_map_or}
-use Rattle.std.proofs.lemmas.List.{append-nil, length-append, length-map, map-append}
+use Rattle.std.proofs.lemmas.List.{append-nil, length-map, map-append}
 use Rattle.hx_levels.proofs.Lists.{all_filtered}
 use Rattle.hx_members.specs.Setups.{Setup}
 use Rattle.hx_market.specs.declared.event.Event.{Event}
 use Rattle.hx_market.specs.declared.event.Event.TheVariants.{Message, Tick, Hours}
 use Rattle.hx_market.specs.declared.fault.PrepareError.{PrepareError}
 use Rattle.hx_market.specs.declared.fault.PrepareError.TheVariants as refused
-use Rattle.hx_market.specs.Markets.{Market, opening}
+use Rattle.hx_market.specs.Markets.{Market}
 use Rattle.hx_market.specs.Admitting.{refusal}
 use Rattle.hx_market.specs.Ending.{hours_codes}
 use Rattle.hx_market.specs.Operating.{operator_event}
-use Rattle.hx_market.specs.Steps.{step, run}
+use Rattle.hx_market.specs.Steps.{run}
 use Rattle.hx_market.specs.Striking.{Choice, bears, strike, strike_one, quiet_of_one}
 use Rattle.hx_audit.specs.Recording.{AreAccepted, AreRecorded, IsRefusedAt}
 use Rattle.hx_replay.specs.declared.fault.Kind.{Kind}
@@ -22,7 +22,7 @@ use Rattle.hx_replay.specs.declared.fault.Kind.TheVariants as kind
 use Rattle.hx_replay.specs.declared.fault.TapeError.{TapeError}
 use Rattle.hx_replay.specs.declared.fault.TapeError.TheVariants as fault
 use Rattle.std.proofs.KnownBytes.{Appends-nil}
-use Rattle.hx_replay.specs.Text.{Entry, IsEntry, line, HasNone}
+use Rattle.hx_replay.specs.Text.{Entry, line}
 use Rattle.hx_replay.specs.Run.{Progress, start, event_of, message_of, is_operator, is_unknown, kind_of, fault_of, check_of, after, after_all, tape, AreEvents, BeginsBadly}
 use Rattle.hx_replay.specs.Struck.{struck, entry_of_event, IsKnown, IsLineOf, IsNoLine, BreaksOff, Collects, CollectsAll, IsOfReading, StrikeStops, FirstFault, IsStruck, IsFaultOf}
 use Rattle.hx_replay.proofs.Playing.{checked, unknown_is_bad}

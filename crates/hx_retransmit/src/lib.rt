@@ -7,8 +7,6 @@
 mod list;
 mod publisher;
 mod server;
-#[cfg(test)]
-mod tests;
 
 pub use list::ListMessages;
 pub use publisher::Publisher;

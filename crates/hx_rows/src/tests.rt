@@ -1,9 +1,11 @@
 //! The worked rows, given to the calls of the market's crates.
 
+mod books;
 mod events;
 mod histories;
 mod lines;
 mod market;
+mod plans;
 mod replaying;
 mod setups;
 mod striking;

@@ -9,8 +9,6 @@ mod intake;
 pub mod laws;
 mod login;
 mod opening;
-#[cfg(test)]
-mod tests;
 
 pub use delivery::{Delivery, Turn};
 pub use intake::{Action, Intake};

@@ -13,8 +13,6 @@ mod login;
 mod packet;
 mod spaces;
 mod step;
-#[cfg(test)]
-mod tests;
 
 pub use answer::{NOT_AUTHORIZED, SESSION_NOT_AVAILABLE, accepted, rejected};
 use arrayvec::ArrayVec;

@@ -9,8 +9,6 @@ mod names;
 mod price;
 mod shares;
 mod side;
-#[cfg(test)]
-mod tests;
 mod time;
 
 pub use member::MemberNo;

@@ -164,28 +164,29 @@ fn hours_of_a_day(rt: HostRuntime) -> Result<(), Fail> {
 }
 
 #[test]
-fn one_displayed_order(rt: HostRuntime) -> Result<(), Fail> {
-    expect_day(&rt, &tapes::ONE_DISPLAYED_ORDER)
-}
-
-#[test]
-fn hidden_then_displayed(rt: HostRuntime) -> Result<(), Fail> {
-    expect_day(&rt, &tapes::HIDDEN_THEN_DISPLAYED)
-}
-
-#[test]
-fn display_beats_time(rt: HostRuntime) -> Result<(), Fail> {
-    expect_day(&rt, &tapes::DISPLAY_BEATS_TIME)
-}
-
-#[test]
-fn hidden_executions_on_both_sides(rt: HostRuntime) -> Result<(), Fail> {
-    expect_day(&rt, &tapes::HIDDEN_EXECUTIONS_ON_BOTH_SIDES)
-}
-
-#[test]
-fn minimum_passed_over(rt: HostRuntime) -> Result<(), Fail> {
-    expect_day(&rt, &tapes::MINIMUM_PASSED_OVER)
+fn days_over_both_books(rt: HostRuntime) -> Result<(), Fail> {
+    let days = [
+        &tapes::ONE_DISPLAYED_ORDER,
+        &tapes::HIDDEN_THEN_DISPLAYED,
+        &tapes::DISPLAY_BEATS_TIME,
+        &tapes::HIDDEN_EXECUTIONS_ON_BOTH_SIDES,
+        &tapes::MINIMUM_PASSED_OVER,
+        &tapes::MINIMUM_STAYS,
+        &tapes::DISPLAYED_IMMEDIATE_OR_CANCEL,
+        &tapes::TWO_LEVELS_TAKEN,
+        &tapes::TIMES_GOING_BACK,
+        &tapes::LIMITS_OF_FIELDS,
+        &tapes::FAILED_REPLACE,
+        &tapes::CHAIN_THAT_TRADED,
+        &tapes::DISPLAY_CHANGES,
+        &tapes::CANCELS,
+        &tapes::REPLACES_THAT_TRADE,
+        &tapes::TICKS,
+    ];
+    for day in days {
+        expect_day(&rt, day)?;
+    }
+    Ok(())
 }
 
 #[test]
@@ -198,61 +199,6 @@ fn minimum_passed_over_without_its_first_line(rt: HostRuntime) -> Result<(), Fai
         panic!(&rt; "there is a line");
     };
     expect_day(&rt, &Day { tape, output })
-}
-
-#[test]
-fn minimum_stays(rt: HostRuntime) -> Result<(), Fail> {
-    expect_day(&rt, &tapes::MINIMUM_STAYS)
-}
-
-#[test]
-fn displayed_immediate_or_cancel(rt: HostRuntime) -> Result<(), Fail> {
-    expect_day(&rt, &tapes::DISPLAYED_IMMEDIATE_OR_CANCEL)
-}
-
-#[test]
-fn two_levels_taken(rt: HostRuntime) -> Result<(), Fail> {
-    expect_day(&rt, &tapes::TWO_LEVELS_TAKEN)
-}
-
-#[test]
-fn times_going_back(rt: HostRuntime) -> Result<(), Fail> {
-    expect_day(&rt, &tapes::TIMES_GOING_BACK)
-}
-
-#[test]
-fn limits_of_fields(rt: HostRuntime) -> Result<(), Fail> {
-    expect_day(&rt, &tapes::LIMITS_OF_FIELDS)
-}
-
-#[test]
-fn failed_replace(rt: HostRuntime) -> Result<(), Fail> {
-    expect_day(&rt, &tapes::FAILED_REPLACE)
-}
-
-#[test]
-fn chain_that_traded(rt: HostRuntime) -> Result<(), Fail> {
-    expect_day(&rt, &tapes::CHAIN_THAT_TRADED)
-}
-
-#[test]
-fn display_changes(rt: HostRuntime) -> Result<(), Fail> {
-    expect_day(&rt, &tapes::DISPLAY_CHANGES)
-}
-
-#[test]
-fn cancels(rt: HostRuntime) -> Result<(), Fail> {
-    expect_day(&rt, &tapes::CANCELS)
-}
-
-#[test]
-fn replaces_that_trade(rt: HostRuntime) -> Result<(), Fail> {
-    expect_day(&rt, &tapes::REPLACES_THAT_TRADE)
-}
-
-#[test]
-fn ticks(rt: HostRuntime) -> Result<(), Fail> {
-    expect_day(&rt, &tapes::TICKS)
 }
 
 #[test]
@@ -344,4 +290,27 @@ fn writer_fails(rt: HostRuntime) -> Result<(), Fail> {
     assert!(rt; matches!(result, Err(TapeError::Write)));
     assert_eq!(rt; output.taken.as_slice(), &day.output[..400]);
     Ok(())
+}
+
+fn expect_text<R: AllocGlobal + Abort>(rt: &R, fault: TapeError, text: &str) -> Result<(), Fail> {
+    let told = format!(in rt.alloc(); "{fault}")?;
+    assert_eq!(rt; told.as_str(), text);
+    Ok(())
+}
+
+#[test]
+fn texts_of_faults(rt: HostRuntime) -> Result<(), Fail> {
+    let kinds = [
+        (Kind::Bad, "line 7: bad line"),
+        (Kind::Time, "line 7: bad time"),
+        (Kind::Member, "line 7: no such member"),
+        (Kind::Limit, "line 7: member at limit"),
+    ];
+    for (kind, text) in kinds {
+        expect_text(&rt, TapeError::Line { line: 7, kind }, text)?;
+    }
+    expect_text(&rt, TapeError::NoMemory, "no memory")?;
+    expect_text(&rt, TapeError::Read, "read failed")?;
+    expect_text(&rt, TapeError::Write, "write failed")?;
+    expect_text(&rt, TapeError::Turns, "too many reads")
 }

@@ -1,9 +1,6 @@
 use Rattle.std.proofs.Common.{refl, ◌∙◌}
-use Rattle.hx_units.specs.declared.names.Token.{Token}
 use Rattle.hx_market.specs.Markets.{Market}
 use Rattle.hx_market.specs.Steps.{run}
-use Rattle.hx_audit.specs.Listing.{uses_of, grouped, chains_of}
-use Rattle.hx_audit.specs.Finding.{AreTold}
 use Rattle.hx_audit.proofs.Rooted.{told_run}
 use Rattle.hx_audit.proofs.Strangers.{no_chains}
 use Rattle.hx_audit.proofs.chaining.chains.Goals as goal

@@ -1,8 +1,7 @@
 use Rattle.std.proofs.Common.{refl, ap, sym, ◌∙◌}
 use Rattle.std.proofs.lemmas.Result.{err_from_is_err_and}
-use Rattle.hx_market.specs.Markets.{Market}
-use Rattle.hx_audit.specs.Listing.{uses_of, grouped}
-use Rattle.hx_audit.proofs.Recorded.{took_none, took_more, took_all, explained_or}
+use Rattle.hx_audit.specs.Listing.{grouped}
+use Rattle.hx_audit.proofs.Recorded.{took_none, took_more, explained_or}
 use Rattle.hx_audit.proofs.Rooted.{none_listed}
 use Rattle.hx_audit.proofs.chaining.take_all.Goals as goal
 

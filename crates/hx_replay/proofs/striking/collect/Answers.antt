@@ -1,4 +1,4 @@
-use Rattle.std.proofs.Common.{◌≡◌, ◌++◌, ◌∷◌, [], List, sym, subst}
+use Rattle.std.proofs.Common.{List, sym, subst}
 use Rattle.hx_market.specs.declared.event.Event.{Event}
 use Rattle.hx_replay.specs.Struck.{IsLineOf, Collects}
 use Rattle.hx_replay.proofs.Lines.{some_of}

@@ -1,5 +1,9 @@
 //! The messages of worked histories, as the exchange and its members exchange them.
-use super::*;
+use arrayvec::ArrayVec;
+use hx_ouch::{
+    Accepted, Cancel, Canceled, Enter, Executed, Inbound, Outbound, Rejected, Replace, Replaced,
+    SystemEvent, decode_in, decode_out, encode_in, encode_out,
+};
 use hx_units::{Firm, Symbol, Token};
 use std::process::Abort;
 

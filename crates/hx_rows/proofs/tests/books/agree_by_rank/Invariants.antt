@@ -1,7 +1,7 @@
 use Rattle.std.specs.Option.{IfSome}
 use Rattle.hx_levels.specs.declared.order.Terms.{Terms}
 use Rattle.hx_levels.specs.Book.{IsRanked}
-use Rattle.hx_levels.proofs.tests.agree_by_rank.Given as goal
+use Rattle.hx_rows.proofs.tests.books.agree_by_rank.Given as goal
 
 abbrev pub invariant-loop : goal.invariant-loop
 invariant-loop g l =

@@ -2,7 +2,11 @@
 ghost use Rattle.std.specs.Prelude.{◌<◌, ◌^◌};
 ghost use Rattle.hx_itch.specs.Message.{feed_time};
 
-use super::*;
+use arrayvec::ArrayVec;
+use hx_itch::{
+    AddOrder, AddOrderWithAttribution, Feed, OrderCancel, OrderDelete, OrderExecuted, OrderReplace,
+    StockDirectory, SystemEvent, Trade, decode, encode,
+};
 use hx_units::{Firm, Symbol};
 use std::process::Abort;
 

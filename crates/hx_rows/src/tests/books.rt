@@ -1,5 +1,5 @@
 //! Each call of a book once, and both books side by side.
-use crate::{Book, Key, LevelBook, Life, ListBook, Order};
+use hx_levels::{Book, Key, LevelBook, Life, ListBook, Order};
 use hx_units::{Firm, MemberNo, Price, Side, Token};
 use std::alloc::Global;
 use std::process::Abort;

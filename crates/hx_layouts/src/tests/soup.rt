@@ -1,5 +1,8 @@
 //! Packets and logins byte for byte (SoupBinTCP 3.00).
-use super::*;
+use hx_soup::{
+    Framer, FramerError, LoginRequest, NOT_AUTHORIZED, SESSION_NOT_AVAILABLE, accepted,
+    decode_login, frame, rejected, trimmed,
+};
 use std::test::Fail;
 
 // A login as ALPHA, an order's first bytes, a heartbeat, and a logout with a payload.

@@ -1,5 +1,9 @@
 //! Packets and requests byte for byte (MoldUDP64 1.00), under the session HX00000001.
-use super::*;
+use arrayvec::ArrayVec;
+use hx_mold::{
+    Blocks, Messages, MoldPacket, Request, cut, decode_packet, decode_request, end_of_session,
+    heartbeat,
+};
 use hx_units::NoMemory;
 use std::alloc::Global;
 use std::test::Fail;

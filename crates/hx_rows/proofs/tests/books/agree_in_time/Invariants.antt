@@ -1,7 +1,7 @@
 use Rattle.std.proofs.Common.{◌≡◌, true}
 use Rattle.std.specs.Option.{IfSome}
 use Rattle.hx_levels.specs.Book.{has_key}
-use Rattle.hx_levels.proofs.tests.agree_in_time.Given as goal
+use Rattle.hx_rows.proofs.tests.books.agree_in_time.Given as goal
 
 abbrev pub invariant-loop : goal.invariant-loop
 invariant-loop g l = record {

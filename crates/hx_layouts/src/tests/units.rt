@@ -1,5 +1,5 @@
 //! The ends of each range, as the public standards and the rules of the exchange give them.
-use super::*;
+use hx_units::{MemberNo, Nanos, NoMemory, Price, Shares, Side, fields};
 use std::alloc::AllocError;
 use std::test::Fail;
 

@@ -1,8 +1,8 @@
 //! Forty messages asked for again, and a publisher's turns, byte for byte (MoldUDP64 1.00), under the session
 //! HX00000001.
-use super::*;
 use arrayvec::ArrayVec;
 use hx_mold::{Messages, Request, answer};
+use hx_retransmit::{ListMessages, Publisher, Server};
 use hx_units::NoMemory;
 use std::alloc::Global;
 use std::test::Fail;

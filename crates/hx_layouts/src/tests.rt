@@ -1,0 +1,9 @@
+//! Fields, messages, packets, frames and sessions.
+
+mod itch;
+mod mold;
+mod ouch;
+mod retransmit;
+mod sessions;
+mod soup;
+mod units;
