@@ -3,6 +3,7 @@
 mod itch;
 mod mold;
 mod ouch;
+mod packets;
 mod retransmit;
 mod sessions;
 mod soup;

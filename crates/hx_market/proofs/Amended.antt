@@ -2,6 +2,7 @@
 use Rattle.std.proofs.Common.{◌≡◌, ℕ, suc, ◌+◌, ◌-◌, ◌*◌, ◌≤◌, Bool, true, false, cond, ltb, not, List, [], ◌∷◌, ◌++◌, length, Some, refl, sym, ap, ◌∙◌, subst, arith, slice_index}
 use Rattle.std.specs.List.{filter, find}
 use Rattle.std.proofs.lemmas.Bool.{cond_both}
+use Rattle.std.proofs.lemmas.List.Filters.{length-filter_both}
 use Rattle.hx_units.specs.declared.names.Token.{Token}
 use Rattle.hx_units.specs.declared.names.Symbol.{Symbol}
 use Rattle.hx_levels.specs.declared.order.Order.{Order}
@@ -35,12 +36,7 @@ open-filter ts i t keep (x ∷ xs) = at (keep x) (open-filter ts i t keep xs)
     at false h = omega arith
 
 length-filter : (keep : Order → Bool) (xs : List Order) → length (filter keep xs) ≤ length xs
-length-filter keep [] = omega arith
-length-filter keep (x ∷ xs) = at (keep x) (length-filter keep xs)
-  where
-    at : (b : Bool) → length (filter keep xs) ≤ length xs → length (cond b (x ∷ filter keep xs) (filter keep xs)) ≤ suc (length xs)
-    at true h = omega arith
-    at false h = omega arith
+length-filter keep xs = let parts = length-filter_both keep (λ x. not (keep x)) (λ x. refl) xs in omega arith
 
 pub sound_filtered : (m : Market) (keep : Order → Bool) (hours : ℕ) → IsSound m → IsSound (record m { live = filter keep m.live; hours = hours })
 sound_filtered m keep hours h = record {

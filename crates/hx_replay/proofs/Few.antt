@@ -10,7 +10,7 @@ use Rattle.hx_replay.specs.Output.{counts_after}
 use Rattle.hx_replay.specs.Run.{Progress, IsFew, start, after, event_of}
 use Rattle.hx_replay.proofs.Told.{told_few}
 
-raised-length : (xs : List ℕ) (i : ℕ) → length (raised xs i) ≡ length xs
+pub raised-length : (xs : List ℕ) (i : ℕ) → length (raised xs i) ≡ length xs
 raised-length [] i = refl
 raised-length (x ∷ xs) zero = refl
 raised-length (x ∷ xs) (suc i) = ap (λ n. suc n) (raised-length xs i)

@@ -15,8 +15,9 @@ use Rattle.hx_replay.specs.Output.{feed_lines, counts_after, told_lines}
 use Rattle.hx_replay.specs.Output as output
 use Rattle.hx_replay.specs.Run.{start, event_of, output_all}
 use Rattle.hx_replay.specs.Seen.Numbered.{OfFeed, OfMember}
-use Rattle.hx_replay.specs.Seen.{Numbered, texts_of, numbered, output_lines, but_to, LeavesNoTrace}
+use Rattle.hx_replay.specs.Seen.{Numbered, texts_of, numbered, output_lines, not_to, LeavesNoTrace}
 use Rattle.hx_replay.proofs.OutputIsTold.{output_is_told}
+use Rattle.hx_replay.proofs.Few.{raised-length}
 
 -- The text of the lines.
 
@@ -53,11 +54,6 @@ of_told n counts (t ∷ ts) =
 
 -- The lines that do not go to a member.
 
-length-raised : (xs : List ℕ) (i : ℕ) → length (raised xs i) ≡ length xs
-length-raised [] i = refl
-length-raised (x ∷ xs) zero = refl
-length-raised (x ∷ xs) (suc i) = ap (λ n. suc n) (length-raised xs i)
-
 other-raised : (xs : List ℕ) (i k : ℕ) → (i ≡ k → ⊥) → slice_index (raised xs i) k ≡ slice_index xs k
 other-raised [] i k h = refl
 other-raised (x ∷ xs) zero zero h = absurd (h refl)
@@ -73,7 +69,7 @@ record AreLike (m : ℕ) (cs ds : List ℕ) : Type 0 where
 -- one more of m
 like_left : (m : ℕ) (cs ds : List ℕ) → AreLike m cs ds → AreLike m (raised cs m) ds
 like_left m cs ds h = record {
-  many = length-raised cs m ∙ h.many;
+  many = raised-length cs m ∙ h.many;
   each = λ k e. other-raised cs m k (λ f. e (sym f)) ∙ h.each k e;
 }
 
@@ -89,7 +85,7 @@ raised-like (x ∷ xs) (y ∷ ys) (suc i) (suc k) l h g = raised-like xs ys i k 
 -- one more of another in both
 like_both : (m i : ℕ) (cs ds : List ℕ) → (i ≡ m → ⊥) → AreLike m cs ds → AreLike m (raised cs i) (raised ds i)
 like_both m i cs ds e h = record {
-  many = length-raised cs i ∙ h.many ∙ sym (length-raised ds i);
+  many = raised-length cs i ∙ h.many ∙ sym (raised-length ds i);
   each = λ k f. raised-like cs ds i k h.many (h.each i e) (h.each k f);
 }
 
@@ -99,18 +95,18 @@ may_see look (ToFeed message) = true
 may_see look (ToMember member reply) = look member
 
 -- the others keep their numbers
-but_numbered : (m n : ℕ) (cs ds : List ℕ) (lines : List Line) → AreLike m cs ds → but_to m (numbered n cs lines) ≡ numbered n ds (filter (may_see (all_but m)) lines)
+but_numbered : (m n : ℕ) (cs ds : List ℕ) (lines : List Line) → AreLike m cs ds → not_to m (numbered n cs lines) ≡ numbered n ds (filter (may_see (all_but m)) lines)
 but_numbered m n cs ds [] h = refl
 but_numbered m n cs ds (ToFeed message ∷ lines) h = ap (λ (x : List Numbered). OfFeed (n + 1) message ∷ x) (but_numbered m (n + 1) cs ds lines h)
 but_numbered m n cs ds (ToMember i reply ∷ lines) h = at (eqb i m) refl (λ es. but_numbered m n (raised cs i) es lines)
   where
-    at : (b : Bool) → eqb i m ≡ b → ((es : List ℕ) → AreLike m (raised cs i) es → but_to m (numbered n (raised cs i) lines) ≡ numbered n es (filter (may_see (all_but m)) lines))
-        → cond (not b) (OfMember i (slice_index cs i + 1) reply ∷ but_to m (numbered n (raised cs i) lines)) (but_to m (numbered n (raised cs i) lines))
+    at : (b : Bool) → eqb i m ≡ b → ((es : List ℕ) → AreLike m (raised cs i) es → not_to m (numbered n (raised cs i) lines) ≡ numbered n es (filter (may_see (all_but m)) lines))
+        → cond (not b) (OfMember i (slice_index cs i + 1) reply ∷ not_to m (numbered n (raised cs i) lines)) (not_to m (numbered n (raised cs i) lines))
         ≡ numbered n ds (cond (not b) (ToMember i reply ∷ filter (may_see (all_but m)) lines) (filter (may_see (all_but m)) lines))
     at true e ih = ih ds (subst (λ k. AreLike m (raised cs k) ds) (sym (eqb-true i m e)) (like_left m cs ds h))
     at false e ih =
         let other : i ≡ m → ⊥ = λ f. absurd (let z : true ≡ false = sym (eq-eqb i m f) ∙ e in cc) in
-        ap (λ k. OfMember i (k + 1) reply ∷ but_to m (numbered n (raised cs i) lines)) (h.each i other)
+        ap (λ k. OfMember i (k + 1) reply ∷ not_to m (numbered n (raised cs i) lines)) (h.each i other)
         ∙ ap (λ (x : List Numbered). OfMember i (slice_index ds i + 1) reply ∷ x) (ih (raised ds i) (like_both m i cs ds other h))
 
 filter-append : {X : Type 0} (p : X → Bool) (xs ys : List X) → filter p (xs ++ ys) ≡ filter p xs ++ filter p ys
@@ -146,7 +142,7 @@ see_all look (t ∷ ts) =
     ∙ ap (λ (l : List Line). (feed ++ reply_lines look t.replies) ++ l) (see_all look ts)
 
 -- what the others get is what they see, numbered
-but_seen : (m : ℕ) (setup : Setup) (events : List Event) → but_to m (output_lines setup events) ≡ numbered 0 (replicate 4096 0) (seen m setup events)
+but_seen : (m : ℕ) (setup : Setup) (events : List Event) → not_to m (output_lines setup events) ≡ numbered 0 (replicate 4096 0) (seen m setup events)
 unfolding output_lines seen
 but_seen m setup events =
     but_numbered m 0 (replicate 4096 0) (replicate 4096 0) (lines_of_all (λ member. true) (told setup events)) (record { many = refl; each = λ k e. refl })

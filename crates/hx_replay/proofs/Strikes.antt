@@ -24,7 +24,7 @@ use Rattle.hx_replay.specs.declared.fault.TapeError.TheVariants as fault
 use Rattle.std.proofs.KnownBytes.{Appends-nil}
 use Rattle.hx_replay.specs.Text.{Entry, line}
 use Rattle.hx_replay.specs.Run.{Progress, start, event_of, message_of, is_operator, is_unknown, kind_of, fault_of, check_of, after, after_all, tape, AreEvents, BeginsBadly}
-use Rattle.hx_replay.specs.Struck.{struck, entry_of_event, IsKnown, IsLineOf, IsNoLine, BreaksOff, Collects, CollectsAll, IsOfReading, StrikeStops, FirstFault, IsStruck, IsFaultOf}
+use Rattle.hx_replay.specs.Struck.{struck, entry_of_event, IsKnown, IsLineOf, IsNoLine, BreaksOff, Collects, CollectsAll, IsOfReading, ReadsSome, StrikeStops, FirstFault, IsStruck, IsFaultOf}
 use Rattle.hx_replay.proofs.Playing.{checked, unknown_is_bad}
 use Rattle.hx_replay.proofs.OutputIsTold.{market_is_run}
 use Rattle.hx_replay.proofs.OneReading.{line_no_feed, tape-cons}
@@ -227,9 +227,9 @@ all_of setup m text events same kept true c f e r k = all_kept setup m text even
 all_of setup m text events same kept false c f e r k = absurd (let z : false ≡ true = f in cc)
 
 -- Nothing is written where reading fails.
-pub reading_stops : (setup : Setup) (m : ℕ) (e : TapeError) (r s w : Option (List ℕ)) → IsOfReading e → StrikeStops setup m e r s w w
-reading_stops setup m fault.NoMemory r s w h = Appends-nil w
-reading_stops setup m fault.Read r s w h = Appends-nil w
-reading_stops setup m fault.Turns r s w h = Appends-nil w
-reading_stops setup m (fault.Line n k) r s w h = elim h [ ]
-reading_stops setup m fault.Write r s w h = elim h [ ]
+pub reading_stops : (setup : Setup) (m : ℕ) (e : TapeError) (r s w : Option (List ℕ)) → ReadsSome r s → IsOfReading e → StrikeStops setup m e r s w w
+reading_stops setup m fault.NoMemory r s w t h = (t, Appends-nil w)
+reading_stops setup m fault.Read r s w t h = (t, Appends-nil w)
+reading_stops setup m fault.Turns r s w t h = (t, Appends-nil w)
+reading_stops setup m (fault.Line n k) r s w t h = elim h [ ]
+reading_stops setup m fault.Write r s w t h = elim h [ ]

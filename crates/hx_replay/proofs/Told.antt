@@ -3,6 +3,7 @@ use Rattle.std.proofs.Common.{◌≡◌, ℕ, suc, ◌+◌, ◌-◌, ◌*◌, �
 use Rattle.std.specs.Prelude.{◌==◌}
 use Rattle.std.specs.List.{filter, find}
 use Rattle.std.proofs.lemmas.List.{length-append, length-map}
+use Rattle.std.proofs.lemmas.List.Filters.{length-filter_both}
 use Rattle.hx_units.specs.declared.names.Symbol.{Symbol}
 use Rattle.hx_units.specs.declared.names.Token.{Token}
 use Rattle.hx_levels.specs.declared.order.Order.{Order}
@@ -98,12 +99,7 @@ entered_few setup market member time e false None = accept_order_few market time
 -- Of a Replace and of a Cancel.
 
 fewer : (keep : Order → Bool) (xs : List Order) → length (filter keep xs) ≤ length xs
-fewer keep [] = omega arith
-fewer keep (x ∷ xs) = at (keep x) (fewer keep xs)
-  where
-    at : (b : Bool) → length (filter keep xs) ≤ length xs → length (cond b (x ∷ filter keep xs) (filter keep xs)) ≤ suc (length xs)
-    at true h = omega arith
-    at false h = omega arith
+fewer keep xs = let parts = length-filter_both keep (λ x. not (keep x)) (λ x. refl) xs in omega arith
 
 -- one is gone where one is called so
 one_gone : (member : ℕ) (token : Token) (old : Order) (xs : List Order) → find (is_called member token) xs ≡ Some old → length (others member token xs) + 1 ≤ length xs
@@ -211,13 +207,7 @@ act_few setup market member time (Some (inbound.Cancel c)) = cancelled_few marke
 
 -- an order is due or stays
 parted : (due : Order → Bool) (xs : List Order) → length (filter due xs) + length (filter (λ x. not (due x)) xs) ≡ length xs
-parted due [] = refl
-parted due (x ∷ xs) = at (due x) (parted due xs)
-  where
-    at : (b : Bool) → length (filter due xs) + length (filter (λ y. not (due y)) xs) ≡ length xs
-        → length (cond b (x ∷ filter due xs) (filter due xs)) + length (cond (not b) (x ∷ filter (λ y. not (due y)) xs) (filter (λ y. not (due y)) xs)) ≡ suc (length xs)
-    at true h = omega arith
-    at false h = omega arith
+parted due xs = length-filter_both due (λ x. not (due x)) (λ x. refl) xs
 
 length-all-deleted : (time : ℕ) (xs : List Order) → length (all_deleted time xs) ≤ length xs
 length-all-deleted time [] = omega arith

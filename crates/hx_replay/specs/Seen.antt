@@ -43,11 +43,11 @@ is_to m (OfFeed number message) = false
 is_to m (OfMember member number reply) = member == m
 
 -- the lines that everybody but the member gets
-abbrev pub but_to : ℕ → List Numbered → List Numbered
-but_to m lines = filter (λ line. not (is_to m line)) lines
+abbrev pub not_to : ℕ → List Numbered → List Numbered
+not_to m lines = filter (λ line. not (is_to m line)) lines
 
 -- The headline: the output text of these events is that of the market's lines, and for every member the lines that do not go to him are, numbers included,
 -- those of the history without the messages of his quiet chains.
 pub record LeavesNoTrace (setup : Setup) (events : List Entry) : Type 0 where
   pub lines : output_all (start setup) events ≡ texts_of (output_lines setup (map event_of events))
-  pub same : (m : ℕ) → but_to m (output_lines setup (map event_of events)) ≡ but_to m (output_lines setup (strike_one setup m (map event_of events)))
+  pub same : (m : ℕ) → not_to m (output_lines setup (map event_of events)) ≡ not_to m (output_lines setup (strike_one setup m (map event_of events)))

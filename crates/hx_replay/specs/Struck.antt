@@ -119,10 +119,14 @@ pub record StopsBefore (setup : Setup) (n : ℕ) (k : Kind) (r s : Option (List 
   pub at_end : IsAtEnd s
   pub fault : FirstFault setup n k text
 
+-- what was read is a beginning of what there was, which may be all of it
+abbrev pub ReadsSome : Option (List ℕ) → Option (List ℕ) → Type 0
+ReadsSome r s = (text : List ℕ) × Consumes r s text
+
 -- why a tape was not struck: but for a writer that failed, nothing was written
 abbrev pub StrikeStops : Setup → ℕ → TapeError → (r s w v : Option (List ℕ)) → Type 0
 StrikeStops setup m (fault.Line n k) r s w v = StopsBefore setup n k r s × Appends w v []
-StrikeStops setup m fault.NoMemory r s w v = Appends w v []
-StrikeStops setup m fault.Read r s w v = Appends w v []
-StrikeStops setup m fault.Turns r s w v = Appends w v []
+StrikeStops setup m fault.NoMemory r s w v = ReadsSome r s × Appends w v []
+StrikeStops setup m fault.Read r s w v = ReadsSome r s × Appends w v []
+StrikeStops setup m fault.Turns r s w v = ReadsSome r s × Appends w v []
 StrikeStops setup m fault.Write r s w v = StrikesSome setup m r s w v

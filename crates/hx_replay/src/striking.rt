@@ -1,9 +1,9 @@
 //! A tape without the messages of a member's quiet chains.
-ghost use Rattle.std.specs.Prelude.{◌≡◌, ◌++◌, ◌∷◌, [], map, IfOk, IfErr, OnOk, IfSome, IfNone};
+ghost use Rattle.std.specs.Prelude.{◌≡◌, ◌++◌, ◌∷◌, [], map, IfOk, IfErr, OnOk, OnErr, IfSome, IfNone};
 ghost use Rattle.std.specs.Io.KnownBytes.{Consumes, IsAtEnd};
 ghost use Rattle.hx_replay.specs.Text.{line};
 ghost use Rattle.hx_replay.specs.Run.{tape};
-ghost use Rattle.hx_replay.specs.Struck.{entry_of_event, IsOfReading, IsLineOf, IsNoLine, CollectsAll, IsStruck, IsFaultOf, StrikesAll, StrikeStops};
+ghost use Rattle.hx_replay.specs.Struck.{entry_of_event, IsOfReading, ReadsSome, IsLineOf, IsNoLine, CollectsAll, IsStruck, IsFaultOf, StrikesAll, StrikeStops};
 
 use crate::decimal::write_number;
 use crate::fault::{Kind, TapeError};
@@ -22,6 +22,7 @@ fn read_all<R: Read>(alloc: Global, reader: &mut R) -> Result<Vec<u8>, TapeError
     ensures read { IfOk result (λ text. Consumes (R.remaining reader.old) (R.remaining reader.new) text.items) }
     ensures at_end { OnOk result (IsAtEnd (R.remaining reader.new)) }
     ensures fault { IfErr result IsOfReading }
+    ensures some { OnErr result (ReadsSome (R.remaining reader.old) (R.remaining reader.new)) }
 {
     let mut text = Vec::new(alloc);
     let mut chunk = [0; 8192];
@@ -162,7 +163,8 @@ pub fn strike_tape<R: Read, W: Write>(
     // All was read, and the lines that stay were written.
     ensures ok { IfOk result (λ counts.
         StrikesAll setup.now member counts (R.remaining reader.old) (R.remaining reader.new) (W.contents writer.old) (W.contents writer.new)) }
-    // But for a failed write, nothing was written. A line is named where all was read and it is the first that fails a check.
+    // But for a failed write, nothing was written. A line is named where all was read and it is the first that fails a
+    // check. Else what was read is a beginning of what there was.
     ensures err { IfErr result (λ e.
         StrikeStops setup.now member e (R.remaining reader.old) (R.remaining reader.new) (W.contents writer.old) (W.contents writer.new)) }
 {

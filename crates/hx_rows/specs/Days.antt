@@ -19,8 +19,8 @@ abbrev pub firm_number : ℕ → List ℕ
 firm_number member = if member == 1 then codes "FMA1" else (if member == 2 then codes "FMB2" else codes "FMC3")
 
 -- an Enter Order message
-abbrev pub entered : (time member : ℕ) (token : List ℕ) (side shares price time_in_force display minimum : ℕ) → Event
-entered time member token side shares price time_in_force display minimum =
+abbrev pub enter_order : (time member : ℕ) (token : List ℕ) (side shares price time_in_force display minimum : ℕ) → Event
+enter_order time member token side shares price time_in_force display minimum =
     Message member time
     (enter_bytes (record {
       token = record { 0 = token };
@@ -72,8 +72,8 @@ abbrev pub rejected : (member time : ℕ) (token : List ℕ) (reason : ℕ) → 
 rejected member time token reason = (member, Rejected (record { time = time; token = record { 0 = token }; reason = reason }))
 
 -- a Replace Order message, and a Cancel Order message
-abbrev pub exchanged : (time member : ℕ) (existing replacement : List ℕ) (shares price time_in_force display minimum : ℕ) → Event
-exchanged time member existing replacement shares price time_in_force display minimum =
+abbrev pub replace_order : (time member : ℕ) (existing replacement : List ℕ) (shares price time_in_force display minimum : ℕ) → Event
+replace_order time member existing replacement shares price time_in_force display minimum =
     Message member time
     (replace_bytes (record {
       existing_token = record { 0 = existing };
@@ -86,8 +86,8 @@ exchanged time member existing replacement shares price time_in_force display mi
       minimum_quantity = minimum;
     }))
 
-abbrev pub called_off : (time member : ℕ) (token : List ℕ) (shares : ℕ) → Event
-called_off time member token shares = Message member time (cancel_bytes (record { token = record { 0 = token }; shares = shares }))
+abbrev pub cancel_order : (time member : ℕ) (token : List ℕ) (shares : ℕ) → Event
+cancel_order time member token shares = Message member time (cancel_bytes (record { token = record { 0 = token }; shares = shares }))
 
 abbrev pub replaced : (member time : ℕ) (token : List ℕ) (side shares price time_in_force display reference minimum : ℕ) (previous : List ℕ) → Reply
 replaced member time token side shares price time_in_force display reference minimum previous = (
@@ -142,7 +142,7 @@ tells feed replies = record { feed = feed; replies = replies }
 -- one displayed order
 abbrev pub one_displayed_order : List Event
 one_displayed_order =
-    entered 1000 1 (codes "T1            ") 66 100 100000 99999 89 0 ∷ []
+    enter_order 1000 1 (codes "T1            ") 66 100 100000 99999 89 0 ∷ []
 
 abbrev pub one_displayed_order_tells : List Told
 one_displayed_order_tells =
@@ -151,8 +151,8 @@ one_displayed_order_tells =
 -- a hidden order, then a displayed one
 abbrev pub hidden_then_displayed : List Event
 hidden_then_displayed =
-    entered 10 1 (codes "H1            ") 66 100 100000 99999 78 0 ∷
-    entered 20 2 (codes "T1            ") 66 200 100000 99999 89 0 ∷ []
+    enter_order 10 1 (codes "H1            ") 66 100 100000 99999 78 0 ∷
+    enter_order 20 2 (codes "T1            ") 66 200 100000 99999 89 0 ∷ []
 
 abbrev pub hidden_then_displayed_tells : List Told
 hidden_then_displayed_tells =
@@ -162,9 +162,9 @@ hidden_then_displayed_tells =
 -- display beats time
 abbrev pub display_beats_time : List Event
 display_beats_time =
-    entered 10 1 (codes "H1            ") 66 100 100000 99999 78 0 ∷
-    entered 20 2 (codes "T1            ") 66 100 100000 99999 89 0 ∷
-    entered 30 3 (codes "S1            ") 83 100 100000 99999 89 0 ∷ []
+    enter_order 10 1 (codes "H1            ") 66 100 100000 99999 78 0 ∷
+    enter_order 20 2 (codes "T1            ") 66 100 100000 99999 89 0 ∷
+    enter_order 30 3 (codes "S1            ") 83 100 100000 99999 89 0 ∷ []
 
 abbrev pub display_beats_time_tells : List Told
 display_beats_time_tells =
@@ -175,10 +175,10 @@ display_beats_time_tells =
 -- hidden executions on both sides
 abbrev pub hidden_executions_on_both_sides : List Event
 hidden_executions_on_both_sides =
-    entered 10 1 (codes "H1            ") 66 100 100000 99999 78 0 ∷
-    entered 20 2 (codes "S1            ") 83 60 99900 0 78 0 ∷
-    entered 30 1 (codes "H2            ") 83 50 100500 99999 78 0 ∷
-    entered 40 2 (codes "B1            ") 66 50 100500 0 78 0 ∷ []
+    enter_order 10 1 (codes "H1            ") 66 100 100000 99999 78 0 ∷
+    enter_order 20 2 (codes "S1            ") 83 60 99900 0 78 0 ∷
+    enter_order 30 1 (codes "H2            ") 83 50 100500 99999 78 0 ∷
+    enter_order 40 2 (codes "B1            ") 66 50 100500 0 78 0 ∷ []
 
 abbrev pub hidden_executions_on_both_sides_tells : List Told
 hidden_executions_on_both_sides_tells =
@@ -190,9 +190,9 @@ hidden_executions_on_both_sides_tells =
 -- an order is passed over for its minimum
 abbrev pub minimum_passed_over : List Event
 minimum_passed_over =
-    entered 10 1 (codes "H1            ") 66 200 100000 99999 78 0 ∷
-    entered 20 2 (codes "G1            ") 66 500 100000 99999 78 500 ∷
-    entered 30 3 (codes "S1            ") 83 500 100000 99999 78 500 ∷ []
+    enter_order 10 1 (codes "H1            ") 66 200 100000 99999 78 0 ∷
+    enter_order 20 2 (codes "G1            ") 66 500 100000 99999 78 500 ∷
+    enter_order 30 3 (codes "S1            ") 83 500 100000 99999 78 500 ∷ []
 
 abbrev pub minimum_passed_over_tells : List Told
 minimum_passed_over_tells =
@@ -203,11 +203,11 @@ minimum_passed_over_tells =
 -- the minimum stays
 abbrev pub minimum_stays : List Event
 minimum_stays =
-    entered 10 1 (codes "H1            ") 66 600 100000 99999 78 0 ∷
-    entered 20 2 (codes "H2            ") 66 300 100000 99999 78 0 ∷
-    entered 30 3 (codes "S1            ") 83 1000 100000 99999 78 500 ∷
-    entered 40 1 (codes "B1            ") 66 300 100000 0 78 0 ∷
-    entered 50 1 (codes "B2            ") 66 400 100000 0 78 0 ∷ []
+    enter_order 10 1 (codes "H1            ") 66 600 100000 99999 78 0 ∷
+    enter_order 20 2 (codes "H2            ") 66 300 100000 99999 78 0 ∷
+    enter_order 30 3 (codes "S1            ") 83 1000 100000 99999 78 500 ∷
+    enter_order 40 1 (codes "B1            ") 66 300 100000 0 78 0 ∷
+    enter_order 50 1 (codes "B2            ") 66 400 100000 0 78 0 ∷ []
 
 abbrev pub minimum_stays_tells : List Told
 minimum_stays_tells =
@@ -220,7 +220,7 @@ minimum_stays_tells =
 -- a displayed immediate order
 abbrev pub displayed_immediate_or_cancel : List Event
 displayed_immediate_or_cancel =
-    entered 10 1 (codes "I1            ") 66 100 100000 0 89 0 ∷ []
+    enter_order 10 1 (codes "I1            ") 66 100 100000 0 89 0 ∷ []
 
 abbrev pub displayed_immediate_or_cancel_tells : List Told
 displayed_immediate_or_cancel_tells =
@@ -229,10 +229,10 @@ displayed_immediate_or_cancel_tells =
 -- two levels are taken
 abbrev pub two_levels_taken : List Event
 two_levels_taken =
-    entered 10 1 (codes "T1            ") 66 100 100000 99999 89 0 ∷
-    entered 20 2 (codes "T1            ") 66 200 100100 99999 65 0 ∷
-    entered 30 3 (codes "S1            ") 83 350 100000 99999 89 0 ∷
-    entered 40 3 (codes "S1            ") 66 100 100000 99999 89 0 ∷ []
+    enter_order 10 1 (codes "T1            ") 66 100 100000 99999 89 0 ∷
+    enter_order 20 2 (codes "T1            ") 66 200 100100 99999 65 0 ∷
+    enter_order 30 3 (codes "S1            ") 83 350 100000 99999 89 0 ∷
+    enter_order 40 3 (codes "S1            ") 66 100 100000 99999 89 0 ∷ []
 
 abbrev pub two_levels_taken_tells : List Told
 two_levels_taken_tells =
@@ -244,8 +244,8 @@ two_levels_taken_tells =
 -- times go back
 abbrev pub times_going_back : List Event
 times_going_back =
-    entered 500 1 (codes "T1            ") 66 100 100000 99999 89 0 ∷
-    entered 100 2 (codes "S1            ") 83 100 100000 0 78 0 ∷ []
+    enter_order 500 1 (codes "T1            ") 66 100 100000 99999 89 0 ∷
+    enter_order 100 2 (codes "S1            ") 83 100 100000 0 78 0 ∷ []
 
 abbrev pub times_going_back_tells : List Told
 times_going_back_tells =
@@ -255,15 +255,15 @@ times_going_back_tells =
 -- the limits of fields
 abbrev pub limits_of_fields : List Event
 limits_of_fields =
-    entered 10 1 (codes "A1            ") 66 999999 1999999900 99999 89 0 ∷
-    entered 20 1 (codes "A2            ") 66 1000000 100000 99999 89 0 ∷
-    entered 30 1 (codes "A3            ") 66 100 2000000000 99999 89 0 ∷
-    entered 40 1 (codes "A4            ") 66 100 10001 99999 89 0 ∷
-    entered 50 1 (codes "A5            ") 66 100 9999 99999 89 0 ∷
-    entered 60 1 (codes "A6            ") 66 100 100000 99999 89 1 ∷
-    entered 70 1 (codes "A7            ") 66 100 100000 99999 78 101 ∷
-    entered 80 1 (codes "A8            ") 66 100 100000 99999 80 0 ∷
-    entered 90 1 (codes "A2            ") 66 100 100000 99999 89 0 ∷ []
+    enter_order 10 1 (codes "A1            ") 66 999999 1999999900 99999 89 0 ∷
+    enter_order 20 1 (codes "A2            ") 66 1000000 100000 99999 89 0 ∷
+    enter_order 30 1 (codes "A3            ") 66 100 2000000000 99999 89 0 ∷
+    enter_order 40 1 (codes "A4            ") 66 100 10001 99999 89 0 ∷
+    enter_order 50 1 (codes "A5            ") 66 100 9999 99999 89 0 ∷
+    enter_order 60 1 (codes "A6            ") 66 100 100000 99999 89 1 ∷
+    enter_order 70 1 (codes "A7            ") 66 100 100000 99999 78 101 ∷
+    enter_order 80 1 (codes "A8            ") 66 100 100000 99999 80 0 ∷
+    enter_order 90 1 (codes "A2            ") 66 100 100000 99999 89 0 ∷ []
 
 abbrev pub limits_of_fields_tells : List Told
 limits_of_fields_tells =
@@ -280,9 +280,9 @@ limits_of_fields_tells =
 -- a Replace fails, and its token stays used
 abbrev pub failed_replace : List Event
 failed_replace =
-    entered 10 1 (codes "T1            ") 66 100 100000 99999 89 0 ∷
-    exchanged 20 1 (codes "T1            ") (codes "T2            ") 100 10001 99999 89 0 ∷
-    entered 30 1 (codes "T2            ") 66 100 100000 99999 89 0 ∷ []
+    enter_order 10 1 (codes "T1            ") 66 100 100000 99999 89 0 ∷
+    replace_order 20 1 (codes "T1            ") (codes "T2            ") 100 10001 99999 89 0 ∷
+    enter_order 30 1 (codes "T2            ") 66 100 100000 99999 89 0 ∷ []
 
 abbrev pub failed_replace_tells : List Told
 failed_replace_tells =
@@ -293,12 +293,12 @@ failed_replace_tells =
 -- a chain of replaces that traded
 abbrev pub chain_that_traded : List Event
 chain_that_traded =
-    entered 10 1 (codes "H1            ") 66 100 100000 99999 78 0 ∷
-    exchanged 20 1 (codes "H1            ") (codes "H2            ") 100 100100 99999 78 0 ∷
-    exchanged 30 1 (codes "H2            ") (codes "H3            ") 100 100200 99999 78 0 ∷
-    exchanged 40 1 (codes "H3            ") (codes "H4            ") 100 100300 99999 78 0 ∷
-    entered 50 2 (codes "S1            ") 83 1 100300 0 78 0 ∷
-    exchanged 60 1 (codes "H4            ") (codes "H5            ") 1 100300 99999 78 0 ∷ []
+    enter_order 10 1 (codes "H1            ") 66 100 100000 99999 78 0 ∷
+    replace_order 20 1 (codes "H1            ") (codes "H2            ") 100 100100 99999 78 0 ∷
+    replace_order 30 1 (codes "H2            ") (codes "H3            ") 100 100200 99999 78 0 ∷
+    replace_order 40 1 (codes "H3            ") (codes "H4            ") 100 100300 99999 78 0 ∷
+    enter_order 50 2 (codes "S1            ") 83 1 100300 0 78 0 ∷
+    replace_order 60 1 (codes "H4            ") (codes "H5            ") 1 100300 99999 78 0 ∷ []
 
 abbrev pub chain_that_traded_tells : List Told
 chain_that_traded_tells =
@@ -312,11 +312,11 @@ chain_that_traded_tells =
 -- replaces change the display
 abbrev pub display_changes : List Event
 display_changes =
-    entered 10 1 (codes "T1            ") 66 100 100000 99999 89 0 ∷
-    exchanged 20 1 (codes "T1            ") (codes "T2            ") 100 100000 99999 78 0 ∷
-    exchanged 30 1 (codes "T2            ") (codes "T3            ") 150 100000 99999 89 0 ∷
-    exchanged 40 1 (codes "T3            ") (codes "T4            ") 150 100100 99999 89 0 ∷
-    exchanged 50 1 (codes "T4            ") (codes "T5            ") 150 100100 99999 65 0 ∷ []
+    enter_order 10 1 (codes "T1            ") 66 100 100000 99999 89 0 ∷
+    replace_order 20 1 (codes "T1            ") (codes "T2            ") 100 100000 99999 78 0 ∷
+    replace_order 30 1 (codes "T2            ") (codes "T3            ") 150 100000 99999 89 0 ∷
+    replace_order 40 1 (codes "T3            ") (codes "T4            ") 150 100100 99999 89 0 ∷
+    replace_order 50 1 (codes "T4            ") (codes "T5            ") 150 100100 99999 65 0 ∷ []
 
 abbrev pub display_changes_tells : List Told
 display_changes_tells =
@@ -329,12 +329,12 @@ display_changes_tells =
 -- cancels take shares off, and the order out
 abbrev pub cancels : List Event
 cancels =
-    entered 10 1 (codes "T1            ") 66 100 100000 99999 89 0 ∷
-    entered 20 2 (codes "S1            ") 83 30 100000 0 78 0 ∷
-    called_off 30 1 (codes "T1            ") 100 ∷
-    called_off 40 1 (codes "T1            ") 99 ∷
-    called_off 50 1 (codes "T1            ") 0 ∷
-    called_off 60 1 (codes "T1            ") 0 ∷ []
+    enter_order 10 1 (codes "T1            ") 66 100 100000 99999 89 0 ∷
+    enter_order 20 2 (codes "S1            ") 83 30 100000 0 78 0 ∷
+    cancel_order 30 1 (codes "T1            ") 100 ∷
+    cancel_order 40 1 (codes "T1            ") 99 ∷
+    cancel_order 50 1 (codes "T1            ") 0 ∷
+    cancel_order 60 1 (codes "T1            ") 0 ∷ []
 
 abbrev pub cancels_tells : List Told
 cancels_tells =
@@ -348,14 +348,14 @@ cancels_tells =
 -- replaces after executions, and replaces that trade
 abbrev pub replaces_that_trade : List Event
 replaces_that_trade =
-    entered 10 1 (codes "T1            ") 66 100 100000 99999 89 0 ∷
-    entered 20 2 (codes "S1            ") 83 30 100000 0 78 0 ∷
-    exchanged 30 1 (codes "T1            ") (codes "T2            ") 150 100100 99999 89 0 ∷
-    entered 40 2 (codes "S2            ") 83 200 100200 99999 89 0 ∷
-    exchanged 50 1 (codes "T2            ") (codes "T3            ") 100 100200 99999 89 0 ∷
-    exchanged 60 1 (codes "T2            ") (codes "T4            ") 100 100000 99999 89 0 ∷
-    exchanged 70 2 (codes "S2            ") (codes "S1            ") 300 100200 99999 89 0 ∷
-    called_off 80 1 (codes "T2            ") 0 ∷ []
+    enter_order 10 1 (codes "T1            ") 66 100 100000 99999 89 0 ∷
+    enter_order 20 2 (codes "S1            ") 83 30 100000 0 78 0 ∷
+    replace_order 30 1 (codes "T1            ") (codes "T2            ") 150 100100 99999 89 0 ∷
+    enter_order 40 2 (codes "S2            ") 83 200 100200 99999 89 0 ∷
+    replace_order 50 1 (codes "T2            ") (codes "T3            ") 100 100200 99999 89 0 ∷
+    replace_order 60 1 (codes "T2            ") (codes "T4            ") 100 100000 99999 89 0 ∷
+    replace_order 70 2 (codes "S2            ") (codes "S1            ") 300 100200 99999 89 0 ∷
+    cancel_order 80 1 (codes "T2            ") 0 ∷ []
 
 abbrev pub replaces_that_trade_tells : List Told
 replaces_that_trade_tells =
@@ -371,9 +371,9 @@ replaces_that_trade_tells =
 -- seconds run out at ticks only
 abbrev pub ticks : List Event
 ticks =
-    entered 1000 1 (codes "H1            ") 66 100 100000 1 78 0 ∷
-    entered 2000 2 (codes "T1            ") 66 100 100000 1 89 0 ∷
-    called_off 1000001500 3 (codes "T9            ") 0 ∷
+    enter_order 1000 1 (codes "H1            ") 66 100 100000 1 78 0 ∷
+    enter_order 2000 2 (codes "T1            ") 66 100 100000 1 89 0 ∷
+    cancel_order 1000001500 3 (codes "T9            ") 0 ∷
     Tick 1000001999 ∷
     Tick 1000002000 ∷ []
 
@@ -407,14 +407,14 @@ listed_stock time = StockDirectory (record { locate = 1; time = time; stock = ab
 abbrev pub hours_of_a_day : List Event
 hours_of_a_day =
     Hours 1 79 ∷
-    entered 2 1 (codes "T0            ") 66 100 100000 99999 89 0 ∷
+    enter_order 2 1 (codes "T0            ") 66 100 100000 99999 89 0 ∷
     Hours 3 83 ∷
-    entered 4 1 (codes "T1            ") 66 100 100000 99998 89 0 ∷
-    entered 5 2 (codes "H1            ") 66 100 100000 99999 78 0 ∷
+    enter_order 4 1 (codes "T1            ") 66 100 100000 99998 89 0 ∷
+    enter_order 5 2 (codes "H1            ") 66 100 100000 99999 78 0 ∷
     Hours 6 77 ∷
     Hours 7 81 ∷
     Hours 8 77 ∷
-    entered 9 1 (codes "T2            ") 66 100 100000 99998 89 0 ∷
+    enter_order 9 1 (codes "T2            ") 66 100 100000 99998 89 0 ∷
     Hours 10 69 ∷
     Hours 11 67 ∷ []
 

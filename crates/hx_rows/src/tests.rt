@@ -5,6 +5,7 @@ mod events;
 mod histories;
 mod lines;
 mod market;
+mod orders;
 mod plans;
 mod replaying;
 mod setups;

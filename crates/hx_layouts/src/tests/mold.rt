@@ -1,4 +1,5 @@
 //! Packets and requests byte for byte (MoldUDP64 1.00), under the session HX00000001.
+use super::packets::{SESSION, first_packet, last_packet, numbered};
 use arrayvec::ArrayVec;
 use hx_mold::{
     Blocks, Messages, MoldPacket, Request, cut, decode_packet, decode_request, end_of_session,
@@ -7,35 +8,6 @@ use hx_mold::{
 use hx_units::NoMemory;
 use std::alloc::Global;
 use std::test::Fail;
-
-const SESSION: [u8; 10] = *b"HX00000001";
-
-// Messages of 36 bytes and of type A, with these numbers as their last bytes.
-fn numbered(alloc: Global, from: u8, to: u8) -> Result<Vec<ArrayVec<u8, 44>>, NoMemory> {
-    let mut messages = Vec::new(alloc);
-    for i in from..to {
-        let mut message = ArrayVec::new();
-        let _ = message.try_extend_from_slice(&[b'A'; 35]);
-        let _ = message.try_push(i);
-        messages.push(message)?;
-    }
-    Ok(messages)
-}
-
-// A header, then each of the messages behind its length, 36.
-fn spelled(
-    alloc: Global,
-    header: &[u8],
-    messages: &[ArrayVec<u8, 44>],
-) -> Result<Vec<u8>, NoMemory> {
-    let mut bytes = Vec::new(alloc);
-    bytes.extend_from_slice(header)?;
-    for message in messages {
-        bytes.extend_from_slice(b"\x00\x24")?;
-        bytes.extend_from_slice(message.as_slice())?;
-    }
-    Ok(bytes)
-}
 
 #[test]
 fn packets_without_messages(rt: HostRuntime) -> Result<(), Fail> {
@@ -120,18 +92,8 @@ fn forty_messages_in_packets(rt: HostRuntime) -> Result<(), Fail> {
     assert_eq!(rt; packets.len(), 2);
     assert_eq!(rt; packets[0].len(), 1388);
     assert_eq!(rt; packets[1].len(), 172);
-    let first = spelled(
-        alloc,
-        b"HX00000001\0\0\0\0\0\0\0\x01\0\x24",
-        &numbered(alloc, 0, 36)?,
-    )?;
-    assert_eq!(rt; packets[0].as_slice(), first.as_slice());
-    let second = spelled(
-        alloc,
-        b"HX00000001\0\0\0\0\0\0\0\x25\0\x04",
-        &numbered(alloc, 36, 40)?,
-    )?;
-    assert_eq!(rt; packets[1].as_slice(), second.as_slice());
+    assert_eq!(rt; packets[0].as_slice(), first_packet(alloc)?.as_slice());
+    assert_eq!(rt; packets[1].as_slice(), last_packet(alloc)?.as_slice());
     assert_eq!(rt; cut(alloc, SESSION, 1, &[])?.len(), 0);
     Ok(())
 }

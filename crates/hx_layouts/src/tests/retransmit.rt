@@ -1,54 +1,15 @@
 //! Forty messages asked for again, and a publisher's turns, byte for byte (MoldUDP64 1.00), under the session
 //! HX00000001.
-use arrayvec::ArrayVec;
+use super::packets::{SESSION, first_packet, last_packet, numbered};
 use hx_mold::{Messages, Request, answer};
 use hx_retransmit::{ListMessages, Publisher, Server};
-use hx_units::NoMemory;
-use std::alloc::Global;
 use std::test::Fail;
-
-const SESSION: [u8; 10] = *b"HX00000001";
-
-// Messages of 36 bytes and of type A, with these numbers as their last bytes.
-fn numbered(alloc: Global, from: u8, to: u8) -> Result<Vec<ArrayVec<u8, 44>>, NoMemory> {
-    let mut messages = Vec::new(alloc);
-    for i in from..to {
-        let mut message = ArrayVec::new();
-        let _ = message.try_extend_from_slice(&[b'A'; 35]);
-        let _ = message.try_push(i);
-        messages.push(message)?;
-    }
-    Ok(messages)
-}
-
-// A header, then each of the messages behind its length, 36.
-fn spelled(
-    alloc: Global,
-    header: &[u8],
-    messages: &[ArrayVec<u8, 44>],
-) -> Result<Vec<u8>, NoMemory> {
-    let mut bytes = Vec::new(alloc);
-    bytes.extend_from_slice(header)?;
-    for message in messages {
-        bytes.extend_from_slice(b"\x00\x24")?;
-        bytes.extend_from_slice(message.as_slice())?;
-    }
-    Ok(bytes)
-}
 
 #[test]
 fn forty_messages_asked_for_again(rt: HostRuntime) -> Result<(), Fail> {
     let alloc = rt.alloc();
-    let first = spelled(
-        alloc,
-        b"HX00000001\0\0\0\0\0\0\0\x01\0\x24",
-        &numbered(alloc, 0, 36)?,
-    )?;
-    let last = spelled(
-        alloc,
-        b"HX00000001\0\0\0\0\0\0\0\x25\0\x04",
-        &numbered(alloc, 36, 40)?,
-    )?;
+    let first = first_packet(alloc)?;
+    let last = last_packet(alloc)?;
     assert_eq!(rt; first.len(), 1388);
     assert_eq!(rt; last.len(), 172);
     let mut server = Server::new(SESSION, ListMessages::new(alloc));
@@ -99,16 +60,8 @@ fn messages_of_a_list(rt: HostRuntime) -> Result<(), Fail> {
 #[test]
 fn turns_of_a_publisher(rt: HostRuntime) -> Result<(), Fail> {
     let alloc = rt.alloc();
-    let first = spelled(
-        alloc,
-        b"HX00000001\0\0\0\0\0\0\0\x01\0\x24",
-        &numbered(alloc, 0, 36)?,
-    )?;
-    let last = spelled(
-        alloc,
-        b"HX00000001\0\0\0\0\0\0\0\x25\0\x04",
-        &numbered(alloc, 36, 40)?,
-    )?;
+    let first = first_packet(alloc)?;
+    let last = last_packet(alloc)?;
     let pulse = b"HX00000001\0\0\0\0\0\0\0\x29\0\0".as_slice();
     let mut publisher = Publisher::new(SESSION, ListMessages::new(alloc), 0);
     publisher.append(&numbered(alloc, 0, 40)?)?;

@@ -1,33 +1,11 @@
 //! Each call of a book once, and both books side by side.
-use hx_levels::{Book, Key, LevelBook, Life, ListBook, Order};
-use hx_units::{Firm, MemberNo, Price, Side, Token};
+
+use super::orders::{order, price, rest};
+use hx_levels::{Book, Key, LevelBook, ListBook, Order};
+use hx_units::{Price, Side};
 use std::alloc::Global;
 use std::process::Abort;
 use std::test::Fail;
-
-fn order(rt: &impl Abort, side: Side, units: u32, shares: u32, shown: bool) -> Order {
-    Order {
-        member: MemberNo::of(1).expect(rt, "a member"),
-        token: Token(*b"H1            "),
-        chain: 0,
-        locate: 1,
-        side,
-        price: Price::of(units).expect(rt, "a price"),
-        shares,
-        minimum: 0,
-        display: if shown { b'Y' } else { b'N' },
-        shown,
-        firm: Firm(*b"FMA1"),
-        capacity: b'O',
-        reference: 1,
-        life: Life::System,
-    }
-}
-
-fn rest<B: Book>(book: &mut B, order: Order) -> Result<Key, Fail> {
-    book.reserve(order.locate, order.side, order.price)?;
-    Ok(book.add(order))
-}
 
 // The open shares under a key, and 0 where no order has it.
 fn shares<B: Book>(book: &B, key: Key) -> u32 {
@@ -53,12 +31,12 @@ fn take<B: Book>(book: &mut B, key: Key) -> Option<u32> {
 }
 
 fn each_call<B: Book>(rt: &impl Abort, book: &mut B) -> Result<(), Fail> {
-    let limit = Price::of(100000).expect(rt, "a price");
+    let limit = price(rt, 100000);
     assert!(rt; book.next_in_time(None).is_none());
-    let hidden = rest(book, order(rt, Side::Buy, 100000, 100, false))?;
-    let shown = rest(book, order(rt, Side::Buy, 100000, 200, true))?;
-    let better = rest(book, order(rt, Side::Buy, 100100, 300, false))?;
-    let low = rest(book, order(rt, Side::Buy, 99900, 400, true))?;
+    let hidden = rest(book, order(rt, Side::Buy, 100000, 100, 0, false))?;
+    let shown = rest(book, order(rt, Side::Buy, 100000, 200, 0, true))?;
+    let better = rest(book, order(rt, Side::Buy, 100100, 300, 0, false))?;
+    let low = rest(book, order(rt, Side::Buy, 99900, 400, 0, true))?;
     // By price, then shown before hidden; a buy below the sell's limit does not cross.
     let first = book.next_contra(1, Side::Sell, limit, None);
     assert_eq!(rt; first, Some(better));
@@ -155,7 +133,7 @@ fn drawn(rt: &impl Abort, number: u64, reference: u64) -> Order {
     let units = (10000 + number / 8 % 50 * 100) as u32;
     Order {
         reference,
-        ..order(rt, side, units, 5, number / 1024 % 2 == 0)
+        ..order(rt, side, units, 5, 0, number / 1024 % 2 == 0)
     }
 }
 
@@ -166,8 +144,8 @@ fn both_agree<A: Book, B: Book>(
     one: &mut A,
     two: &mut B,
 ) -> Result<(), Fail> {
-    let low = Price::of(1).expect(rt, "a price");
-    let high = Price::of(1000000).expect(rt, "a price");
+    let low = price(rt, 1);
+    let high = price(rt, 1000000);
     let mut keys: Vec<(Key, Key)> = Vec::new(alloc);
     let mut state: u64 = 88172645463325252;
     for i in 0..2000_u64 {

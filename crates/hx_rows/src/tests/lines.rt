@@ -22,3 +22,19 @@ pub fn event_of(alloc: Global, line: &[u8]) -> Result<Event, Fail> {
         bytes: Bytes::of(hex::decode(alloc, digits)?),
     })
 }
+
+/// The text behind so many lines at its front.
+pub fn last_lines(text: &[u8], but: u64) -> &[u8] {
+    let mut rest = text;
+    for _ in 0..but {
+        if let Some((_, others)) = split_line(rest) {
+            rest = others;
+        }
+    }
+    rest
+}
+
+/// So many lines at the front of a text.
+pub fn first_lines(text: &[u8], count: u64) -> &[u8] {
+    &text[..text.len().saturating_sub(last_lines(text, count).len())]
+}

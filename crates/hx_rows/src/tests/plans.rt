@@ -1,37 +1,11 @@
 //! Worked examples of executions.
-use hx_levels::{Book, Key, Life, ListBook, Order};
+
+use super::orders::{order, price, rest};
+use hx_levels::{Book, Key, ListBook};
 use hx_match::{Fill, Incoming, plan};
-use hx_units::{Firm, MemberNo, NoMemory, Price, Side, Token};
+use hx_units::{NoMemory, Side};
 use std::process::Abort;
 use std::test::Fail;
-
-fn price(rt: &impl Abort, units: u32) -> Price {
-    Price::of(units).expect(rt, "a price")
-}
-
-fn order(rt: &impl Abort, side: Side, units: u32, shares: u32, minimum: u32, shown: bool) -> Order {
-    Order {
-        member: MemberNo::of(1).expect(rt, "a member"),
-        token: Token(*b"H1            "),
-        chain: 0,
-        locate: 1,
-        side,
-        price: price(rt, units),
-        shares,
-        minimum,
-        display: if shown { b'Y' } else { b'N' },
-        shown,
-        firm: Firm(*b"FMA1"),
-        capacity: b'O',
-        reference: 1,
-        life: Life::System,
-    }
-}
-
-fn rest<B: Book>(book: &mut B, order: Order) -> Result<Key, NoMemory> {
-    book.reserve(order.locate, order.side, order.price)?;
-    Ok(book.add(order))
-}
 
 fn incoming(rt: &impl Abort, side: Side, units: u32, shares: u32, minimum: u32) -> Incoming {
     Incoming {

@@ -1,6 +1,6 @@
 //! Tapes without the messages of a member's quiet chains.
 
-use super::lines::split_line;
+use super::lines::{first_lines, split_line};
 use super::replaying::{Faulty, Full, Replayed, expect_output, replayed, standard};
 use super::tapes::{self, Day};
 use hx_replay::{Counts, Kind, TapeError, strike_tape};
@@ -29,17 +29,6 @@ fn struck(alloc: Global, text: &[u8], number: u16) -> Replayed {
     let mut reader = text;
     let result = strike(alloc, &mut reader, &mut output, number);
     (output, result)
-}
-
-// So many lines at the front of a text.
-fn first_lines(text: &[u8], count: u64) -> &[u8] {
-    let mut rest = text;
-    for _ in 0..count {
-        if let Some((_, others)) = split_line(rest) {
-            rest = others;
-        }
-    }
-    &text[..text.len().saturating_sub(rest.len())]
 }
 
 // So many lines stay of a text, and they are these.

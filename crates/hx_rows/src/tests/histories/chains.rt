@@ -1,42 +1,42 @@
 //! The chains of a member.
 
-use super::{CHAIN_THAT_TRADED, FAILED_REPLACE, Line, events_of, with_second};
+use super::super::tapes::{CHAIN_THAT_TRADED, FAILED_REPLACE};
+use super::{events_of, with_second};
 use hx_audit::{Chain, StrikeError, chains};
-use hx_market::PrepareError;
+use hx_market::{Event, PrepareError};
 use hx_members::{ChainFacts, Setup};
 use hx_units::{MemberNo, Token};
 use std::alloc::Global;
 use std::process::Abort;
 use std::test::Fail;
 
-// The chains of a member after the events of these lines, by the standard setup.
-fn chains_after(alloc: Global, lines: &[Line], member: u16) -> Result<Vec<Chain>, Fail> {
+// The chains of a member after a tape, by the standard setup.
+fn chains_after(alloc: Global, tape: &[u8], member: u16) -> Result<Vec<Chain>, Fail> {
     let setup = Setup::standard(alloc)?;
-    let events = events_of(alloc, lines)?;
+    let events = events_of(alloc, tape)?;
     let member = MemberNo::of(member).ok_or("no number of a member")?;
     Ok(chains(alloc, &setup, &events, member)?)
 }
 
-// Why these lines are not audited.
-fn refused(alloc: Global, lines: &[Line]) -> Result<StrikeError, Fail> {
+// Why these events are not audited.
+fn refused(alloc: Global, events: &[Event]) -> Result<StrikeError, Fail> {
     let setup = Setup::standard(alloc)?;
-    let events = events_of(alloc, lines)?;
     let member = MemberNo::of(1).ok_or("no number of a member")?;
-    match chains(alloc, &setup, &events, member) {
+    match chains(alloc, &setup, events, member) {
         Ok(_) => Err("all events are accepted".into()),
         Err(error) => Ok(error),
     }
 }
 
-// The one chain of a member after these lines.
+// The one chain of a member after a tape.
 fn expect_chain<R: AllocGlobal + Abort>(
     rt: &R,
-    lines: &[Line],
+    tape: &[u8],
     member: u16,
     tokens: &[Token],
     facts: ChainFacts,
 ) -> Result<(), Fail> {
-    let mut chains = chains_after(rt.alloc(), lines, member)?;
+    let mut chains = chains_after(rt.alloc(), tape, member)?;
     assert_eq!(rt; chains.len(), 1);
     let chain = chains.pop().ok_or("no chain")?;
     assert_eq!(rt; chain.tokens.as_slice(), tokens);
@@ -59,10 +59,10 @@ fn a_chain_holds_all_its_tokens(rt: HostRuntime) -> Result<(), Fail> {
         displayed: false,
         traded: true,
     };
-    expect_chain(&rt, &CHAIN_THAT_TRADED, 1, &tokens, facts)?;
+    expect_chain(&rt, CHAIN_THAT_TRADED.tape, 1, &tokens, facts)?;
     expect_chain(
         &rt,
-        &CHAIN_THAT_TRADED,
+        CHAIN_THAT_TRADED.tape,
         2,
         &[Token(*b"S1            ")],
         facts,
@@ -77,19 +77,19 @@ fn a_failed_replace_keeps_its_token(rt: HostRuntime) -> Result<(), Fail> {
         displayed: true,
         traded: false,
     };
-    expect_chain(&rt, &FAILED_REPLACE, 1, &tokens, facts)
+    expect_chain(&rt, FAILED_REPLACE.tape, 1, &tokens, facts)
 }
 
 #[test]
 fn a_stranger_has_no_chains(rt: HostRuntime) -> Result<(), Fail> {
-    let none = chains_after(rt.alloc(), &CHAIN_THAT_TRADED, 77)?;
+    let none = chains_after(rt.alloc(), CHAIN_THAT_TRADED.tape, 77)?;
     assert_eq!(rt; none.len(), 0);
     Ok(())
 }
 
 #[test]
 fn a_refusal_tells_its_event(rt: HostRuntime) -> Result<(), Fail> {
-    let error = refused(rt.alloc(), &with_second(86_400_000_000_000, 1))?;
+    let error = refused(rt.alloc(), &with_second(rt.alloc(), 86_400_000_000_000, 1)?)?;
     let late = StrikeError::Refused {
         index: 1,
         error: PrepareError::BadTime,

@@ -1,8 +1,8 @@
 //! Histories without the messages of quiet chains.
 
-use super::{
-    CHAIN_THAT_TRADED, DISPLAY_CHANGES, HIDDEN_THEN_DISPLAYED, Line, events_of, with_second,
-};
+use super::super::lines::{first_lines, last_lines, split_line};
+use super::super::tapes::{CHAIN_THAT_TRADED, DISPLAY_CHANGES, HIDDEN_THEN_DISPLAYED};
+use super::{events_of, with_second};
 use hx_audit::{StrikeError, strike};
 use hx_market::{Event, PrepareError};
 use hx_members::Setup;
@@ -11,26 +11,26 @@ use std::alloc::Global;
 use std::process::Abort;
 use std::test::Fail;
 
-// The events of these lines without the messages of a member's quiet chains, by the standard setup.
-fn struck(alloc: Global, lines: &[Line], member: u16) -> Result<Vec<Event>, Fail> {
+// The events of a tape without the messages of a member's quiet chains, by the standard setup.
+fn struck(alloc: Global, tape: &[u8], member: u16) -> Result<Vec<Event>, Fail> {
     let setup = Setup::standard(alloc)?;
-    let events = events_of(alloc, lines)?;
+    let events = events_of(alloc, tape)?;
     let member = MemberNo::of(member).ok_or("no number of a member")?;
     Ok(strike(alloc, &setup, &events, member)?)
 }
 
-// Why these lines are not audited.
-fn refused(alloc: Global, lines: &[Line]) -> Result<StrikeError, Fail> {
+// Why these events are not audited.
+fn refused(alloc: Global, events: &[Event]) -> Result<StrikeError, Fail> {
     let setup = Setup::standard(alloc)?;
-    let events = events_of(alloc, lines)?;
     let member = MemberNo::of(1).ok_or("no number of a member")?;
-    match strike(alloc, &setup, &events, member) {
+    match strike(alloc, &setup, events, member) {
         Ok(_) => Err("all events are accepted".into()),
         Err(error) => Ok(error),
     }
 }
 
-fn expect_event<R: AllocGlobal + Abort>(rt: &R, event: &Event, line: &Line) -> Result<(), Fail> {
+// A message as its line of a tape.
+fn write_line(alloc: Global, text: &mut Vec<u8>, event: &Event) -> Result<(), Fail> {
     let Event::Message {
         member,
         time,
@@ -39,66 +39,59 @@ fn expect_event<R: AllocGlobal + Abort>(rt: &R, event: &Event, line: &Line) -> R
     else {
         return Err("no message".into());
     };
-    assert_eq!(rt; (*time, *member), (line.time, line.member));
-    let text = hex::encode(rt.alloc(), bytes.as_slice())?;
-    assert_eq!(rt; text.as_str(), line.hex);
+    let digits = hex::encode(alloc, bytes.as_slice())?;
+    let line = format!(in alloc; "{time} {member} {digits}\n")?;
+    text.extend_from_slice(line.as_bytes())?;
     Ok(())
 }
 
-fn expect_events<R: AllocGlobal + Abort>(
-    rt: &R,
-    events: &[Event],
-    lines: &[Line],
-) -> Result<(), Fail> {
-    assert_eq!(rt; events.len(), lines.len());
-    for (event, line) in events.iter().zip(lines) {
-        expect_event(rt, event, line)?;
-    }
-    Ok(())
-}
-
+// These lines of a tape stay.
 fn expect_struck<R: AllocGlobal + Abort>(
     rt: &R,
-    lines: &[Line],
+    tape: &[u8],
     member: u16,
-    left: &[Line],
+    left: &[u8],
 ) -> Result<(), Fail> {
-    let kept = struck(rt.alloc(), lines, member)?;
-    expect_events(rt, &kept, left)
+    let mut text = Vec::new(rt.alloc());
+    for event in &struck(rt.alloc(), tape, member)? {
+        write_line(rt.alloc(), &mut text, event)?;
+    }
+    assert_eq!(rt; text.as_slice(), left);
+    Ok(())
 }
 
 #[test]
 fn a_hidden_order_is_struck(rt: HostRuntime) -> Result<(), Fail> {
-    let day = HIDDEN_THEN_DISPLAYED;
-    expect_struck(&rt, &day, 1, &day[1..])?;
-    expect_struck(&rt, &day, 2, &day)?;
+    let tape = HIDDEN_THEN_DISPLAYED.tape;
+    expect_struck(&rt, tape, 1, last_lines(tape, 1))?;
+    expect_struck(&rt, tape, 2, tape)?;
     // The setup has no such member.
-    expect_struck(&rt, &day, 77, &day)
+    expect_struck(&rt, tape, 77, tape)
 }
 
 #[test]
 fn a_chain_that_traded_stays(rt: HostRuntime) -> Result<(), Fail> {
-    let day = CHAIN_THAT_TRADED;
-    expect_struck(&rt, &day, 1, &day)?;
-    expect_struck(&rt, &day[..4], 1, &[])
+    let tape = CHAIN_THAT_TRADED.tape;
+    expect_struck(&rt, tape, 1, tape)?;
+    expect_struck(&rt, first_lines(tape, 4), 1, b"")
 }
 
 #[test]
 fn a_displayed_chain_stays(rt: HostRuntime) -> Result<(), Fail> {
-    let day = DISPLAY_CHANGES;
-    expect_struck(&rt, &day, 1, &day)?;
-    expect_struck(&rt, &day[..2], 1, &day[..2])
+    let tape = DISPLAY_CHANGES.tape;
+    expect_struck(&rt, tape, 1, tape)?;
+    expect_struck(&rt, first_lines(tape, 2), 1, first_lines(tape, 2))
 }
 
 #[test]
 fn refusals_tell_their_event(rt: HostRuntime) -> Result<(), Fail> {
-    let error = refused(rt.alloc(), &with_second(86_400_000_000_000, 1))?;
+    let error = refused(rt.alloc(), &with_second(rt.alloc(), 86_400_000_000_000, 1)?)?;
     let late = StrikeError::Refused {
         index: 1,
         error: PrepareError::BadTime,
     };
     assert_eq!(rt; error, late);
-    let error = refused(rt.alloc(), &with_second(20, 77))?;
+    let error = refused(rt.alloc(), &with_second(rt.alloc(), 20, 77)?)?;
     let stranger = StrikeError::Refused {
         index: 1,
         error: PrepareError::NoMember,
@@ -111,8 +104,13 @@ fn refusals_tell_their_event(rt: HostRuntime) -> Result<(), Fail> {
 
 #[test]
 fn a_message_above_the_limit_is_refused(rt: HostRuntime) -> Result<(), Fail> {
-    let first = HIDDEN_THEN_DISPLAYED[0];
-    let error = refused(rt.alloc(), &[first; 1001])?;
+    let (line, _) = split_line(HIDDEN_THEN_DISPLAYED.tape).ok_or("no line")?;
+    let mut text = Vec::new(rt.alloc());
+    for _ in 0..1001 {
+        text.extend_from_slice(line)?;
+        text.push(b'\n')?;
+    }
+    let error = refused(rt.alloc(), &events_of(rt.alloc(), &text)?)?;
     let limit = StrikeError::Refused {
         index: 1000,
         error: PrepareError::Limit { member: 1 },

@@ -12,7 +12,8 @@ use Rattle.hx_levels.specs.Levels.{first_at, IsFirstFrom, ends_in, level_at}
 use Rattle.hx_units.specs.Side.{is_buy}
 use Rattle.hx_levels.specs.Book.{next_by_rank, IsRanked, terms_of}
 use Rattle.hx_levels.specs.LevelBook.{walked, contra, rung_of}
-use Rattle.hx_levels.proofs.LevelNext.{rank, node_order, next_queued, next_hidden, next_level, next_none, one_empty, distance_of, live_rung}
+use Rattle.hx_levels.proofs.LevelRanks.{distance_of}
+use Rattle.hx_levels.proofs.LevelNext.{rank, node_order, next_queued, next_hidden, next_level, next_none, one_empty, live_rung}
 use Rattle.hx_levels.proofs.level_book.LevelBook.contra_after.Goals as goal
 use Rattle.hx_levels.proofs.level_book.LevelBook.contra_after.Goals.{in_default-hidden-via-in-Some-hidden+else-node, in_default-hidden-via-in_default-hidden}
 
