@@ -14,6 +14,7 @@ mod event;
 mod executing;
 mod fault;
 mod finding;
+mod known;
 pub mod laws;
 mod listing;
 mod market;

@@ -12,6 +12,7 @@ use crate::acting::Act;
 use crate::carrying::carry_out;
 use crate::event::Event;
 use crate::fault::PrepareError;
+use crate::known::Known;
 use crate::listing::list_orders;
 use crate::output::Output;
 use crate::prepared::{Prepared, make};
@@ -22,7 +23,6 @@ use hx_refs::Refs;
 use hx_units::{MemberNo, NoMemory, Token};
 use std::alloc::Global;
 use std::marker::Model;
-use std::snapshot::Snapshot;
 
 /// The market over a book.
 pub struct Market<B: Book> {
@@ -34,7 +34,7 @@ pub struct Market<B: Book> {
     hours: u8,
     recorded: Recorded,
     // What the last `prepare` gave, known to contracts alone.
-    ready: Option<Snapshot<Prepared>>,
+    ready: Known<Prepared>,
     alloc: Global,
 }
 
@@ -56,15 +56,14 @@ impl<B: Book + Drop> Drop for Market<B> {
 
 impl<B: Book> Model for Market<B> {
     ghost use Rattle.std.specs.Prelude.{◌≡◌, Some};
-    ghost use Rattle.std.specs.Option.{option_map};
     ghost use Rattle.hx_market.specs.Keeping.{IsSound, AreKeyed};
     ghost use Rattle.hx_market.specs.Ready.{Planned, Seen, IsPlanned, market_of};
 
     ghost Value = { Seen };
 
-    ghost view = { λ m. record { setup = m.setup; market = market_of (B.orders m.book) m.tokens m.refs m.hours m.recorded; ready = option_map (λ s. s.value) m.ready } };
+    ghost view = { λ m. record { setup = m.setup; market = market_of (B.orders m.book) m.tokens m.refs m.hours m.recorded; ready = m.ready } };
 
-    ghost invariant = { λ m. IsSound (market_of (B.orders m.book) m.tokens m.refs m.hours m.recorded) × AreKeyed m.tokens.tokens m.tokens.keys (B.orders m.book) × ((p : Planned) → option_map (λ s. s.value) m.ready ≡ Some p → IsPlanned m.setup (market_of (B.orders m.book) m.tokens m.refs m.hours m.recorded) (B.orders m.book) (B.place m.book) m.tokens.place p) };
+    ghost invariant = { λ m. IsSound (market_of (B.orders m.book) m.tokens m.refs m.hours m.recorded) × AreKeyed m.tokens.tokens m.tokens.keys (B.orders m.book) × ((p : Planned) → m.ready ≡ Some p → IsPlanned m.setup (market_of (B.orders m.book) m.tokens m.refs m.hours m.recorded) (B.orders m.book) (B.place m.book) m.tokens.place p) };
 }
 
 // How many of the hours codes are past as the day begins.
@@ -105,7 +104,7 @@ impl<B: Book + Drop> Market<B> {
             refs: Refs::new(alloc)?,
             hours,
             recorded: Recorded::new(alloc)?,
-            ready: None,
+            ready: Known::none(alloc),
             alloc,
         })
     }
@@ -125,7 +124,7 @@ impl<B: Book + Drop> Market<B> {
         ensures refused { IfErr result (λ e. e ≡ or_no_memory (refusal self.old.setup self.old.market.recorded event.now)) }
         ensures void { OnErr result (self.new.ready ≡ None) }
     {
-        self.ready = None;
+        self.ready = Known::none(self.alloc);
         let prepared = make(
             self.alloc,
             &self.setup,
@@ -135,7 +134,7 @@ impl<B: Book + Drop> Market<B> {
             &mut self.tokens,
             event,
         )?;
-        self.ready = Some(Snapshot::of(&prepared));
+        self.ready = Known::of(self.alloc, &prepared)?;
         Ok(prepared)
     }
 
@@ -151,7 +150,7 @@ impl<B: Book + Drop> Market<B> {
         // The feed's times have room in its messages.
         ensures times { AllByRecursion (λ f. feed_time f < 2 ^ 48) result.feed.items }
     {
-        self.ready = None;
+        self.ready = Known::none(self.alloc);
         let Prepared {
             number,
             act,
