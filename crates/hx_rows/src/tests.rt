@@ -10,4 +10,5 @@ mod plans;
 mod replaying;
 mod setups;
 mod striking;
-mod tapes;
+mod words;
+mod worked;

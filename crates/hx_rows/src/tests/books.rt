@@ -80,10 +80,16 @@ fn is_same<A: Book, B: Book>(one: &A, two: &B, a: Key, b: Key) -> bool {
     }
 }
 
-// Whether both books give the same orders by rank, from the first to the last.
-fn agree_by_rank<A: Book, B: Book>(one: &A, two: &B, side: Side, price: Price) -> bool {
-    let mut a = one.next_contra(1, side, price, None);
-    let mut b = two.next_contra(1, side, price, None);
+// Whether both books give the same orders of a stock by rank, from the first to the last.
+fn agree_by_rank<A: Book, B: Book>(
+    one: &A,
+    two: &B,
+    locate: u16,
+    side: Side,
+    price: Price,
+) -> bool {
+    let mut a = one.next_contra(locate, side, price, None);
+    let mut b = two.next_contra(locate, side, price, None);
     for _ in 0..100000 {
         let (Some(x), Some(y)) = (a, b) else {
             return a.is_none() && b.is_none();
@@ -91,8 +97,8 @@ fn agree_by_rank<A: Book, B: Book>(one: &A, two: &B, side: Side, price: Price) -
         if !is_same(one, two, x, y) {
             return false;
         }
-        a = one.next_contra(1, side, price, Some(x));
-        b = two.next_contra(1, side, price, Some(y));
+        a = one.next_contra(locate, side, price, Some(x));
+        b = two.next_contra(locate, side, price, Some(y));
     }
     false
 }
@@ -123,53 +129,63 @@ fn next_number(state: &mut u64) -> u64 {
     x
 }
 
-// An order at one of 50 prices.
+// An order of one of two stocks, on one of the four sides, at one of 50 prices.
 fn drawn(rt: &impl Abort, number: u64, reference: u64) -> Order {
-    let side = if number / 4 % 2 == 0 {
-        Side::Buy
-    } else {
-        Side::Sell
+    let side = match number / 4 % 6 {
+        0..3 => Side::Buy,
+        3 => Side::Sell,
+        4 => Side::Short,
+        _ => Side::ShortExempt,
     };
-    let units = (10000 + number / 8 % 50 * 100) as u32;
+    let units = (10000 + number / 32 % 50 * 100) as u32;
     Order {
         reference,
-        ..order(rt, side, units, 5, 0, number / 1024 % 2 == 0)
+        locate: if number / 2048 % 2 == 0 { 1 } else { 2 },
+        ..order(rt, side, units, 5, 0, number / 4096 % 2 == 0)
     }
 }
 
-// 2,000 commands, the same to both books.
+// Whether both books give the same orders of both stocks, against buys and sells of any price, and in time.
+fn agree<A: Book, B: Book>(rt: &impl Abort, one: &A, two: &B) -> bool {
+    let low = price(rt, 1);
+    let high = price(rt, 1000000);
+    for locate in [1, 2] {
+        if !agree_by_rank(one, two, locate, Side::Buy, high)
+            || !agree_by_rank(one, two, locate, Side::Sell, low)
+        {
+            return false;
+        }
+    }
+    agree_in_time(one, two)
+}
+
+// 2,000 commands, the same to both books, with up to 80 live orders. Both are compared after each.
 fn both_agree<A: Book, B: Book>(
     rt: &impl Abort,
     alloc: Global,
     one: &mut A,
     two: &mut B,
 ) -> Result<(), Fail> {
-    let low = price(rt, 1);
-    let high = price(rt, 1000000);
     let mut keys: Vec<(Key, Key)> = Vec::new(alloc);
     let mut state: u64 = 88172645463325252;
     for i in 0..2000_u64 {
         let number = next_number(&mut state);
         let len = keys.len();
-        if number % 4 < 2 || len == 0 {
+        if len == 0 || (number % 4 < 2 && len < 80) {
             let x = rest(one, drawn(rt, number, i))?;
             let y = rest(two, drawn(rt, number, i))?;
             keys.push((x, y))?;
         } else {
             let at = (number / 8 % len as u64) as usize;
             let (x, y) = keys[at];
-            if number % 4 == 2 {
+            if number % 4 != 3 {
                 keys.remove(at);
                 assert_eq!(rt; take(one, x), take(two, y));
             } else {
                 assert_eq!(rt; less(one, x, 1), less(two, y, 1));
             }
         }
-        if i % 50 == 49 {
-            assert!(rt; agree_by_rank(one, two, Side::Buy, high));
-            assert!(rt; agree_by_rank(one, two, Side::Sell, low));
-            assert!(rt; agree_in_time(one, two));
-        }
+        assert!(rt; agree(rt, one, two));
     }
     Ok(())
 }

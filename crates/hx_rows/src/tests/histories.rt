@@ -4,7 +4,8 @@ mod chains;
 mod striking;
 
 use super::lines::{event_of, split_line};
-use super::tapes::HIDDEN_THEN_DISPLAYED;
+use super::words::Day;
+use super::worked::HIDDEN_THEN_DISPLAYED;
 use hx_market::{Bytes, Event};
 use std::alloc::Global;
 use std::test::Fail;
@@ -25,7 +26,8 @@ fn events_of(alloc: Global, tape: &[u8]) -> Result<Vec<Event>, Fail> {
 
 // A hidden order, and the same message once more at another time or of another member.
 fn with_second(alloc: Global, time: u64, member: u16) -> Result<Vec<Event>, Fail> {
-    let (line, _) = split_line(HIDDEN_THEN_DISPLAYED.tape).ok_or("no line")?;
+    let day = Day::of(alloc, HIDDEN_THEN_DISPLAYED)?;
+    let (line, _) = split_line(&day.tape).ok_or("no line")?;
     let first = event_of(alloc, line)?;
     let Event::Message { bytes, .. } = event_of(alloc, line)? else {
         return Err("no message".into());

@@ -38,3 +38,8 @@ pub fn last_lines(text: &[u8], but: u64) -> &[u8] {
 pub fn first_lines(text: &[u8], count: u64) -> &[u8] {
     &text[..text.len().saturating_sub(last_lines(text, count).len())]
 }
+
+/// So many bytes at the front of a text, or all where it is shorter.
+pub fn front(text: &[u8], count: usize) -> &[u8] {
+    &text[..count.min(text.len())]
+}

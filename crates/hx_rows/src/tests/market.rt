@@ -1,7 +1,8 @@
 //! The market's own calls over a worked day.
 
 use super::lines::{event_of, split_line};
-use super::tapes::REPLACES_THAT_TRADE;
+use super::words::Day;
+use super::worked::REPLACES_THAT_TRADE;
 use hx_levels::ListBook;
 use hx_market::{Event, Market};
 use hx_members::Setup;
@@ -75,7 +76,8 @@ fn expect_chains<R: Abort>(rt: &R, market: &Market<ListBook>) -> Result<(), Fail
 
 // Plays the lines of the day, each with what it tells.
 fn play_day<R: AllocGlobal + Abort>(rt: &R, market: &mut Market<ListBook>) -> Result<(), Fail> {
-    let mut tape = REPLACES_THAT_TRADE.tape;
+    let day = Day::of(rt.alloc(), REPLACES_THAT_TRADE)?;
+    let mut tape = day.tape.as_slice();
     let told = [
         (1, 1),
         (1, 3),

@@ -1,7 +1,8 @@
 //! Days as tapes, replayed over both books.
 
-use super::lines::split_line;
-use super::tapes::{self, Day};
+use super::lines::front;
+use super::words::Day;
+use super::worked;
 use hx_levels::ListBook;
 use hx_members::{Setup, SetupError};
 use hx_replay::{Counts, Kind, TapeError, replay, replay_on};
@@ -110,22 +111,30 @@ fn lines_of(text: &[u8], kind: u8) -> u64 {
 
 pub fn expect_output<R: Abort>(rt: &R, day: &Day, replayed: Replayed) -> Result<(), Fail> {
     let (output, result) = replayed;
-    assert_eq!(rt; output.as_slice(), day.output);
+    assert_eq!(rt; output.as_slice(), day.output.as_slice());
     let counts = result?;
-    assert_eq!(rt; counts.feed, lines_of(day.output, b'F'));
-    assert_eq!(rt; counts.replies, lines_of(day.output, b'M'));
+    assert_eq!(rt; counts.feed, lines_of(&day.output, b'F'));
+    assert_eq!(rt; counts.replies, lines_of(&day.output, b'M'));
     Ok(())
 }
 
 // A day over price levels, and over a plain list of orders.
 fn expect_day<R: AllocGlobal + Abort>(rt: &R, day: &Day) -> Result<(), Fail> {
-    expect_output(rt, day, replayed(rt.alloc(), day.tape))?;
-    expect_output(rt, day, replayed_on_list(rt.alloc(), day.tape))
+    expect_output(rt, day, replayed(rt.alloc(), &day.tape))?;
+    expect_output(rt, day, replayed_on_list(rt.alloc(), &day.tape))
 }
 
-// The setup of a day that begins closed, of which callers know nothing.
+// The setup of a day that begins closed.
+const CLOSED: &[u8] = b"session HX00000002
+start closed
+stock ABCD 5120000000644e435a20502020314e000000004e
+member 1 FMA1 ALPHA PWALPHA 1000
+member 2 FMB2 BRAVO PWBRAVO 1000
+";
+
+// That setup, of which callers know nothing.
 fn closed(alloc: Global) -> Result<Setup, TapeError> {
-    match Setup::read(alloc, tapes::CLOSED) {
+    match Setup::read(alloc, CLOSED) {
         Ok(setup) => Ok(setup),
         Err(SetupError::NoMemory) => Err(TapeError::NoMemory),
         Err(SetupError::Bad { .. }) => Err(TapeError::Read),
@@ -156,49 +165,56 @@ fn replayed_closed_on_list(alloc: Global, text: &[u8]) -> Result<Replayed, TapeE
     Ok((output, result))
 }
 
+// A day that begins closed, over price levels, and over a plain list of orders.
+fn expect_closed_day<R: AllocGlobal + Abort>(rt: &R, words: &str) -> Result<(), Fail> {
+    let day = Day::of(rt.alloc(), words)?;
+    expect_output(rt, &day, replayed_closed(rt.alloc(), &day.tape)?)?;
+    expect_output(rt, &day, replayed_closed_on_list(rt.alloc(), &day.tape)?)
+}
+
 #[test]
-fn hours_of_a_day(rt: HostRuntime) -> Result<(), Fail> {
-    let day = &tapes::HOURS_OF_A_DAY;
-    expect_output(&rt, day, replayed_closed(rt.alloc(), day.tape)?)?;
-    expect_output(&rt, day, replayed_closed_on_list(rt.alloc(), day.tape)?)
+fn days_that_begin_closed(rt: HostRuntime) -> Result<(), Fail> {
+    for words in [worked::HOURS_OF_A_DAY, worked::AFTER_THE_MARKET_HOURS] {
+        expect_closed_day(&rt, words)?;
+    }
+    Ok(())
 }
 
 #[test]
 fn days_over_both_books(rt: HostRuntime) -> Result<(), Fail> {
     let days = [
-        &tapes::ONE_DISPLAYED_ORDER,
-        &tapes::HIDDEN_THEN_DISPLAYED,
-        &tapes::DISPLAY_BEATS_TIME,
-        &tapes::HIDDEN_EXECUTIONS_ON_BOTH_SIDES,
-        &tapes::MINIMUM_PASSED_OVER,
-        &tapes::MINIMUM_STAYS,
-        &tapes::DISPLAYED_IMMEDIATE_OR_CANCEL,
-        &tapes::TWO_LEVELS_TAKEN,
-        &tapes::TIMES_GOING_BACK,
-        &tapes::LIMITS_OF_FIELDS,
-        &tapes::FAILED_REPLACE,
-        &tapes::CHAIN_THAT_TRADED,
-        &tapes::DISPLAY_CHANGES,
-        &tapes::CANCELS,
-        &tapes::REPLACES_THAT_TRADE,
-        &tapes::TICKS,
+        worked::ONE_DISPLAYED_ORDER,
+        worked::HIDDEN_THEN_DISPLAYED,
+        worked::DISPLAY_BEATS_TIME,
+        worked::HIDDEN_EXECUTIONS_ON_BOTH_SIDES,
+        worked::MINIMUM_PASSED_OVER,
+        worked::MINIMUM_STAYS,
+        worked::DISPLAYED_IMMEDIATE_OR_CANCEL,
+        worked::TWO_LEVELS_TAKEN,
+        worked::TIMES_GOING_BACK,
+        worked::LIMITS_OF_FIELDS,
+        worked::FAILED_REPLACE,
+        worked::CHAIN_THAT_TRADED,
+        worked::DISPLAY_CHANGES,
+        worked::CANCELS,
+        worked::REPLACES_THAT_TRADE,
+        worked::TICKS,
+        worked::REASONS,
+        worked::SIDES_STOCKS_FIRMS,
+        worked::LONGEST_LIVES,
+        worked::REPLACES_OF_LIFE_AND_MINIMUM,
+        worked::TWO_END_AT_ONE_TICK,
     ];
-    for day in days {
-        expect_day(&rt, day)?;
+    for words in days {
+        expect_day(&rt, &Day::of(rt.alloc(), words)?)?;
     }
     Ok(())
 }
 
 #[test]
 fn minimum_passed_over_without_its_first_line(rt: HostRuntime) -> Result<(), Fail> {
-    let day = tapes::MINIMUM_PASSED_OVER;
-    let Some((_, tape)) = split_line(day.tape) else {
-        panic!(&rt; "there is a line");
-    };
-    let Some((_, output)) = split_line(day.output) else {
-        panic!(&rt; "there is a line");
-    };
-    expect_day(&rt, &Day { tape, output })
+    let day = Day::of(rt.alloc(), worked::MINIMUM_PASSED_OVER)?;
+    expect_day(&rt, &day.without_first(rt.alloc())?)
 }
 
 #[test]
@@ -219,16 +235,23 @@ fn an_event_without_output(rt: HostRuntime) -> Result<(), Fail> {
     Ok(())
 }
 
-// The line behind the tape of one displayed order is bad.
-fn expect_bad<R: AllocGlobal + Abort>(rt: &R, text: &[u8], want: Kind) -> Result<(), Fail> {
-    let day = tapes::ONE_DISPLAYED_ORDER;
-    let mut output = Vec::new(rt.alloc());
-    let mut reader = day.tape.chain(text);
-    match play(rt.alloc(), &mut reader, &mut output) {
+// The second line is bad, behind the output of the day.
+fn expect_bad_line<R: Abort>(rt: &R, day: &Day, replayed: Replayed, want: Kind) {
+    let (output, result) = replayed;
+    match result {
         Err(TapeError::Line { line, kind }) => assert_eq!(rt; (line, kind), (2, want)),
         _ => panic!(rt; "the second line fails"),
     }
-    assert_eq!(rt; output.as_slice(), day.output);
+    assert_eq!(rt; output.as_slice(), day.output.as_slice());
+}
+
+// The line behind the tape of one displayed order is bad, over either book.
+fn expect_bad<R: AllocGlobal + Abort>(rt: &R, text: &[u8], want: Kind) -> Result<(), Fail> {
+    let day = Day::of(rt.alloc(), worked::ONE_DISPLAYED_ORDER)?;
+    let mut tape = day.tape.clone()?;
+    tape.extend_from_slice(text)?;
+    expect_bad_line(rt, &day, replayed(rt.alloc(), &tape), want);
+    expect_bad_line(rt, &day, replayed_on_list(rt.alloc(), &tape), want);
     Ok(())
 }
 
@@ -269,26 +292,26 @@ fn member_at_limit(rt: HostRuntime) -> Result<(), Fail> {
 
 #[test]
 fn reader_fails(rt: HostRuntime) -> Result<(), Fail> {
-    let day = tapes::TWO_LEVELS_TAKEN;
+    let day = Day::of(rt.alloc(), worked::TWO_LEVELS_TAKEN)?;
     let mut output = Vec::new(rt.alloc());
-    let mut reader = Faulty { text: day.tape };
+    let mut reader = Faulty { text: &day.tape };
     let result = play(rt.alloc(), &mut reader, &mut output);
     assert!(rt; matches!(result, Err(TapeError::Read)));
-    assert_eq!(rt; output.as_slice(), day.output);
+    assert_eq!(rt; output.as_slice(), day.output.as_slice());
     Ok(())
 }
 
 #[test]
 fn writer_fails(rt: HostRuntime) -> Result<(), Fail> {
-    let day = tapes::TWO_LEVELS_TAKEN;
+    let day = Day::of(rt.alloc(), worked::TWO_LEVELS_TAKEN)?;
     let mut output = Full {
         taken: Vec::new(rt.alloc()),
         room: 400,
     };
-    let mut text = day.tape;
+    let mut text = day.tape.as_slice();
     let result = play(rt.alloc(), &mut text, &mut output);
     assert!(rt; matches!(result, Err(TapeError::Write)));
-    assert_eq!(rt; output.taken.as_slice(), &day.output[..400]);
+    assert_eq!(rt; output.taken.as_slice(), front(&day.output, 400));
     Ok(())
 }
 

@@ -1,8 +1,9 @@
 //! Tapes without the messages of a member's quiet chains.
 
-use super::lines::{first_lines, split_line};
+use super::lines::{first_lines, front};
 use super::replaying::{Faulty, Full, Replayed, expect_output, replayed, standard};
-use super::tapes::{self, Day};
+use super::words::Day;
+use super::worked;
 use hx_replay::{Counts, Kind, TapeError, strike_tape};
 use hx_units::MemberNo;
 use std::alloc::Global;
@@ -54,62 +55,73 @@ fn expect_whole<R: AllocGlobal + Abort>(
 }
 
 // The first line goes, and with it the first output line alone.
-fn expect_first_struck<R: AllocGlobal + Abort>(rt: &R, day: &Day, events: u64) -> Result<(), Fail> {
-    let (_, tape) = split_line(day.tape).ok_or("no line")?;
-    let (_, output) = split_line(day.output).ok_or("no line")?;
-    expect_kept(rt, struck(rt.alloc(), day.tape, 1), tape, events)?;
-    expect_output(rt, &Day { tape, output }, replayed(rt.alloc(), tape))
+fn expect_first_struck<R: AllocGlobal + Abort>(
+    rt: &R,
+    words: &str,
+    events: u64,
+) -> Result<(), Fail> {
+    let day = Day::of(rt.alloc(), words)?;
+    let left = day.without_first(rt.alloc())?;
+    expect_kept(rt, struck(rt.alloc(), &day.tape, 1), &left.tape, events)?;
+    expect_output(rt, &left, replayed(rt.alloc(), &left.tape))
 }
 
 #[test]
 fn hidden_then_displayed_leaves_the_second_line(rt: HostRuntime) -> Result<(), Fail> {
-    expect_first_struck(&rt, &tapes::HIDDEN_THEN_DISPLAYED, 1)
+    expect_first_struck(&rt, worked::HIDDEN_THEN_DISPLAYED, 1)
 }
 
 #[test]
 fn minimum_passed_over_leaves_the_others(rt: HostRuntime) -> Result<(), Fail> {
-    expect_first_struck(&rt, &tapes::MINIMUM_PASSED_OVER, 2)
+    expect_first_struck(&rt, worked::MINIMUM_PASSED_OVER, 2)
 }
 
 #[test]
 fn chain_that_traded_stays(rt: HostRuntime) -> Result<(), Fail> {
-    expect_whole(&rt, tapes::CHAIN_THAT_TRADED.tape, 1, 6)
+    let day = Day::of(rt.alloc(), worked::CHAIN_THAT_TRADED)?;
+    expect_whole(&rt, &day.tape, 1, 6)
 }
 
 #[test]
 fn chain_before_it_traded_goes(rt: HostRuntime) -> Result<(), Fail> {
-    let text = first_lines(tapes::CHAIN_THAT_TRADED.tape, 4);
+    let day = Day::of(rt.alloc(), worked::CHAIN_THAT_TRADED)?;
+    let text = first_lines(&day.tape, 4);
     expect_kept(&rt, struck(rt.alloc(), text, 1), b"", 0)
 }
 
 #[test]
 fn display_changes_stay(rt: HostRuntime) -> Result<(), Fail> {
-    expect_whole(&rt, tapes::DISPLAY_CHANGES.tape, 1, 5)
+    let day = Day::of(rt.alloc(), worked::DISPLAY_CHANGES)?;
+    expect_whole(&rt, &day.tape, 1, 5)
 }
 
 #[test]
 fn first_display_change_stays(rt: HostRuntime) -> Result<(), Fail> {
-    expect_whole(&rt, first_lines(tapes::DISPLAY_CHANGES.tape, 2), 1, 2)
+    let day = Day::of(rt.alloc(), worked::DISPLAY_CHANGES)?;
+    expect_whole(&rt, first_lines(&day.tape, 2), 1, 2)
 }
 
 #[test]
 fn other_members_keep_their_lines(rt: HostRuntime) -> Result<(), Fail> {
-    expect_whole(&rt, tapes::HIDDEN_THEN_DISPLAYED.tape, 4095, 2)
+    let day = Day::of(rt.alloc(), worked::HIDDEN_THEN_DISPLAYED)?;
+    expect_whole(&rt, &day.tape, 4095, 2)
 }
 
 // The line behind the tape of one displayed order is at fault, and nothing is written.
-fn expect_fault<R: AllocGlobal + Abort>(rt: &R, text: &[u8], want: Kind) {
+fn expect_fault<R: AllocGlobal + Abort>(rt: &R, text: &[u8], want: Kind) -> Result<(), Fail> {
+    let day = Day::of(rt.alloc(), worked::ONE_DISPLAYED_ORDER)?;
     let mut output = Vec::new(rt.alloc());
-    let mut reader = tapes::ONE_DISPLAYED_ORDER.tape.chain(text);
+    let mut reader = day.tape.as_slice().chain(text);
     match strike(rt.alloc(), &mut reader, &mut output, 1) {
         Err(TapeError::Line { line, kind }) => assert_eq!(rt; (line, kind), (2, want)),
         _ => panic!(rt; "the second line is at fault"),
     }
     assert_eq!(rt; output.len(), 0);
+    Ok(())
 }
 
 #[test]
-fn lines_at_fault(rt: HostRuntime) {
+fn lines_at_fault(rt: HostRuntime) -> Result<(), Fail> {
     let cases: [(&[u8], Kind); 7] = [
         (b"20 1 zz\n", Kind::Bad),
         (b"5 0 5a\n", Kind::Bad),
@@ -120,30 +132,32 @@ fn lines_at_fault(rt: HostRuntime) {
         (b"20 9 00\n20 1 zz\n", Kind::Member),
     ];
     for (text, want) in cases {
-        expect_fault(&rt, text, want);
+        expect_fault(&rt, text, want)?;
     }
+    Ok(())
 }
 
 #[test]
-fn reader_fails_before_anything_is_written(rt: HostRuntime) {
+fn reader_fails_before_anything_is_written(rt: HostRuntime) -> Result<(), Fail> {
+    let day = Day::of(rt.alloc(), worked::TWO_LEVELS_TAKEN)?;
     let mut output = Vec::new(rt.alloc());
-    let mut reader = Faulty {
-        text: tapes::TWO_LEVELS_TAKEN.tape,
-    };
+    let mut reader = Faulty { text: &day.tape };
     let result = strike(rt.alloc(), &mut reader, &mut output, 1);
     assert!(rt; matches!(result, Err(TapeError::Read)));
     assert_eq!(rt; output.len(), 0);
+    Ok(())
 }
 
 #[test]
-fn writer_fails_within_the_lines_that_stay(rt: HostRuntime) {
-    let day = tapes::TWO_LEVELS_TAKEN;
+fn writer_fails_within_the_lines_that_stay(rt: HostRuntime) -> Result<(), Fail> {
+    let day = Day::of(rt.alloc(), worked::TWO_LEVELS_TAKEN)?;
     let mut output = Full {
         taken: Vec::new(rt.alloc()),
         room: 150,
     };
-    let mut text = day.tape;
+    let mut text = day.tape.as_slice();
     let result = strike(rt.alloc(), &mut text, &mut output, 1);
     assert!(rt; matches!(result, Err(TapeError::Write)));
-    assert_eq!(rt; output.taken.as_slice(), &day.tape[..150]);
+    assert_eq!(rt; output.taken.as_slice(), front(&day.tape, 150));
+    Ok(())
 }

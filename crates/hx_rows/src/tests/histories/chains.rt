@@ -1,6 +1,7 @@
 //! The chains of a member.
 
-use super::super::tapes::{CHAIN_THAT_TRADED, FAILED_REPLACE};
+use super::super::words::Day;
+use super::super::worked::{CHAIN_THAT_TRADED, FAILED_REPLACE};
 use super::{events_of, with_second};
 use hx_audit::{Chain, StrikeError, chains};
 use hx_market::{Event, PrepareError};
@@ -10,10 +11,10 @@ use std::alloc::Global;
 use std::process::Abort;
 use std::test::Fail;
 
-// The chains of a member after a tape, by the standard setup.
-fn chains_after(alloc: Global, tape: &[u8], member: u16) -> Result<Vec<Chain>, Fail> {
+// The chains of a member after a day, by the standard setup.
+fn chains_after(alloc: Global, words: &str, member: u16) -> Result<Vec<Chain>, Fail> {
     let setup = Setup::standard(alloc)?;
-    let events = events_of(alloc, tape)?;
+    let events = events_of(alloc, &Day::of(alloc, words)?.tape)?;
     let member = MemberNo::of(member).ok_or("no number of a member")?;
     Ok(chains(alloc, &setup, &events, member)?)
 }
@@ -28,15 +29,15 @@ fn refused(alloc: Global, events: &[Event]) -> Result<StrikeError, Fail> {
     }
 }
 
-// The one chain of a member after a tape.
+// The one chain of a member after a day.
 fn expect_chain<R: AllocGlobal + Abort>(
     rt: &R,
-    tape: &[u8],
+    words: &str,
     member: u16,
     tokens: &[Token],
     facts: ChainFacts,
 ) -> Result<(), Fail> {
-    let mut chains = chains_after(rt.alloc(), tape, member)?;
+    let mut chains = chains_after(rt.alloc(), words, member)?;
     assert_eq!(rt; chains.len(), 1);
     let chain = chains.pop().ok_or("no chain")?;
     assert_eq!(rt; chain.tokens.as_slice(), tokens);
@@ -59,10 +60,10 @@ fn a_chain_holds_all_its_tokens(rt: HostRuntime) -> Result<(), Fail> {
         displayed: false,
         traded: true,
     };
-    expect_chain(&rt, CHAIN_THAT_TRADED.tape, 1, &tokens, facts)?;
+    expect_chain(&rt, CHAIN_THAT_TRADED, 1, &tokens, facts)?;
     expect_chain(
         &rt,
-        CHAIN_THAT_TRADED.tape,
+        CHAIN_THAT_TRADED,
         2,
         &[Token(*b"S1            ")],
         facts,
@@ -77,12 +78,12 @@ fn a_failed_replace_keeps_its_token(rt: HostRuntime) -> Result<(), Fail> {
         displayed: true,
         traded: false,
     };
-    expect_chain(&rt, FAILED_REPLACE.tape, 1, &tokens, facts)
+    expect_chain(&rt, FAILED_REPLACE, 1, &tokens, facts)
 }
 
 #[test]
 fn a_stranger_has_no_chains(rt: HostRuntime) -> Result<(), Fail> {
-    let none = chains_after(rt.alloc(), CHAIN_THAT_TRADED.tape, 77)?;
+    let none = chains_after(rt.alloc(), CHAIN_THAT_TRADED, 77)?;
     assert_eq!(rt; none.len(), 0);
     Ok(())
 }

@@ -1,7 +1,8 @@
 //! Histories without the messages of quiet chains.
 
 use super::super::lines::{first_lines, last_lines, split_line};
-use super::super::tapes::{CHAIN_THAT_TRADED, DISPLAY_CHANGES, HIDDEN_THEN_DISPLAYED};
+use super::super::words::Day;
+use super::super::worked::{CHAIN_THAT_TRADED, DISPLAY_CHANGES, HIDDEN_THEN_DISPLAYED};
 use super::{events_of, with_second};
 use hx_audit::{StrikeError, strike};
 use hx_market::{Event, PrepareError};
@@ -62,7 +63,8 @@ fn expect_struck<R: AllocGlobal + Abort>(
 
 #[test]
 fn a_hidden_order_is_struck(rt: HostRuntime) -> Result<(), Fail> {
-    let tape = HIDDEN_THEN_DISPLAYED.tape;
+    let day = Day::of(rt.alloc(), HIDDEN_THEN_DISPLAYED)?;
+    let tape = day.tape.as_slice();
     expect_struck(&rt, tape, 1, last_lines(tape, 1))?;
     expect_struck(&rt, tape, 2, tape)?;
     // The setup has no such member.
@@ -71,14 +73,16 @@ fn a_hidden_order_is_struck(rt: HostRuntime) -> Result<(), Fail> {
 
 #[test]
 fn a_chain_that_traded_stays(rt: HostRuntime) -> Result<(), Fail> {
-    let tape = CHAIN_THAT_TRADED.tape;
+    let day = Day::of(rt.alloc(), CHAIN_THAT_TRADED)?;
+    let tape = day.tape.as_slice();
     expect_struck(&rt, tape, 1, tape)?;
     expect_struck(&rt, first_lines(tape, 4), 1, b"")
 }
 
 #[test]
 fn a_displayed_chain_stays(rt: HostRuntime) -> Result<(), Fail> {
-    let tape = DISPLAY_CHANGES.tape;
+    let day = Day::of(rt.alloc(), DISPLAY_CHANGES)?;
+    let tape = day.tape.as_slice();
     expect_struck(&rt, tape, 1, tape)?;
     expect_struck(&rt, first_lines(tape, 2), 1, first_lines(tape, 2))
 }
@@ -104,7 +108,8 @@ fn refusals_tell_their_event(rt: HostRuntime) -> Result<(), Fail> {
 
 #[test]
 fn a_message_above_the_limit_is_refused(rt: HostRuntime) -> Result<(), Fail> {
-    let (line, _) = split_line(HIDDEN_THEN_DISPLAYED.tape).ok_or("no line")?;
+    let day = Day::of(rt.alloc(), HIDDEN_THEN_DISPLAYED)?;
+    let (line, _) = split_line(&day.tape).ok_or("no line")?;
     let mut text = Vec::new(rt.alloc());
     for _ in 0..1001 {
         text.extend_from_slice(line)?;

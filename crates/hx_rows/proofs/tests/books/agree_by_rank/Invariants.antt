@@ -5,7 +5,7 @@ use Rattle.hx_rows.proofs.tests.books.agree_by_rank.Given as goal
 
 abbrev pub invariant-loop : goal.invariant-loop
 invariant-loop g l =
-    let terms : Terms = record { locate = 1; side = l.side; price = l.price } in
+    let terms : Terms = record { locate = l.locate; side = l.side; price = l.price } in
     record {
       first : IfSome l.a (λ key. IsRanked terms key.0 (g.A.Book.orders l.one));
       second : IfSome l.b (λ key. IsRanked terms key.0 (g.B.Book.orders l.two));
