@@ -171,6 +171,13 @@ impl<B: Book + Drop> Market<B> {
         out
     }
 
+    /// How many of the hours codes `O`, `S`, `Q`, `M`, `E`, `C` are past.
+    pub fn hours(&self) -> u8
+        ensures { result ≡ self.now.market.hours }
+    {
+        self.hours
+    }
+
     /// What the chain of a token has done; none where the member has not used the token.
     pub fn chain(&self, member: MemberNo, token: &Token) -> Option<ChainFacts>
         ensures { result ≡ chain_facts self.now.market.tokens self.now.market.chains member token.now }
