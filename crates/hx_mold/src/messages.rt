@@ -1,15 +1,15 @@
 //! Numbered messages, and packets of them.
-ghost use Rattle.std.specs.Prelude.{◌≡◌, ◌≤◌, ◌<◌, ◌+◌, ◌-◌, ◌^◌, ◌++◌, List, ℕ, [], true, false, length, option_map, IfSome, IfNone, IfOk, map};
-ghost use Rattle.hx_mold.specs.Packets.{block, header, IsHeader};
-ghost use Rattle.hx_mold.specs.Fronts.{texts, message_at, wanted, CutsInto, Gathers, Answers, NoneThere};
+ghost use Rattle.std.specs.Prelude.{◌≡◌, ◌≤◌, ◌<◌, ◌+◌, ◌-◌, ◌^◌, ◌++◌, List, ℕ, [], true, false, length, option_map, IfSome, IfNone, IfOk};
+ghost use Rattle.hx_mold.specs.Packets.{room, block, header, IsHeader};
+ghost use Rattle.hx_units.specs.Fields.{texts};
+ghost use Rattle.hx_mold.specs.Fronts.{message_at, wanted, CutsInto, Gathers, Answers, NoneThere};
 ghost use Rattle.hx_mold.specs.Filling.{Fills};
 
 use crate::packet::write_header;
-use crate::put;
 use crate::request::Request;
 use arrayvec::ArrayVec;
 use hx_units::NoMemory;
-use hx_units::fields::u16_bytes;
+use hx_units::fields::{put, u16_bytes};
 use std::alloc::Global;
 
 // The bytes that blocks may fill in a packet: 1,400 less the header.
@@ -35,9 +35,13 @@ pub trait Messages {
 
 // Appends a message's block where it fits.
 fn add(body: &mut ArrayVec<u8, 1380>, message: &ArrayVec<u8, 44>) -> bool
-    ensures yes { result ≡ true → (body.new.items ≡ body.old.items ++ block message.now.items) × (length body.new.items ≤ 1380) }
+    ensures yes { result ≡ true →
+        (body.new.items ≡ body.old.items ++ block message.now.items)
+        × (length body.new.items ≤ room) }
     ensures first { body.old.items ≡ [] → result ≡ true }
-    ensures no { result ≡ false → (body.new.items ≡ body.old.items) × (1380 < length (body.old.items ++ block message.now.items)) }
+    ensures no { result ≡ false →
+        (body.new.items ≡ body.old.items)
+        × (room < length (body.old.items ++ block message.now.items)) }
 {
     if body.len() + 2 + message.len() > ROOM {
         return false;
@@ -87,7 +91,8 @@ pub fn cut(
     messages: &[ArrayVec<u8, 44>],
 ) -> Result<Vec<ArrayVec<u8, 1400>>, NoMemory>
     requires { first + length messages.now ≤ 2 ^ 64 }
-    ensures { IfOk result (λ packets. CutsInto session first (texts messages.now) (map (λ p. p.items) packets.items)) }
+    ensures { IfOk result (λ packets.
+        CutsInto session first (texts messages.now) (texts packets.items)) }
 {
     let mut packets = Vec::new(alloc);
     let mut done = 0;
