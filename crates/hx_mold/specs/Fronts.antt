@@ -4,6 +4,10 @@ use Rattle.hx_mold.specs.declared.packet.MoldPacket.TheVariants as mold
 use Rattle.hx_mold.specs.declared.request.Request.{Request}
 use Rattle.hx_mold.specs.Packets.{room, blocks, SpellsPacket}
 
+-- a list that may have grown
+abbrev pub Grows : (old new : List (List ℕ)) → Type 0
+Grows old new = (more : List (List ℕ)) × (new ≡ old ++ more)
+
 -- The longest front of the messages whose blocks fit into a packet.
 pub record IsFront (front messages : List (List ℕ)) : Type 0 where
   pub rest : List (List ℕ)
