@@ -9,7 +9,7 @@ use Rattle.hx_members.specs.Chains.{is_used, entered_of, is_loud}
 use Rattle.hx_members.specs.Tokens.{facts_of}
 use Rattle.hx_ouch.specs.declared.inbound.Inbound.{Inbound}
 use Rattle.hx_ouch.specs.declared.inbound.Inbound.TheVariants.{Enter, Replace, Cancel}
-use Rattle.hx_market.specs.declared.event.Event.{Event}
+use Rattle.hx_rules.specs.declared.event.Event.{Event}
 use Rattle.hx_market.specs.Markets.{Market}
 use Rattle.hx_market.specs.Ready.{chain_facts}
 use Rattle.hx_market.specs.Striking.{Choice, is_quiet, quiet_of_one, message_bears, bears, strike}

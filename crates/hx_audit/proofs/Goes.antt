@@ -10,8 +10,8 @@ use Rattle.hx_ouch.specs.declared.inbound.Enter.{Enter as NewOrder}
 use Rattle.hx_ouch.specs.declared.inbound.Replace.{Replace as Change}
 use Rattle.hx_ouch.specs.declared.inbound.Cancel.{Cancel as Less}
 use Rattle.hx_ouch.specs.Inbound.{inbound_of}
-use Rattle.hx_market.specs.declared.event.Event.{Event}
-use Rattle.hx_market.specs.declared.event.Event.TheVariants.{Message, Tick, Hours}
+use Rattle.hx_rules.specs.declared.event.Event.{Event}
+use Rattle.hx_rules.specs.declared.event.Event.TheVariants.{Message, Tick, Hours}
 use Rattle.hx_market.specs.Orders.{Order, is_called, is_immediate, is_shown}
 use Rattle.hx_market.specs.Markets.{Market, opening}
 use Rattle.hx_market.specs.Executions.{incoming_of, displays, resting_of, chains_after, arrive}

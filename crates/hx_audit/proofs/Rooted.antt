@@ -13,14 +13,14 @@ use Rattle.hx_members.proofs.ChainLaws.{is_used-pushed, entered_of-pushed, enter
 use Rattle.hx_ouch.specs.declared.inbound.Inbound.{Inbound}
 use Rattle.hx_ouch.specs.declared.inbound.Inbound.TheVariants.{Enter, Replace, Cancel}
 use Rattle.hx_ouch.specs.Inbound.{inbound_of}
-use Rattle.hx_market.specs.declared.event.Event.{Event}
-use Rattle.hx_market.specs.declared.event.Event.TheVariants.{Message, Tick, Hours}
+use Rattle.hx_rules.specs.declared.event.Event.{Event}
+use Rattle.hx_rules.specs.declared.event.Event.TheVariants.{Message, Tick, Hours}
 use Rattle.hx_market.specs.Orders.{Order, is_called}
 use Rattle.hx_market.specs.Markets.{Market, opening}
 use Rattle.hx_market.specs.Ready.{chain_facts}
 use Rattle.hx_market.specs.Steps.{step, market_after, run}
-use Rattle.hx_market.proofs.CoherentSteps.{Coherent, used_last}
-use Rattle.hx_market.proofs.EventMoves.{called_used, step_moves, coherent_opening}
+use Rattle.hx_laws.proofs.History.CoherentSteps.{Coherent, used_last}
+use Rattle.hx_laws.proofs.History.EventMoves.{called_used, step_moves, coherent_opening}
 use Rattle.hx_audit.specs.Listing.{Use, use_of, uses_of, tokens_in, each_once, grouped}
 use Rattle.hx_audit.specs.Finding.{AreTold}
 use Rattle.hx_audit.proofs.Goes.{joined_if, message_uses, event_uses, step_goes}

@@ -4,10 +4,10 @@ use Rattle.std.specs.Prelude.{is_none}
 use Rattle.std.proofs.lemmas.Bool.Decides.{Decides-eqb}
 use Rattle.hx_members.specs.Setups.{Setup, member_of}
 use Rattle.hx_ouch.specs.Inbound.{inbound_of}
-use Rattle.hx_market.specs.declared.event.Event.{Event}
-use Rattle.hx_market.specs.declared.event.Event.TheVariants.{Message, Tick, Hours}
-use Rattle.hx_market.specs.declared.fault.PrepareError.{PrepareError}
-use Rattle.hx_market.specs.declared.fault.PrepareError.TheVariants.{NoMember, BadTime}
+use Rattle.hx_rules.specs.declared.event.Event.{Event}
+use Rattle.hx_rules.specs.declared.event.Event.TheVariants.{Message, Tick, Hours}
+use Rattle.hx_rules.specs.declared.fault.PrepareError.{PrepareError}
+use Rattle.hx_rules.specs.declared.fault.PrepareError.TheVariants.{NoMember, BadTime}
 use Rattle.hx_market.specs.Admitting.{known_member, refusal}
 use Rattle.hx_market.specs.Markets.{Market, opening}
 use Rattle.hx_market.specs.Steps.{step, market_after, run}

@@ -13,13 +13,13 @@ use Rattle.hx_members.proofs.ChainLaws.{entered_of-unused}
 use Rattle.hx_ouch.specs.declared.inbound.Inbound.{Inbound}
 use Rattle.hx_ouch.specs.declared.inbound.Inbound.TheVariants.{Enter, Replace, Cancel}
 use Rattle.hx_ouch.specs.Inbound.{inbound_of}
-use Rattle.hx_market.specs.declared.event.Event.{Event}
-use Rattle.hx_market.specs.declared.event.Event.TheVariants.{Message, Tick, Hours}
+use Rattle.hx_rules.specs.declared.event.Event.{Event}
+use Rattle.hx_rules.specs.declared.event.Event.TheVariants.{Message, Tick, Hours}
 use Rattle.hx_market.specs.Orders.{Order, is_called}
 use Rattle.hx_market.specs.Markets.{Market}
 use Rattle.hx_market.specs.Ready.{chain_facts}
 use Rattle.hx_market.specs.Steps.{step}
-use Rattle.hx_market.proofs.CoherentSteps.{used_last}
+use Rattle.hx_laws.proofs.History.CoherentSteps.{used_last}
 use Rattle.hx_audit.specs.declared.listing.Naming.{Naming}
 use Rattle.hx_audit.specs.Listing.{Use, use_of, uses_of}
 use Rattle.hx_audit.specs.Finding.{named_by, named}

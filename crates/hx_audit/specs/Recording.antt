@@ -1,9 +1,9 @@
 -- Which histories the market records: each event is accepted at its turn, after those before it.
 use Rattle.std.specs.Prelude.{◌≡◌, ℕ, List, [], ◌∷◌, ◌++◌, length, Option, Some, None, ⊤, ◌⊎◌}
 use Rattle.hx_members.specs.Setups.{Setup}
-use Rattle.hx_market.specs.declared.event.Event.{Event}
-use Rattle.hx_market.specs.declared.fault.PrepareError.{PrepareError}
-use Rattle.hx_market.specs.declared.fault.PrepareError.TheVariants.{NoMemory as NoRoom, Limit, NoMember, BadTime}
+use Rattle.hx_rules.specs.declared.event.Event.{Event}
+use Rattle.hx_rules.specs.declared.fault.PrepareError.{PrepareError}
+use Rattle.hx_rules.specs.declared.fault.PrepareError.TheVariants.{NoMemory as NoRoom, Limit, NoMember, BadTime}
 use Rattle.hx_market.specs.Markets.{Market, opening}
 use Rattle.hx_market.specs.Admitting.{refusal, or_no_memory}
 use Rattle.hx_market.specs.Steps.{step, run}

@@ -11,13 +11,13 @@ use Rattle.hx_match.specs.Matching.{with_shares}
 use Rattle.hx_members.specs.Chains.{Used, is_used, entered_of, executed_by, entered_used, IsEnteredAt}
 use Rattle.hx_refs.specs.Numbers.{raised}
 use Rattle.hx_ouch.specs.declared.inbound.Replace.{Replace}
-use Rattle.hx_market.specs.Orders.{is_called, is_immediate}
-use Rattle.hx_market.specs.Markets.{Market}
-use Rattle.hx_market.specs.Entering.{drawn, after_draw}
-use Rattle.hx_market.specs.Leaving.{others, less, lessened}
-use Rattle.hx_market.specs.Replacing.{handed_over, replace_order}
+use Rattle.hx_rules.specs.Orders.{is_called, is_immediate}
+use Rattle.hx_rules.specs.Markets.{Market}
+use Rattle.hx_rules.specs.Entering.{drawn, after_draw}
+use Rattle.hx_rules.specs.Leaving.{others, less, lessened}
+use Rattle.hx_rules.specs.Replacing.{handed_over, replace_order}
 use Rattle.hx_market.specs.Ready.{MayRecord}
-use Rattle.hx_market.specs.Executions.{arrive, chains_after}
+use Rattle.hx_rules.specs.Executions.{arrive, chains_after}
 use Rattle.hx_market.specs.Keeping.{chains_by, own, is_name, open_in, IsPlaced, ArePlaced, total, IsSound, CanAccept}
 use Rattle.hx_market.proofs.Budget.{IsWithin, open-append, placed-append, placed-shares, own-le}
 use Rattle.hx_market.proofs.Used.{placed-more, open-more, chained-more, entered-last, used-last, get-append, same-name}

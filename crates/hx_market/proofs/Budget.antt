@@ -12,7 +12,7 @@ use Rattle.hx_match.specs.declared.fills.Incoming.{Incoming}
 use Rattle.hx_match.specs.Matching.{Execution, Place, Matched, behind, first_of_entries, passes, first_entry, less_of, matched_by, matched_entries, itself, with_shares}
 use Rattle.hx_members.specs.Chains.{Used, Chain, is_chain, entered_of, executed_by, executed_at, note, noted, IsEnteredAt, noted_at}
 use Rattle.hx_market.specs.Keeping.{noted_both, chains_by, CanNote, CanNoteAll, own, is_name, open_in, IsPlaced, ArePlaced}
-use Rattle.hx_market.specs.Executions.{chains_after}
+use Rattle.hx_rules.specs.Executions.{chains_after}
 
 pub is_token-true : (t u : Token) → is_token t u ≡ true → t ≡ u
 is_token-true t u h = ap (λ (z : List ℕ). record t { 0 = z }) ((bytes_eq-Decides t.0 u.0).0 h)

@@ -9,8 +9,8 @@ use Rattle.hx_levels.specs.declared.order.Live.{Live}
 use Rattle.hx_levels.specs.Book.{order_of, is_under, has_key, KeysDiffer, reduced, without, with_less, lives}
 use Rattle.hx_levels.proofs.Orders.{none_under}
 use Rattle.hx_match.specs.Matching.{with_shares}
-use Rattle.hx_market.specs.Orders.{is_called}
-use Rattle.hx_market.specs.Leaving.{others, less, lessened}
+use Rattle.hx_rules.specs.Orders.{is_called}
+use Rattle.hx_rules.specs.Leaving.{others, less, lessened}
 
 abbrev AreOnly : ℕ → Token → ℕ → List Live → Type 0
 AreOnly m t key xs = AllByRecursion (λ other. is_called m t other.order ≡ is_under key other) xs

@@ -1,9 +1,9 @@
 -- What is prepared of an act tells what the act tells.
 use Rattle.std.proofs.Common.{◌≡◌, ℕ, List, map, length, Option, refl, sym, ap, ◌∙◌}
 use Rattle.hx_members.specs.Setups.{Setup}
-use Rattle.hx_market.specs.declared.event.Event.{Event}
-use Rattle.hx_market.specs.Outputs.{Outcome}
-use Rattle.hx_market.specs.Steps.{step, happens, with_record}
+use Rattle.hx_rules.specs.declared.event.Event.{Event}
+use Rattle.hx_rules.specs.Outputs.{Outcome}
+use Rattle.hx_rules.specs.Steps.{step, happens, with_record}
 use Rattle.hx_levels.specs.declared.order.Live.{Live}
 use Rattle.hx_levels.specs.declared.order.Terms.{Terms}
 use Rattle.hx_levels.specs.Book.{lives}
@@ -11,7 +11,7 @@ use Rattle.hx_match.specs.declared.fills.Fill.{Fill}
 use Rattle.hx_members.specs.declared.name.Name.{Name}
 use Rattle.hx_market.specs.declared.acting.Act.{Act}
 use Rattle.hx_market.specs.declared.acting.Act.TheVariants.{Nothing, Reject, Accept, Fail, Replace, Cancel, End}
-use Rattle.hx_market.specs.Markets.{Market}
+use Rattle.hx_rules.specs.Markets.{Market}
 use Rattle.hx_market.specs.Acts.{outcome_of, IsAbout}
 use Rattle.hx_market.specs.Ready.{HasPlaces, act_feed_count, act_members}
 use Rattle.hx_market.proofs.Plans.{feed_accepted, members_accepted, feed_replaced, members_replaced, length-deleted, length-off}

@@ -16,7 +16,7 @@ use Rattle.hx_members.specs.Chains.{Used, Chain, is_use, is_used, is_chain, plac
 use Rattle.hx_members.specs.declared.name.TokenState.{TokenState}
 use Rattle.hx_members.specs.Tokens.{key_at, facts_of, state_of}
 use Rattle.hx_members.proofs.ChainLaws.{place_of-pushed, place_of-new, slice_get-pushed}
-use Rattle.hx_market.specs.Orders.{is_called}
+use Rattle.hx_rules.specs.Orders.{is_called}
 use Rattle.hx_market.specs.Keeping.{AreKeyed, AreBefore}
 use Rattle.hx_market.specs.Acts.{IsOnly, confirmed}
 use Rattle.hx_market.proofs.Used.{same-name}

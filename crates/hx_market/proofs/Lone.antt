@@ -8,8 +8,8 @@ use Rattle.hx_levels.specs.declared.order.Order.{Order}
 use Rattle.hx_match.specs.declared.fills.Incoming.{Incoming}
 use Rattle.hx_match.specs.Matching.{Place, matched_by, matched_entries, itself, with_shares}
 use Rattle.hx_members.specs.Chains.{Used, is_used, entered_of, entered_used}
-use Rattle.hx_market.specs.Orders.{is_called}
-use Rattle.hx_market.specs.Leaving.{others, less, lessened}
+use Rattle.hx_rules.specs.Orders.{is_called}
+use Rattle.hx_rules.specs.Leaving.{others, less, lessened}
 use Rattle.hx_market.specs.Keeping.{own, is_name, is_of_chain, open_in, ArePlaced, AreLone}
 use Rattle.hx_market.proofs.Budget.{first, StandsIn, split}
 use Rattle.hx_market.proofs.Used.{entered-append, same-name, used-get}

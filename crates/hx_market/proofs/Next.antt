@@ -9,10 +9,10 @@ use Rattle.hx_members.specs.Chains.{Used, Chain, is_used, entered_of, executed_b
 use Rattle.hx_members.specs.Setups.{Setup}
 use Rattle.hx_refs.specs.Numbers.{Numbers, raised}
 use Rattle.hx_ouch.specs.declared.inbound.Enter.{Enter}
-use Rattle.hx_market.specs.Orders.{is_immediate}
-use Rattle.hx_market.specs.Markets.{Market, opening}
-use Rattle.hx_market.specs.Executions.{chains_after, incoming_of, resting_of, displays, arrive}
-use Rattle.hx_market.specs.Entering.{consumed, drawn, accept_order, reject, after_draw}
+use Rattle.hx_rules.specs.Orders.{is_immediate}
+use Rattle.hx_rules.specs.Markets.{Market, opening}
+use Rattle.hx_rules.specs.Executions.{chains_after, incoming_of, resting_of, displays, arrive}
+use Rattle.hx_rules.specs.Entering.{consumed, drawn, accept_order, reject, after_draw}
 use Rattle.hx_market.specs.Ready.{MayRecord}
 use Rattle.hx_market.specs.Keeping.{own, is_name, open_in, IsPlaced, ArePlaced, CanNote, chains_by, total, AreLone, IsSound, CanAccept}
 use Rattle.hx_market.proofs.Budget.{open-append, IsWithin, Counted, counted, executed-noted, can, placed-append}

@@ -5,14 +5,14 @@ use Rattle.hx_members.specs.Setups.{Setup}
 use Rattle.hx_market.specs.declared.acting.Act.{Act}
 use Rattle.hx_market.specs.declared.acting.Act.TheVariants.{Nothing, Reject, Accept, Fail, Replace, Cancel, End}
 use Rattle.hx_market.specs.declared.acting.Accepting.{Accepting}
-use Rattle.hx_market.specs.Markets.{Market}
-use Rattle.hx_market.specs.Orders.{is_shown, is_called}
+use Rattle.hx_rules.specs.Markets.{Market}
+use Rattle.hx_rules.specs.Orders.{is_shown, is_called}
 use Rattle.std.specs.List.{find}
 use Rattle.hx_levels.specs.declared.order.Live.{Live}
 use Rattle.hx_levels.specs.Book.{lives}
 use Rattle.hx_market.proofs.Called.{only_found}
 use Rattle.hx_market.proofs.Amended.{Replaces, chain_old, can_replace, sound_handed, sound_replaced, sound_lessened, sound_filtered}
-use Rattle.hx_market.specs.Entering.{next_reference}
+use Rattle.hx_rules.specs.Entering.{next_reference}
 use Rattle.hx_market.specs.Keeping.{IsSound}
 use Rattle.hx_market.specs.Acts.{IsAct, SuitsTokens, IsAbout, IsOnly, IsExchange, IsReplacing, IsOf, IsInRange, is_due, hours_after, order_of_accepting, order_by_replacing, outcome_of}
 use Rattle.hx_market.specs.declared.acting.Replacing.{Replacing}

@@ -7,8 +7,8 @@ use Rattle.std.proofs.lemmas.Bool.Decides.{nat_tests}
 use Rattle.hx_members.specs.Setups.{Setup, locate_of, member_of}
 use Rattle.hx_members.specs.declared.name.TokenState.{TokenState}
 use Rattle.hx_ouch.specs.declared.inbound.Enter.{Enter}
-use Rattle.hx_market.specs.Entering.{Reason, first_reason, reasons, rejection, is_bad_price}
-use Rattle.hx_market.specs.Admitting.{known_member}
+use Rattle.hx_rules.specs.Entering.{Reason, first_reason, reasons, rejection, is_bad_price}
+use Rattle.hx_rules.specs.Admitting.{known_member}
 
 -- where there is no letter, no reason applies
 none_applies : (rs : List Reason) → first_reason rs ≡ None → AllByRecursion (λ r. r.applies ≡ false) rs

@@ -12,17 +12,17 @@ use Rattle.hx_match.specs.declared.fills.Fill.{Fill}
 use Rattle.hx_match.specs.Matching.{Execution, Matched, matched}
 use Rattle.hx_match.specs.Executing.{done_by, done_with, AreGood, IsGoodWith, taken}
 use Rattle.hx_market.specs.declared.acting.Accepting.{Accepting}
-use Rattle.hx_market.specs.Markets.{Market}
-use Rattle.hx_market.specs.Orders.{is_immediate, is_shown, is_visible}
+use Rattle.hx_rules.specs.Markets.{Market}
+use Rattle.hx_rules.specs.Orders.{is_immediate, is_shown, is_visible}
 use Rattle.hx_itch.specs.declared.message.Feed.{Feed}
 use Rattle.hx_ouch.specs.declared.outbound.Outbound.TheVariants.{Canceled}
-use Rattle.hx_market.specs.Outputs.{Reply}
-use Rattle.hx_market.specs.Entering.{after_draw, next_reference, accepted_of}
-use Rattle.hx_market.specs.Executions.{feed_of_executions, replies_of_executions, resting_of, shown_of, published, canceled_of, arrival_feed}
+use Rattle.hx_rules.specs.Outputs.{Reply}
+use Rattle.hx_rules.specs.Entering.{after_draw, next_reference, accepted_of}
+use Rattle.hx_rules.specs.Executions.{feed_of_executions, replies_of_executions, resting_of, shown_of, published, canceled_of, arrival_feed}
 use Rattle.hx_match.specs.Rules.{AreFills}
 use Rattle.hx_market.specs.declared.acting.Replacing.{Replacing}
-use Rattle.hx_market.specs.Leaving.{others, deleted, taken_off}
-use Rattle.hx_market.specs.Replacing.{replaced_of, is_one_display}
+use Rattle.hx_rules.specs.Leaving.{others, deleted, taken_off}
+use Rattle.hx_rules.specs.Replacing.{replaced_of, is_one_display}
 use Rattle.hx_market.specs.Acts.{incoming_of_accepting, order_of_accepting, accepted_by, IsOnly, open_shares, incoming_of_replacing, order_by_replacing, replaced_by_act}
 use Rattle.hx_market.proofs.Called.{others_lives}
 use Rattle.hx_market.proofs.Used.{same-name}

@@ -8,7 +8,7 @@ use Rattle.hx_units.specs.declared.names.Symbol.{Symbol}
 use Rattle.hx_itch.specs.declared.message.Feed.{Feed}
 use Rattle.hx_match.specs.Matching.{Execution}
 use Rattle.hx_members.specs.Chains.{Used, entered_at, IsEnteredAt}
-use Rattle.hx_market.specs.Executions.{feed_of_executions}
+use Rattle.hx_rules.specs.Executions.{feed_of_executions}
 
 assoc : (xs ys zs : List Feed) → (xs ++ ys) ++ zs ≡ xs ++ (ys ++ zs)
 assoc [] ys zs = refl

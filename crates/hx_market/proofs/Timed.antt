@@ -8,16 +8,16 @@ use Rattle.hx_itch.specs.Message.{feed_time}
 use Rattle.hx_match.specs.Matching.{Execution}
 use Rattle.hx_market.specs.declared.acting.Act.{Act}
 use Rattle.hx_market.specs.declared.acting.Act.TheVariants.{Nothing, Reject, Accept, Fail, Replace, Cancel, End}
-use Rattle.hx_market.specs.Orders.{Order, is_immediate, is_shown}
-use Rattle.hx_market.specs.Markets.{Market}
-use Rattle.hx_market.specs.Executions.{feed_of_executions, published, arrival_feed, shown_of, arrive}
-use Rattle.hx_market.specs.Entering.{next_reference, drawn, consumed}
+use Rattle.hx_rules.specs.Orders.{Order, is_immediate, is_shown}
+use Rattle.hx_rules.specs.Markets.{Market}
+use Rattle.hx_rules.specs.Executions.{feed_of_executions, published, arrival_feed, shown_of, arrive}
+use Rattle.hx_rules.specs.Entering.{next_reference, drawn, consumed}
 use Rattle.hx_market.specs.Acts.{IsInRange, order_of_accepting, order_by_replacing, outcome_of}
 use Rattle.hx_members.specs.Setups.{Setup}
 use Rattle.hx_members.specs.declared.stock.Stock.{Stock}
-use Rattle.hx_market.specs.Leaving.{deleted}
-use Rattle.hx_market.specs.Ending.{all_deleted, directory, told_by_code}
-use Rattle.hx_market.specs.Replacing.{handed_over, is_one_display}
+use Rattle.hx_rules.specs.Leaving.{deleted}
+use Rattle.hx_rules.specs.Ending.{all_deleted, directory, told_by_code}
+use Rattle.hx_rules.specs.Replacing.{handed_over, is_one_display}
 
 abbrev pub AreIn : List Feed → Type 0
 AreIn fs = AllByRecursion (λ f. feed_time f < 2 ^ 48) fs

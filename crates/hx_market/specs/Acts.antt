@@ -16,14 +16,14 @@ use Rattle.hx_market.specs.declared.acting.Ending.{Ending}
 use Rattle.hx_market.specs.declared.acting.Accepting.{Accepting}
 use Rattle.hx_market.specs.declared.acting.Replacing.{Replacing}
 use Rattle.hx_market.specs.declared.acting.Cancelling.{Cancelling}
-use Rattle.hx_market.specs.Orders.{Order, side_of, is_shown, life_of, is_called}
-use Rattle.hx_market.specs.Markets.{Market}
+use Rattle.hx_rules.specs.Orders.{Order, side_of, is_shown, life_of, is_called}
+use Rattle.hx_rules.specs.Markets.{Market}
 use Rattle.hx_itch.specs.Message.{feed_time}
-use Rattle.hx_market.specs.Outputs.{Outcome, nothing}
-use Rattle.hx_market.specs.Entering.{accept_order, reject, resolved_firm, next_reference}
-use Rattle.hx_market.specs.Replacing.{fail_replace, replacing_order, replace_order}
-use Rattle.hx_market.specs.Cancelling.{take_off}
-use Rattle.hx_market.specs.Ending.{is_over, ends_by_code}
+use Rattle.hx_rules.specs.Outputs.{Outcome, nothing}
+use Rattle.hx_rules.specs.Entering.{accept_order, reject, resolved_firm, next_reference}
+use Rattle.hx_rules.specs.Replacing.{fail_replace, replacing_order, replace_order}
+use Rattle.hx_rules.specs.Cancelling.{take_off}
+use Rattle.hx_rules.specs.Ending.{is_over, ends_by_code}
 
 -- An Enter that is accepted.
 

@@ -6,8 +6,8 @@ use Rattle.hx_units.specs.declared.names.Token.{Token}
 use Rattle.hx_levels.specs.declared.order.Order.{Order}
 use Rattle.hx_levels.specs.declared.order.Live.{Live}
 use Rattle.hx_match.specs.Matching.{Execution}
-use Rattle.hx_market.specs.Markets.{Market}
-use Rattle.hx_market.specs.Executions.{chains_after}
+use Rattle.hx_rules.specs.Markets.{Market}
+use Rattle.hx_rules.specs.Executions.{chains_after}
 use Rattle.hx_refs.specs.Numbers.{Numbers}
 use Rattle.hx_members.specs.Tokens.{key_at}
 use Rattle.hx_members.specs.Chains.{Used, Chain, is_used, place_of, entered_of, executed_by, executed_at, IsEnteredAt, IsChainAt, noted_at}

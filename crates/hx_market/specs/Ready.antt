@@ -16,18 +16,18 @@ use Rattle.hx_members.specs.declared.name.ChainFacts.{ChainFacts}
 use Rattle.hx_members.specs.declared.name.Name.{Name}
 use Rattle.hx_refs.specs.Numbers.{Numbers}
 use Rattle.hx_market.specs.Keeping.{CanAccept}
-use Rattle.hx_market.specs.declared.event.Event.{Event}
-use Rattle.hx_market.specs.declared.output.Output.{Output}
+use Rattle.hx_rules.specs.declared.event.Event.{Event}
+use Rattle.hx_rules.specs.declared.output.Output.{Output}
 use Rattle.hx_market.specs.declared.acting.Act.{Act}
 use Rattle.hx_market.specs.declared.acting.Act.TheVariants.{Nothing, Reject, Accept, Fail, Replace, Cancel, End}
 use Rattle.hx_market.specs.declared.acting.Accepting.{Accepting}
 use Rattle.hx_market.specs.declared.acting.Replacing.{Replacing}
-use Rattle.hx_market.specs.Orders.{Order, is_immediate, is_shown}
-use Rattle.hx_market.specs.Markets.{Market}
-use Rattle.hx_market.specs.Outputs.{Outcome}
-use Rattle.hx_market.specs.Leaving.{others}
-use Rattle.hx_market.specs.Replacing.{is_one_display}
-use Rattle.hx_market.specs.Steps.{happens, sender, with_record}
+use Rattle.hx_rules.specs.Orders.{Order, is_immediate, is_shown}
+use Rattle.hx_rules.specs.Markets.{Market}
+use Rattle.hx_rules.specs.Outputs.{Outcome}
+use Rattle.hx_rules.specs.Leaving.{others}
+use Rattle.hx_rules.specs.Replacing.{is_one_display}
+use Rattle.hx_rules.specs.Steps.{happens, sender, with_record}
 use Rattle.hx_market.specs.Acts.{IsAct, IsOf, SuitsTokens, IsAbout, incoming_of_accepting, terms_of_accepting, open_shares, incoming_of_replacing, terms_of_replacing, order_by_replacing, outcome_of}
 
 -- what contracts see of what was prepared: the event, how many messages of the feed it will give, the member of

@@ -2,7 +2,7 @@
 ghost use Rattle.std.specs.Prelude.{◌≡◌, ℕ, ◌+◌, ◌-◌, ◌<◌, ◌≤◌, ◌^◌, slice_index, Some, None, [], true, false, length};
 ghost use Rattle.hx_levels.specs.Book.{lives};
 ghost use Rattle.hx_members.specs.Chains.{is_used};
-ghost use Rattle.hx_market.specs.Entering.{accepted_of, next_reference, after_draw};
+ghost use Rattle.hx_rules.specs.Entering.{accepted_of, next_reference, after_draw};
 ghost use Rattle.hx_match.specs.Rules.{AreFills};
 ghost use Rattle.hx_market.specs.Acts.{incoming_of_accepting, terms_of_accepting, order_of_accepting};
 ghost use Rattle.hx_market.specs.declared.acting.Act.TheVariants.{Accept};
@@ -12,14 +12,13 @@ ghost use Rattle.hx_market.specs.Ready.{HasRoom, HasRoomFor, name_of, market_of,
 use crate::acting::Accepting;
 use crate::arriving::arrive;
 use crate::executing::Taker;
-use crate::output::Output;
-use crate::rules::{is_shown, life_of};
 use crate::telling::publish;
 use hx_levels::{Book, Order};
 use hx_match::Fill;
 use hx_members::Tokens;
 use hx_ouch::{Accepted, Outbound};
 use hx_refs::Refs;
+use hx_rules::{Output, is_shown, life_of};
 use hx_units::MemberNo;
 
 // The reply that an order is accepted.

@@ -3,24 +3,22 @@ ghost use Rattle.std.specs.Prelude.{◌≡◌, ◌<◌, ℕ, List, Some, None, I
 ghost use Rattle.hx_ouch.specs.Inbound.{inbound_of};
 ghost use Rattle.hx_members.specs.Setups.{member_of};
 ghost use Rattle.hx_members.specs.Chains.{Used, Chain, is_used};
-ghost use Rattle.hx_market.specs.Entering.{entered_by, enter, rejection, resolved_firm};
+ghost use Rattle.hx_rules.specs.Entering.{entered_by, enter, rejection, resolved_firm};
 ghost use Rattle.hx_levels.specs.declared.order.Live.{Live as LiveOrder};
 ghost use Rattle.hx_refs.specs.Numbers.{Numbers};
 ghost use Rattle.hx_market.specs.Keeping.{AreKeyed};
 ghost use Rattle.hx_market.specs.Ready.{market_of};
-ghost use Rattle.hx_market.specs.Markets.{Market};
-ghost use Rattle.hx_market.specs.Steps.{act, happens, sender, time_of};
-ghost use Rattle.hx_market.specs.Admitting.{is_from_stranger};
+ghost use Rattle.hx_rules.specs.Markets.{Market};
+ghost use Rattle.hx_rules.specs.Steps.{act, happens, sender, time_of};
+ghost use Rattle.hx_rules.specs.Admitting.{is_from_stranger};
 ghost use Rattle.hx_market.specs.Acts.{outcome_of, IsAct, IsAccepting, IsOf, SuitsTokens, IsAbout};
 
 use crate::amending::{cancel_act, replace_act};
 use crate::ending::{hours_act, tick_act};
-use crate::event::Event;
-use crate::output::Output;
-use crate::rules::{rejection, side_of};
 use hx_levels::{Book, Live};
 use hx_members::{Setup, Tokens};
 use hx_ouch::{Enter, Inbound, Replace, decode_in};
+use hx_rules::{Event, Output, rejection, side_of};
 use hx_units::{Firm, MemberNo, NoMemory, Price, Side, Symbol, Token};
 use std::alloc::Global;
 

@@ -1,14 +1,13 @@
 //! Which events the market refuses.
 ghost use Rattle.std.specs.Prelude.{◌≡◌, ◌<◌, IfOk, OnOk, IfErr, IfSome, IfNone, OnSome, Some, None, true, false};
 ghost use Rattle.std.specs.Option.{option_map};
-ghost use Rattle.hx_market.specs.Admitting.{known_member, is_from_stranger, limit_of, refusal};
-ghost use Rattle.hx_market.specs.Steps.{sender, time_of};
+ghost use Rattle.hx_rules.specs.Admitting.{known_member, is_from_stranger, limit_of, refusal};
+ghost use Rattle.hx_rules.specs.Steps.{sender, time_of};
 ghost use Rattle.hx_market.specs.Ready.{MayRecord};
 
-use crate::event::Event;
-use crate::fault::PrepareError;
 use crate::recorded::Recorded;
 use hx_members::{Member, Setup};
+use hx_rules::{Event, PrepareError};
 use hx_units::{MemberNo, Nanos};
 
 // The member of a number.

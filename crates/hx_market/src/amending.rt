@@ -3,20 +3,20 @@ ghost use Rattle.std.specs.Prelude.{◌≡◌, ◌<◌, ◌≤◌, ℕ, List, So
 ghost use Rattle.hx_members.specs.Setups.{Setup as SetupOf, symbol_of};
 ghost use Rattle.hx_members.specs.Chains.{Used, Chain, is_used, entered_of, executed_by};
 ghost use Rattle.hx_levels.specs.declared.order.Live.{Live as LiveOrder};
-ghost use Rattle.hx_market.specs.Markets.{Market};
+ghost use Rattle.hx_rules.specs.Markets.{Market};
 ghost use Rattle.hx_refs.specs.Numbers.{Numbers};
-ghost use Rattle.hx_market.specs.Replacing.{replace, replace_fails, replaced_if, executed_of};
-ghost use Rattle.hx_market.specs.Cancelling.{cancel, cancelled_shares};
+ghost use Rattle.hx_rules.specs.Replacing.{replace, replace_fails, replaced_if, executed_of};
+ghost use Rattle.hx_rules.specs.Cancelling.{cancel, cancelled_shares};
 ghost use Rattle.hx_market.specs.Keeping.{AreKeyed};
 ghost use Rattle.hx_market.specs.Acts.{IsAct, IsOf, SuitsTokens, IsAbout, IsOnly, outcome_of};
 ghost use Rattle.hx_market.specs.Ready.{market_of};
 
 use crate::acting::{Act, Cancelling, Failing, Replacing};
 use crate::finding::{Found, find_order};
-use crate::rules::replace_fails;
 use hx_levels::Book;
 use hx_members::{Setup, Tokens};
 use hx_ouch::{Cancel, Replace};
+use hx_rules::replace_fails;
 use hx_units::{MemberNo, Price, Symbol};
 
 // The name of the stock with this number.

@@ -4,18 +4,18 @@ ghost use Rattle.std.specs.Vec.{vec_len, vec_capacity};
 ghost use Rattle.hx_levels.specs.Book.{lives, terms_of};
 ghost use Rattle.hx_match.specs.Executing.{done_by, left_by, AreGood};
 ghost use Rattle.hx_members.specs.Chains.{is_used, place_of};
-ghost use Rattle.hx_market.specs.Executions.{feed_of_executions, replies_of_executions, resting_of, displays, canceled_of};
+ghost use Rattle.hx_rules.specs.Executions.{feed_of_executions, replies_of_executions, resting_of, displays, canceled_of};
 ghost use Rattle.hx_market.specs.Keeping.{AreKeyed, AreBefore, CanNote, CanNoteAll, chains_by, noted_if};
 ghost use Rattle.hx_market.specs.Ready.{listed};
 
 use crate::executing::{Taker, execute};
-use crate::output::Output;
 use crate::settling::rest_order;
 use crate::telling::tell_canceled;
 use hx_levels::{Book, Order};
 use hx_match::Fill;
 use hx_members::Tokens;
 use hx_refs::Refs;
+use hx_rules::Output;
 
 // The order with so many open shares.
 fn with_shares(order: &Order, shares: u32) -> Order

@@ -3,15 +3,15 @@ ghost use Rattle.std.specs.Prelude.{◌≡◌, ◌<◌, ◌++◌, [], ◌∷◌}
 ghost use Rattle.std.specs.Vec.{vec_len, vec_capacity};
 ghost use Rattle.hx_levels.specs.Book.{lives};
 ghost use Rattle.hx_members.specs.Tokens.{TokenList};
-ghost use Rattle.hx_market.specs.Leaving.{lessened, taken_off, canceled};
+ghost use Rattle.hx_rules.specs.Leaving.{lessened, taken_off, canceled};
 ghost use Rattle.hx_market.specs.Keeping.{AreKeyed};
 ghost use Rattle.hx_market.specs.Acts.{IsOnly, IsCancelling};
 
 use crate::acting::Cancelling;
-use crate::output::Output;
 use crate::telling::{delete, tell_canceled};
 use hx_itch::{Feed, OrderCancel};
 use hx_levels::Book;
+use hx_rules::Output;
 
 // Takes the shares off, or the order out.
 fn take_off<B: Book>(book: &mut B, act: &Cancelling)

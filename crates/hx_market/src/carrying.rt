@@ -12,13 +12,13 @@ use crate::accepting::accept;
 use crate::acting::{Act, Rejecting};
 use crate::cancelling::cancel;
 use crate::ending::end;
-use crate::output::Output;
 use crate::replacing::{fail, replace};
 use hx_levels::Book;
 use hx_match::Fill;
 use hx_members::Tokens;
 use hx_ouch::{Outbound, Rejected};
 use hx_refs::Refs;
+use hx_rules::Output;
 
 // An Enter is rejected: its token is used, and its member told.
 fn reject(tokens: &mut Tokens, out: &mut Output, act: &Rejecting)

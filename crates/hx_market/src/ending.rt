@@ -8,18 +8,18 @@ ghost use Rattle.hx_members.specs.Tokens.{TokenList};
 ghost use Rattle.hx_members.specs.Setups.{Setup as SetupOf};
 ghost use Rattle.hx_refs.specs.Numbers.{Numbers};
 ghost use Rattle.hx_market.specs.Keeping.{AreKeyed};
-ghost use Rattle.hx_market.specs.Leaving.{deleted, canceled};
-ghost use Rattle.hx_market.specs.Ending.{is_over, is_to_market, tick, next_hours, is_next, directory, to_all, told_by_code, all_deleted, end_orders};
+ghost use Rattle.hx_rules.specs.Leaving.{deleted, canceled};
+ghost use Rattle.hx_rules.specs.Ending.{is_over, is_to_market, tick, next_hours, is_next, directory, to_all, told_by_code, all_deleted, end_orders};
 ghost use Rattle.hx_market.specs.Acts.{IsAct, IsOf, SuitsTokens, IsAbout, IsEnding, is_due, outcome_of};
 ghost use Rattle.hx_market.specs.Ready.{market_of};
 
 use crate::acting::{Act, Due, Ending};
-use crate::output::Output;
 use crate::telling::{delete, tell_canceled};
 use hx_itch::{Feed, StockDirectory, SystemEvent};
 use hx_levels::{Book, Life, Live, Order};
 use hx_members::{Member, Setup, Stock};
 use hx_ouch::Outbound;
+use hx_rules::Output;
 use hx_units::{MemberNo, NoMemory};
 use std::alloc::Global;
 

@@ -3,16 +3,16 @@ ghost use Rattle.std.specs.Prelude.{◌≡◌, ◌+◌, ◌*◌, ◌<◌, ◌≤
 ghost use Rattle.std.specs.Vec.{vec_len, vec_capacity};
 ghost use Rattle.hx_levels.specs.Book.{order_of};
 ghost use Rattle.hx_match.specs.Executing.{taken, done_by, left_by, AreGood};
-ghost use Rattle.hx_market.specs.Executions.{feed_of_execution, feed_of_executions, to_maker, to_taker, replies_of_executions};
+ghost use Rattle.hx_rules.specs.Executions.{feed_of_execution, feed_of_executions, to_maker, to_taker, replies_of_executions};
 ghost use Rattle.hx_market.specs.Keeping.{CanNoteAll, chains_by};
 
-use crate::output::Output;
 use hx_itch::{Feed, OrderExecuted, Trade};
 use hx_levels::{Book, Order};
 use hx_match::Fill;
 use hx_members::Tokens;
 use hx_ouch::{Executed, Outbound};
 use hx_refs::Refs;
+use hx_rules::Output;
 use hx_units::{MemberNo, Symbol, Token};
 
 /// The incoming order, as its executions tell of it.

@@ -4,7 +4,7 @@ ghost use Rattle.std.specs.Option.{option_map};
 ghost use Rattle.std.specs.List.{find};
 ghost use Rattle.hx_levels.specs.Book.{lives, order_of, KeysDiffer};
 ghost use Rattle.hx_members.specs.Chains.{entered_of, executed_by};
-ghost use Rattle.hx_market.specs.Orders.{is_called};
+ghost use Rattle.hx_rules.specs.Orders.{is_called};
 ghost use Rattle.hx_market.specs.Keeping.{AreKeyed};
 ghost use Rattle.hx_market.specs.Acts.{IsOnly, confirmed};
 

@@ -2,24 +2,22 @@
 ghost use Rattle.std.specs.Prelude.{◌≡◌, ◌<◌, ◌^◌, [], Some, None, IfOk, OnOk, OnErr, IfErr, length, map};
 ghost use Rattle.std.specs.List.{AllByRecursion};
 ghost use Rattle.hx_itch.specs.Message.{feed_time};
-ghost use Rattle.hx_market.specs.Admitting.{refusal, or_no_memory};
-ghost use Rattle.hx_market.specs.Markets.{opening, opening_hours};
-ghost use Rattle.hx_market.specs.Steps.{step};
+ghost use Rattle.hx_rules.specs.Admitting.{refusal, or_no_memory};
+ghost use Rattle.hx_rules.specs.Markets.{opening, opening_hours};
+ghost use Rattle.hx_rules.specs.Steps.{step};
 ghost use Rattle.hx_market.specs.Acts.{hours_after};
 ghost use Rattle.hx_market.specs.Ready.{chain_facts};
 
 use crate::acting::Act;
 use crate::carrying::carry_out;
-use crate::event::Event;
-use crate::fault::PrepareError;
 use crate::known::Known;
 use crate::listing::list_orders;
-use crate::output::Output;
 use crate::prepared::{Prepared, make};
 use crate::recorded::Recorded;
 use hx_levels::{Book, Order};
 use hx_members::{ChainFacts, Setup, Tokens};
 use hx_refs::Refs;
+use hx_rules::{Event, Output, PrepareError};
 use hx_units::{MemberNo, NoMemory, Token};
 use std::alloc::Global;
 use std::marker::Model;
@@ -171,6 +169,13 @@ impl<B: Book + Drop> Market<B> {
             left,
         );
         out
+    }
+
+    /// How many of the hours codes `O`, `S`, `Q`, `M`, `E`, `C` are past.
+    pub fn hours(&self) -> u8
+        ensures { result ≡ self.now.market.hours }
+    {
+        self.hours
     }
 
     /// What the chain of a token has done; none where the member has not used the token.

@@ -4,18 +4,17 @@ ghost use Rattle.hx_levels.specs.Book.{order_of, without, KeysDiffer};
 ghost use Rattle.hx_match.specs.Matching.{terms, matched_live};
 ghost use Rattle.hx_match.specs.Executing.{fills_of};
 ghost use Rattle.hx_match.specs.Rules.{AreFills};
-ghost use Rattle.hx_market.specs.Orders.{is_immediate, is_shown};
+ghost use Rattle.hx_rules.specs.Orders.{is_immediate, is_shown};
 ghost use Rattle.hx_market.specs.Acts.{IsReplacing, IsInRange, IsAbout, incoming_of_accepting, terms_of_accepting, incoming_of_replacing, terms_of_replacing};
 ghost use Rattle.hx_market.specs.Ready.{HasRoom, HasPlaces, act_feed_count, act_members, makers_and, arrival_members, arrival_count, one_if, replaced_count};
 
 use crate::acting::{Accepting, Act, Replacing};
-use crate::output::Output;
 use crate::replacing::is_one_display;
-use crate::rules::is_shown;
 use hx_levels::Book;
 use hx_match::{Fill, Incoming, Plan, plan};
 use hx_members::Tokens;
 use hx_ouch::Outbound;
+use hx_rules::{Output, is_shown};
 use hx_units::{MemberNo, NoMemory};
 use std::alloc::Global;
 

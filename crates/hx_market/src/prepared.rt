@@ -1,20 +1,18 @@
 //! What the market prepared for an event.
 ghost use Rattle.std.specs.Prelude.{◌≡◌, ◌+◌, ◌<◌, ◌≤◌, ◌^◌, Some, None, IfOk, OnOk, OnErr, IfErr, length, []};
 ghost use Rattle.hx_refs.specs.Numbers.{Numbers};
-ghost use Rattle.hx_market.specs.Admitting.{refusal, or_no_memory};
+ghost use Rattle.hx_rules.specs.Admitting.{refusal, or_no_memory};
 ghost use Rattle.hx_market.specs.Keeping.{AreKeyed};
 ghost use Rattle.hx_market.specs.Ready.{HasRoom, IsPlanned, market_of};
 
 use crate::acting::{Act, act_of};
 use crate::admitting::admit;
-use crate::event::Event;
-use crate::fault::PrepareError;
-use crate::output::Output;
 use crate::planning::{draft_act, room_for};
 use crate::recorded::Recorded;
 use hx_levels::Book;
 use hx_match::Fill;
 use hx_members::{Setup, Tokens};
+use hx_rules::{Event, Output, PrepareError};
 use hx_units::MemberNo;
 use std::alloc::Global;
 use std::marker::Model;

@@ -1,7 +1,7 @@
 //! How many events are recorded.
 ghost use Rattle.std.specs.Prelude.{◌≡◌, ◌<◌, IfOk, slice_index};
 ghost use Rattle.hx_refs.specs.Numbers.{raised};
-ghost use Rattle.hx_market.specs.Markets.{no_counts};
+ghost use Rattle.hx_rules.specs.Markets.{no_counts};
 ghost use Rattle.hx_market.specs.Ready.{MayRecord};
 
 use hx_units::NoMemory;

@@ -7,9 +7,9 @@ ghost use Rattle.hx_members.specs.Chains.{is_used, entered_of, entered_at, place
 ghost use Rattle.hx_units.specs.declared.names.Token.{Token as EnteredToken};
 ghost use Rattle.hx_itch.specs.declared.message.Feed.TheVariants.{OrderReplace as ToReplace};
 ghost use Rattle.hx_market.specs.declared.acting.Act.TheVariants.{Fail, Replace as ToReplaceBy};
-ghost use Rattle.hx_market.specs.Executions.{published, shown_of};
-ghost use Rattle.hx_market.specs.Leaving.{others, deleted, canceled};
-ghost use Rattle.hx_market.specs.Replacing.{replaced_of, is_one_display};
+ghost use Rattle.hx_rules.specs.Executions.{published, shown_of};
+ghost use Rattle.hx_rules.specs.Leaving.{others, deleted, canceled};
+ghost use Rattle.hx_rules.specs.Replacing.{replaced_of, is_one_display};
 ghost use Rattle.hx_market.specs.Keeping.{AreKeyed, AreBefore};
 ghost use Rattle.hx_market.specs.Acts.{IsOnly, IsReplacing, incoming_of_replacing, terms_of_replacing, order_by_replacing};
 ghost use Rattle.hx_market.specs.Ready.{HasRoom, HasRoomToReplace, IsChainOf, listed, name_of, market_of, outcome_over};
@@ -18,8 +18,6 @@ use crate::accepting::draw;
 use crate::acting::{Failing, Replacing};
 use crate::arriving::arrive;
 use crate::executing::Taker;
-use crate::output::Output;
-use crate::rules::{is_shown, life_of};
 use crate::telling::{delete, publish, tell_canceled};
 use hx_itch::{Feed, OrderReplace};
 use hx_levels::{Book, Key, Order};
@@ -27,6 +25,7 @@ use hx_match::Fill;
 use hx_members::Tokens;
 use hx_ouch::{Outbound, Replaced};
 use hx_refs::Refs;
+use hx_rules::{Output, is_shown, life_of};
 use hx_units::{MemberNo, Token};
 
 // The replacement token is used, in the chain of the existing one, and the existing order is gone.

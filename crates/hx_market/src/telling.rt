@@ -1,15 +1,14 @@
 //! What an event tells, message by message.
 ghost use Rattle.std.specs.Prelude.{◌≡◌, ◌+◌, ◌<◌, ◌≤◌, ◌++◌, [], ◌∷◌, map};
 ghost use Rattle.std.specs.Vec.{vec_len, vec_capacity};
-ghost use Rattle.hx_market.specs.Executions.{published, shown_of};
-ghost use Rattle.hx_market.specs.Leaving.{deleted, canceled};
+ghost use Rattle.hx_rules.specs.Executions.{published, shown_of};
+ghost use Rattle.hx_rules.specs.Leaving.{deleted, canceled};
 ghost use Rattle.hx_market.specs.Ready.{listed};
 
-use crate::output::Output;
-use crate::rules::published_side;
 use hx_itch::{AddOrder, AddOrderWithAttribution, Feed, OrderDelete};
 use hx_levels::Order;
 use hx_ouch::{Canceled, Outbound};
+use hx_rules::{Output, published_side};
 use hx_units::{MemberNo, Symbol, Token};
 
 // In the feed: an order that rests.

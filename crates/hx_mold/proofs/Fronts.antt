@@ -10,7 +10,8 @@ use Rattle.std.proofs.lemmas.Grind.{flat_map-append}
 use Rattle.std.specs.List.{AllByRecursion}
 use Rattle.hx_mold.specs.declared.packet.MoldPacket.TheVariants as mold
 use Rattle.hx_mold.specs.Packets.{block, blocks, header, IsShort, IsHeader, SpellsPacket}
-use Rattle.hx_mold.specs.Fronts.{texts, wanted, IsFront, message_at, CutsInto, Gathers}
+use Rattle.hx_units.specs.Fields.{texts}
+use Rattle.hx_mold.specs.Fronts.{wanted, IsFront, message_at, CutsInto, Gathers}
 use Rattle.hx_mold.specs.Filling.{Holds, Fills}
 use Rattle.hx_mold.proofs.Laws.{length-block, less_one}
 use Rattle.hx_mold.proofs.Codecs.{if_true}

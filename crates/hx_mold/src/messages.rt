@@ -1,15 +1,15 @@
 //! Numbered messages, and packets of them.
-ghost use Rattle.std.specs.Prelude.{◌≡◌, ◌≤◌, ◌<◌, ◌+◌, ◌-◌, ◌^◌, ◌++◌, List, ℕ, [], true, false, length, option_map, IfSome, IfNone, IfOk, map};
-ghost use Rattle.hx_mold.specs.Packets.{block, header, IsHeader};
-ghost use Rattle.hx_mold.specs.Fronts.{texts, message_at, wanted, CutsInto, Gathers, Answers, NoneThere};
+ghost use Rattle.std.specs.Prelude.{◌≡◌, ◌≤◌, ◌<◌, ◌+◌, ◌-◌, ◌^◌, ◌++◌, List, ℕ, [], true, false, length, option_map, IfSome, IfNone, IfOk};
+ghost use Rattle.hx_mold.specs.Packets.{room, block, header, IsHeader};
+ghost use Rattle.hx_units.specs.Fields.{texts};
+ghost use Rattle.hx_mold.specs.Fronts.{Grows, message_at, wanted, CutsInto, Gathers, Answers, NoneThere};
 ghost use Rattle.hx_mold.specs.Filling.{Fills};
 
 use crate::packet::write_header;
-use crate::put;
 use crate::request::Request;
 use arrayvec::ArrayVec;
 use hx_units::NoMemory;
-use hx_units::fields::u16_bytes;
+use hx_units::fields::{put, u16_bytes};
 use std::alloc::Global;
 
 // The bytes that blocks may fill in a packet: 1,400 less the header.
@@ -21,23 +21,31 @@ pub trait Messages {
     /// The messages that can be asked for.
     ghost messages: { Self → List (List ℕ) };
 
+    /// The second is what one look at its source makes of the first: a list of its own stays as it is.
+    ghost counted: { Self → Self → Type 0 };
+
     /// Looks how many there are now. There may be more than before.
     fn count(&mut self) -> u64
-        ensures grows { (more : List (List ℕ)) × (messages self.new ≡ messages self.old ++ more) }
+        ensures looks { counted self.old self.new }
+        ensures grows { Grows (messages self.old) (messages self.new) }
         ensures count { result ≡ length (messages self.new) }
         ensures few { result < 2 ^ 64 - 1 };
 
     /// The message of number `n`, or none where `n` is 0 or above what was counted last. It changes nothing.
     fn get(&mut self, n: u64) -> Option<ArrayVec<u8, 44>>
         ensures found { option_map (λ m. m.items) result ≡ message_at n (messages self.old) }
-        ensures same { messages self.new ≡ messages self.old };
+        ensures same { self.new ≡ self.old };
 }
 
 // Appends a message's block where it fits.
 fn add(body: &mut ArrayVec<u8, 1380>, message: &ArrayVec<u8, 44>) -> bool
-    ensures yes { result ≡ true → (body.new.items ≡ body.old.items ++ block message.now.items) × (length body.new.items ≤ 1380) }
+    ensures yes { result ≡ true →
+        (body.new.items ≡ body.old.items ++ block message.now.items)
+        × (length body.new.items ≤ room) }
     ensures first { body.old.items ≡ [] → result ≡ true }
-    ensures no { result ≡ false → (body.new.items ≡ body.old.items) × (1380 < length (body.old.items ++ block message.now.items)) }
+    ensures no { result ≡ false →
+        (body.new.items ≡ body.old.items)
+        × (room < length (body.old.items ++ block message.now.items)) }
 {
     if body.len() + 2 + message.len() > ROOM {
         return false;
@@ -87,7 +95,8 @@ pub fn cut(
     messages: &[ArrayVec<u8, 44>],
 ) -> Result<Vec<ArrayVec<u8, 1400>>, NoMemory>
     requires { first + length messages.now ≤ 2 ^ 64 }
-    ensures { IfOk result (λ packets. CutsInto session first (texts messages.now) (map (λ p. p.items) packets.items)) }
+    ensures { IfOk result (λ packets.
+        CutsInto session first (texts messages.now) (texts packets.items)) }
 {
     let mut packets = Vec::new(alloc);
     let mut done = 0;
@@ -112,7 +121,7 @@ fn collect<M: Messages>(
     requires first { 0 < first }
     requires total { total ≡ length (M.messages messages.old) }
     requires few { total < 2 ^ 64 - 1 }
-    ensures same { M.messages messages.new ≡ M.messages messages.old }
+    ensures same { messages.new ≡ messages.old }
     ensures fills { Fills result body.new.items (wanted first most (M.messages messages.old)) }
 {
     let mut count: u16 = 0;
@@ -132,16 +141,18 @@ fn collect<M: Messages>(
 
 /// The packet of the messages from number `first` on, at most `most` of them and as many as fit into 1,400
 /// bytes, and how many it brings; or none for number 0, for 0 messages, and where message `first` is not
-/// there yet. The messages are counted first. It takes no memory.
+/// there yet. The messages are counted once, first. It takes no memory.
 pub fn gather<M: Messages>(
     session: [u8; 10],
     messages: &mut M,
     first: u64,
     most: u16,
 ) -> Option<(ArrayVec<u8, 1400>, u16)>
-    ensures grows { (more : List (List ℕ)) × (M.messages messages.new ≡ M.messages messages.old ++ more) }
+    ensures looks { M.counted messages.old messages.new }
+    ensures grows { Grows (M.messages messages.old) (M.messages messages.new) }
     ensures few { length (M.messages messages.new) < 2 ^ 64 - 1 }
-    ensures some { IfSome result (λ p. (0 < first) × Gathers session first most (M.messages messages.new) p.0.items p.1) }
+    ensures some { IfSome result (λ p.
+        (0 < first) × Gathers session first most (M.messages messages.new) p.0.items p.1) }
     ensures within { IfSome result (λ p. first + p.1 ≤ length (M.messages messages.new) + 1) }
     ensures none { IfNone result (NoneThere first most (M.messages messages.new)) }
 {
@@ -159,15 +170,17 @@ pub fn gather<M: Messages>(
 
 /// The answer to a request (MoldUDP64 1.00, Request Packet): one packet with as many messages as were asked
 /// for, are there and fit into 1,400 bytes, from the one asked for on; or none for another session, for
-/// count 0, for number 0, and for a number that is not there yet. The messages are counted first. It takes
-/// no memory.
+/// count 0, for number 0, and for a number that is not there yet. The messages are counted once, first. It
+/// takes no memory.
 pub fn answer<M: Messages>(
     session: [u8; 10],
     messages: &mut M,
     request: &Request,
 ) -> Option<ArrayVec<u8, 1400>>
-    ensures grows { (more : List (List ℕ)) × (M.messages messages.new ≡ M.messages messages.old ++ more) }
-    ensures answers { Answers session request.now (M.messages messages.new) (option_map (λ p. p.items) result) }
+    ensures looks { M.counted messages.old messages.new }
+    ensures grows { Grows (M.messages messages.old) (M.messages messages.new) }
+    ensures answers { Answers session request.now (M.messages messages.new)
+        (option_map (λ p. p.items) result) }
 {
     if request.session != session {
         let _ = messages.count();

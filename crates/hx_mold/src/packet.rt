@@ -5,9 +5,8 @@ ghost use Rattle.hx_mold.specs.Packets.{header, SpellsPacket};
 ghost use Rattle.hx_mold.specs.Reading.{packet_of};
 
 use crate::blocks::{Blocks, are_blocks};
-use crate::put;
 use arrayvec::ArrayVec;
-use hx_units::fields::{array_at, u16_at, u16_bytes, u64_at, u64_bytes};
+use hx_units::fields::{array_at, put, u16_at, u16_bytes, u64_at, u64_bytes};
 
 // The message count that ends a session.
 const END: u16 = 65_535;

@@ -1,5 +1,6 @@
 -- A message from a member (OUCH 4.2, Inbound Messages): what its bytes say, and how it is written.
 use Rattle.std.specs.Prelude.{ℕ, ◌^◌, ◌<◌, ◌≡◌, ◌∷◌, ◌++◌, List, [], Option, Some, None, length, Bool, ◌||◌, if◌then◌else◌}
+use Rattle.hx_ouch.specs.InboundKinds.{enter_order, replace_order, cancel_order}
 use Rattle.hx_units.specs.Fields.{is_message, byte_at, text_at, number_at, spelled}
 use Rattle.hx_ouch.specs.declared.inbound.Enter.{Enter}
 use Rattle.hx_ouch.specs.declared.inbound.Replace.{Replace}
@@ -7,8 +8,13 @@ use Rattle.hx_ouch.specs.declared.inbound.Cancel.{Cancel}
 use Rattle.hx_ouch.specs.declared.inbound.Inbound.{Inbound}
 use Rattle.hx_ouch.specs.declared.inbound.Inbound.TheVariants as variant
 
--- ---- Enter Order, 49 bytes of type O
+-- ---- Enter Order, 49 bytes of type O (OUCH 4.2, Enter Order)
 
+-- whether the bytes are one, by their length and type
+abbrev pub is_enter : List ℕ → Bool
+is_enter bytes = is_message 49 enter_order bytes
+
+-- what its bytes say: each field at its place
 abbrev pub enter_of : List ℕ → Enter
 enter_of bytes = record {
   token = record { 0 = text_at 1 14 bytes };
@@ -26,12 +32,14 @@ enter_of bytes = record {
   customer_type = byte_at 48 bytes;
 }
 
+-- its bytes: field after field
 abbrev pub enter_bytes : Enter → List ℕ
-enter_bytes m = (79 ∷ []) ++ m.token.0 ++ (m.side ∷ []) ++ spelled 4 m.shares ++ m.stock.0
+enter_bytes m = (enter_order ∷ []) ++ m.token.0 ++ (m.side ∷ []) ++ spelled 4 m.shares ++ m.stock.0
     ++ spelled 4 m.price ++ spelled 4 m.time_in_force ++ m.firm.0 ++ (m.display ∷ [])
     ++ (m.capacity ∷ []) ++ (m.intermarket_sweep ∷ []) ++ spelled 4 m.minimum_quantity
     ++ (m.cross_type ∷ []) ++ (m.customer_type ∷ [])
 
+-- its numbers fit into their bytes, and its names have their lengths
 pub record IsEnter (m : Enter) : Type 0 where
   pub token : length m.token.0 ≡ 14
   pub shares : m.shares < 2 ^ 32
@@ -41,8 +49,13 @@ pub record IsEnter (m : Enter) : Type 0 where
   pub firm : length m.firm.0 ≡ 4
   pub minimum_quantity : m.minimum_quantity < 2 ^ 32
 
--- ---- Replace Order, 47 bytes of type U
+-- ---- Replace Order, 47 bytes of type U (OUCH 4.2, Replace Order)
 
+-- whether the bytes are one, by their length and type
+abbrev pub is_replace : List ℕ → Bool
+is_replace bytes = is_message 47 replace_order bytes
+
+-- what its bytes say: each field at its place
 abbrev pub replace_of : List ℕ → Replace
 replace_of bytes = record {
   existing_token = record { 0 = text_at 1 14 bytes };
@@ -55,11 +68,13 @@ replace_of bytes = record {
   minimum_quantity = number_at 43 4 bytes;
 }
 
+-- its bytes: field after field
 abbrev pub replace_bytes : Replace → List ℕ
-replace_bytes m = (85 ∷ []) ++ m.existing_token.0 ++ m.replacement_token.0 ++ spelled 4 m.shares
-    ++ spelled 4 m.price ++ spelled 4 m.time_in_force ++ (m.display ∷ [])
+replace_bytes m = (replace_order ∷ []) ++ m.existing_token.0 ++ m.replacement_token.0
+    ++ spelled 4 m.shares ++ spelled 4 m.price ++ spelled 4 m.time_in_force ++ (m.display ∷ [])
     ++ (m.intermarket_sweep ∷ []) ++ spelled 4 m.minimum_quantity
 
+-- its numbers fit into their bytes, and its names have their lengths
 pub record IsReplace (m : Replace) : Type 0 where
   pub existing_token : length m.existing_token.0 ≡ 14
   pub replacement_token : length m.replacement_token.0 ≡ 14
@@ -68,17 +83,24 @@ pub record IsReplace (m : Replace) : Type 0 where
   pub time_in_force : m.time_in_force < 2 ^ 32
   pub minimum_quantity : m.minimum_quantity < 2 ^ 32
 
--- ---- Cancel Order, 19 bytes of type X
+-- ---- Cancel Order, 19 bytes of type X (OUCH 4.2, Cancel Order)
 
+-- whether the bytes are one, by their length and type
+abbrev pub is_cancel : List ℕ → Bool
+is_cancel bytes = is_message 19 cancel_order bytes
+
+-- what its bytes say: each field at its place
 abbrev pub cancel_of : List ℕ → Cancel
 cancel_of bytes = record {
   token = record { 0 = text_at 1 14 bytes };
   shares = number_at 15 4 bytes;
 }
 
+-- its bytes: field after field
 abbrev pub cancel_bytes : Cancel → List ℕ
-cancel_bytes m = (88 ∷ []) ++ m.token.0 ++ spelled 4 m.shares
+cancel_bytes m = (cancel_order ∷ []) ++ m.token.0 ++ spelled 4 m.shares
 
+-- its numbers fit into their bytes, and its names have their lengths
 pub record IsCancel (m : Cancel) : Type 0 where
   pub token : length m.token.0 ≡ 14
   pub shares : m.shares < 2 ^ 32
@@ -88,14 +110,14 @@ pub record IsCancel (m : Cancel) : Type 0 where
 -- what the bytes say
 abbrev pub inbound_of : List ℕ → Option Inbound
 inbound_of bytes =
-    if is_message 49 79 bytes then Some (variant.Enter (enter_of bytes))
-    else if is_message 47 85 bytes then Some (variant.Replace (replace_of bytes))
-    else if is_message 19 88 bytes then Some (variant.Cancel (cancel_of bytes))
+    if is_enter bytes then Some (variant.Enter (enter_of bytes))
+    else if is_replace bytes then Some (variant.Replace (replace_of bytes))
+    else if is_cancel bytes then Some (variant.Cancel (cancel_of bytes))
     else None
 
 -- whether they are a message at all, by their length and type
 abbrev pub is_inbound : List ℕ → Bool
-is_inbound bytes = is_message 49 79 bytes || is_message 47 85 bytes || is_message 19 88 bytes
+is_inbound bytes = is_enter bytes || is_replace bytes || is_cancel bytes
 
 -- the spelling that is written
 abbrev pub inbound_bytes : Inbound → List ℕ

@@ -1,2 +1,4 @@
+pub mod InboundKinds
 pub mod Inbound
+pub mod OutboundKinds
 pub mod Outbound

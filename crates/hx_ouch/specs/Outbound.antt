@@ -1,5 +1,6 @@
 -- A reply to a member (OUCH 4.2, Outbound Messages): what its bytes say, and how it is written.
 use Rattle.std.specs.Prelude.{ℕ, ◌^◌, ◌<◌, ◌≡◌, ◌∷◌, ◌++◌, List, [], Option, Some, None, length, Bool, ◌||◌, if◌then◌else◌}
+use Rattle.hx_ouch.specs.OutboundKinds.{system_event, accepted, replaced, canceled, executed, rejected}
 use Rattle.hx_units.specs.Fields.{is_message, byte_at, text_at, number_at, spelled}
 use Rattle.hx_ouch.specs.declared.outbound.SystemEvent.{SystemEvent}
 use Rattle.hx_ouch.specs.declared.outbound.Accepted.{Accepted}
@@ -10,22 +11,34 @@ use Rattle.hx_ouch.specs.declared.outbound.Rejected.{Rejected}
 use Rattle.hx_ouch.specs.declared.outbound.Outbound.{Outbound}
 use Rattle.hx_ouch.specs.declared.outbound.Outbound.TheVariants as variant
 
--- ---- System Event, 10 bytes of type S
+-- ---- System Event, 10 bytes of type S (OUCH 4.2, System Event)
 
+-- whether the bytes are one, by their length and type
+abbrev pub is_system_event : List ℕ → Bool
+is_system_event bytes = is_message 10 system_event bytes
+
+-- what its bytes say: each field at its place
 abbrev pub system_event_of : List ℕ → SystemEvent
 system_event_of bytes = record {
   time = number_at 1 8 bytes;
   event_code = byte_at 9 bytes;
 }
 
+-- its bytes: field after field
 abbrev pub system_event_bytes : SystemEvent → List ℕ
-system_event_bytes m = (83 ∷ []) ++ spelled 8 m.time ++ (m.event_code ∷ [])
+system_event_bytes m = (system_event ∷ []) ++ spelled 8 m.time ++ (m.event_code ∷ [])
 
+-- its numbers fit into their bytes, and its names have their lengths
 pub record IsSystemEvent (m : SystemEvent) : Type 0 where
   pub time : m.time < 2 ^ 64
 
--- ---- Accepted, 66 bytes of type A
+-- ---- Accepted, 66 bytes of type A (OUCH 4.2, Accepted)
 
+-- whether the bytes are one, by their length and type
+abbrev pub is_accepted : List ℕ → Bool
+is_accepted bytes = is_message 66 accepted bytes
+
+-- what its bytes say: each field at its place
 abbrev pub accepted_of : List ℕ → Accepted
 accepted_of bytes = record {
   time = number_at 1 8 bytes;
@@ -46,13 +59,15 @@ accepted_of bytes = record {
   bbo_weight = byte_at 65 bytes;
 }
 
+-- its bytes: field after field
 abbrev pub accepted_bytes : Accepted → List ℕ
-accepted_bytes m = (65 ∷ []) ++ spelled 8 m.time ++ m.token.0 ++ (m.side ∷ []) ++ spelled 4 m.shares
-    ++ m.stock.0 ++ spelled 4 m.price ++ spelled 4 m.time_in_force ++ m.firm.0 ++ (m.display ∷ [])
+accepted_bytes m = (accepted ∷ []) ++ spelled 8 m.time ++ m.token.0 ++ (m.side ∷ [])
+    ++ spelled 4 m.shares ++ m.stock.0 ++ spelled 4 m.price ++ spelled 4 m.time_in_force ++ m.firm.0 ++ (m.display ∷ [])
     ++ spelled 8 m.reference ++ (m.capacity ∷ []) ++ (m.intermarket_sweep ∷ [])
     ++ spelled 4 m.minimum_quantity ++ (m.cross_type ∷ []) ++ (m.order_state ∷ [])
     ++ (m.bbo_weight ∷ [])
 
+-- its numbers fit into their bytes, and its names have their lengths
 pub record IsAccepted (m : Accepted) : Type 0 where
   pub time : m.time < 2 ^ 64
   pub token : length m.token.0 ≡ 14
@@ -64,8 +79,13 @@ pub record IsAccepted (m : Accepted) : Type 0 where
   pub reference : m.reference < 2 ^ 64
   pub minimum_quantity : m.minimum_quantity < 2 ^ 32
 
--- ---- Replaced, 80 bytes of type U
+-- ---- Replaced, 80 bytes of type U (OUCH 4.2, Replaced)
 
+-- whether the bytes are one, by their length and type
+abbrev pub is_replaced : List ℕ → Bool
+is_replaced bytes = is_message 80 replaced bytes
+
+-- what its bytes say: each field at its place
 abbrev pub replaced_of : List ℕ → Replaced
 replaced_of bytes = record {
   time = number_at 1 8 bytes;
@@ -87,13 +107,15 @@ replaced_of bytes = record {
   bbo_weight = byte_at 79 bytes;
 }
 
+-- its bytes: field after field
 abbrev pub replaced_bytes : Replaced → List ℕ
-replaced_bytes m = (85 ∷ []) ++ spelled 8 m.time ++ m.replacement_token.0 ++ (m.side ∷ [])
+replaced_bytes m = (replaced ∷ []) ++ spelled 8 m.time ++ m.replacement_token.0 ++ (m.side ∷ [])
     ++ spelled 4 m.shares ++ m.stock.0 ++ spelled 4 m.price ++ spelled 4 m.time_in_force ++ m.firm.0
     ++ (m.display ∷ []) ++ spelled 8 m.reference ++ (m.capacity ∷ []) ++ (m.intermarket_sweep ∷ [])
     ++ spelled 4 m.minimum_quantity ++ (m.cross_type ∷ []) ++ (m.order_state ∷ [])
     ++ m.previous_token.0 ++ (m.bbo_weight ∷ [])
 
+-- its numbers fit into their bytes, and its names have their lengths
 pub record IsReplaced (m : Replaced) : Type 0 where
   pub time : m.time < 2 ^ 64
   pub replacement_token : length m.replacement_token.0 ≡ 14
@@ -106,8 +128,13 @@ pub record IsReplaced (m : Replaced) : Type 0 where
   pub minimum_quantity : m.minimum_quantity < 2 ^ 32
   pub previous_token : length m.previous_token.0 ≡ 14
 
--- ---- Canceled, 28 bytes of type C
+-- ---- Canceled, 28 bytes of type C (OUCH 4.2, Canceled)
 
+-- whether the bytes are one, by their length and type
+abbrev pub is_canceled : List ℕ → Bool
+is_canceled bytes = is_message 28 canceled bytes
+
+-- what its bytes say: each field at its place
 abbrev pub canceled_of : List ℕ → Canceled
 canceled_of bytes = record {
   time = number_at 1 8 bytes;
@@ -116,17 +143,24 @@ canceled_of bytes = record {
   reason = byte_at 27 bytes;
 }
 
+-- its bytes: field after field
 abbrev pub canceled_bytes : Canceled → List ℕ
-canceled_bytes m = (67 ∷ []) ++ spelled 8 m.time ++ m.token.0 ++ spelled 4 m.shares
+canceled_bytes m = (canceled ∷ []) ++ spelled 8 m.time ++ m.token.0 ++ spelled 4 m.shares
     ++ (m.reason ∷ [])
 
+-- its numbers fit into their bytes, and its names have their lengths
 pub record IsCanceled (m : Canceled) : Type 0 where
   pub time : m.time < 2 ^ 64
   pub token : length m.token.0 ≡ 14
   pub shares : m.shares < 2 ^ 32
 
--- ---- Executed, 40 bytes of type E
+-- ---- Executed, 40 bytes of type E (OUCH 4.2, Executed)
 
+-- whether the bytes are one, by their length and type
+abbrev pub is_executed : List ℕ → Bool
+is_executed bytes = is_message 40 executed bytes
+
+-- what its bytes say: each field at its place
 abbrev pub executed_of : List ℕ → Executed
 executed_of bytes = record {
   time = number_at 1 8 bytes;
@@ -137,10 +171,12 @@ executed_of bytes = record {
   match_number = number_at 32 8 bytes;
 }
 
+-- its bytes: field after field
 abbrev pub executed_bytes : Executed → List ℕ
-executed_bytes m = (69 ∷ []) ++ spelled 8 m.time ++ m.token.0 ++ spelled 4 m.shares
+executed_bytes m = (executed ∷ []) ++ spelled 8 m.time ++ m.token.0 ++ spelled 4 m.shares
     ++ spelled 4 m.price ++ (m.liquidity_flag ∷ []) ++ spelled 8 m.match_number
 
+-- its numbers fit into their bytes, and its names have their lengths
 pub record IsExecuted (m : Executed) : Type 0 where
   pub time : m.time < 2 ^ 64
   pub token : length m.token.0 ≡ 14
@@ -148,8 +184,13 @@ pub record IsExecuted (m : Executed) : Type 0 where
   pub price : m.price < 2 ^ 32
   pub match_number : m.match_number < 2 ^ 64
 
--- ---- Rejected, 24 bytes of type J
+-- ---- Rejected, 24 bytes of type J (OUCH 4.2, Rejected)
 
+-- whether the bytes are one, by their length and type
+abbrev pub is_rejected : List ℕ → Bool
+is_rejected bytes = is_message 24 rejected bytes
+
+-- what its bytes say: each field at its place
 abbrev pub rejected_of : List ℕ → Rejected
 rejected_of bytes = record {
   time = number_at 1 8 bytes;
@@ -157,9 +198,11 @@ rejected_of bytes = record {
   reason = byte_at 23 bytes;
 }
 
+-- its bytes: field after field
 abbrev pub rejected_bytes : Rejected → List ℕ
-rejected_bytes m = (74 ∷ []) ++ spelled 8 m.time ++ m.token.0 ++ (m.reason ∷ [])
+rejected_bytes m = (rejected ∷ []) ++ spelled 8 m.time ++ m.token.0 ++ (m.reason ∷ [])
 
+-- its numbers fit into their bytes, and its names have their lengths
 pub record IsRejected (m : Rejected) : Type 0 where
   pub time : m.time < 2 ^ 64
   pub token : length m.token.0 ≡ 14
@@ -169,18 +212,18 @@ pub record IsRejected (m : Rejected) : Type 0 where
 -- what the bytes say
 abbrev pub outbound_of : List ℕ → Option Outbound
 outbound_of bytes =
-    if is_message 10 83 bytes then Some (variant.SystemEvent (system_event_of bytes))
-    else if is_message 66 65 bytes then Some (variant.Accepted (accepted_of bytes))
-    else if is_message 80 85 bytes then Some (variant.Replaced (replaced_of bytes))
-    else if is_message 28 67 bytes then Some (variant.Canceled (canceled_of bytes))
-    else if is_message 40 69 bytes then Some (variant.Executed (executed_of bytes))
-    else if is_message 24 74 bytes then Some (variant.Rejected (rejected_of bytes))
+    if is_system_event bytes then Some (variant.SystemEvent (system_event_of bytes))
+    else if is_accepted bytes then Some (variant.Accepted (accepted_of bytes))
+    else if is_replaced bytes then Some (variant.Replaced (replaced_of bytes))
+    else if is_canceled bytes then Some (variant.Canceled (canceled_of bytes))
+    else if is_executed bytes then Some (variant.Executed (executed_of bytes))
+    else if is_rejected bytes then Some (variant.Rejected (rejected_of bytes))
     else None
 
 -- whether they are a message at all, by their length and type
 abbrev pub is_outbound : List ℕ → Bool
-is_outbound bytes = is_message 10 83 bytes || is_message 66 65 bytes || is_message 80 85 bytes
-    || is_message 28 67 bytes || is_message 40 69 bytes || is_message 24 74 bytes
+is_outbound bytes = is_system_event bytes || is_accepted bytes || is_replaced bytes
+    || is_canceled bytes || is_executed bytes || is_rejected bytes
 
 -- the spelling that is written
 abbrev pub outbound_bytes : Outbound → List ℕ

@@ -4,12 +4,12 @@ use Rattle.std.specs.List.{filter}
 use Rattle.hx_itch.specs.declared.message.Feed.{Feed}
 use Rattle.hx_members.specs.Setups.{Setup}
 use Rattle.hx_refs.specs.Numbers.{raised}
-use Rattle.hx_market.specs.declared.event.Event.{Event}
+use Rattle.hx_rules.specs.declared.event.Event.{Event}
 use Rattle.hx_market.specs.Outputs.{Reply, Told}
 use Rattle.hx_market.specs.Steps.{told}
 use Rattle.hx_market.specs.Striking.{Line, reply_lines, lines_of_all, all_but, seen, strike_one}
 use Rattle.hx_market.specs.Striking.Line.{ToFeed, ToMember}
-use Rattle.hx_market.proofs.StruckChoices.{one_member}
+use Rattle.hx_laws.proofs.Quiet.StruckChoices.{one_member}
 use Rattle.hx_replay.specs.Text.{Entry}
 use Rattle.hx_replay.specs.Output.{feed_lines, counts_after, told_lines}
 use Rattle.hx_replay.specs.Output as output

@@ -18,8 +18,8 @@ use Rattle.hx_ouch.specs.declared.inbound.Cancel.{Cancel}
 use Rattle.hx_itch.specs.declared.message.Feed.{Feed}
 use Rattle.hx_itch.specs.declared.message.Feed.TheVariants.{OrderReplace, OrderCancel, OrderDelete}
 use Rattle.hx_ouch.specs.Inbound.{inbound_of}
-use Rattle.hx_market.specs.declared.event.Event.{Event}
-use Rattle.hx_market.specs.declared.event.Event.TheVariants.{Message, Tick, Hours}
+use Rattle.hx_rules.specs.declared.event.Event.{Event}
+use Rattle.hx_rules.specs.declared.event.Event.TheVariants.{Message, Tick, Hours}
 use Rattle.hx_market.specs.Markets.{Market}
 use Rattle.hx_market.specs.Orders.{is_immediate, is_shown, is_called}
 use Rattle.hx_members.specs.declared.stock.Stock.{Stock}

@@ -4,10 +4,10 @@ use Rattle.std.specs.List.{flat_map}
 use Rattle.std.specs.Option.{option_map_or}
 use Rattle.std.specs.Io.KnownBytes.{Appends}
 use Rattle.hx_members.specs.Setups.{Setup}
-use Rattle.hx_market.specs.declared.event.Event.{Event}
-use Rattle.hx_market.specs.declared.event.Event.TheVariants as event
-use Rattle.hx_market.specs.declared.fault.PrepareError.{PrepareError}
-use Rattle.hx_market.specs.declared.fault.PrepareError.TheVariants as refused
+use Rattle.hx_rules.specs.declared.event.Event.{Event}
+use Rattle.hx_rules.specs.declared.event.Event.TheVariants as event
+use Rattle.hx_rules.specs.declared.fault.PrepareError.{PrepareError}
+use Rattle.hx_rules.specs.declared.fault.PrepareError.TheVariants as refused
 use Rattle.hx_market.specs.Markets.{Market, opening}
 use Rattle.hx_market.specs.Outputs.{Outcome}
 use Rattle.hx_market.specs.Admitting.{refusal}

@@ -5,7 +5,7 @@ use Rattle.hx_itch.specs.declared.message.Feed.{Feed}
 use Rattle.hx_ouch.specs.declared.outbound.Outbound.{Outbound}
 use Rattle.hx_members.specs.Setups.{Setup}
 use Rattle.hx_refs.specs.Numbers.{raised}
-use Rattle.hx_market.specs.declared.event.Event.{Event}
+use Rattle.hx_rules.specs.declared.event.Event.{Event}
 use Rattle.hx_market.specs.Steps.{told}
 use Rattle.hx_market.specs.Striking.{Line, lines_of_all, strike_one}
 use Rattle.hx_market.specs.Striking.Line.{ToFeed, ToMember}

@@ -3,7 +3,7 @@ use Rattle.std.proofs.Common.{List}
 use Rattle.hx_units.specs.Fields.{spelled}
 use Rattle.hx_members.specs.Setups.{standard}
 use Rattle.hx_match.specs.Matching.{matched_entries, matched}
-use Rattle.hx_market.specs.declared.event.Event.{Event}
+use Rattle.hx_rules.specs.declared.event.Event.{Event}
 use Rattle.hx_market.specs.Outputs.{Told}
 use Rattle.hx_market.specs.Markets.{opening}
 use Rattle.hx_market.specs.Steps.{step, market_after, told_from, run, told}

@@ -8,8 +8,8 @@ use Rattle.hx_itch.specs.declared.message.Feed.TheVariants.{AddOrder, AddOrderWi
 use Rattle.hx_ouch.specs.declared.outbound.Outbound.TheVariants.{Accepted, Canceled, Executed, Rejected, Replaced, SystemEvent as SystemReply}
 use Rattle.hx_ouch.specs.Inbound.{enter_bytes, replace_bytes, cancel_bytes}
 use Rattle.hx_units.specs.declared.names.Symbol.{Symbol}
-use Rattle.hx_market.specs.declared.event.Event.{Event}
-use Rattle.hx_market.specs.declared.event.Event.TheVariants.{Message, Tick, Hours}
+use Rattle.hx_rules.specs.declared.event.Event.{Event}
+use Rattle.hx_rules.specs.declared.event.Event.TheVariants.{Message, Tick, Hours}
 use Rattle.hx_market.specs.Outputs.{Reply, Told}
 
 -- The letters and numbers of the messages, as the standards name them.

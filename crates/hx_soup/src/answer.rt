@@ -5,8 +5,8 @@ ghost use Rattle.hx_soup.specs.Kinds.{login_accepted, login_rejected};
 ghost use Rattle.hx_soup.specs.Logins.{padded};
 
 use crate::packet::frame;
-use crate::put;
 use arrayvec::ArrayVec;
+use hx_units::fields::put;
 use itoa::write_digits;
 
 /// The reason of a rejected login whose user name is unknown or whose password is another (SoupBinTCP 3.00,

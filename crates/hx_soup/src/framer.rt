@@ -5,9 +5,9 @@ ghost use Rattle.hx_soup.specs.Framers.{Takes, Fails};
 ghost use Rattle.hx_soup.specs.Steps.{Ends};
 
 use crate::packet::SoupPacket;
-use crate::put;
 use crate::step::{Step, add};
 use arrayvec::ArrayVec;
+use hx_units::fields::put;
 use std::alloc::Global;
 use std::marker::Model;
 

@@ -2,9 +2,8 @@
 ghost use Rattle.std.specs.Prelude.{◌≡◌, ◌≤◌, length};
 ghost use Rattle.hx_soup.specs.Packets.{framed};
 
-use crate::put;
 use arrayvec::ArrayVec;
-use hx_units::fields::u16_bytes;
+use hx_units::fields::{put, u16_bytes};
 
 /// A packet of the client or the server (SoupBinTCP 3.00, Logical Packets). Its length, which counts the type
 /// and the payload, is 1 to 1,024.

@@ -5,9 +5,8 @@ ghost use Rattle.hx_soup.specs.Packets.{packet_bytes, IsPacket, IsUnfinished};
 ghost use Rattle.hx_soup.specs.Steps.{Adds};
 
 use crate::packet::SoupPacket;
-use crate::put;
 use arrayvec::ArrayVec;
-use hx_units::fields::u16_at;
+use hx_units::fields::{put, u16_at};
 
 // The greatest length of a packet.
 const LONGEST: u16 = 1024;

@@ -3,6 +3,7 @@
 #![tactic(auto)]
 
 pub mod fields;
+mod heartbeat;
 mod member;
 mod memory;
 mod names;
@@ -11,6 +12,7 @@ mod shares;
 mod side;
 mod time;
 
+pub use heartbeat::is_heartbeat_due;
 pub use member::MemberNo;
 pub use memory::NoMemory;
 pub use names::{Firm, Symbol, Token};

@@ -1,4 +1,4 @@
-// Messages of the feed, read from their bytes.
+//! Messages of the feed, read from their bytes.
 ghost use Rattle.std.specs.Prelude.{◌≡◌, length};
 ghost use Rattle.hx_itch.specs.Message.{feed_message_of, system_event_of, stock_directory_of, add_order_of, add_order_with_attribution_of, order_executed_of, order_cancel_of, order_delete_of, order_replace_of, trade_of};
 

@@ -1,4 +1,4 @@
-// Messages of the feed, written as bytes.
+//! Messages of the feed, written as bytes.
 ghost use Rattle.std.specs.Prelude.{◌≡◌, ◌<◌, ◌^◌};
 ghost use Rattle.hx_itch.specs.Message.{feed_bytes, IsFeed, feed_time, system_event_bytes, stock_directory_bytes, add_order_bytes, add_order_with_attribution_bytes, order_executed_bytes, order_cancel_bytes, order_delete_bytes, order_replace_bytes, trade_bytes, IsSystemEvent, IsStockDirectory, IsAddOrder, IsAddOrderWithAttribution, IsOrderExecuted, IsOrderCancel, IsOrderDelete, IsOrderReplace, IsTrade};
 
@@ -6,9 +6,8 @@ use super::{
     AddOrder, AddOrderWithAttribution, Feed, OrderCancel, OrderDelete, OrderExecuted, OrderReplace,
     StockDirectory, SystemEvent, Trade,
 };
-use crate::put;
 use arrayvec::ArrayVec;
-use hx_units::fields::{u16_bytes, u32_bytes, u48_bytes, u64_bytes};
+use hx_units::fields::{put, u16_bytes, u32_bytes, u48_bytes, u64_bytes};
 
 // The bytes of a message, whose fields fit into their places.
 pub fn write(message: &Feed) -> ArrayVec<u8, 44>

@@ -1,4 +1,4 @@
-// Messages of a member, read from their bytes.
+//! Messages of a member, read from their bytes.
 ghost use Rattle.std.specs.Prelude.{◌≡◌, length};
 ghost use Rattle.hx_ouch.specs.Inbound.{inbound_of, enter_of, replace_of, cancel_of};
 

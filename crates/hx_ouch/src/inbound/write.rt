@@ -1,11 +1,10 @@
-// Messages of a member, written as bytes.
+//! Messages of a member, written as bytes.
 ghost use Rattle.std.specs.Prelude.{◌≡◌, ◌<◌, ◌^◌};
 ghost use Rattle.hx_ouch.specs.Inbound.{inbound_bytes, IsInbound, enter_bytes, replace_bytes, cancel_bytes, IsEnter, IsReplace, IsCancel};
 
 use super::{Cancel, Enter, Inbound, Replace};
-use crate::put;
 use arrayvec::ArrayVec;
-use hx_units::fields::u32_bytes;
+use hx_units::fields::{put, u32_bytes};
 
 // The bytes of a message, whose fields fit into their places.
 pub fn write(message: &Inbound) -> ArrayVec<u8, 49>

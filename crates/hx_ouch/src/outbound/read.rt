@@ -1,4 +1,4 @@
-// Replies to a member, read from their bytes.
+//! Replies to a member, read from their bytes.
 ghost use Rattle.std.specs.Prelude.{◌≡◌, length};
 ghost use Rattle.hx_ouch.specs.Outbound.{outbound_of, system_event_of, accepted_of, replaced_of, canceled_of, executed_of, rejected_of};
 

@@ -1,11 +1,10 @@
-// Replies to a member, written as bytes.
+//! Replies to a member, written as bytes.
 ghost use Rattle.std.specs.Prelude.{◌≡◌, ◌<◌, ◌^◌};
 ghost use Rattle.hx_ouch.specs.Outbound.{outbound_bytes, IsOutbound, system_event_bytes, accepted_bytes, replaced_bytes, canceled_bytes, executed_bytes, rejected_bytes, IsSystemEvent, IsAccepted, IsReplaced, IsCanceled, IsExecuted, IsRejected};
 
 use super::{Accepted, Canceled, Executed, Outbound, Rejected, Replaced, SystemEvent};
-use crate::put;
 use arrayvec::ArrayVec;
-use hx_units::fields::{u32_bytes, u64_bytes};
+use hx_units::fields::{put, u32_bytes, u64_bytes};
 
 // The bytes of a message, whose fields fit into their places.
 pub fn write(message: &Outbound) -> ArrayVec<u8, 80>

@@ -1,5 +1,5 @@
 use Rattle.std.proofs.Common.{[], ◌∷◌, ◌++◌, ap, sym, ◌∙◌}
-use Rattle.hx_market.specs.declared.event.Event.{Event}
+use Rattle.hx_rules.specs.declared.event.Event.{Event}
 use Rattle.hx_market.specs.Striking.{quiet_of_one}
 use Rattle.hx_audit.proofs.Bearing.{kept_more, left_out, all_kept}
 use Rattle.hx_audit.proofs.striking.keep.Goals as goal

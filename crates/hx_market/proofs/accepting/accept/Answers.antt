@@ -7,9 +7,9 @@ use Rattle.hx_match.specs.Executing.{done_by}
 use Rattle.hx_members.specs.Chains.{Used, Chain, is_used, place_of, entered_of, entered_used, entered_chain}
 use Rattle.hx_refs.specs.Numbers.{Numbers}
 use Rattle.hx_market.specs.declared.executing.Taker.{Taker}
-use Rattle.hx_market.specs.Orders.{is_immediate, is_shown}
-use Rattle.hx_market.specs.Executions.{chains_after, resting_of, displays}
-use Rattle.hx_market.specs.Entering.{next_reference, after_draw}
+use Rattle.hx_rules.specs.Orders.{is_immediate, is_shown}
+use Rattle.hx_rules.specs.Executions.{chains_after, resting_of, displays}
+use Rattle.hx_rules.specs.Entering.{next_reference, after_draw}
 use Rattle.hx_market.specs.Keeping.{chains_by, noted_if, AreKeyed, AreBefore}
 use Rattle.hx_market.proofs.Keyed.{keyed_pushed, before_new}
 use Rattle.hx_market.proofs.Used.{used-last}

@@ -3,7 +3,7 @@ use Rattle.std.specs.Prelude.{is_some}
 use Rattle.hx_ouch.specs.declared.inbound.Enter.{Enter}
 use Rattle.hx_members.specs.declared.name.TokenState.{TokenState}
 use Rattle.hx_members.specs.Chains.{Used, is_used}
-use Rattle.hx_market.specs.Entering.{entered_by, rejection}
+use Rattle.hx_rules.specs.Entering.{entered_by, rejection}
 use Rattle.hx_market.proofs.Passing.{unused_of}
 use Rattle.hx_market.proofs.acting.entered_act.Goals as goal
 

@@ -6,7 +6,7 @@ use Rattle.hx_levels.specs.declared.order.Live.{Live}
 use Rattle.hx_levels.specs.Book.{order_of}
 use Rattle.hx_market.specs.Acts.{is_due}
 use Rattle.hx_market.proofs.Walks.{behind, IsNext, is_next}
-use Rattle.hx_market.proofs.Ended.{filter-step, differ_at_end}
+use Rattle.hx_market.proofs.Ended.{filter-step}
 use Rattle.hx_market.proofs.ending.due_orders.Goals as goal
 
 pub walk-smaller-in_ok-keep_due : goal.walk-smaller-in_ok-keep_due

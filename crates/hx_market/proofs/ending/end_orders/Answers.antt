@@ -3,13 +3,12 @@ use Rattle.std.specs.List.{AllByRecursion, filter}
 use Rattle.hx_itch.specs.declared.message.Feed.{Feed}
 use Rattle.hx_itch.specs.Message.{feed_time}
 use Rattle.hx_levels.specs.declared.order.Order.{Order}
-use Rattle.hx_levels.specs.declared.order.Live.{Live}
 use Rattle.hx_levels.specs.Book.{lives}
 use Rattle.hx_market.specs.Acts.{is_due}
-use Rattle.hx_market.specs.Ending.{all_deleted}
-use Rattle.hx_market.specs.Leaving.{canceled}
-use Rattle.hx_market.specs.Outputs.{Reply, Outcome}
-use Rattle.hx_market.specs.Markets.{Market}
+use Rattle.hx_rules.specs.Ending.{all_deleted}
+use Rattle.hx_rules.specs.Leaving.{canceled}
+use Rattle.hx_rules.specs.Outputs.{Reply, Outcome}
+use Rattle.hx_rules.specs.Markets.{Market}
 use Rattle.hx_market.specs.Ready.{market_of}
 use Rattle.hx_market.proofs.Ended.{lives-filter}
 use Rattle.hx_market.proofs.Timed.{both_in, all_deleted_in}

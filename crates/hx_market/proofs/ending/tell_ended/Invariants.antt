@@ -1,7 +1,7 @@
 use Rattle.std.proofs.Common.{◌≡◌, ◌++◌, drop, map}
 use Rattle.hx_levels.specs.Book.{lives}
-use Rattle.hx_market.specs.Ending.{all_deleted}
-use Rattle.hx_market.specs.Leaving.{canceled}
+use Rattle.hx_rules.specs.Ending.{all_deleted}
+use Rattle.hx_rules.specs.Leaving.{canceled}
 use Rattle.hx_market.proofs.ending.tell_ended.Given as goal
 
 -- what is told so far, and what the rest tells, is all

@@ -1,5 +1,5 @@
 use Rattle.std.proofs.Common.{◌≡◌, ◌+◌, ◌++◌, drop}
-use Rattle.hx_market.specs.Ending.{directory}
+use Rattle.hx_rules.specs.Ending.{directory}
 use Rattle.hx_market.proofs.ending.tell_stocks.Given as goal
 
 -- those told so far, and the rest, are all

@@ -1,7 +1,7 @@
 use Rattle.std.proofs.Common.{◌≡◌, ◌+◌, ◌*◌, ◌++◌, drop}
 use Rattle.std.specs.Vec.{vec_len, vec_capacity}
 use Rattle.hx_match.specs.Executing.{done_by, left_by, AreGood}
-use Rattle.hx_market.specs.Executions.{feed_of_executions, replies_of_executions}
+use Rattle.hx_rules.specs.Executions.{feed_of_executions, replies_of_executions}
 use Rattle.hx_market.specs.Keeping.{CanNoteAll, chains_by}
 use Rattle.hx_market.proofs.executing.execute.Given as goal
 

@@ -5,10 +5,10 @@ use Rattle.hx_members.specs.Chains.{Used, Chain}
 use Rattle.hx_members.specs.Setups.{Setup}
 use Rattle.hx_members.specs.Tokens.{TokenList}
 use Rattle.hx_refs.specs.Numbers.{Numbers, raised}
-use Rattle.hx_market.specs.declared.event.Event.{Event}
+use Rattle.hx_rules.specs.declared.event.Event.{Event}
 use Rattle.hx_market.specs.declared.acting.Act.{Act}
-use Rattle.hx_market.specs.Markets.{Market}
-use Rattle.hx_market.specs.Steps.{happens, sender, with_record}
+use Rattle.hx_rules.specs.Markets.{Market}
+use Rattle.hx_rules.specs.Steps.{happens, sender, with_record}
 use Rattle.hx_market.specs.Acts.{SuitsTokens, IsOf, IsAbout, outcome_of}
 use Rattle.hx_market.specs.Ready.{Planned, IsPlanned, market_of}
 use Rattle.hx_market.proofs.Drafts.{tells}

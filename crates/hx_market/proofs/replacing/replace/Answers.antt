@@ -11,12 +11,12 @@ use Rattle.hx_refs.specs.Numbers.{Numbers}
 use Rattle.hx_itch.specs.declared.message.Feed.{Feed}
 use Rattle.hx_itch.specs.declared.message.Feed.TheVariants.{OrderReplace}
 use Rattle.hx_market.specs.declared.executing.Taker.{Taker}
-use Rattle.hx_market.specs.Orders.{is_immediate, is_shown}
-use Rattle.hx_market.specs.Outputs.{Reply}
-use Rattle.hx_market.specs.Executions.{chains_after, feed_of_executions, replies_of_executions, canceled_of, resting_of, displays, published, shown_of}
-use Rattle.hx_market.specs.Entering.{next_reference, after_draw}
-use Rattle.hx_market.specs.Leaving.{others, deleted}
-use Rattle.hx_market.specs.Replacing.{replaced_of, is_one_display}
+use Rattle.hx_rules.specs.Orders.{is_immediate, is_shown}
+use Rattle.hx_rules.specs.Outputs.{Reply}
+use Rattle.hx_rules.specs.Executions.{chains_after, feed_of_executions, replies_of_executions, canceled_of, resting_of, displays, published, shown_of}
+use Rattle.hx_rules.specs.Entering.{next_reference, after_draw}
+use Rattle.hx_rules.specs.Leaving.{others, deleted}
+use Rattle.hx_rules.specs.Replacing.{replaced_of, is_one_display}
 use Rattle.hx_market.specs.Keeping.{CanNote, CanNoteAll, chains_by, noted_if}
 use Rattle.hx_market.specs.Acts.{open_shares, incoming_of_replacing, order_by_replacing}
 use Rattle.hx_market.specs.Ready.{listed}

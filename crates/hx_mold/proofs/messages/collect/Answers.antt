@@ -10,7 +10,7 @@ returns-then-not-add-clause-fills g c =
     let most : k < c.args.most = c.loop-count-test.true in
     let next : c.loop-count.next ≤ length ms = omega (arith, c.if-next-total.true, c.requires.total) in
     let there : k < length (wanted c.args.first c.args.most ms) = omega (arith, length-wanted c.args.first c.args.most ms, c.loop-count.invariant.next, c.requires.first) in
-    let found : Some c.in-Some.message.items ≡ message_at c.loop-count.next ms = c.in-Some.ensures.found ∙ ap (message_at c.loop-count.next) c.loop-count.invariant.same in
+    let found : Some c.in-Some.message.items ≡ message_at c.loop-count.next ms = c.in-Some.ensures.found ∙ ap (λ source. message_at c.loop-count.next (g.M.Messages.messages source)) c.loop-count.invariant.same in
     let no = c.add.ensures.no c.if-not-add.true in
     rw no.0
     (fills_full k _ _ _ c.loop-count.invariant.holds there (got _ _ k _ _ ms c.requires.first most c.loop-count.invariant.next next found) no.1 (not_first _ _ c.if-not-add.true c.add.ensures.first))
@@ -22,7 +22,7 @@ loop-count-preserved g c =
     let most : k < c.args.most = c.loop-count-test.true in
     let next : c.loop-count.next ≤ length ms = omega (arith, c.if-next-total.true, c.requires.total) in
     let there : k < length (wanted c.args.first c.args.most ms) = omega (arith, length-wanted c.args.first c.args.most ms, c.loop-count.invariant.next, c.requires.first) in
-    let found : Some c.in-Some.message.items ≡ message_at c.loop-count.next ms = c.in-Some.ensures.found ∙ ap (message_at c.loop-count.next) c.loop-count.invariant.same in
+    let found : Some c.in-Some.message.items ≡ message_at c.loop-count.next ms = c.in-Some.ensures.found ∙ ap (λ source. message_at c.loop-count.next (g.M.Messages.messages source)) c.loop-count.invariant.same in
     record {
       holds = holds_more k _ _ _ _ c.loop-count.invariant.holds there (got _ _ k _ _ ms c.requires.first most c.loop-count.invariant.next next found) (c.add.ensures.yes c.if-not-add.false);
       next = omega (arith, c.loop-count.invariant.next);

@@ -7,7 +7,7 @@ abbrev pub invariant-loop-count : goal.invariant-loop-count
 invariant-loop-count g l = record {
   holds : Holds l.count l.body.items (wanted l.first l.most (g.M.Messages.messages l.fn.messages));
   next : l.next ≡ l.first + l.count;
-  same : g.M.Messages.messages l.messages ≡ g.M.Messages.messages l.fn.messages;
+  same : l.messages ≡ l.fn.messages;
 }
 
 abbrev pub decreases-loop-count : goal.decreases-loop-count

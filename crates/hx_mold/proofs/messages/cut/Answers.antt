@@ -1,6 +1,7 @@
 use Rattle.std.proofs.Common.{◌≡◌, ◌+◌, ◌-◌, ◌∙◌, ◌++◌, ◌∷◌, List, ℕ, length, take, drop, map, [], sym, ap, subst, append_assoc, arith}
 use Rattle.std.proofs.lemmas.List.{take_all, length-drop, length-map, map-append, append-nil, drop-drop, drop-map, drop_all}
-use Rattle.hx_mold.specs.Fronts.{CutsInto, texts}
+use Rattle.hx_units.specs.Fields.{texts}
+use Rattle.hx_mold.specs.Fronts.{CutsInto}
 use Rattle.hx_mold.specs.Filling.{Fills}
 use Rattle.hx_mold.proofs.Fronts.{cuts_one}
 use Rattle.hx_mold.proofs.messages.cut.Goals as goal

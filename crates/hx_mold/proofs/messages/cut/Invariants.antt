@@ -1,5 +1,6 @@
 use Rattle.std.proofs.Common.{◌≤◌, ◌+◌, ◌-◌, ◌++◌, List, ℕ, drop, length, map}
-use Rattle.hx_mold.specs.Fronts.{texts, CutsInto}
+use Rattle.hx_units.specs.Fields.{texts}
+use Rattle.hx_mold.specs.Fronts.{CutsInto}
 use Rattle.hx_mold.proofs.messages.cut.Given as goal
 
 abbrev pub invariant-loop-done : goal.invariant-loop-done

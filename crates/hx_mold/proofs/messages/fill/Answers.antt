@@ -1,6 +1,6 @@
 use Rattle.std.proofs.Common.{◌<◌, length, arith}
 use Rattle.std.proofs.lemmas.List.{length-map}
-use Rattle.hx_mold.specs.Fronts.{texts}
+use Rattle.hx_units.specs.Fields.{texts}
 use Rattle.hx_mold.proofs.Fronts.{holds_few, holds_more, fills_full, text_is, not_first}
 use Rattle.hx_mold.proofs.messages.fill.Goals as goal
 

@@ -1,5 +1,5 @@
 use Rattle.std.proofs.Common.{◌≡◌}
-use Rattle.hx_mold.specs.Fronts.{texts}
+use Rattle.hx_units.specs.Fields.{texts}
 use Rattle.hx_mold.specs.Filling.{Holds}
 use Rattle.hx_mold.proofs.messages.fill.Given as goal
 

@@ -1,5 +1,5 @@
 use Rattle.std.proofs.Common.{List, sym, subst}
-use Rattle.hx_market.specs.declared.event.Event.{Event}
+use Rattle.hx_rules.specs.declared.event.Event.{Event}
 use Rattle.hx_replay.specs.Struck.{IsLineOf, Collects}
 use Rattle.hx_replay.proofs.Lines.{some_of}
 use Rattle.hx_replay.proofs.Strikes.{collects_more}

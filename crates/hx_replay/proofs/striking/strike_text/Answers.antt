@@ -1,5 +1,5 @@
 use Rattle.std.proofs.Common.{List, length, arith, sym, ap, subst}
-use Rattle.hx_market.specs.declared.event.Event.{Event}
+use Rattle.hx_rules.specs.declared.event.Event.{Event}
 use Rattle.hx_audit.specs.Recording.{Explains}
 use Rattle.hx_replay.specs.declared.fault.TapeError.{TapeError}
 use Rattle.hx_replay.specs.Struck.{IsFaultOf}

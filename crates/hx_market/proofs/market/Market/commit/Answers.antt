@@ -5,9 +5,9 @@ use Rattle.hx_match.specs.declared.fills.Fill.{Fill}
 use Rattle.hx_members.specs.Chains.{Used, Chain}
 use Rattle.hx_refs.specs.Numbers.{Numbers, raised}
 use Rattle.hx_itch.specs.declared.message.Feed.{Feed}
-use Rattle.hx_market.specs.Markets.{Market}
-use Rattle.hx_market.specs.Outputs.{Outcome, Told}
-use Rattle.hx_market.specs.Steps.{step, with_record}
+use Rattle.hx_rules.specs.Markets.{Market}
+use Rattle.hx_rules.specs.Outputs.{Outcome, Told}
+use Rattle.hx_rules.specs.Steps.{step, with_record}
 use Rattle.hx_market.specs.Keeping.{IsSound}
 use Rattle.hx_market.specs.Acts.{outcome_of, hours_after}
 use Rattle.hx_market.specs.Ready.{Planned, Seen, IsPlanned, HasPlaces, market_of}

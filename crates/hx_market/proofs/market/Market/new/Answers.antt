@@ -4,7 +4,7 @@ use Rattle.hx_levels.specs.Book.{lives}
 use Rattle.hx_members.specs.Chains.{Used, Chain}
 use Rattle.hx_refs.specs.Numbers.{Numbers, opening_numbers}
 use Rattle.hx_members.specs.Setups.{Setup}
-use Rattle.hx_market.specs.Markets.{Market, opening, opening_hours, no_counts}
+use Rattle.hx_rules.specs.Markets.{Market, opening, opening_hours, no_counts}
 use Rattle.hx_market.specs.Keeping.{IsSound, AreKeyed}
 use Rattle.hx_market.proofs.Next.{sound_opening}
 use Rattle.hx_market.proofs.market.Market.new.Goals as goal

@@ -3,9 +3,9 @@ use Rattle.hx_levels.specs.declared.order.Live.{Live}
 use Rattle.hx_levels.specs.Book.{lives}
 use Rattle.hx_members.specs.Chains.{Used, Chain}
 use Rattle.hx_refs.specs.Numbers.{Numbers}
-use Rattle.hx_market.specs.Markets.{Market}
-use Rattle.hx_market.specs.Outputs.{Outcome}
-use Rattle.hx_market.specs.Steps.{with_record}
+use Rattle.hx_rules.specs.Markets.{Market}
+use Rattle.hx_rules.specs.Outputs.{Outcome}
+use Rattle.hx_rules.specs.Steps.{with_record}
 use Rattle.hx_market.specs.Acts.{outcome_of}
 use Rattle.hx_market.specs.Ready.{Seen, market_of}
 use Rattle.hx_market.proofs.Drafts.{step_is}

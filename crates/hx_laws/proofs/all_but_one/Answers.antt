@@ -1,0 +1,5 @@
+use Rattle.hx_laws.proofs.Quiet.StruckOfAll as all
+use Rattle.hx_laws.proofs.all_but_one.Goals as goal
+
+pub returns : goal.returns
+returns c = all.all_but_one

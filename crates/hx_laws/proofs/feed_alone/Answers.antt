@@ -1,0 +1,5 @@
+use Rattle.hx_laws.proofs.Quiet.StruckOfAll as all
+use Rattle.hx_laws.proofs.feed_alone.Goals as goal
+
+pub returns : goal.returns
+returns c = all.feed_alone

@@ -1,0 +1,5 @@
+use Rattle.hx_laws.proofs.Quiet.KeptChoices as choices
+use Rattle.hx_laws.proofs.not_chosen.Goals as goal
+
+pub returns : goal.returns
+returns c = choices.not_chosen

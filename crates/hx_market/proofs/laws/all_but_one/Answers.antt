@@ -1,5 +1,0 @@
-use Rattle.hx_market.proofs.StruckOfAll as all
-use Rattle.hx_market.proofs.laws.all_but_one.Goals as goal
-
-pub returns : goal.returns
-returns c = all.all_but_one

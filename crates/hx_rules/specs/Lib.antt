@@ -1,0 +1,12 @@
+pub mod Orders
+pub mod Markets
+pub mod Outputs
+pub mod Executions
+pub mod Entering
+pub mod Leaving
+pub mod Replacing
+pub mod Cancelling
+pub mod Ending
+pub mod Operating
+pub mod Steps
+pub mod Admitting

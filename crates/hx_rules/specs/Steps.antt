@@ -1,0 +1,83 @@
+-- One step, and whole runs.
+use Rattle.std.specs.Prelude.{ℕ, ◌==◌, if◌then◌else◌, List, [], ◌∷◌, ◌++◌, Option, Some, None}
+use Rattle.hx_members.specs.Setups.{Setup}
+use Rattle.hx_itch.specs.declared.message.Feed.{Feed}
+use Rattle.hx_ouch.specs.declared.inbound.Inbound.{Inbound}
+use Rattle.hx_ouch.specs.declared.inbound.Inbound.TheVariants.{Enter, Replace, Cancel}
+use Rattle.hx_ouch.specs.declared.outbound.Outbound.{Outbound}
+use Rattle.hx_ouch.specs.Inbound.{inbound_of}
+use Rattle.hx_rules.specs.declared.event.Event.{Event}
+use Rattle.hx_rules.specs.declared.event.Event.TheVariants.{Message, Tick, Hours}
+use Rattle.hx_rules.specs.Markets.{Market, opening}
+use Rattle.hx_refs.specs.Numbers.{raised}
+use Rattle.hx_rules.specs.Outputs.{Reply, Told, Outcome, nothing}
+use Rattle.hx_rules.specs.Entering.{enter}
+use Rattle.hx_rules.specs.Replacing.{replace}
+use Rattle.hx_rules.specs.Cancelling.{cancel}
+use Rattle.hx_rules.specs.Ending.{tick, next_hours}
+
+-- what a member's message does. One that is not readable has no effect
+abbrev pub act : Setup → Market → ℕ → ℕ → Option Inbound → Outcome
+act setup market member time None = nothing market
+act setup market member time (Some (Enter e)) = enter setup market member time e
+act setup market member time (Some (Replace r)) = replace setup market member time r
+act setup market member time (Some (Cancel c)) = cancel market member time c
+
+-- what an event does, but for its record
+abbrev pub happens : Setup → Market → Event → Outcome
+happens setup market (Message member time bytes) = act setup market member time (inbound_of bytes)
+happens setup market (Tick time) = tick market time
+happens setup market (Hours time code) = next_hours setup market time code
+
+-- the number under which an event is recorded: its member's, or the operator's
+abbrev pub sender : Event → ℕ
+sender (Message member time bytes) = member
+sender (Tick time) = 0
+sender (Hours time code) = 0
+
+abbrev pub time_of : Event → ℕ
+time_of (Message member time bytes) = time
+time_of (Tick time) = time
+time_of (Hours time code) = time
+
+abbrev pub with_record : Event → Market → Market
+with_record event market = record market { recorded = raised market.recorded (sender event) }
+
+-- one step: the next market, and what is told
+unfoldable pub step : Setup → Market → Event → Outcome
+step setup market event = happens setup (with_record event market) event
+
+-- the market after these events, and what each tells
+unfoldable pub market_after : Setup → Market → List Event → Market
+market_after setup market [] = market
+market_after setup market (event ∷ events) = market_after setup (step setup market event).market events
+
+unfoldable pub told_from : Setup → Market → List Event → List Told
+told_from setup market [] = []
+told_from setup market (event ∷ events) = let outcome = step setup market event in outcome.told ∷ told_from setup outcome.market events
+
+-- a whole history, from the opening market
+unfoldable pub run : Setup → List Event → Market
+run setup events = market_after setup (opening setup) events
+
+unfoldable pub told : Setup → List Event → List Told
+told setup events = told_from setup (opening setup) events
+
+abbrev pub feed_of : List Told → List Feed
+feed_of [] = []
+feed_of (t ∷ ts) = t.feed ++ feed_of ts
+
+abbrev pub replies_among : ℕ → List Reply → List Outbound
+replies_among member [] = []
+replies_among member (r ∷ rs) = if r.0 == member then r.1 ∷ replies_among member rs else replies_among member rs
+
+abbrev pub replies_of : ℕ → List Told → List Outbound
+replies_of member [] = []
+replies_of member (t ∷ ts) = replies_among member t.replies ++ replies_of member ts
+
+-- the feed of a history, and its replies to a member
+unfoldable pub feed : Setup → List Event → List Feed
+feed setup events = feed_of (told setup events)
+
+unfoldable pub replies : Setup → ℕ → List Event → List Outbound
+replies setup member events = replies_of member (told setup events)

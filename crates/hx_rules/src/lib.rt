@@ -1,0 +1,14 @@
+//! What the market is: its events, the operator's bytes, and, in `specs/`, the definition of every step.
+#![tactic(auto)]
+
+mod event;
+mod fault;
+mod operating;
+mod output;
+mod rules;
+
+pub use event::{Bytes, Event};
+pub use fault::PrepareError;
+pub use operating::decode_operator;
+pub use output::Output;
+pub use rules::{is_shown, life_of, published_side, rejection, replace_fails, side_of};

@@ -1,0 +1,133 @@
+//! The rules of Enter and Replace (OUCH 4.2, Enter Order and Replace Order Message).
+ghost use Rattle.std.specs.Prelude.{◌≡◌, ◌<◌, ◌≤◌, ◌^◌, IfNone};
+ghost use Rattle.hx_rules.specs.Orders.{is_side, side_of, is_visible, is_display, is_shown, life_of, published_side};
+ghost use Rattle.hx_rules.specs.Markets.{is_open};
+ghost use Rattle.hx_rules.specs.Entering.{rejection, is_bad_shares, is_bad_price, is_late};
+ghost use Rattle.hx_rules.specs.Replacing.{replace_fails};
+
+use hx_levels::Life;
+use hx_members::Setup;
+use hx_ouch::{Enter, Replace};
+use hx_units::Side;
+
+/// The side of an order's letter.
+pub fn side_of(letter: u8) -> Side
+    ensures { result ≡ side_of letter }
+{
+    match letter {
+        b'B' => Side::Buy,
+        b'S' => Side::Sell,
+        b'T' => Side::Short,
+        _ => Side::ShortExempt,
+    }
+}
+
+/// The side as the feed has it.
+pub fn published_side(side: Side) -> u8
+    ensures { result ≡ published_side side }
+{
+    match side {
+        Side::Buy => b'B',
+        _ => b'S',
+    }
+}
+
+/// Whether an order is shown once it rests.
+pub fn is_shown(display: u8, time_in_force: u32) -> bool
+    ensures { result ≡ is_shown display time_in_force }
+{
+    is_visible(display) && time_in_force != 0
+}
+
+/// How long an order lives that comes at a time.
+pub fn life_of(time: u64, time_in_force: u32) -> Life
+    requires { time < 2 ^ 62 }
+    ensures { result ≡ life_of time time_in_force }
+{
+    if 1 <= time_in_force && time_in_force <= 86400 {
+        Life::Until(time + time_in_force as u64 * 1_000_000_000)
+    } else if time_in_force == 99998 {
+        Life::Market
+    } else {
+        Life::System
+    }
+}
+
+fn is_visible(display: u8) -> bool
+    ensures { result ≡ is_visible display }
+{
+    display == b'Y' || display == b'A'
+}
+
+fn is_display(display: u8) -> bool
+    ensures { result ≡ is_display display }
+{
+    is_visible(display) || display == b'N'
+}
+
+fn is_side(letter: u8) -> bool
+    ensures { result ≡ is_side letter }
+{
+    letter == b'B' || letter == b'S' || letter == b'T' || letter == b'E'
+}
+
+fn is_bad_shares(shares: u32) -> bool
+    ensures { result ≡ is_bad_shares shares }
+{
+    shares == 0 || shares > 999_999
+}
+
+fn is_bad_price(price: u32) -> bool
+    ensures { result ≡ is_bad_price price }
+{
+    price == 0 || price > 1_999_999_900 || (price >= 10_000 && price % 100 != 0)
+}
+
+fn is_open(hours: u8) -> bool
+    ensures { result ≡ is_open hours }
+{
+    2 <= hours && hours < 5
+}
+
+fn is_late(hours: u8, time_in_force: u32) -> bool
+    ensures { result ≡ is_late hours time_in_force }
+{
+    time_in_force == 99998 && hours >= 4
+}
+
+/// The letter of the first reason to reject a message, at this many hours codes past.
+pub fn rejection(setup: &Setup, hours: u8, enter: &Enter) -> Option<u8>
+    ensures { result ≡ rejection setup.now hours enter.now }
+{
+    if !is_open(hours) || is_late(hours, enter.time_in_force) {
+        Some(b'C')
+    } else if setup.locate(enter.stock).is_none() {
+        Some(b'S')
+    } else if !is_side(enter.side) || enter.cross_type != b'N' {
+        Some(b'O')
+    } else if !is_display(enter.display) {
+        Some(b'D')
+    } else if is_bad_shares(enter.shares) {
+        Some(b'Z')
+    } else if is_bad_price(enter.price) {
+        Some(b'X')
+    } else if enter.minimum_quantity > enter.shares
+        || (enter.minimum_quantity > 0 && is_shown(enter.display, enter.time_in_force))
+    {
+        Some(b'N')
+    } else {
+        None
+    }
+}
+
+/// Whether a Replace fails, at this many hours codes past and so many executed shares of its chain.
+pub fn replace_fails(hours: u8, executed: u32, replace: &Replace) -> bool
+    ensures { result ≡ replace_fails hours executed replace.now }
+{
+    is_bad_shares(replace.shares)
+        || is_bad_price(replace.price)
+        || !is_display(replace.display)
+        || is_late(hours, replace.time_in_force)
+        || (replace.minimum_quantity > 0 && is_shown(replace.display, replace.time_in_force))
+        || replace.shares <= executed
+}
