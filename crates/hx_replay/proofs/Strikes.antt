@@ -226,6 +226,14 @@ pub all_of : (setup : Setup) (m : ℕ) (text : List ℕ) (events same kept : Lis
 all_of setup m text events same kept true c f e r k = all_kept setup m text events kept c (subst (AreRecorded setup) e r) (k ∙ ap (λ (vs : List Event). strike_one setup m vs) e)
 all_of setup m text events same kept false c f e r k = absurd (let z : false ≡ true = f in cc)
 
+-- where all stays, it is the text
+pub left_of : (text : List ℕ) (events same kept : List Event) (b : Bool) → CollectsAll text events b → b ≡ true
+    → same ≡ events → kept ≡ same → tape (map entry_of_event kept) ≡ text
+left_of text events same kept true c f e k =
+    ap (λ (vs : List Event). tape (map entry_of_event vs)) (k ∙ e ∙ c.events_are)
+    ∙ ap tape (entries_back c.entries c.are_known) ∙ sym (c.text_is ∙ append-nil (tape c.entries))
+left_of text events same kept false c f e k = absurd (let z : false ≡ true = f in cc)
+
 -- Nothing is written where reading fails.
 pub reading_stops : (setup : Setup) (m : ℕ) (e : TapeError) (r s w : Option (List ℕ)) → ReadsSome r s → IsOfReading e → StrikeStops setup m e r s w w
 reading_stops setup m fault.NoMemory r s w t h = (t, Appends-nil w)

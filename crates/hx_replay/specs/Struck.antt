@@ -130,3 +130,7 @@ StrikeStops setup m fault.NoMemory r s w v = ReadsSome r s × Appends w v []
 StrikeStops setup m fault.Read r s w v = ReadsSome r s × Appends w v []
 StrikeStops setup m fault.Turns r s w v = ReadsSome r s × Appends w v []
 StrikeStops setup m fault.Write r s w v = StrikesSome setup m r s w v
+
+-- all that was read was written, and nothing else
+abbrev pub Echoes : (r s w v : Option (List ℕ)) → Type 0
+Echoes r s w v = (text : List ℕ) × Consumes r s text × Appends w v text

@@ -1,9 +1,10 @@
 //! A tape without the messages of a member's quiet chains.
-ghost use Rattle.std.specs.Prelude.{◌≡◌, ◌++◌, ◌∷◌, [], map, IfOk, IfErr, OnOk, OnErr, IfSome, IfNone};
+ghost use Rattle.std.specs.Prelude.{◌≡◌, ◌++◌, ◌∷◌, [], map, IfOk, IfErr, OnOk, OnErr, IfSome, IfNone, None};
 ghost use Rattle.std.specs.Io.KnownBytes.{Consumes, IsAtEnd};
+ghost use Rattle.hx_members.specs.Setups.{member_of};
 ghost use Rattle.hx_replay.specs.Text.{line};
 ghost use Rattle.hx_replay.specs.Run.{tape};
-ghost use Rattle.hx_replay.specs.Struck.{entry_of_event, IsOfReading, ReadsSome, IsLineOf, IsNoLine, CollectsAll, IsStruck, IsFaultOf, StrikesAll, StrikeStops};
+ghost use Rattle.hx_replay.specs.Struck.{entry_of_event, IsOfReading, ReadsSome, IsLineOf, IsNoLine, CollectsAll, IsStruck, IsFaultOf, StrikesAll, StrikeStops, Echoes};
 
 use crate::decimal::write_number;
 use crate::fault::{Kind, TapeError};
@@ -87,6 +88,8 @@ fn strike_text(
 ) -> Result<Vec<Event>, TapeError>
     ensures ok { IfOk result (λ kept. IsStruck setup.now member text.now kept.items) }
     ensures err { IfErr result (IsFaultOf setup.now text.now) }
+    ensures stranger { IfOk result (λ kept.
+        member_of setup.now member ≡ None → tape (map entry_of_event kept.items) ≡ text.now) }
 {
     let collected = collect(alloc, text)?;
     let kept = match strike(alloc, setup, &collected.events, member) {
@@ -167,6 +170,11 @@ pub fn strike_tape<R: Read, W: Write>(
     // check. Else what was read is a beginning of what there was.
     ensures err { IfErr result (λ e.
         StrikeStops setup.now member e (R.remaining reader.old) (R.remaining reader.new) (W.contents writer.old) (W.contents writer.new)) }
+    // A number that the setup has not strikes nothing.
+    ensures stranger { IfOk result (λ counts.
+        member_of setup.now member ≡ None
+        → Echoes (R.remaining reader.old) (R.remaining reader.new)
+        (W.contents writer.old) (W.contents writer.new)) }
 {
     let text = read_all(alloc, reader)?;
     let kept = strike_text(alloc, setup, &text, member)?;

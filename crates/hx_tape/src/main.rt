@@ -18,6 +18,9 @@ enum Failure {
     /// The command line, which `clap` has answered.
     #[error("")]
     CommandLine,
+    /// A word of the command line that is no text, which `clap` does not take.
+    #[error("error: invalid UTF-8 was detected in one or more arguments")]
+    NoText,
     #[error(transparent)]
     Setup(SetupError),
     #[error(transparent)]
@@ -27,7 +30,7 @@ enum Failure {
 impl Failure {
     fn status(&self) -> u8 {
         match self {
-            Failure::CommandLine => 2,
+            Failure::CommandLine | Failure::NoText => 2,
             Failure::Setup(SetupError::Bad { .. }) | Failure::Tape(TapeError::Line { .. }) => 1,
             Failure::Setup(SetupError::NoMemory) | Failure::Tape(TapeError::NoMemory) => 3,
             Failure::Tape(TapeError::Read | TapeError::Write | TapeError::Turns) => 4,
@@ -144,7 +147,7 @@ fn answer<R: AllocGlobal + Input + Print + Eprint + Env + Files>(rt: &R) -> Resu
         Err(e) if e.kind() == io::ErrorKind::OutOfMemory => {
             return Err(Failure::Tape(TapeError::NoMemory));
         }
-        Err(_) => return Err(Failure::CommandLine),
+        Err(_) => return Err(Failure::NoText),
     };
     let words: Vec<String> = words.collect(alloc)?;
     match command(alloc)?.try_get_matches_from(words.as_slice()) {

@@ -3,7 +3,7 @@ use Rattle.hx_rules.specs.declared.event.Event.{Event}
 use Rattle.hx_audit.specs.Recording.{Explains}
 use Rattle.hx_replay.specs.declared.fault.TapeError.{TapeError}
 use Rattle.hx_replay.specs.Struck.{IsFaultOf}
-use Rattle.hx_replay.proofs.Strikes.{refused_of, breaks_of, all_of}
+use Rattle.hx_replay.proofs.Strikes.{refused_of, breaks_of, all_of, left_of}
 use Rattle.hx_replay.proofs.striking.strike_text.Goals as goal
 
 pub returns-in-Err-Refused-clause-err : goal.returns-in-Err-Refused-clause-err
@@ -18,3 +18,9 @@ returns-then-not-collected-clause-err c =
 pub returns-clause-ok : goal.returns-clause-ok
 returns-clause-ok c =
     all_of c.args.setup.now c.args.member c.args.text.now c.in_ok-collected.collected.events.items c.deref.result.now c.in-Ok.kept.items c.in_ok-collected.collected.is_all c.in_ok-collected.ensures c.if-not-collected.false c.deref.ensures.value c.in-Ok.ensures.recorded c.in-Ok.ensures.struck
+
+pub returns-clause-stranger : goal.returns-clause-stranger
+returns-clause-stranger c h =
+    left_of c.args.text.now c.in_ok-collected.collected.events.items c.deref.result.now c.in-Ok.kept.items
+    c.in_ok-collected.collected.is_all c.in_ok-collected.ensures c.if-not-collected.false c.deref.ensures.value
+    (c.in-Ok.ensures.stranger h)
