@@ -11,4 +11,6 @@ are_loud facts = facts.displayed || facts.traded
 
 -- what is told of each chain says whether it was displayed or has traded
 abbrev pub FactsTell : List Chain → Type 0
-FactsTell chains = (member : ℕ) (entered : Token) → is_loud chains member entered ≡ are_loud (facts_of chains member entered)
+FactsTell chains =
+    (member : ℕ) (entered : Token)
+    → is_loud chains member entered ≡ are_loud (facts_of chains member entered)

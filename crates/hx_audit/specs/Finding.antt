@@ -17,20 +17,26 @@ use Rattle.hx_audit.specs.declared.listing.Naming.{Naming}
 abbrev pub named_by : Option Inbound → Option Naming
 named_by None = None
 named_by (Some (Enter e)) = Some (record { token = e.token; existing = e.token })
-named_by (Some (Replace r)) = Some (record { token = r.replacement_token; existing = r.existing_token })
+named_by (Some (Replace r)) =
+    Some (record { token = r.replacement_token; existing = r.existing_token })
 named_by (Some (Cancel c)) = None
 
 -- the same of an event, where it is a message of the member
 abbrev pub named : ℕ → Event → Option Naming
-named member (Message sender time bytes) = if sender == member then named_by (inbound_of bytes) else None
+named member (Message sender time bytes) =
+    if sender == member then named_by (inbound_of bytes) else None
 named member (Tick time) = None
 named member (Hours time code) = None
 
 -- a use is put to those of its chain, or begins one
 abbrev pub with_use : List (Token × List Token) → Token → Token → List (Token × List Token)
 with_use [] entered token = (entered, token ∷ []) ∷ []
-with_use (g ∷ groups) entered token = if is_token entered g.0 then (g.0, g.1 ++ token ∷ []) ∷ groups else g ∷ with_use groups entered token
+with_use (g ∷ groups) entered token =
+    if is_token entered g.0 then (g.0, g.1 ++ token ∷ []) ∷ groups else g
+    ∷ with_use groups entered token
 
 -- what is asked of each of these chains is there
 abbrev pub AreTold : Market → ℕ → List (Token × List Token) → Type 0
-AreTold market member groups = AllByRecursion (λ g. chain_facts market.tokens market.chains member g.0 ≡ Some (facts_of market.chains member g.0)) groups
+AreTold market member groups =
+    AllByRecursion (λ g. chain_facts market.tokens market.chains member g.0
+    ≡ Some (facts_of market.chains member g.0)) groups

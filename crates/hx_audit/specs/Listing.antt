@@ -17,7 +17,8 @@ use_of token entered = (token, entered)
 
 -- the tokens that the member has used, in order of use
 abbrev pub uses_of : List Used → ℕ → List Use
-uses_of tokens member = map (λ u. use_of u.token u.entered) (filter (λ u. u.member == member) tokens)
+uses_of tokens member =
+    map (λ u. use_of u.token u.entered) (filter (λ u. u.member == member) tokens)
 
 -- the tokens of one chain, in order of use
 abbrev pub tokens_in : List Use → Token → List Token
@@ -42,4 +43,5 @@ told_chain chains member group = record { tokens = group.1; facts = facts_of cha
 
 -- the chains of a member, by first use
 abbrev pub chains_of : Market → ℕ → List Chain
-chains_of market member = map (told_chain market.chains member) (grouped (uses_of market.tokens member))
+chains_of market member =
+    map (told_chain market.chains member) (grouped (uses_of market.tokens member))

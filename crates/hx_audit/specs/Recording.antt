@@ -13,7 +13,9 @@ use Rattle.hx_audit.specs.declared.fault.StrikeError.TheVariants.{NoMemory, Refu
 -- the market accepts each of these events at its turn
 abbrev pub AreAccepted : Setup → Market → List Event → Type 0
 AreAccepted setup market [] = ⊤
-AreAccepted setup market (event ∷ events) = (refusal setup market.recorded event ≡ None) × AreAccepted setup (step setup market event).market events
+AreAccepted setup market (event ∷ events) =
+    (refusal setup market.recorded event ≡ None)
+    × AreAccepted setup (step setup market event).market events
 
 -- a history that is recorded whole
 abbrev pub AreRecorded : Setup → List Event → Type 0

@@ -29,7 +29,8 @@ fn is_new_use(
     member: MemberNo,
     token: &Token,
 ) -> bool
-    ensures { result ≡ (is_used market.now.market.tokens member token.now && not (is_some (lookup (is_token token.now) listing.now.uses.entries))) }
+    ensures { result ≡ (is_used market.now.market.tokens member token.now
+        && not (is_some (lookup (is_token token.now) listing.now.uses.entries))) }
 {
     market.chain(member, token).is_some() && !listing.has(token)
 }
@@ -49,7 +50,8 @@ fn take_and_list(
     ensures market { OnOk result (market.new.market ≡ (step market.old.setup market.old.market event.now).market) }
     ensures listed { OnOk result (listing.new.uses.entries ≡ uses_of market.new.market.tokens member) }
     ensures grouped { OnOk result (listing.new.chains.entries ≡ grouped listing.new.uses.entries) }
-    ensures refused { IfErr result (IsErrorAt index (refusal market.old.setup market.old.market.recorded event.now)) }
+    ensures refused { IfErr result (IsErrorAt index
+        (refusal market.old.setup market.old.market.recorded event.now)) }
 {
     take_event(market, index, event)?;
     let Some(naming) = event_names(event, member) else {
@@ -75,7 +77,9 @@ fn take_all(
     requires grouped { listing.old.chains.entries ≡ [] }
     ensures recorded { OnOk result (AreRecorded market.old.setup events.now) }
     ensures market { OnOk result (market.new.market ≡ run market.old.setup events.now) }
-    ensures chains { OnOk result (listing.new.chains.entries ≡ grouped (uses_of (run market.old.setup events.now).tokens member)) }
+    ensures chains { OnOk result (
+        listing.new.chains.entries
+        ≡ grouped (uses_of (run market.old.setup events.now).tokens member)) }
     ensures refused { IfErr result (Explains market.old.setup events.now) }
 {
     for (index, event) in events.iter().enumerate() {
@@ -92,7 +96,8 @@ fn tell(
     groups: IndexMap<Token, ChainTokens>,
 ) -> Result<Vec<Chain>, NoMemory>
     requires { AreTold market.now.market member groups.entries }
-    ensures { IfOk result (λ chains. chains.items ≡ map (told_chain market.now.market.chains member) groups.entries) }
+    ensures { IfOk result (λ chains.
+        chains.items ≡ map (told_chain market.now.market.chains member) groups.entries) }
 {
     let mut chains = Vec::new(alloc);
     for (entered, tokens) in groups {

@@ -11,11 +11,14 @@ use Rattle.hx_market.specs.Outputs.{Reply, Told}
 
 -- message n of the feed
 abbrev pub feed_line : ℕ → Feed → List ℕ
-feed_line n message = codes "F " ++ (decimal n ++ (32 ∷ (encode_lower (feed_bytes message) ++ 10 ∷ [])))
+feed_line n message =
+    codes "F " ++ (decimal n ++ (32 ∷ (encode_lower (feed_bytes message) ++ 10 ∷ [])))
 
 -- reply n to a member
 abbrev pub reply_line : ℕ → ℕ → Outbound → List ℕ
-reply_line member n reply = codes "M " ++ (decimal member ++ (32 ∷ (decimal n ++ (32 ∷ (encode_lower (outbound_bytes reply) ++ 10 ∷ [])))))
+reply_line member n reply =
+    codes "M " ++ (decimal member
+    ++ (32 ∷ (decimal n ++ (32 ∷ (encode_lower (outbound_bytes reply) ++ 10 ∷ [])))))
 
 -- messages of the feed, after n others
 abbrev pub feed_lines : ℕ → List Feed → List ℕ
@@ -25,7 +28,9 @@ feed_lines n (message ∷ messages) = feed_line (n + 1) message ++ feed_lines (n
 -- replies, after so many others of each member
 abbrev pub reply_lines : List ℕ → List Reply → List ℕ
 reply_lines counts [] = []
-reply_lines counts (reply ∷ replies) = reply_line reply.0 (slice_index counts reply.0 + 1) reply.1 ++ reply_lines (raised counts reply.0) replies
+reply_lines counts (reply ∷ replies) =
+    reply_line reply.0 (slice_index counts reply.0 + 1) reply.1
+    ++ reply_lines (raised counts reply.0) replies
 
 -- how many replies each member then has
 abbrev pub counts_after : List ℕ → List Reply → List ℕ
@@ -35,4 +40,6 @@ counts_after counts (reply ∷ replies) = counts_after (raised counts reply.0) r
 -- the output text of what events tell: for each its messages of the feed, then its replies
 abbrev pub told_lines : ℕ → List ℕ → List Told → List ℕ
 told_lines n counts [] = []
-told_lines n counts (t ∷ ts) = (feed_lines n t.feed ++ reply_lines counts t.replies) ++ told_lines (n + length t.feed) (counts_after counts t.replies) ts
+told_lines n counts (t ∷ ts) =
+    (feed_lines n t.feed ++ reply_lines counts t.replies)
+    ++ told_lines (n + length t.feed) (counts_after counts t.replies) ts

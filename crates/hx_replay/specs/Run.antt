@@ -32,8 +32,20 @@ pub record Progress : Type 0 where
   pub replies : ℕ
   pub counts : List ℕ
 
+-- the same with this market
+abbrev pub with_market : Progress → Market → Progress
+with_market p market = record p { market = market }
+
 unfoldable pub start : Setup → Progress
-start setup = record { setup = setup; market = opening setup; events = 0; feed = 0; replies = 0; counts = replicate 4096 0 }
+start setup =
+    record {
+      setup = setup;
+      market = opening setup;
+      events = 0;
+      feed = 0;
+      replies = 0;
+      counts = replicate 4096 0;
+    }
 
 -- the operator has number 0
 abbrev pub is_operator : Entry → Bool
@@ -44,7 +56,10 @@ message_of e = event.Message e.member e.time e.bytes
 
 -- the event of an entry: a member's message, or what the operator's bytes say
 abbrev pub event_of : Entry → Event
-event_of e = if is_operator e then option_map_or (λ x. x) (operator_event e.time e.bytes) (message_of e) else message_of e
+event_of e =
+    if is_operator e
+    then option_map_or (λ x. x) (operator_event e.time e.bytes) (message_of e)
+    else message_of e
 
 -- the operator's bytes say nothing
 abbrev pub is_unknown : Entry → Bool
@@ -67,7 +82,8 @@ fault_of n refused.NoMemory = fault.NoMemory
 
 -- What is wrong with an entry: the operator's bytes say nothing, or the market refuses the event, for its time, its member or his limit, in this order.
 unfoldable pub check_of : Progress → Entry → Option Kind
-check_of p e = if is_unknown e then Some kind.Bad else kind_of (refusal p.setup p.market.recorded (event_of e))
+check_of p e =
+    if is_unknown e then Some kind.Bad else kind_of (refusal p.setup p.market.recorded (event_of e))
 
 abbrev pub outcome_of : Progress → Entry → Outcome
 outcome_of p e = step p.setup p.market (event_of e)
@@ -112,7 +128,9 @@ pub record Plays (old new : Progress) (text output : List ℕ) : Type 0 where
 
 -- the first check that a line fails
 abbrev pub FailsAs : Progress → Kind → List ℕ → Type 0
-FailsAs p k text = ((k ≡ kind.Bad) × ((e : Entry) → IsEntry e → text ≢ line e)) ⊎ ((e : Entry) × IsEntry e × (text ≡ line e) × (check_of p e ≡ Some k))
+FailsAs p k text =
+    ((k ≡ kind.Bad) × ((e : Entry) → IsEntry e → text ≢ line e))
+    ⊎ ((e : Entry) × IsEntry e × (text ≡ line e) × (check_of p e ≡ Some k))
 
 abbrev pub Faults : Progress → List ℕ → TapeError → Type 0
 Faults p text (fault.Line n k) = (n ≡ p.events + 1) × FailsAs p k text
@@ -161,12 +179,16 @@ pub record Replays (old new : Progress) (text : List ℕ) (w v : Option (List �
 -- The rest begins with a bad line: a whole line that fails a check, or more than a line's bytes without a
 -- line feed, or where nothing follows the last bytes without one.
 abbrev pub BeginsBadly : Type 0 → Progress → Kind → List ℕ → Type 0
-BeginsBadly End p k rest = ((bad : List ℕ) × (more : List ℕ) × (rest ≡ bad ++ 10 ∷ more) × HasNone 10 bad × FailsAs p k bad)
+BeginsBadly End p k rest =
+    ((bad : List ℕ) × (more : List ℕ) × (rest ≡ bad ++ 10 ∷ more) × HasNone 10 bad
+    × FailsAs p k bad)
     ⊎ ((k ≡ kind.Bad) × HasNone 10 rest × ((2066 < length rest) ⊎ ((0 < length rest) × End)))
 
 -- where and why a replay ended: after these events, with these bytes read behind them and these written
 abbrev pub EndsBy : Type 0 → Progress → List Entry → List ℕ → List ℕ → TapeError → Type 0
-EndsBy End p events rest written (fault.Line n k) = (written ≡ output_all p events) × (n ≡ p.events + length events + 1) × BeginsBadly End (after_all p events) k rest
+EndsBy End p events rest written (fault.Line n k) =
+    (written ≡ output_all p events) × (n ≡ p.events + length events + 1)
+    × BeginsBadly End (after_all p events) k rest
 EndsBy End p events rest written fault.NoMemory = IsFront written (output_all p events)
 EndsBy End p events rest written fault.Write = IsFront written (output_all p events)
 EndsBy End p events rest written fault.Read = (written ≡ output_all p events) × HasNone 10 rest

@@ -31,11 +31,13 @@ texts_of (line ∷ lines) = text_of line ++ texts_of lines
 abbrev pub numbered : ℕ → List ℕ → List Line → List Numbered
 numbered n counts [] = []
 numbered n counts (ToFeed message ∷ lines) = OfFeed (n + 1) message ∷ numbered (n + 1) counts lines
-numbered n counts (ToMember member reply ∷ lines) = OfMember member (slice_index counts member + 1) reply ∷ numbered n (raised counts member) lines
+numbered n counts (ToMember member reply ∷ lines) =
+    OfMember member (slice_index counts member + 1) reply ∷ numbered n (raised counts member) lines
 
 -- all output lines of a history
 unfoldable pub output_lines : Setup → List Event → List Numbered
-output_lines setup events = numbered 0 (replicate 4096 0) (lines_of_all (λ member. true) (told setup events))
+output_lines setup events =
+    numbered 0 (replicate 4096 0) (lines_of_all (λ member. true) (told setup events))
 
 -- a reply to the member
 abbrev pub is_to : ℕ → Numbered → Bool
@@ -50,4 +52,6 @@ not_to m lines = filter (λ line. not (is_to m line)) lines
 -- those of the history without the messages of his quiet chains.
 pub record LeavesNoTrace (setup : Setup) (events : List Entry) : Type 0 where
   pub lines : output_all (start setup) events ≡ texts_of (output_lines setup (map event_of events))
-  pub same : (m : ℕ) → not_to m (output_lines setup (map event_of events)) ≡ not_to m (output_lines setup (strike_one setup m (map event_of events)))
+  pub same :
+      (m : ℕ) → not_to m (output_lines setup (map event_of events))
+      ≡ not_to m (output_lines setup (strike_one setup m (map event_of events)))

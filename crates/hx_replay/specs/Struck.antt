@@ -5,6 +5,7 @@ use Rattle.std.specs.Io.KnownBytes.{Consumes, Appends, IsAtEnd}
 use Rattle.hx_members.specs.Setups.{Setup}
 use Rattle.hx_rules.specs.declared.event.Event.{Event}
 use Rattle.hx_rules.specs.declared.event.Event.TheVariants.{Message, Tick, Hours}
+use Rattle.hx_market.specs.Markets.{Market}
 use Rattle.hx_market.specs.Steps.{run}
 use Rattle.hx_market.specs.Striking.{bears, quiet_of_one}
 use Rattle.hx_replay.specs.declared.fault.Kind.{Kind}
@@ -16,7 +17,9 @@ use Rattle.hx_replay.specs.Run.{start, event_of, is_unknown, tape, after_all, Ar
 
 -- the lines that stay: those whose event is no message that bears a token of the member's chains that the whole tape never displayed and never traded
 unfoldable pub struck : Setup → ℕ → List Entry → List Entry
-struck setup m entries = filter (λ e. not (bears (quiet_of_one m (run setup (map event_of entries))) (event_of e))) entries
+struck setup m entries =
+    let after : Market = run setup (map event_of entries) in
+    filter (λ e. not (bears (quiet_of_one m after) (event_of e))) entries
 
 -- the entry of an event
 abbrev pub entry_of_event : Event → Entry
@@ -40,11 +43,15 @@ pub record IsLineOf (text : List ℕ) (event : Event) : Type 0 where
 
 -- the text is the line of no event
 abbrev pub IsNoLine : List ℕ → Type 0
-IsNoLine text = ((e : Entry) → IsEntry e → text ≢ line e) ⊎ ((e : Entry) × IsEntry e × (text ≡ line e) × (is_unknown e ≡ true))
+IsNoLine text =
+    ((e : Entry) → IsEntry e → text ≢ line e)
+    ⊎ ((e : Entry) × IsEntry e × (text ≡ line e) × (is_unknown e ≡ true))
 
 -- it begins with a line of no event, or it is the beginning of a line
 abbrev pub BreaksOff : List ℕ → Type 0
-BreaksOff rest = ((bad : List ℕ) × (more : List ℕ) × (rest ≡ bad ++ 10 ∷ more) × HasNone 10 bad × IsNoLine bad) ⊎ (HasNone 10 rest × (0 < length rest))
+BreaksOff rest =
+    ((bad : List ℕ) × (more : List ℕ) × (rest ≡ bad ++ 10 ∷ more) × HasNone 10 bad × IsNoLine bad)
+    ⊎ (HasNone 10 rest × (0 < length rest))
 
 -- the text is the lines of these events, and a rest
 pub record Collects (text : List ℕ) (events : List Event) (rest : List ℕ) : Type 0 where
@@ -93,13 +100,18 @@ IsFaultOf setup text fault.Read = ⊥
 IsFaultOf setup text fault.Write = ⊥
 IsFaultOf setup text fault.Turns = ⊥
 
+-- so many lines, and nothing else
+abbrev pub counts_of_lines : ℕ → Counts
+counts_of_lines lines = record { events = lines; feed = 0; replies = 0 }
+
 -- all that was read is a tape, and its lines that stay were written as they were read
 pub record StrikesAll (setup : Setup) (m : ℕ) (counts : Counts) (r s w v : Option (List ℕ)) : Type 0 where
   pub events : List Entry
   pub are_events : AreEvents (start setup) events
   pub read : Consumes r s (tape events)
   pub at_end : IsAtEnd s
-  pub counts_are : counts ≡ (let c : Counts = record { events = length (struck setup m events); feed = 0; replies = 0 } in c)
+  pub counts_are :
+      counts ≡ counts_of_lines (length (struck setup m events))
   pub wrote : Appends w v (tape (struck setup m events))
 
 -- all that was read is a tape, and the writer failed after a front of the lines that stay

@@ -21,7 +21,8 @@ pub fn write_bytes(text: &mut Vec<u8>, bytes: &[u8]) -> Result<(), AllocError>
 /// The bytes of a text of such digits.
 pub fn read_bytes(alloc: Global, text: &[u8]) -> Result<Option<Vec<u8>>, AllocError>
     ensures some { IfOk result (λ o. IfSome o (λ v. (text.now ≡ encode_lower v.items) × IsBytes v.items)) }
-    ensures none { IfOk result (λ o. IfNone o ((bytes : List ℕ) → IsBytes bytes → text.now ≢ encode_lower bytes)) }
+    ensures none { IfOk result (λ o.
+        IfNone o ((bytes : List ℕ) → IsBytes bytes → text.now ≢ encode_lower bytes)) }
 {
     if text.len() % 2 != 0 {
         return Ok(None);
@@ -51,8 +52,11 @@ fn read_into(text: &[u8], bytes: &mut [u8]) -> bool
 
 // The byte of two digits.
 fn byte_of(high: u8, low: u8) -> Option<u8>
-    ensures some { IfSome result (λ b. (b < 256) × (high ≡ slice_index lower_digits (b / 16)) × (low ≡ slice_index lower_digits (b % 16))) }
-    ensures none { IfNone result ((b : ℕ) → b < 256 → high ≡ slice_index lower_digits (b / 16) → low ≢ slice_index lower_digits (b % 16)) }
+    ensures some { IfSome result (λ b.
+        (b < 256) × (high ≡ slice_index lower_digits (b / 16))
+        × (low ≡ slice_index lower_digits (b % 16))) }
+    ensures none { IfNone result ((b : ℕ) → b < 256 → high ≡ slice_index lower_digits (b / 16)
+        → low ≢ slice_index lower_digits (b % 16)) }
 {
     Some(digit_of(high)? * 16 + digit_of(low)?)
 }

@@ -11,14 +11,18 @@ ghost use Rattle.hx_replay.specs.Run.{tape, start, event_of, output_all, after_a
 /// A text is the tape of one list of entries.
 #[tactic(auto, using(crate::proofs::OneReading::tape_same))]
 pub fn one_reading()
-    ensures { (es fs : List Entry) → AllByRecursion IsEntry es → AllByRecursion IsEntry fs → tape es ≡ tape fs → es ≡ fs }
+    ensures { (es fs : List Entry) → AllByRecursion IsEntry es → AllByRecursion IsEntry fs
+        → tape es ≡ tape fs → es ≡ fs }
 {}
 
 /// The output text of a tape is the text of what the market tells, and its last market is the one after the run.
 #[tactic(auto, using(crate::proofs::OutputIsTold::output_is_told, crate::proofs::OutputIsTold::market_is_run))]
 pub fn output_is_told()
-    ensures text { (setup : Setup) (es : List Entry) → output_all (start setup) es ≡ told_lines 0 (replicate 4096 0) (told setup (map event_of es)) }
-    ensures market { (setup : Setup) (es : List Entry) → (after_all (start setup) es).market ≡ run setup (map event_of es) }
+    ensures text { (setup : Setup) (es : List Entry)
+        → output_all (start setup) es
+        ≡ told_lines 0 (replicate 4096 0) (told setup (map event_of es)) }
+    ensures market { (setup : Setup) (es : List Entry)
+        → (after_all (start setup) es).market ≡ run setup (map event_of es) }
 {}
 
 /// The headline, of tapes: the output text of a tape is that of the market's lines, and for every member the lines that

@@ -19,7 +19,8 @@ use std::io::{ErrorKind, Read, Write};
 pub fn write_whole<W: Write>(writer: &mut W, bytes: &[u8]) -> Result<(), TapeError>
     ensures ok { OnOk result (Appends (W.contents writer.old) (W.contents writer.new) bytes.now) }
     ensures write { IfErr result (λ e. e ≡ fault.Write) }
-    ensures err { OnErr result ((rest : List ℕ) × Writes (W.contents writer.old) (W.contents writer.new) bytes.now rest) }
+    ensures err { OnErr result (
+        (rest : List ℕ) × Writes (W.contents writer.old) (W.contents writer.new) bytes.now rest) }
 {
     let mut rest = bytes;
     for _ in 0..u64::MAX {
@@ -130,7 +131,8 @@ fn play_piece<B: Book + Drop, W: Write>(
     requires few { IsFew run.old }
     ensures ok { OnOk result (Replays run.old run.new (pending.old.items ++ piece.now) (W.contents writer.old) (W.contents writer.new)
         pending.new.items × HasNone 10 pending.new.items × (length pending.new.items ≤ 2066)) }
-    ensures err { IfErr result (Stops ⊥ run.old (pending.old.items ++ piece.now) (W.contents writer.old) (W.contents writer.new)) }
+    ensures err { IfErr result (Stops ⊥ run.old (pending.old.items ++ piece.now) (W.contents writer.old)
+        (W.contents writer.new)) }
 {
     pending.extend_from_slice(piece)?;
     let rest = play_lines(alloc, run, writer, pending)?;
@@ -146,7 +148,8 @@ fn play_piece<B: Book + Drop, W: Write>(
 fn finish(counts: Counts, pending: &[u8]) -> Result<Counts, TapeError>
     requires { counts.events < 2 ^ 63 }
     ensures ok { IfOk result (λ c. (c ≡ counts) × (length pending.now ≡ 0)) }
-    ensures err { IfErr result (λ e. (e ≡ fault.Line (counts.events + 1) kinds.Bad) × (0 < length pending.now)) }
+    ensures err { IfErr result (λ e.
+        (e ≡ fault.Line (counts.events + 1) kinds.Bad) × (0 < length pending.now)) }
 {
     if !pending.is_empty() {
         return Err(bad_line(counts));

@@ -6,7 +6,7 @@ ghost use Rattle.hx_market.specs.Steps.{step};
 ghost use Rattle.hx_market.specs.Admitting.{refusal, or_no_memory};
 ghost use Rattle.hx_replay.specs.Text.{Entry, entry_of, line};
 ghost use Rattle.hx_replay.specs.Output.{feed_line, reply_line, feed_lines, reply_lines, counts_after};
-ghost use Rattle.hx_replay.specs.Run.{event_of, is_unknown, fault_of, counts_of, start, Plays, Faults, IsFew};
+ghost use Rattle.hx_replay.specs.Run.{event_of, is_unknown, fault_of, counts_of, start, with_market, Plays, Faults, IsFew};
 
 use crate::decimal::write_number;
 use crate::fault::{Kind, TapeError};
@@ -213,11 +213,17 @@ impl<B: Book + Drop> Run<B> {
     fn step(&mut self, event: Event) -> Result<Output, TapeError>
         requires { self.old.events < 2 ^ 48 }
         ensures passes { OnOk result (refusal self.old.setup self.old.market.recorded event ≡ None) }
-        ensures run { OnOk result (self.new ≡ record self.old { market = (step self.old.setup self.old.market event).market }) }
-        ensures feed { IfOk result (λ output. output.feed.items ≡ (step self.old.setup self.old.market event).told.feed) }
-        ensures replies { IfOk result (λ output. output.replies.items ≡ (step self.old.setup self.old.market event).told.replies) }
-        ensures times { IfOk result (λ output. AllByRecursion (λ message. feed_time message < 2 ^ 48) output.feed.items) }
-        ensures refused { IfErr result (λ e. e ≡ fault_of (self.old.events + 1) (or_no_memory (refusal self.old.setup self.old.market.recorded event))) }
+        ensures run { OnOk result (
+            self.new ≡ with_market self.old (step self.old.setup self.old.market event).market) }
+        ensures feed { IfOk result (λ output.
+            output.feed.items ≡ (step self.old.setup self.old.market event).told.feed) }
+        ensures replies { IfOk result (λ output.
+            output.replies.items ≡ (step self.old.setup self.old.market event).told.replies) }
+        ensures times { IfOk result (λ output.
+            AllByRecursion (λ message. feed_time message < 2 ^ 48) output.feed.items) }
+        ensures refused { IfErr result (λ e.
+            e ≡ fault_of (self.old.events + 1) (or_no_memory
+            (refusal self.old.setup self.old.market.recorded event))) }
     {
         match self.market.prepare(&event) {
             Ok(prepared) => Ok(self.market.commit(prepared)),
@@ -233,7 +239,9 @@ impl<B: Book + Drop> Run<B> {
         requires replies { self.old.replies + length output.now.replies.items < 2 ^ 64 }
         requires numbered { length self.old.counts ≡ 4096 }
         requires each { (member : ℕ) → slice_index self.old.counts member ≤ self.old.replies }
-        ensures lines { OnOk result (lines.new.items ≡ feed_lines self.old.feed output.now.feed.items ++ reply_lines self.old.counts output.now.replies.items) }
+        ensures lines { OnOk result (
+            lines.new.items ≡ feed_lines self.old.feed output.now.feed.items
+            ++ reply_lines self.old.counts output.now.replies.items) }
         ensures run { OnOk result (self.new ≡ record self.old {
           events = self.old.events + 1;
           feed = self.old.feed + length output.now.feed.items;

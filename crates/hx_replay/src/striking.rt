@@ -114,7 +114,9 @@ fn write_line(
     member: u16,
     bytes: &[u8],
 ) -> Result<(), AllocError>
-    ensures { OnOk result (text.new.items ≡ text.old.items ++ (line (record { time = time; member = member; bytes = bytes.now }) ++ 10 ∷ [])) }
+    ensures { OnOk result (
+        text.new.items ≡ text.old.items
+        ++ (line (record { time = time; member = member; bytes = bytes.now }) ++ 10 ∷ [])) }
 {
     write_number(text, time)?;
     text.push(b' ')?;
@@ -128,7 +130,8 @@ fn write_line(
 
 // Appends the line of an event.
 fn write_event(alloc: Global, text: &mut Vec<u8>, event: &Event) -> Result<(), AllocError>
-    ensures { OnOk result (text.new.items ≡ text.old.items ++ (line (entry_of_event event.now) ++ 10 ∷ [])) }
+    ensures { OnOk result (
+        text.new.items ≡ text.old.items ++ (line (entry_of_event event.now) ++ 10 ∷ [])) }
 {
     match event {
         Event::Message {
