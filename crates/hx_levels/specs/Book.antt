@@ -1,4 +1,5 @@
--- The book as the list of live orders in time order, each under its key.
+-- The book as the list of live orders in time order, each under its key; and who ranks before whom: a better price first,
+-- then a displayed order before one that is not, then the earlier (the rule of price, display and time).
 use Rattle.std.specs.Prelude.{◌≡◌, ℕ, ◌<◌, ◌-◌, ◌==◌, ◌||◌, ◌&&◌, not, nat_lt, nat_le, Bool, true, false, List, [], ◌∷◌, Option, Some, None, if◌then◌else◌, ◌+◌, length, drop, slice_get, slice_index_or, slice_set, map}
 use Rattle.std.specs.List.{filter, find, list_any, remove}
 use Rattle.std.specs.Option.{option_map, is_some, IsSome}
@@ -14,9 +15,13 @@ use Rattle.slab.specs.Slab.{Slab, get, HasRoomFor}
 use Rattle.hx_levels.specs.Lists.{head_of, behind_first, drop_first}
 use Rattle.hx_levels.specs.Rank.{by_rank}
 
+-- the terms of a stock, a side and a limit
+abbrev pub terms_at : (locate : ℕ) → Side → (price : ℕ) → Terms
+terms_at locate side price = record { locate = locate; side = side; price = price }
+
 -- the terms of an order
 abbrev pub terms_of : Order → Terms
-terms_of order = record { locate = order.locate; side = order.side; price = order.price }
+terms_of order = terms_at order.locate order.side order.price
 
 -- one buys and the other sells
 abbrev pub is_other_side : Side → Side → Bool
@@ -26,15 +31,17 @@ is_other_side a b = if is_buy a then not (is_buy b) else is_buy b
 abbrev pub crosses : Terms → Order → Bool
 crosses terms order =
     (order.locate == terms.locate) && is_other_side terms.side order.side
-    && (if is_buy terms.side then nat_le order.price terms.price else nat_le terms.price order.price)
+    && (if is_buy terms.side then nat_le order.price terms.price
+    else nat_le terms.price order.price)
 
 -- the first price is better for an incoming order of this side than the second
-abbrev pub is_better_price : Side → ℕ → ℕ → Bool
-is_better_price side a b = if is_buy side then nat_lt a b else nat_lt b a
+abbrev pub is_better_price : Side → (price other : ℕ) → Bool
+is_better_price side price other = if is_buy side then nat_lt price other else nat_lt other price
 
 -- x ranks above y, wherever they stand: a better price, or the same price and x is shown and y is not
 abbrev pub outranks : Side → Order → Order → Bool
-outranks side x y = is_better_price side x.price y.price || (x.price == y.price && x.shown && not y.shown)
+outranks side x y =
+    is_better_price side x.price y.price || (x.price == y.price && x.shown && not y.shown)
 
 -- the same of orders under keys
 abbrev pub is_ahead : Side → Live → Live → Bool
@@ -42,7 +49,8 @@ is_ahead side x y = outranks side x.order y.order
 
 -- the orders that cross, by rank; those that rank alike in time order
 abbrev pub ranked : Terms → List Live → List Live
-ranked terms orders = by_rank (is_ahead terms.side) (filter (λ live. crosses terms live.order) orders)
+ranked terms orders =
+    by_rank (is_ahead terms.side) (filter (λ live. crosses terms live.order) orders)
 
 -- the order stands under this key
 abbrev pub is_under : ℕ → Live → Bool
@@ -66,10 +74,11 @@ abbrev pub with_less : ℕ → Order → Order
 with_less by order = record order { shares = order.shares - by }
 
 -- the shares of the order with the key are by less
-abbrev pub reduced : ℕ → ℕ → List Live → List Live
+abbrev pub reduced : (key by : ℕ) → List Live → List Live
 reduced key by [] = []
 reduced key by (live ∷ rest) =
-    if is_under key live then record live { order = with_less by live.order } ∷ rest else live ∷ reduced key by rest
+    if is_under key live then record live { order = with_less by live.order } ∷ rest
+    else live ∷ reduced key by rest
 
 -- the list without the order that has the key
 abbrev pub without : ℕ → List Live → List Live
@@ -78,7 +87,8 @@ without key orders = drop_first (is_under key) orders
 -- the first key, or the one behind the order that has the key `after`
 abbrev pub key_after : Option Key → List Live → Option Key
 key_after None orders = option_map (λ live. live.key) (head_of orders)
-key_after (Some after) orders = option_map (λ live. live.key) (head_of (behind_first (is_under after.0) orders))
+key_after (Some after) orders =
+    option_map (λ live. live.key) (head_of (behind_first (is_under after.0) orders))
 
 -- the next order by rank, of those that cross
 abbrev pub next_by_rank : Terms → Option Key → List Live → Option Key
@@ -115,7 +125,8 @@ is_candidate terms (Some other) live = crosses terms live.order && is_ahead term
 -- it crosses at the same price, and is shown where the other is
 abbrev pub is_equal : Terms → Order → Live → Bool
 is_equal terms other live =
-    crosses terms live.order && (live.order.price == other.price) && (if live.order.shown then other.shown else not other.shown)
+    crosses terms live.order && (live.order.price == other.price)
+    && (if live.order.shown then other.shown else not other.shown)
 
 -- the order with the key stands at this place
 pub record IsPlace (key : ℕ) (entries : List Live) (i : ℕ) : Type 0 where
@@ -124,4 +135,5 @@ pub record IsPlace (key : ℕ) (entries : List Live) (i : ℕ) : Type 0 where
   pub found : slice_get entries i ≡ find (is_under key) entries
   pub behind : drop (i + 1) entries ≡ behind_first (is_under key) entries
   pub without : remove entries i ≡ drop_first (is_under key) entries
-  pub reduced : (d : Live) (by : ℕ) → let live = slice_index_or entries i d in slice_set entries i (record live { order = with_less by live.order }) ≡ reduced key by entries
+  pub reduced : (d : Live) (by : ℕ) → let live = slice_index_or entries i d in
+      slice_set entries i (record live { order = with_less by live.order }) ≡ reduced key by entries

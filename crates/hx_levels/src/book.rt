@@ -1,7 +1,7 @@
 //! What a book promises, however it is kept.
 ghost use Rattle.std.specs.Prelude.{◌≡◌, ◌+◌, ◌-◌, ◌<◌, ◌++◌, List, [], ◌∷◌, Option, Some, None, IfSome, OnOk, OnErr, true, false};
 ghost use Rattle.std.specs.Option.{option_copied, is_some};
-ghost use Rattle.hx_levels.specs.Book.{terms_of, order_of, has_key, KeysDiffer, ranked, reduced, without, next_by_rank, next_by_time, IsRanked};
+ghost use Rattle.hx_levels.specs.Book.{terms_at, terms_of, order_of, has_key, KeysDiffer, ranked, reduced, without, next_by_rank, next_by_time, IsRanked};
 
 use crate::order::{Key, Order};
 use hx_units::{NoMemory, Price, Side};
@@ -20,13 +20,14 @@ pub trait Book {
     /// until the next `add` or `reserve`. After `NoMemory` all is as before.
     fn reserve(&mut self, locate: u16, side: Side, price: Price) -> Result<(), NoMemory>
         ensures orders { orders self.new ≡ orders self.old }
-        ensures ok { OnOk result (place self.new ≡ Some (record { locate = locate; side = side; price = price })) }
+        ensures ok { OnOk result (place self.new ≡ Some (terms_at locate side price)) }
         ensures err { OnErr result (place self.new ≡ place self.old) };
 
     /// Puts the order last in time, at the reserved place, and gives its key, which no live order has.
     fn add(&mut self, order: Order) -> Key
         requires { place self.old ≡ Some (terms_of order) }
-        ensures orders { orders self.new ≡ orders self.old ++ (record { key = result; order = order }) ∷ [] }
+        ensures orders { orders self.new ≡ orders self.old
+            ++ (record { key = result; order = order }) ∷ [] }
         ensures fresh { has_key result.0 (orders self.old) ≡ false }
         ensures place { place self.new ≡ None };
 
@@ -55,9 +56,11 @@ pub trait Book {
     /// by rank (a better price, then shown before hidden, then time) after the one with the key `after`, or the
     /// first.
     fn next_contra(&self, locate: u16, side: Side, price: Price, after: Option<Key>) -> Option<Key>
-        requires { IfSome after (λ key. IsRanked (record { locate = locate; side = side; price = price }) key.0 (orders self.now)) }
-        ensures exact { result ≡ next_by_rank (record { locate = locate; side = side; price = price }) after (orders self.now) }
-        ensures ranked { IfSome result (λ key. IsRanked (record { locate = locate; side = side; price = price }) key.0 (orders self.now)) }
+        requires { IfSome after (λ key.
+            IsRanked (terms_at locate side price) key.0 (orders self.now)) }
+        ensures exact { result ≡ next_by_rank (terms_at locate side price) after (orders self.now) }
+        ensures ranked { IfSome result (λ key.
+            IsRanked (terms_at locate side price) key.0 (orders self.now)) }
         ensures keys { KeysDiffer (orders self.now) };
 
     /// The next order in time after the one with the key `after`, or the oldest.

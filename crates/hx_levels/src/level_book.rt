@@ -1,12 +1,12 @@
 //! The book by levels of price.
 ghost use Rattle.std.specs.Prelude.{◌≡◌, ◌+◌, ◌-◌, ◌≤◌, ◌++◌, ◌<◌, [], ◌∷◌, Option, Some, None, IfSome, OnOk, OnErr, true, false};
-ghost use Rattle.hx_levels.specs.LevelBook.{rung_of, contra, limit_of, to_key};
+ghost use Rattle.hx_levels.specs.LevelBook.{above_prices, rung_of, contra, limit_of, to_key};
+ghost use Rattle.hx_units.specs.Limits.{greatest_price};
 ghost use Rattle.hx_levels.specs.Book.{terms_of, has_key, order_of, KeysDiffer, IsRanked, next_by_rank, next_by_time, without, reduced};
 ghost use Rattle.std.specs.Option.{option_copied, option_map, is_some};
 
 use crate::book::Book;
 use crate::levels::{Level, Rung, drop_empty, ends_at, first_from, make_level, set_ends};
-use crate::list_book::is_buy;
 use crate::nodes::{Ends, Node, link_last, take_shares, unlink};
 use crate::order::{Key, Order, Terms};
 use hx_units::{NoMemory, Price, Side};
@@ -14,6 +14,9 @@ use slab::Slab;
 use std::alloc::Global;
 use std::collections::BTreeMap;
 use std::marker::Model;
+
+// A number above each price: the distance of a buy's level counts down from it.
+const ABOVE_PRICES: u32 = 2_000_000_000;
 
 /// A book by levels of price: the orders in a slab, linked in time order, and in queues by price and by
 /// whether they are shown. A call takes time in proportion to the logarithm of the number of levels at most.
@@ -47,7 +50,8 @@ impl Model for LevelBook {
 
     ghost view = { λ b. record { orders = walked b.nodes b.time; place = b.place } };
 
-    ghost invariant = { λ b. IsBook b.nodes b.levels b.time b.place b.kept (walked b.nodes b.time) };
+    ghost invariant = { λ b. IsBook b.nodes b.levels b.time b.place b.kept
+        (walked b.nodes b.time) };
 }
 
 impl LevelBook {
@@ -73,7 +77,8 @@ impl LevelBook {
     // Puts an order last, whose level is there.
     fn add_last(&mut self, order: Order) -> Key
         requires { self.old.place ≡ Some (terms_of order) }
-        ensures orders { self.new.orders ≡ self.old.orders ++ (record { key = result; order = order }) ∷ [] }
+        ensures orders { self.new.orders ≡ self.old.orders
+            ++ (record { key = result; order = order }) ∷ [] }
         ensures fresh { has_key result.0 self.old.orders ≡ false }
         ensures place { self.new.place ≡ None }
     {
@@ -91,14 +96,14 @@ impl LevelBook {
 // The level of an order.
 fn rung_of(order: &Order) -> Rung
     ensures rung { result ≡ rung_of (terms_of order.now) }
-    ensures priced { order.now.price ≤ 1999999900 }
+    ensures priced { order.now.price ≤ greatest_price }
 {
-    let buy = is_buy(order.side);
+    let buy = order.side.is_buy();
     let price = order.price.get();
     Rung {
         locate: order.locate,
         buy,
-        distance: if buy { 2_000_000_000 - price } else { price },
+        distance: if buy { ABOVE_PRICES - price } else { price },
     }
 }
 
@@ -106,16 +111,16 @@ fn rung_of(order: &Order) -> Rung
 fn contra_of(terms: &Terms) -> (Rung, u32)
     ensures rung { result.0 ≡ contra terms.now 0 }
     ensures limit { result.1 ≡ limit_of terms.now }
-    ensures small { result.1 ≤ 2000000000 }
+    ensures small { result.1 ≤ above_prices }
 {
-    let buy = is_buy(terms.side);
+    let buy = terms.side.is_buy();
     let price = terms.price.get();
     let rung = Rung {
         locate: terms.locate,
         buy: !buy,
         distance: 0,
     };
-    (rung, if buy { price } else { 2_000_000_000 - price })
+    (rung, if buy { price } else { ABOVE_PRICES - price })
 }
 
 impl LevelBook {
@@ -238,12 +243,12 @@ impl LevelBook {
 fn rung_at(terms: &Terms) -> Rung
     ensures { result ≡ rung_of terms.now }
 {
-    let buy = is_buy(terms.side);
+    let buy = terms.side.is_buy();
     let price = terms.price.get();
     Rung {
         locate: terms.locate,
         buy,
-        distance: if buy { 2_000_000_000 - price } else { price },
+        distance: if buy { ABOVE_PRICES - price } else { price },
     }
 }
 

@@ -2,7 +2,6 @@
 ghost use Rattle.std.specs.Prelude.{◌≡◌, ◌+◌, ◌<◌, [], ◌∷◌, Option, Some, None, IfSome, MatchOption, true, false, IsTrue};
 ghost use Rattle.std.specs.List.{position, filter, find};
 ghost use Rattle.std.specs.Option.{option_map, option_copied, is_some};
-ghost use Rattle.hx_units.specs.Side.{is_buy};
 ghost use Rattle.hx_levels.specs.Lists.{head_of, drop_first, behind_first};
 ghost use Rattle.hx_levels.specs.Rank.{first_of, higher};
 ghost use Rattle.hx_levels.specs.Book.{is_under, is_ahead, crosses, outranks, ranked, is_candidate, is_equal, has_key, IsPlace, order_of, KeysDiffer, IsRanked, next_by_rank};
@@ -57,18 +56,12 @@ impl ListBook {
     }
 }
 
-pub(crate) fn is_buy(side: Side) -> bool
-    ensures { result ≡ is_buy side }
-{
-    matches!(side, Side::Buy)
-}
-
 // Whether the order crosses the terms.
 pub(crate) fn crosses(terms: &Terms, order: &Order) -> bool
     ensures { result ≡ crosses terms.now order.now }
 {
-    let buy = is_buy(terms.side);
-    if order.locate != terms.locate || buy == is_buy(order.side) {
+    let buy = terms.side.is_buy();
+    if order.locate != terms.locate || buy == order.side.is_buy() {
         return false;
     }
     if buy {
@@ -86,7 +79,7 @@ pub(crate) fn outranks(side: Side, x: &Order, y: &Order) -> bool
     if first == second {
         return x.shown && !y.shown;
     }
-    is_buy(side) == (first < second)
+    side.is_buy() == (first < second)
 }
 
 fn place_of(entries: &[Live], key: Key) -> Option<usize>
@@ -122,7 +115,8 @@ fn higher<'a>(side: Side, live: &'a Live, best: Option<&'a Live>) -> Option<&'a 
 
 // The first by rank of the candidates.
 fn first_below(entries: &[Live], terms: &Terms, than: Option<&Live>) -> Option<Key>
-    ensures { result ≡ option_map (λ live. live.key) (first_of (is_ahead terms.now.side) (is_candidate terms.now (option_copied than.entry)) entries.now) }
+    ensures { result ≡ option_map (λ live. live.key) (first_of (is_ahead terms.now.side)
+        (is_candidate terms.now (option_copied than.entry)) entries.now) }
 {
     let mut best: Option<&Live> = None;
     let mut i = entries.len();
@@ -147,7 +141,8 @@ fn is_equal(terms: &Terms, with: &Order, live: &Live) -> bool
 
 // The first of these that crosses and ranks alike.
 fn first_equal(entries: &[Live], terms: &Terms, with: &Order) -> Option<Key>
-    ensures { result ≡ option_map (λ live. live.key) (find (is_equal terms.now with.now) entries.now) }
+    ensures { result ≡ option_map (λ live. live.key) (find
+        (is_equal terms.now with.now) entries.now) }
 {
     for live in entries {
         if is_equal(terms, with, live) {

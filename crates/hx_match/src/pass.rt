@@ -13,12 +13,17 @@ use std::alloc::Global;
 /// The book stays as it is. The fills can be carried out one after another: what they execute, and the
 /// orders that then stay, are those of the rules. `NoMemory` where the list of fills cannot grow.
 pub fn plan<B: Book>(alloc: Global, book: &B, incoming: &Incoming) -> Result<Plan, NoMemory>
-    ensures fills { IfOk result (λ plan. plan.fills.items ≡ fills_of incoming.now (B.orders book.now)) }
-    ensures left { IfOk result (λ plan. plan.left ≡ (matched_live incoming.now (B.orders book.now)).left) }
+    ensures fills { IfOk result (λ plan.
+        plan.fills.items ≡ fills_of incoming.now (B.orders book.now)) }
+    ensures left { IfOk result (λ plan.
+        plan.left ≡ (matched_live incoming.now (B.orders book.now)).left) }
     ensures good { IfOk result (λ plan. AreGood plan.fills.items (B.orders book.now)) }
-    ensures done { IfOk result (λ plan. done_by plan.fills.items (B.orders book.now) ≡ (matched incoming.now incoming.now.shares (lives (B.orders book.now))).fills) }
-    ensures rest { IfOk result (λ plan. lives (left_by plan.fills.items (B.orders book.now)) ≡ (matched incoming.now incoming.now.shares (lives (B.orders book.now))).rest) }
-    ensures remains { IfOk result (λ plan. plan.left ≡ (matched incoming.now incoming.now.shares (lives (B.orders book.now))).left) }
+    ensures done { IfOk result (λ plan. done_by plan.fills.items (B.orders book.now)
+        ≡ (matched incoming.now incoming.now.shares (lives (B.orders book.now))).fills) }
+    ensures rest { IfOk result (λ plan. lives (left_by plan.fills.items (B.orders book.now))
+        ≡ (matched incoming.now incoming.now.shares (lives (B.orders book.now))).rest) }
+    ensures remains { IfOk result (λ plan. plan.left
+        ≡ (matched incoming.now incoming.now.shares (lives (B.orders book.now))).left) }
     ensures keys { KeysDiffer (B.orders book.now) }
 {
     let mut fills = Vec::new(alloc);
@@ -40,7 +45,13 @@ pub fn plan<B: Book>(alloc: Global, book: &B, incoming: &Incoming) -> Result<Pla
 
 // The execution of a resting order, where it qualifies for the shares that are left.
 fn execution(left: u32, incoming: &Incoming, key: Key, order: &Order) -> Option<Fill>
-    ensures { MatchOption result (qualifies incoming.now left order.now ≡ false) (λ fill. (qualifies incoming.now left order.now ≡ true) × (fill ≡ record { key = key; shares = min left order.now.shares; price = order.now.price })) }
+    ensures { MatchOption result (qualifies incoming.now left order.now ≡ false)
+        (λ fill. (qualifies incoming.now left order.now ≡ true)
+        × (fill ≡ record {
+          key = key;
+          shares = min left order.now.shares;
+          price = order.now.price;
+        })) }
 {
     let shares = left.min(order.shares);
     if shares < 1.max(incoming.minimum.max(order.minimum.min(order.shares))) {

@@ -21,8 +21,8 @@ pub record IsFront (front messages : List (List ℕ)) : Type 0 where
 abbrev pub CutsInto : (session : List ℕ) → (first : ℕ) → (messages packets : List (List ℕ)) → Type 0
 CutsInto session first messages [] = messages ≡ []
 CutsInto session first messages (p ∷ packets) =
-    (front : List (List ℕ)) × (rest : List (List ℕ)) × (messages ≡ front ++ rest) × (0 < length front)
-    × IsFront front messages × SpellsPacket p (mold.Blocks session first front)
+    (front : List (List ℕ)) × (rest : List (List ℕ)) × (messages ≡ front ++ rest)
+    × (0 < length front) × IsFront front messages × SpellsPacket p (mold.Blocks session first front)
     × CutsInto session (first + length front) rest packets
 
 -- the message of a number, counted from 1 (MoldUDP64 1.00, Downstream Packet: Sequence Number)

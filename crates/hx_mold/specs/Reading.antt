@@ -13,7 +13,8 @@ abbrev pub if_bare : (rest : List ℕ) → MoldPacket → Option MoldPacket
 if_bare rest packet = if length rest == 0 then Some packet else None
 
 -- the packet of these fields and what follows them, none where there is none
-abbrev pub packet_with : (session : List ℕ) → (sequence count : ℕ) → (rest : List ℕ) → Option MoldPacket
+abbrev pub packet_with : (session : List ℕ) → (sequence count : ℕ) → (rest : List ℕ)
+    → Option MoldPacket
 packet_with session sequence count rest =
     if count == 0 then if_bare rest (mold.Heartbeat session sequence)
     else if count == end_count then if_bare rest (mold.EndOfSession session sequence)

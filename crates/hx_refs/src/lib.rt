@@ -33,13 +33,15 @@ impl Drop for Refs {
 
 impl Model for Refs {
     ghost use Rattle.std.specs.Prelude.{◌≡◌, length};
+    ghost use Rattle.hx_units.specs.Limits.{member_numbers};
     ghost use Rattle.hx_refs.specs.Numbers.{Numbers};
 
     ghost Value = { Numbers };
 
-    ghost view = { λ r. record { public = r.public; private = r.private.items; matches = r.matches } };
+    ghost view = { λ r.
+        record { public = r.public; private = r.private.items; matches = r.matches } };
 
-    ghost invariant = { λ r. length r.private.items ≡ 4096 };
+    ghost invariant = { λ r. length r.private.items ≡ member_numbers };
 }
 
 impl Refs {
@@ -86,13 +88,6 @@ impl Refs {
         ensures drawn { self.new ≡ match_drawn self.old }
     {
         self.matches += 1;
-        self.matches()
-    }
-
-    /// How many match numbers are drawn: the last of them, or 0.
-    pub fn matches(&self) -> u64
-        ensures { result ≡ self.now.matches }
-    {
         self.matches
     }
 }
@@ -115,10 +110,8 @@ mod tests {
         assert_eq!(rt; refs.public(), 2);
         let member = member(1)?;
         assert_eq!(rt; refs.private(member), 9_223_373_136_366_403_585);
-        assert_eq!(rt; refs.matches(), 0);
         assert_eq!(rt; refs.matched(), 1);
         assert_eq!(rt; refs.matched(), 2);
-        assert_eq!(rt; refs.matches(), 2);
         Ok(())
     }
 }

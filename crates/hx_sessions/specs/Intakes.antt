@@ -15,12 +15,14 @@ FirstMeans p (action.Login login) = (p.kind ≡ login_request) × IsLogin p.payl
 FirstMeans p action.Submit = ⊥
 FirstMeans p action.Ignore = ⊥
 FirstMeans p action.Logout = ⊥
-FirstMeans p action.Fault = (login : LoginRequest) → p.kind ≡ login_request → IsLogin p.payload.items login → ⊥
+FirstMeans p action.Fault =
+    (login : LoginRequest) → p.kind ≡ login_request → IsLogin p.payload.items login → ⊥
 
 -- what a packet behind the login asks for
 abbrev pub later_action : SoupPacket → Action
 later_action p =
-    if p.kind == unsequenced_data then (if length p.payload.items == 0 then action.Ignore else action.Submit)
+    if p.kind == unsequenced_data
+    then (if length p.payload.items == 0 then action.Ignore else action.Submit)
     else if p.kind == client_heartbeat || p.kind == debug then action.Ignore
     else if p.kind == logout_request then action.Logout
     else action.Fault

@@ -13,11 +13,13 @@ pub record Asked : Type 0 where
   pub now : ℕ
 
 -- Turns one after another. Each is asked with those replies from the next one on that are there by then.
-abbrev pub Runs : List (List ℕ) → Delivery → Delivery → List Asked → List Turn → Type 0
+abbrev pub Runs : (replies : List (List ℕ)) → (old new : Delivery) → List Asked → List Turn → Type 0
 Runs replies old new [] [] = new ≡ old
 Runs replies old new [] (given ∷ turns) = ⊥
 Runs replies old new (a ∷ asked) [] = ⊥
-Runs replies old new (a ∷ asked) (given ∷ turns) = (between : Delivery) × (later : List (List ℕ)) × (drop (old.next - 1) replies ≡ a.rows ++ later)
+Runs replies old new (a ∷ asked) (given ∷ turns) =
+    (between : Delivery) × (later : List (List ℕ))
+    × (drop (old.next - 1) replies ≡ a.rows ++ later)
     × TurnGives old between a.rows a.ended a.now given × Runs replies between new asked turns
 
 -- The first of the replies that are left goes out.
@@ -40,13 +42,18 @@ pub record IsEnd (after : Bool) (left rest : List (List ℕ)) (bytes : List ℕ)
   pub is_over : after ≡ true
 
 -- What a turn brings of the replies that are left. Only before the end of the session does anything go out.
-abbrev pub Brings : Bool → Bool → List (List ℕ) → List (List ℕ) → Turn → Type 0
-Brings over after left rest (turn.Frame frame) = (over ≡ false) × (IsReply after left rest frame.items ⊎ IsHeartbeat after left rest frame.items ⊎ IsEnd after left rest frame.items)
+abbrev pub Brings : (over after : Bool) → (left rest : List (List ℕ)) → Turn → Type 0
+Brings over after left rest (turn.Frame frame) =
+    (over ≡ false)
+    × (IsReply after left rest frame.items ⊎ IsHeartbeat after left rest frame.items
+    ⊎ IsEnd after left rest frame.items)
 Brings over after left rest turn.Idle = (over ≡ false) × (after ≡ false) × (rest ≡ left)
 Brings over after left rest turn.Over = (over ≡ true) × (after ≡ true) × (rest ≡ left)
 
 -- The turns bring just these replies, each once and in order, with heartbeats between them and one end of the
 -- session at most.
-abbrev pub BringsAll : Bool → List (List ℕ) → List Turn → Type 0
+abbrev pub BringsAll : (over : Bool) → (replies : List (List ℕ)) → List Turn → Type 0
 BringsAll over replies [] = replies ≡ []
-BringsAll over replies (given ∷ turns) = (after : Bool) × (rest : List (List ℕ)) × Brings over after replies rest given × BringsAll after rest turns
+BringsAll over replies (given ∷ turns) =
+    (after : Bool) × (rest : List (List ℕ)) × Brings over after replies rest given
+    × BringsAll after rest turns

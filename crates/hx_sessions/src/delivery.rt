@@ -1,13 +1,11 @@
 //! Replies that go out, one a turn.
 ghost use Rattle.std.specs.Prelude.{◌≡◌, ◌<◌, ◌+◌, ◌^◌, false, length};
-ghost use Rattle.hx_sessions.specs.Deliveries.{texts};
+ghost use Rattle.hx_units.specs.Fields.{texts};
 
 use arrayvec::ArrayVec;
 use hx_soup::frame;
+use hx_units::is_heartbeat_due;
 use std::marker::Model;
-
-// A heartbeat is due after so many nanoseconds without a packet.
-const SILENCE: u64 = 1_000_000_000;
 
 /// What a turn gives.
 #[derive(Debug, Drop)]
@@ -77,7 +75,7 @@ impl Delivery {
         } else if ended {
             self.over = true;
             frame(b'Z', &[])
-        } else if now < self.last || now - self.last >= SILENCE {
+        } else if is_heartbeat_due(self.last, now) {
             frame(b'H', &[])
         } else {
             return Turn::Idle;

@@ -8,7 +8,7 @@ ghost use Rattle.hx_sessions.specs.Runs.{Asked, Runs, BringsAll};
 /// with heartbeats between them and one end of the session at most, behind which nothing goes out. Its next
 /// number tells how many replies have gone out.
 pub fn frames_in_order()
-    ensures { (replies : List (List ℕ)) (old new : Delivery) (asked : List Asked) (turns : List Turn) →
-        0 < old.next → old.over ≡ false → Runs replies old new asked turns →
+    ensures { (replies : List (List ℕ)) (old new : Delivery) (asked : List Asked)
+        (turns : List Turn) → 0 < old.next → old.over ≡ false → Runs replies old new asked turns →
         (old.next ≤ new.next) × BringsAll false (take (new.next - old.next) (drop (old.next - 1) replies)) turns }
 {}

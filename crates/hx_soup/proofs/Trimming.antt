@@ -3,7 +3,7 @@ use Rattle.std.proofs.Common.{◌≡◌, ◌≢◌, ℕ, zero, suc, ◌<◌, Lis
 use Rattle.std.specs.Prelude.{bytes_eq}
 use Rattle.std.specs.Str.Parse.{AllDigits}
 use Rattle.std.specs.Char.{digit_value}
-use Rattle.std.proofs.lemmas.Bool.{eqb-true}
+use Rattle.std.proofs.lemmas.Bool.{and_parts, eqb-true}
 use Rattle.std.proofs.lemmas.Str.Parse.{digit_from_value}
 use Rattle.hx_soup.specs.Spaces.{without_front, without_back, trimmed}
 use Rattle.hx_soup.specs.Logins.{spaces}
@@ -70,11 +70,6 @@ front_spaces (b ∷ text) =
     by_test (λ rest. (n : ℕ) × (b ∷ text ≡ spaces n ++ rest)) (eqb b 32) (without_front text) (b ∷ text)
     (λ e. let w = front_spaces text in (suc w.0, ap (λ (c : ℕ). c ∷ text) (eqb-true b 32 e) ∙ ap (λ (t : List ℕ). 32 ∷ t) w.1)) (0, refl)
 
-both : (a b : Bool) → (a && b) ≡ true → (a ≡ true) × (b ≡ true)
-both true true e = (refl, refl)
-both true false e = absurd cc
-both false b e = absurd cc
-
 is_empty : (t : List ℕ) → bytes_eq t [] ≡ true → t ≡ []
 is_empty [] e = refl
 is_empty (b ∷ t) e = absurd cc
@@ -84,7 +79,7 @@ back_spaces [] = (0, refl)
 back_spaces (b ∷ text) =
     let w = back_spaces text in
     by_test (λ rest. (n : ℕ) × (b ∷ text ≡ rest ++ spaces n)) (eqb b 32 && bytes_eq (without_back text) []) [] (b ∷ without_back text)
-    (λ e. let t = both (eqb b 32) (bytes_eq (without_back text) []) e in
+    (λ e. let t = and_parts (eqb b 32) (bytes_eq (without_back text) []) e in
     (suc w.0, ap (λ (c : ℕ). c ∷ text) (eqb-true b 32 t.0) ∙ ap (λ (t : List ℕ). 32 ∷ t) (w.1 ∙ ap (λ (r : List ℕ). r ++ spaces w.0) (is_empty (without_back text) t.1))))
     (w.0, ap (λ (t : List ℕ). b ∷ t) w.1)
 

@@ -4,10 +4,11 @@ use Rattle.std.specs.Prelude.{ℕ, ◌≡◌, ◌⊎◌, ◌<◌, List, [], ◌�
 use Rattle.hx_soup.specs.declared.packet.SoupPacket.{SoupPacket}
 use Rattle.hx_soup.specs.declared.framer.FramerError.{FramerError}
 use Rattle.hx_soup.specs.declared.framer.FramerError.TheVariants as fault
-use Rattle.hx_soup.specs.Packets.{Cuts, HasFault}
+use Rattle.hx_soup.specs.Packets.{longest, Cuts, HasFault}
 
 -- The bytes kept before and the piece are these packets, then the bytes kept now.
-pub record Takes (old new : Option (List ℕ)) (piece : List ℕ) (packets : List SoupPacket) : Type 0 where
+pub record Takes (old new : Option (List ℕ)) (piece : List ℕ) (packets : List SoupPacket)
+    : Type 0 where
   pub kept : List ℕ
   pub rest : List ℕ
   pub was : old ≡ Some kept
@@ -15,7 +16,8 @@ pub record Takes (old new : Option (List ℕ)) (piece : List ℕ) (packets : Lis
   pub cuts : Cuts (kept ++ piece) packets rest
 
 -- The bytes kept before and the piece have a fault right after these packets. The framer has failed.
-pub record StopsAt (old new : Option (List ℕ)) (piece : List ℕ) (packets : List SoupPacket) (bad : ℕ) : Type 0 where
+pub record StopsAt (old new : Option (List ℕ)) (piece : List ℕ) (packets : List SoupPacket)
+    (bad : ℕ) : Type 0 where
   pub kept : List ℕ
   pub was : old ≡ Some kept
   pub is : new ≡ None
@@ -28,18 +30,24 @@ pub record Stays (old new : Option (List ℕ)) : Type 0 where
   pub is : new ≡ Some kept
 
 -- what each error says, and which framer it leaves
-abbrev pub Fails : Option (List ℕ) → Option (List ℕ) → List ℕ → FramerError → Type 0
-Fails old new piece (fault.TooLong bad before) = (1024 < bad) × StopsAt old new piece before.items bad
+abbrev pub Fails : (old new : Option (List ℕ)) → (piece : List ℕ) → FramerError → Type 0
+Fails old new piece (fault.TooLong bad before) =
+    (longest < bad) × StopsAt old new piece before.items bad
 Fails old new piece (fault.Empty before) = StopsAt old new piece before.items 0
 Fails old new piece fault.NoMemory = Stays old new
 Fails old new piece fault.Failed = (old ≡ None) × (new ≡ None)
 
 -- what a piece gives where memory is ample: packets, those before a fault, or nothing once the framer has failed
-abbrev pub Gives : Option (List ℕ) → Option (List ℕ) → List ℕ → List SoupPacket → Type 0
-Gives old new piece packets = Takes old new piece packets ⊎ ((bad : ℕ) × StopsAt old new piece packets bad) ⊎ ((old ≡ None) × (new ≡ None) × (packets ≡ []))
+abbrev pub Gives : (old new : Option (List ℕ)) → (piece : List ℕ) → List SoupPacket → Type 0
+Gives old new piece packets =
+    Takes old new piece packets ⊎ ((bad : ℕ) × StopsAt old new piece packets bad)
+    ⊎ ((old ≡ None) × (new ≡ None) × (packets ≡ []))
 
 -- the pieces of a stream, one after another, and all the packets that they give
-abbrev pub GivesAll : Option (List ℕ) → Option (List ℕ) → List (List ℕ) → List SoupPacket → Type 0
+abbrev pub GivesAll : (old new : Option (List ℕ)) → (pieces : List (List ℕ)) → List SoupPacket
+    → Type 0
 GivesAll old new [] packets = (new ≡ old) × (packets ≡ [])
-GivesAll old new (piece ∷ pieces) packets = (between : Option (List ℕ)) × (first : List SoupPacket) × (others : List SoupPacket)
-    × Gives old between piece first × GivesAll between new pieces others × (packets ≡ first ++ others)
+GivesAll old new (piece ∷ pieces) packets =
+    (between : Option (List ℕ)) × (first : List SoupPacket) × (others : List SoupPacket)
+    × Gives old between piece first × GivesAll between new pieces others
+    × (packets ≡ first ++ others)

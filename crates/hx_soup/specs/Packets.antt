@@ -4,10 +4,16 @@ use Rattle.std.specs.List.{flat_map, All}
 use Rattle.hx_units.specs.Fields.{number, spelled}
 use Rattle.hx_soup.specs.declared.packet.SoupPacket.{SoupPacket}
 
--- A packet in bytes: the count of what follows in 2 bytes, most significant byte first, the type, the payload.
-abbrev pub framed : ℕ → List ℕ → List ℕ
+-- the greatest length of a packet that the exchange takes and sends
+abbrev pub longest : ℕ
+longest = 1024
+
+-- A packet in bytes: the count of what follows in 2 bytes, most significant byte first, the type, the payload
+-- (SoupBinTCP 3.00, Logical Packets).
+abbrev pub framed : (type : ℕ) → (payload : List ℕ) → List ℕ
 framed kind payload = spelled 2 (length payload + 1) ++ kind ∷ payload
 
+-- the bytes of a packet
 abbrev pub packet_bytes : SoupPacket → List ℕ
 packet_bytes p = framed p.kind p.payload.items
 
@@ -15,13 +21,14 @@ packet_bytes p = framed p.kind p.payload.items
 abbrev pub stream_of : List SoupPacket → List ℕ
 stream_of packets = flat_map packet_bytes packets
 
--- The length of a packet, which counts its type and its payload, is 1 to 1,024.
+-- The length of a packet, which counts its type and its payload, is 1 to the greatest (SoupBinTCP 3.00, Logical
+-- Packets: Packet Length).
 abbrev pub IsLength : ℕ → Type 0
-IsLength n = (0 < n) × (n ≤ 1024)
+IsLength n = (0 < n) × (n ≤ longest)
 
 -- no packet has this length
 abbrev pub IsBadLength : ℕ → Type 0
-IsBadLength n = (n ≡ 0) ⊎ (1024 < n)
+IsBadLength n = (n ≡ 0) ⊎ (longest < n)
 
 -- which packets there are
 abbrev pub IsPacket : SoupPacket → Type 0

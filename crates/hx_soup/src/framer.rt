@@ -88,7 +88,8 @@ fn take_piece(
     piece: &[u8],
 ) -> Result<Vec<SoupPacket>, FramerError>
     requires { IsUnfinished kept.old.items }
-    ensures ok { IfOk result (λ packets. Cuts (kept.old.items ++ piece.now) packets.items kept.new.items) }
+    ensures ok { IfOk result (λ packets.
+        Cuts (kept.old.items ++ piece.now) packets.items kept.new.items) }
     ensures err { IfErr result (Ends (kept.old.items ++ piece.now)) }
 {
     let mut packets = Vec::new(alloc);

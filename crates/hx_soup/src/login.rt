@@ -9,10 +9,11 @@ ghost use Rattle.hx_soup.specs.declared.login.LoginRequest.{LoginRequest};
 
 use crate::spaces::trimmed;
 use hx_units::fields::array_at;
+use std::fmt::{self, Debug, Formatter, Write};
 use std::str;
 
 /// Who logs in, and from which number on he wants sequenced messages (SoupBinTCP 3.00, Login Request Packet).
-#[derive(Clone, Copy, Debug, PartialEq, Eq)]
+#[derive(Clone, Copy, PartialEq, Eq)]
 pub struct LoginRequest {
     /// The user name, filled with spaces (Username).
     pub user: [u8; 6],
@@ -22,6 +23,17 @@ pub struct LoginRequest {
     pub session: [u8; 10],
     /// The number of the first message wanted, counted from 1, or 0 for the next one (Requested Sequence Number).
     pub sequence: u64,
+}
+
+// By hand, without the password.
+impl Debug for LoginRequest {
+    fn fmt<W: Write>(&self, f: &mut Formatter<W>) -> fmt::Result {
+        f.debug_struct("LoginRequest")
+            .field("user", &self.user)
+            .field("session", &self.session)
+            .field("sequence", &self.sequence)
+            .finish_non_exhaustive()
+    }
 }
 
 /// The login that the payload of a packet is, or none where it is none: where it is not 46 bytes long, and
@@ -53,7 +65,9 @@ fn read_number(text: &[u8]) -> Option<u64>
 
 // The number that digits spell, 0 where there is none.
 fn read_digits(digits: &[u8]) -> Option<u64>
-    ensures { SomeIff result (AllDigits 10 digits.now × (digits_value 10 digits.now < 2 ^ 64)) (digits_value 10 digits.now) }
+    ensures { SomeIff result
+        (AllDigits 10 digits.now × (digits_value 10 digits.now < 2 ^ 64))
+        (digits_value 10 digits.now) }
 {
     if digits.is_empty() {
         return Some(0);
