@@ -24,7 +24,8 @@ is_from_stranger setup (Hours time code) = false
 
 -- how many events may be recorded under the event's number: the member's limit, or the operator's
 abbrev pub limit_of : Setup → Event → ℕ
-limit_of setup (Message member time bytes) = option_map_or (λ m. m.limit) (known_member setup member) 0
+limit_of setup (Message member time bytes) =
+    option_map_or (λ m. m.limit) (known_member setup member) 0
 limit_of setup (Tick time) = operator_limit
 limit_of setup (Hours time code) = operator_limit
 

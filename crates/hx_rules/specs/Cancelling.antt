@@ -25,7 +25,8 @@ take_off market member time token by x =
     }
 
 -- by whether a share is taken off: where none is, nothing
-abbrev pub cancelled_if : Market → (member time : ℕ) (token : Token) (by : ℕ) → Order → (some : Bool) → Outcome
+abbrev pub cancelled_if :
+    Market → (member time : ℕ) (token : Token) (by : ℕ) → Order → (some : Bool) → Outcome
 cancelled_if market member time token by x false = nothing market
 cancelled_if market member time token by x true = take_off market member time token by x
 

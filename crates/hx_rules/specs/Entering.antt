@@ -52,7 +52,10 @@ abbrev pub reasons : Setup → (hours : ℕ) → Enter → List Reason
 reasons setup hours e =
     record { applies = not (is_open hours) || is_late hours e.time_in_force; letter = closed }
     ∷ record { applies = is_none (locate_of setup e.stock); letter = invalid_stock }
-    ∷ record { applies = not (is_side e.side) || not (e.cross_type == no_cross); letter = other_reason }
+    ∷ record {
+      applies = not (is_side e.side) || not (e.cross_type == no_cross);
+      letter = other_reason;
+    }
     ∷ record { applies = not (is_display e.display); letter = invalid_display }
     ∷ record { applies = is_bad_shares e.shares; letter = invalid_shares }
     ∷ record { applies = is_bad_price e.price; letter = invalid_price }
@@ -79,11 +82,13 @@ consumed market member token =
 
 -- a public reference for a shown order, else one of the member's own
 abbrev pub next_reference : Numbers → (member : ℕ) (shown : Bool) → ℕ
-next_reference numbers member shown = if shown then next_public numbers else next_private numbers member
+next_reference numbers member shown =
+    if shown then next_public numbers else next_private numbers member
 
 -- the numbers after that reference is drawn
 abbrev pub after_draw : Numbers → (member : ℕ) (shown : Bool) → Numbers
-after_draw numbers member shown = if shown then public_drawn numbers else private_drawn numbers member
+after_draw numbers member shown =
+    if shown then public_drawn numbers else private_drawn numbers member
 
 -- the market after that reference is drawn
 abbrev pub drawn : Market → (member : ℕ) (shown : Bool) → Market
@@ -172,7 +177,8 @@ reject market member time token letter =
     }
 
 -- by whether its token is used, and the letter that rejects it: a used token makes it without effect
-abbrev pub entered_by : Setup → Market → (member time : ℕ) → Enter → (used : Bool) → Option ℕ → Outcome
+abbrev pub entered_by :
+    Setup → Market → (member time : ℕ) → Enter → (used : Bool) → Option ℕ → Outcome
 entered_by setup market member time e true letter = nothing market
 entered_by setup market member time e false (Some letter) = reject market member time e.token letter
 entered_by setup market member time e false None = accept setup market member time e

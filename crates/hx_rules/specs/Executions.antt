@@ -37,7 +37,8 @@ feed_of_execution time stock number e =
     })
 
 -- of all executions, each with the next match number, where `number` is the last one drawn
-abbrev pub feed_of_executions : (time : ℕ) (stock : Symbol) (number : ℕ) → List Execution → List Feed
+abbrev pub feed_of_executions :
+    (time : ℕ) (stock : Symbol) (number : ℕ) → List Execution → List Feed
 feed_of_executions time stock number [] = []
 feed_of_executions time stock number (e ∷ es) =
     feed_of_execution time stock (number + 1) e ∷ feed_of_executions time stock (number + 1) es
@@ -71,7 +72,8 @@ to_taker time member token number e = (
 )
 
 -- of all executions: to the resting order's member, then to the incoming one's
-abbrev pub replies_of_executions : (time member : ℕ) (token : Token) (number : ℕ) → List Execution → List Reply
+abbrev pub replies_of_executions :
+    (time member : ℕ) (token : Token) (number : ℕ) → List Execution → List Reply
 replies_of_executions time member token number [] = []
 replies_of_executions time member token number (e ∷ es) =
     to_maker time (number + 1) e
@@ -80,7 +82,8 @@ replies_of_executions time member token number (e ∷ es) =
 
 -- each execution counts for the chains of both orders; the incoming order's chain is named by its
 -- entered token
-abbrev pub chains_after : List Used → (member : ℕ) (entered : Token) → List Execution → List Chain → List Chain
+abbrev pub chains_after :
+    List Used → (member : ℕ) (entered : Token) → List Execution → List Chain → List Chain
 chains_after tokens member entered [] chains = chains
 chains_after tokens member entered (e ∷ es) chains =
     let maker = entered_of tokens e.order.member e.order.token in
@@ -92,7 +95,13 @@ chains_after tokens member entered (e ∷ es) chains =
 -- an order as it comes in
 abbrev pub incoming_of : Order → Incoming
 incoming_of x =
-    record { locate = x.locate; side = x.side; price = x.price; shares = x.shares; minimum = x.minimum }
+    record {
+      locate = x.locate;
+      side = x.side;
+      price = x.price;
+      shares = x.shares;
+      minimum = x.minimum;
+    }
 
 -- what rests of an order with so many shares left, as a list: nothing of an immediate one
 abbrev pub resting_of : Order → (immediate : Bool) (left : ℕ) → List Order
@@ -134,7 +143,8 @@ abbrev pub shown_of : List Order → List Order
 shown_of xs = filter (λ x. x.shown) xs
 
 -- to its member: what is left of an immediate order is cancelled (OUCH 4.2, Canceled Order Message)
-abbrev pub canceled_of : (time member : ℕ) (token : Token) (immediate : Bool) (left : ℕ) → List Reply
+abbrev pub canceled_of :
+    (time member : ℕ) (token : Token) (immediate : Bool) (left : ℕ) → List Reply
 canceled_of time member token immediate left =
     if nat_lt 0 left && immediate
     then (
@@ -178,6 +188,8 @@ arrive time immediate x market =
     settled time immediate x market (matched (incoming_of x) x.shares market.live)
 
 -- in the feed: its executions, and what rests shown
-abbrev pub arrival_feed : (time : ℕ) (stock : Symbol) (matches : ℕ) → List Execution → List Order → List Feed
+abbrev pub arrival_feed :
+    (time : ℕ) (stock : Symbol) (matches : ℕ) → List Execution → List Order → List Feed
 arrival_feed time stock matches executions resting =
-    feed_of_executions time stock matches executions ++ map (published time stock) (shown_of resting)
+    feed_of_executions time stock matches executions
+    ++ map (published time stock) (shown_of resting)

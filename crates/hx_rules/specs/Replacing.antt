@@ -20,7 +20,8 @@ use Rattle.hx_rules.specs.Leaving.{others, deleted, canceled}
 
 -- the shares that the chain of a used token has executed
 abbrev pub executed_of : Market → (member : ℕ) → Token → ℕ
-executed_of market member token = executed_by market.chains member (entered_of market.tokens member token)
+executed_of market member token =
+    executed_by market.chains member (entered_of market.tokens member token)
 
 -- ---- Why a Replace fails
 
@@ -59,7 +60,8 @@ handed_over market member existing replacement =
     }
 
 -- the existing order is cancelled, and nothing replaces it
-abbrev pub fail_replace : Market → (member time : ℕ) (existing replacement : Token) → Order → Outcome
+abbrev pub fail_replace :
+    Market → (member time : ℕ) (existing replacement : Token) → Order → Outcome
 fail_replace market member time existing replacement old =
     record {
       market = handed_over market member existing replacement;
@@ -121,7 +123,9 @@ is_one_display old x = old.shown && (x.shown && (old.display == x.display))
 
 -- in the feed: where they are of one display and nothing traded, that one replaces the other (ITCH
 -- 5.0, Order Replace Message); else the old one is gone, and the new one arrives
-abbrev pub replace_feed : (time : ℕ) (stock : Symbol) (matches : ℕ) (old x : Order) → List Execution → List Order → List Feed
+abbrev pub replace_feed :
+    (time : ℕ) (stock : Symbol) (matches : ℕ) (old x : Order) → List Execution → List Order
+    → List Feed
 replace_feed time stock matches old x executions resting =
     if is_one_display old x && nat_lt (length executions) 1
     then OrderReplace (record {
@@ -157,14 +161,16 @@ succeed setup market member time r old =
     (replacing_order executed reference time r old)
 
 -- by whether the replacement token is used, and whether the Replace fails
-abbrev pub replaced_if : Setup → Market → (member time : ℕ) → Replace → Order → (used fails : Bool) → Outcome
+abbrev pub replaced_if :
+    Setup → Market → (member time : ℕ) → Replace → Order → (used fails : Bool) → Outcome
 replaced_if setup market member time r old true fails = nothing market
 replaced_if setup market member time r old false true =
     fail_replace market member time r.existing_token r.replacement_token old
 replaced_if setup market member time r old false false = succeed setup market member time r old
 
 -- by the live order that the existing token names: where there is none, nothing
-abbrev pub replaced_by : Setup → Market → (member time : ℕ) → Replace → Option Order → (used fails : Bool) → Outcome
+abbrev pub replaced_by :
+    Setup → Market → (member time : ℕ) → Replace → Option Order → (used fails : Bool) → Outcome
 replaced_by setup market member time r None used fails = nothing market
 replaced_by setup market member time r (Some old) used fails =
     replaced_if setup market member time r old used fails

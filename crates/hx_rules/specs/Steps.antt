@@ -52,7 +52,8 @@ step setup market event = happens setup (with_record event market) event
 -- the market after these events
 unfoldable pub market_after : Setup → Market → List Event → Market
 market_after setup market [] = market
-market_after setup market (event ∷ events) = market_after setup (step setup market event).market events
+market_after setup market (event ∷ events) =
+    market_after setup (step setup market event).market events
 
 -- what each of these events tells
 unfoldable pub told_from : Setup → Market → List Event → List Told
