@@ -49,7 +49,8 @@ OneChain =
 
 -- no order of these executions is chosen
 abbrev pub AreSpared : Choice → List Execution → Type 0
-AreSpared chosen executions = AllByRecursion (λ e. chosen e.order.member e.order.token ≡ false) executions
+AreSpared chosen executions =
+    AllByRecursion (λ e. chosen e.order.member e.order.token ≡ false) executions
 
 -- the orders without the chosen ones
 abbrev pub unchosen : Choice → List Order → List Order
@@ -60,7 +61,8 @@ abbrev pub NotChosen : Type 0
 NotChosen =
     (chosen : Choice) (incoming : Incoming) (shares : ℕ) (orders : List Order)
     → AreSpared chosen (matched incoming shares orders).fills
-    → (matched incoming shares (unchosen chosen orders)).fills ≡ (matched incoming shares orders).fills
+    → (matched incoming shares (unchosen chosen orders)).fills
+    ≡ (matched incoming shares orders).fills
 
 -- Quiet orders leave no trace.
 
@@ -71,12 +73,14 @@ pub record AreQuietChains (chosen : Choice) (market : Market) : Type 0 where
       (member : ℕ) (token : Token) → is_used market.tokens member token ≡ true
       → chosen member token ≡ chosen member (entered_of market.tokens member token)
   pub quiet :
-      (member : ℕ) (token : Token) → is_used market.tokens member token ≡ true → chosen member token ≡ true
+      (member : ℕ) (token : Token) → is_used market.tokens member token ≡ true
+      → chosen member token ≡ true
       → is_loud market.chains member (entered_of market.tokens member token) ≡ false
 
 -- no token of those who may look is chosen
 abbrev pub IsUnknownTo : (ℕ → Bool) → Choice → Type 0
-IsUnknownTo may_look chosen = (member : ℕ) → may_look member ≡ true → (token : Token) → chosen member token ≡ false
+IsUnknownTo may_look chosen =
+    (member : ℕ) → may_look member ≡ true → (token : Token) → chosen member token ≡ false
 
 -- the general form: striking whole chains that are quiet in the end leaves the feed, and all replies to those who may look, line by line
 abbrev pub QuietChains : Type 0
@@ -84,11 +88,14 @@ QuietChains =
     (setup : Setup) (events : List Event) (chosen : Choice) (may_look : ℕ → Bool)
     → AreQuietChains chosen (run setup events)
     → IsUnknownTo may_look chosen
-    → lines_of_all may_look (told setup events) ≡ lines_of_all may_look (told setup (strike chosen events))
+    → lines_of_all may_look (told setup events)
+    ≡ lines_of_all may_look (told setup (strike chosen events))
 
 -- the headline: without the messages of a member's quiet chains everybody else sees the same
 abbrev pub OneMember : Type 0
-OneMember = (setup : Setup) (member : ℕ) (events : List Event) → seen member setup events ≡ seen member setup (strike_one setup member events)
+OneMember =
+    (setup : Setup) (member : ℕ) (events : List Event)
+    → seen member setup events ≡ seen member setup (strike_one setup member events)
 
 -- the listed tokens of one member
 abbrev pub listed : ℕ → List Token → Choice
@@ -100,7 +107,8 @@ pub record AreWholeQuietChains (owner : ℕ) (tokens : List Token) (market : Mar
   -- what is in one chain with a listed token is listed
   pub whole :
       (t u : Token) → listed owner tokens owner t ≡ true → is_used market.tokens owner u ≡ true
-      → entered_of market.tokens owner u ≡ entered_of market.tokens owner t → listed owner tokens owner u ≡ true
+      → entered_of market.tokens owner u ≡ entered_of market.tokens owner t
+      → listed owner tokens owner u ≡ true
 
 -- the same of any part of a member's quiet chains
 abbrev pub AnyPart : Type 0
@@ -113,14 +121,18 @@ AnyPart =
 unfoldable pub chained_with : ℕ → List Token → Market → Choice
 chained_with owner tokens market member token =
     member == owner
-    && (is_used market.tokens owner token && list_any (λ t. is_token (entered_of market.tokens owner token) (entered_of market.tokens owner t)) tokens)
+    && (is_used market.tokens owner token
+    && list_any
+    (λ t. is_token (entered_of market.tokens owner token)
+    (entered_of market.tokens owner t)) tokens)
 
 -- the same of the chains of any quiet tokens
 abbrev pub ChainsOfAny : Type 0
 ChainsOfAny =
     (setup : Setup) (member : ℕ) (tokens : List Token) (events : List Event)
     → AllByRecursion (λ t. is_quiet (run setup events) member t ≡ true) tokens
-    → seen member setup events ≡ seen member setup (strike (chained_with member tokens (run setup events)) events)
+    → seen member setup events
+    ≡ seen member setup (strike (chained_with member tokens (run setup events)) events)
 
 -- The feed alone, and the replies to one member alone.
 
@@ -154,18 +166,24 @@ QuietIsChoice =
 
 -- without the messages of all quiet chains of all members the feed is the same
 abbrev pub AllMembers : Type 0
-AllMembers = (setup : Setup) (events : List Event) → feed setup events ≡ feed setup (strike_all setup events)
+AllMembers =
+    (setup : Setup) (events : List Event) → feed setup events ≡ feed setup (strike_all setup events)
 
 -- without the messages of all quiet chains but his own a member's replies are the same
 abbrev pub AllButOne : Type 0
-AllButOne = (setup : Setup) (member : ℕ) (events : List Event) → replies setup member events ≡ replies setup member (strike_but setup member events)
+AllButOne =
+    (setup : Setup) (member : ℕ) (events : List Event)
+    → replies setup member events ≡ replies setup member (strike_but setup member events)
 
 -- Feed and book.
 
 -- the book that a reader of the feed builds is the shown live orders as published, in time order
 abbrev pub FeedIsBook : Type 0
-FeedIsBook = (setup : Setup) (events : List Event) → shown_book (feed setup events) ≡ shown_orders setup (run setup events).live
+FeedIsBook =
+    (setup : Setup) (events : List Event)
+    → shown_book (feed setup events) ≡ shown_orders setup (run setup events).live
 
 -- and no shown buy of a stock has a price at or above a shown sell of it
 abbrev pub FeedIsUncrossed : Type 0
-FeedIsUncrossed = (setup : Setup) (events : List Event) → IsUncrossed (shown_book (feed setup events))
+FeedIsUncrossed =
+    (setup : Setup) (events : List Event) → IsUncrossed (shown_book (feed setup events))

@@ -6,6 +6,9 @@ use Rattle.hx_units.specs.declared.names.Firm.{Firm}
 use Rattle.hx_members.specs.Setups.{Setup, symbol_of}
 use Rattle.hx_itch.specs.declared.message.Feed.{Feed}
 use Rattle.hx_itch.specs.declared.message.Feed.TheVariants.{AddOrder, AddOrderWithAttribution, OrderExecuted, OrderCancel, OrderDelete, OrderReplace, Trade, SystemEvent, StockDirectory}
+use Rattle.hx_units.specs.declared.side.Side.TheVariants.{Buy, Sell}
+use Rattle.hx_units.specs.Side.{letter_of}
+use Rattle.hx_rules.specs.Letters.{attributable}
 use Rattle.hx_rules.specs.Orders.{Order, published_side}
 use Rattle.hx_rules.specs.Executions.{shown_of}
 
@@ -22,7 +25,7 @@ pub record ShownOrder : Type 0 where
   pub attribution : Option Firm
 
 -- shares are taken off the order of this reference, which leaves where none are left (Order Executed, Order Cancel)
-abbrev pub taken_from : ℕ → ℕ → List ShownOrder → List ShownOrder
+abbrev pub taken_from : (reference shares : ℕ) → List ShownOrder → List ShownOrder
 taken_from reference shares [] = []
 taken_from reference shares (x ∷ book) =
     if x.reference == reference
@@ -30,12 +33,12 @@ taken_from reference shares (x ∷ book) =
     else x ∷ taken_from reference shares book
 
 -- the order of this reference leaves (Order Delete)
-abbrev pub without : ℕ → List ShownOrder → List ShownOrder
+abbrev pub without : (reference : ℕ) → List ShownOrder → List ShownOrder
 without reference [] = []
 without reference (x ∷ book) = if x.reference == reference then book else x ∷ without reference book
 
 -- the order of this reference, with a new reference, new shares and a new price (Order Replace)
-abbrev pub renewed : ℕ → ℕ → ℕ → ℕ → List ShownOrder → List ShownOrder
+abbrev pub renewed : (original reference shares price : ℕ) → List ShownOrder → List ShownOrder
 renewed original reference shares price [] = []
 renewed original reference shares price (x ∷ book) =
     if x.reference == original
@@ -45,17 +48,40 @@ renewed original reference shares price (x ∷ book) =
 -- the book after a message: what is added or replaced stands last
 abbrev pub book_after : List ShownOrder → Feed → List ShownOrder
 book_after book (AddOrder a) =
-    book ++ record { reference = a.reference; locate = a.locate; side = a.side; shares = a.shares; stock = a.stock; price = a.price; attribution = None } ∷ []
+    book
+    ++ record {
+      reference = a.reference;
+      locate = a.locate;
+      side = a.side;
+      shares = a.shares;
+      stock = a.stock;
+      price = a.price;
+      attribution = None;
+    }
+    ∷ []
 book_after book (AddOrderWithAttribution a) =
-    book ++ record { reference = a.reference; locate = a.locate; side = a.side; shares = a.shares; stock = a.stock; price = a.price; attribution = Some a.attribution } ∷ []
+    book
+    ++ record {
+      reference = a.reference;
+      locate = a.locate;
+      side = a.side;
+      shares = a.shares;
+      stock = a.stock;
+      price = a.price;
+      attribution = Some a.attribution;
+    }
+    ∷ []
 book_after book (OrderExecuted e) = taken_from e.reference e.shares book
 book_after book (OrderCancel c) = taken_from c.reference c.shares book
 book_after book (OrderDelete d) = without d.reference book
-book_after book (OrderReplace r) = without r.original_reference book ++ renewed r.original_reference r.reference r.shares r.price book
+book_after book (OrderReplace r) =
+    without r.original_reference book
+    ++ renewed r.original_reference r.reference r.shares r.price book
 book_after book (Trade t) = book
 book_after book (SystemEvent s) = book
 book_after book (StockDirectory d) = book
 
+-- the book after these messages, one after the other
 abbrev pub book_from : List ShownOrder → List Feed → List ShownOrder
 book_from book [] = book
 book_from book (message ∷ feed) = book_from (book_after book message) feed
@@ -74,7 +100,7 @@ shown_as setup x =
       shares = x.shares;
       stock = symbol_of setup x.locate;
       price = x.price;
-      attribution = if x.display == 65 then Some x.firm else None;
+      attribution = if x.display == attributable then Some x.firm else None;
     }
 
 -- the shown orders of a list
@@ -83,7 +109,8 @@ shown_orders setup orders = map (shown_as setup) (shown_of orders)
 
 -- a buy of a stock has a lower price than a sell of it
 abbrev pub DoNotCross : ShownOrder → ShownOrder → Type 0
-DoNotCross x y = x.locate ≡ y.locate → x.side ≡ 66 → y.side ≡ 83 → x.price < y.price
+DoNotCross x y =
+    x.locate ≡ y.locate → x.side ≡ letter_of Buy → y.side ≡ letter_of Sell → x.price < y.price
 
 -- no buy of the book has a price at or above a sell of the same stock
 abbrev pub IsUncrossed : List ShownOrder → Type 0

@@ -1,6 +1,7 @@
 -- What an event does, once it is committed.
 use Rattle.std.specs.Prelude.{◌≡◌, ℕ, ◌-◌, ◌<◌, ◌≤◌, ◌^◌, min, Bool, true, false, if◌then◌else◌, not, List, length, Option, Some, None, ⊤}
 use Rattle.std.specs.List.{AllByRecursion, filter}
+use Rattle.hx_units.specs.Limits.{day, most_shares}
 use Rattle.hx_units.specs.declared.names.Token.{Token}
 use Rattle.hx_levels.specs.declared.order.Live.{Live}
 use Rattle.hx_levels.specs.declared.order.Terms.{Terms}
@@ -33,17 +34,24 @@ pub record IsAccepting (setup : Setup) (a : Accepting) : Type 0 where
   pub side : a.side ≡ side_of a.enter.side
   pub price : a.price ≡ a.enter.price
   pub firm : a.firm ≡ resolved_firm setup a.member a.enter.firm
-  pub shares : a.enter.shares ≤ 999999
-  pub time : a.time < 86400000000000
+  pub shares : a.enter.shares ≤ most_shares
+  pub time : a.time < day
 
 abbrev pub incoming_of_accepting : Accepting → Incoming
-incoming_of_accepting a = record { locate = a.locate; side = a.side; price = a.price; shares = a.enter.shares; minimum = a.enter.minimum_quantity }
+incoming_of_accepting a =
+    record {
+      locate = a.locate;
+      side = a.side;
+      price = a.price;
+      shares = a.enter.shares;
+      minimum = a.enter.minimum_quantity;
+    }
 
 abbrev pub terms_of_accepting : Accepting → Terms
 terms_of_accepting a = record { locate = a.locate; side = a.side; price = a.price }
 
 -- the order, with its chain's number and its reference
-abbrev pub order_of_accepting : ℕ → ℕ → Accepting → Order
+abbrev pub order_of_accepting : (chain reference : ℕ) → Accepting → Order
 order_of_accepting chain reference a =
     record {
       member = a.member;
@@ -66,7 +74,8 @@ order_of_accepting chain reference a =
 abbrev pub accepted_by : Market → Accepting → Outcome
 accepted_by market a =
     accept_order market a.time a.enter
-    (order_of_accepting (length market.tokens) (next_reference market.numbers a.member (is_shown a.enter.display a.enter.time_in_force)) a)
+    (order_of_accepting (length market.tokens)
+    (next_reference market.numbers a.member (is_shown a.enter.display a.enter.time_in_force)) a)
 
 -- A Replace that replaces, and a Cancel.
 
@@ -74,8 +83,8 @@ accepted_by market a =
 pub record IsReplacing (a : Replacing) : Type 0 where
   pub price : a.price ≡ a.replace.price
   pub more : a.executed < a.replace.shares
-  pub shares : a.replace.shares ≤ 999999
-  pub time : a.time < 86400000000000
+  pub shares : a.replace.shares ≤ most_shares
+  pub time : a.time < day
 
 -- the shares that the chain has not executed
 abbrev pub open_shares : Replacing → ℕ
@@ -83,10 +92,17 @@ open_shares a = a.replace.shares - a.executed
 
 abbrev pub incoming_of_replacing : Replacing → Incoming
 incoming_of_replacing a =
-    record { locate = a.old.order.locate; side = a.old.order.side; price = a.replace.price; shares = open_shares a; minimum = min a.replace.minimum_quantity (open_shares a) }
+    record {
+      locate = a.old.order.locate;
+      side = a.old.order.side;
+      price = a.replace.price;
+      shares = open_shares a;
+      minimum = min a.replace.minimum_quantity (open_shares a);
+    }
 
 abbrev pub terms_of_replacing : Replacing → Terms
-terms_of_replacing a = record { locate = a.old.order.locate; side = a.old.order.side; price = a.replace.price }
+terms_of_replacing a =
+    record { locate = a.old.order.locate; side = a.old.order.side; price = a.replace.price }
 
 -- the new order, with its reference
 abbrev pub order_by_replacing : ℕ → Replacing → Order
@@ -95,19 +111,23 @@ order_by_replacing reference a = replacing_order a.executed reference a.time a.r
 abbrev pub replaced_by_act : Market → Replacing → Outcome
 replaced_by_act market a =
     replace_order market a.member a.time a.stock a.replace a.old.order
-    (order_by_replacing (next_reference market.numbers a.member (is_shown a.replace.display a.replace.time_in_force)) a)
+    (order_by_replacing
+    (next_reference market.numbers a.member
+    (is_shown a.replace.display a.replace.time_in_force)) a)
 
 -- some of its open shares, or all, are taken off
 pub record IsCancelling (a : Cancelling) : Type 0 where
   pub some : 0 < a.by
   pub most : a.by ≤ a.old.order.shares
-  pub time : a.time < 86400000000000
+  pub time : a.time < day
 
 -- the live order under its key is the one, and the only one, that the member calls by this token
 pub record IsOnly (orders : List Live) (member : ℕ) (token : Token) (live : Live) : Type 0 where
   pub found : order_of live.key.0 orders ≡ Some live.order
   pub called : is_called member token live.order ≡ true
-  pub only : AllByRecursion (λ other. is_called member token other.order ≡ is_under live.key.0 other) orders
+  pub only :
+      AllByRecursion (λ other. is_called member token other.order
+      ≡ is_under live.key.0 other) orders
   pub differ : KeysDiffer orders
 
 -- the order, if it is the one that the member calls by this token
@@ -130,7 +150,11 @@ pub record IsEnding (orders : List Live) (e : Ending) : Type 0 where
 abbrev pub ended_by : Market → Ending → Outcome
 ended_by market e =
     record {
-      market = record market { live = filter (λ x. not (is_due e.due e.time x)) market.live; hours = e.hours };
+      market = record market {
+        live = filter
+            (λ x. not (is_due e.due e.time x)) market.live;
+        hours = e.hours;
+      };
       told = record { feed = e.told.feed.items; replies = e.told.replies.items };
     }
 
@@ -140,7 +164,7 @@ abbrev pub IsAct : Setup → Act → Type 0
 IsAct setup Nothing = ⊤
 IsAct setup (Reject r) = ⊤
 IsAct setup (Accept a) = IsAccepting setup a
-IsAct setup (Fail a) = a.time < 86400000000000
+IsAct setup (Fail a) = a.time < day
 IsAct setup (Replace a) = IsReplacing a
 IsAct setup (Cancel a) = IsCancelling a
 IsAct setup (End e) = AllByRecursion (λ f. feed_time f < 2 ^ 48) e.told.feed.items
@@ -162,7 +186,8 @@ IsUnused tokens member token = is_used tokens member token ≡ false
 -- the replacement token is not used before, and so many shares are executed of the chain of the existing one
 pub record IsExchange (tokens : List Used) (chains : List Chain) (a : Replacing) : Type 0 where
   pub unused : IsUnused tokens a.member a.replace.replacement_token
-  pub executed : a.executed ≡ executed_by chains a.member (entered_of tokens a.member a.replace.existing_token)
+  pub executed :
+      a.executed ≡ executed_by chains a.member (entered_of tokens a.member a.replace.existing_token)
 
 -- it fits the tokens that are used
 abbrev pub SuitsTokens : List Used → List Chain → Act → Type 0
@@ -188,8 +213,8 @@ IsAbout orders (End e) = IsEnding orders e
 abbrev pub IsInRange : Act → Type 0
 IsInRange Nothing = ⊤
 IsInRange (Reject r) = ⊤
-IsInRange (Accept a) = a.time < 86400000000000
-IsInRange (Fail a) = a.time < 86400000000000
+IsInRange (Accept a) = a.time < day
+IsInRange (Fail a) = a.time < day
 IsInRange (Replace a) = IsReplacing a
 IsInRange (Cancel a) = IsCancelling a
 IsInRange (End e) = AllByRecursion (λ f. feed_time f < 2 ^ 48) e.told.feed.items
@@ -199,7 +224,8 @@ abbrev pub outcome_of : Market → Act → Outcome
 outcome_of market Nothing = nothing market
 outcome_of market (Reject r) = reject market r.member r.time r.token r.letter
 outcome_of market (Accept a) = accepted_by market a
-outcome_of market (Fail a) = fail_replace market a.member a.time a.existing a.replacement a.old.order
+outcome_of market (Fail a) =
+    fail_replace market a.member a.time a.existing a.replacement a.old.order
 outcome_of market (Replace a) = replaced_by_act market a
 outcome_of market (Cancel a) = take_off market a.member a.time a.token a.by a.old.order
 outcome_of market (End e) = ended_by market e

@@ -1,5 +1,6 @@
 //! An accepted order.
 ghost use Rattle.std.specs.Prelude.{◌≡◌, ℕ, ◌+◌, ◌-◌, ◌<◌, ◌≤◌, ◌^◌, slice_index, Some, None, [], true, false, length};
+ghost use Rattle.hx_units.specs.Limits.{day};
 ghost use Rattle.hx_levels.specs.Book.{lives};
 ghost use Rattle.hx_members.specs.Chains.{is_used};
 ghost use Rattle.hx_rules.specs.Entering.{accepted_of, next_reference, after_draw};
@@ -109,21 +110,28 @@ pub fn accept<B: Book>(
     fills: &[Fill],
     left: u32,
 )
-    requires time { act.now.time < 86400000000000 }
+    requires time { act.now.time < day }
     requires unused { is_used tokens.old.tokens act.now.member act.now.enter.token ≡ false }
     requires token_place { tokens.old.place ≡ Some (name_of act.now.member act.now.enter.token) }
     requires place { B.place book.old ≡ Some (terms_of_accepting act.now) }
-    requires executions { AreFills (incoming_of_accepting act.now) (B.orders book.old) fills.now left }
+    requires executions { AreFills (incoming_of_accepting act.now)
+        (B.orders book.old) fills.now left }
     requires keyed { AreKeyed tokens.old.tokens tokens.old.keys (B.orders book.old) }
     requires fits { HasRoomFor (market_of (B.orders book.old) tokens.old refs.old 0 []) act.now }
     requires room { HasRoom (length fills.now) out.old }
-    ensures live { lives (B.orders book.new) ≡ (outcome_over (B.orders book.old) tokens.old refs.old (Accept act.now)).market.live }
-    ensures tokens { tokens.new.tokens ≡ (outcome_over (B.orders book.old) tokens.old refs.old (Accept act.now)).market.tokens }
-    ensures chains { tokens.new.chains ≡ (outcome_over (B.orders book.old) tokens.old refs.old (Accept act.now)).market.chains }
+    ensures live { lives (B.orders book.new)
+        ≡ (outcome_over (B.orders book.old) tokens.old refs.old (Accept act.now)).market.live }
+    ensures tokens { tokens.new.tokens
+        ≡ (outcome_over (B.orders book.old) tokens.old refs.old (Accept act.now)).market.tokens }
+    ensures chains { tokens.new.chains
+        ≡ (outcome_over (B.orders book.old) tokens.old refs.old (Accept act.now)).market.chains }
     ensures keyed { AreKeyed tokens.new.tokens tokens.new.keys (B.orders book.new) }
-    ensures numbers { refs.new ≡ (outcome_over (B.orders book.old) tokens.old refs.old (Accept act.now)).market.numbers }
-    ensures feed { out.new.feed.items ≡ (outcome_over (B.orders book.old) tokens.old refs.old (Accept act.now)).told.feed }
-    ensures replies { out.new.replies.items ≡ (outcome_over (B.orders book.old) tokens.old refs.old (Accept act.now)).told.replies }
+    ensures numbers { refs.new
+        ≡ (outcome_over (B.orders book.old) tokens.old refs.old (Accept act.now)).market.numbers }
+    ensures feed { out.new.feed.items
+        ≡ (outcome_over (B.orders book.old) tokens.old refs.old (Accept act.now)).told.feed }
+    ensures replies { out.new.replies.items
+        ≡ (outcome_over (B.orders book.old) tokens.old refs.old (Accept act.now)).told.replies }
 {
     let chain = tokens.count();
     tokens.consume(act.member, &act.enter.token);

@@ -1,5 +1,6 @@
 //! What an event will do, once it is committed.
 ghost use Rattle.std.specs.Prelude.{◌≡◌, ◌<◌, ℕ, List, Some, None, IsSome, IfOk, false};
+ghost use Rattle.hx_units.specs.Limits.{day};
 ghost use Rattle.hx_ouch.specs.Inbound.{inbound_of};
 ghost use Rattle.hx_members.specs.Setups.{member_of};
 ghost use Rattle.hx_members.specs.Chains.{Used, Chain, is_used};
@@ -161,7 +162,7 @@ fn resolved_firm(setup: &Setup, member: MemberNo, firm: Firm) -> Firm
 // An Enter that nothing rejects.
 fn accepting_of(setup: &Setup, hours: u8, member: MemberNo, time: u64, enter: Enter) -> Accepting
     requires member { IsSome (member_of setup.now member) }
-    requires time { time < 86400000000000 }
+    requires time { time < day }
     requires passes { rejection setup.now hours enter ≡ None }
     ensures message { (result.member ≡ member) × (result.time ≡ time) × (result.enter ≡ enter) }
     ensures is_accepting { IsAccepting setup.now result }
@@ -180,11 +181,14 @@ fn accepting_of(setup: &Setup, hours: u8, member: MemberNo, time: u64, enter: En
 // What an Enter does whose token is not used.
 fn enter_act(setup: &Setup, hours: u8, member: MemberNo, time: u64, enter: Enter) -> Act
     requires member { IsSome (member_of setup.now member) }
-    requires time { time < 86400000000000 }
-    ensures does { (m : Market) → entered_by setup.now m member time enter false (rejection setup.now hours enter) ≡ outcome_of m result }
+    requires time { time < day }
+    ensures does { (m : Market)
+        → entered_by setup.now m member time enter false (rejection setup.now hours enter)
+        ≡ outcome_of m result }
     ensures is_act { IsAct setup.now result }
     ensures sender { IsOf member result }
-    ensures suits { (tokens : List Used) (chains : List Chain) → is_used tokens member enter.token ≡ false → SuitsTokens tokens chains result }
+    ensures suits { (tokens : List Used) (chains : List Chain)
+        → is_used tokens member enter.token ≡ false → SuitsTokens tokens chains result }
     ensures about { (orders : List LiveOrder) → IsAbout orders result }
 {
     if let Some(letter) = rejection(setup, hours, &enter) {
@@ -208,8 +212,9 @@ fn entered_act(
     message: Enter,
 ) -> Act
     requires member { IsSome (member_of setup.now member) }
-    requires time { time < 86400000000000 }
-    ensures does { (m : Market) → m.tokens ≡ tokens.now.tokens → m.hours ≡ hours → enter setup.now m member time message ≡ outcome_of m result }
+    requires time { time < day }
+    ensures does { (m : Market) → m.tokens ≡ tokens.now.tokens → m.hours ≡ hours
+        → enter setup.now m member time message ≡ outcome_of m result }
     ensures is_act { IsAct setup.now result }
     ensures sender { IsOf member result }
     ensures suits { SuitsTokens tokens.now.tokens tokens.now.chains result }
@@ -232,9 +237,12 @@ fn message_act<B: Book>(
     bytes: &[u8],
 ) -> Act
     requires member { IsSome (member_of setup.now member) }
-    requires time { time < 86400000000000 }
+    requires time { time < day }
     requires keyed { AreKeyed tokens.now.tokens tokens.now.keys (B.orders book.now) }
-    ensures does { (n : Numbers) (counts : List ℕ) → act setup.now (market_of (B.orders book.now) tokens.now n hours counts) member time (inbound_of bytes.now) ≡ outcome_of (market_of (B.orders book.now) tokens.now n hours counts) result }
+    ensures does { (n : Numbers) (counts : List ℕ)
+        → act setup.now (market_of (B.orders book.now) tokens.now n hours counts) member time
+        (inbound_of bytes.now)
+        ≡ outcome_of (market_of (B.orders book.now) tokens.now n hours counts) result }
     ensures is_act { IsAct setup.now result }
     ensures sender { IsOf member result }
     ensures suits { SuitsTokens tokens.now.tokens tokens.now.chains result }
@@ -261,9 +269,11 @@ pub fn act_of<B: Book>(
     event: &Event,
 ) -> Result<Act, NoMemory>
     requires known { is_from_stranger setup.now event.now ≡ false }
-    requires time { time_of event.now < 86400000000000 }
+    requires time { time_of event.now < day }
     requires keyed { AreKeyed tokens.now.tokens tokens.now.keys (B.orders book.now) }
-    ensures does { IfOk result (λ a. (n : Numbers) (counts : List ℕ) → happens setup.now (market_of (B.orders book.now) tokens.now n hours counts) event.now ≡ outcome_of (market_of (B.orders book.now) tokens.now n hours counts) a) }
+    ensures does { IfOk result (λ a. (n : Numbers) (counts : List ℕ)
+        → happens setup.now (market_of (B.orders book.now) tokens.now n hours counts) event.now
+        ≡ outcome_of (market_of (B.orders book.now) tokens.now n hours counts) a) }
     ensures is_act { IfOk result (λ a. IsAct setup.now a) }
     ensures sender { IfOk result (λ a. IsOf (sender event.now) a) }
     ensures suits { IfOk result (λ a. SuitsTokens tokens.now.tokens tokens.now.chains a) }

@@ -1,6 +1,7 @@
 //! Which events the market refuses.
 ghost use Rattle.std.specs.Prelude.{◌≡◌, ◌<◌, IfOk, OnOk, IfErr, IfSome, IfNone, OnSome, Some, None, true, false};
 ghost use Rattle.std.specs.Option.{option_map};
+ghost use Rattle.hx_units.specs.Limits.{day};
 ghost use Rattle.hx_rules.specs.Admitting.{known_member, is_from_stranger, limit_of, refusal};
 ghost use Rattle.hx_rules.specs.Steps.{sender, time_of};
 ghost use Rattle.hx_market.specs.Ready.{MayRecord};
@@ -51,7 +52,7 @@ pub fn admit(setup: &Setup, recorded: &Recorded, event: &Event) -> Result<u16, P
     ensures number { IfOk result (λ number. number ≡ sender event.now) }
     ensures may_record { IfOk result (λ number. MayRecord recorded.now number) }
     ensures known { OnOk result (is_from_stranger setup.now event.now ≡ false) }
-    ensures time { OnOk result (time_of event.now < 86400000000000) }
+    ensures time { OnOk result (time_of event.now < day) }
     ensures passes { OnOk result (refusal setup.now recorded.now event.now ≡ None) }
     ensures refused { IfErr result (λ e. refusal setup.now recorded.now event.now ≡ Some e) }
 {

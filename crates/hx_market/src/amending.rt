@@ -1,5 +1,6 @@
 //! What a Replace or a Cancel does.
 ghost use Rattle.std.specs.Prelude.{◌≡◌, ◌<◌, ◌≤◌, ℕ, List, Some, None, IsSome, false};
+ghost use Rattle.hx_units.specs.Limits.{day};
 ghost use Rattle.hx_members.specs.Setups.{Setup as SetupOf, symbol_of};
 ghost use Rattle.hx_members.specs.Chains.{Used, Chain, is_used, entered_of, executed_by};
 ghost use Rattle.hx_levels.specs.declared.order.Live.{Live as LiveOrder};
@@ -38,12 +39,19 @@ fn exchange(
     replace: Replace,
     found: Found,
 ) -> Act
-    requires time { time < 86400000000000 }
-    ensures does { (m : Market) → executed_of m member replace.existing_token ≡ found.executed → replaced_if setup.now m member time replace found.live.order false (replace_fails hours found.executed replace) ≡ outcome_of m result }
+    requires time { time < day }
+    ensures does { (m : Market) → executed_of m member replace.existing_token ≡ found.executed
+        → replaced_if setup.now m member time replace found.live.order false
+        (replace_fails hours found.executed replace) ≡ outcome_of m result }
     ensures is_act { IsAct setup.now result }
     ensures sender { IsOf member result }
-    ensures suits { (tokens : List Used) (chains : List Chain) → is_used tokens member replace.replacement_token ≡ false → found.executed ≡ executed_by chains member (entered_of tokens member replace.existing_token) → SuitsTokens tokens chains result }
-    ensures about { (orders : List LiveOrder) → IsOnly orders member replace.existing_token found.live → IsAbout orders result }
+    ensures suits { (tokens : List Used) (chains : List Chain)
+        → is_used tokens member replace.replacement_token ≡ false
+        → found.executed
+        ≡ executed_by chains member (entered_of tokens member replace.existing_token)
+        → SuitsTokens tokens chains result }
+    ensures about { (orders : List LiveOrder)
+        → IsOnly orders member replace.existing_token found.live → IsAbout orders result }
 {
     if replace_fails(hours, found.executed, &replace) {
         return Act::Fail(Failing {
@@ -76,8 +84,11 @@ pub fn replace_act<B: Book>(
     message: Replace,
 ) -> Act
     requires keyed { AreKeyed tokens.now.tokens tokens.now.keys (B.orders book.now) }
-    requires time { time < 86400000000000 }
-    ensures does { (n : Numbers) (counts : List ℕ) → replace setup.now (market_of (B.orders book.now) tokens.now n hours counts) member time message ≡ outcome_of (market_of (B.orders book.now) tokens.now n hours counts) result }
+    requires time { time < day }
+    ensures does { (n : Numbers) (counts : List ℕ)
+        → replace setup.now
+        (market_of (B.orders book.now) tokens.now n hours counts) member time message
+        ≡ outcome_of (market_of (B.orders book.now) tokens.now n hours counts) result }
     ensures is_act { IsAct setup.now result }
     ensures sender { IsOf member result }
     ensures suits { SuitsTokens tokens.now.tokens tokens.now.chains result }
@@ -110,8 +121,10 @@ pub fn cancel_act<B: Book>(
     message: Cancel,
 ) -> Act
     requires keyed { AreKeyed tokens.now.tokens tokens.now.keys (B.orders book.now) }
-    requires time { time < 86400000000000 }
-    ensures does { (n : Numbers) (hours : ℕ) (counts : List ℕ) → cancel (market_of (B.orders book.now) tokens.now n hours counts) member time message ≡ outcome_of (market_of (B.orders book.now) tokens.now n hours counts) result }
+    requires time { time < day }
+    ensures does { (n : Numbers) (hours : ℕ) (counts : List ℕ)
+        → cancel (market_of (B.orders book.now) tokens.now n hours counts) member time message
+        ≡ outcome_of (market_of (B.orders book.now) tokens.now n hours counts) result }
     ensures is_act { (setup : SetupOf) → IsAct setup result }
     ensures sender { IsOf member result }
     ensures suits { SuitsTokens tokens.now.tokens tokens.now.chains result }

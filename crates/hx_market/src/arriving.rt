@@ -30,13 +30,16 @@ fn with_shares(order: &Order, shares: u32) -> Order
 fn rest_of<B: Book>(book: &mut B, tokens: &mut Tokens, order: &Order, left: u32) -> Order
     requires place { B.place book.old ≡ Some (terms_of order.now) }
     requires used { is_used tokens.old.tokens order.now.member order.now.token ≡ true }
-    requires before { AreBefore tokens.old.tokens (place_of tokens.old.tokens order.now.member order.now.token) (B.orders book.old) }
+    requires before { AreBefore tokens.old.tokens
+        (place_of tokens.old.tokens order.now.member order.now.token) (B.orders book.old) }
     requires keyed { AreKeyed tokens.old.tokens tokens.old.keys (B.orders book.old) }
     requires own { CanNote tokens.old.tokens order.now.chain 0 tokens.old.chains }
     ensures rest { result ≡ record order.now { shares = left } }
-    ensures live { lives (B.orders book.new) ≡ lives (B.orders book.old) ++ record order.now { shares = left } ∷ [] }
+    ensures live { lives (B.orders book.new)
+        ≡ lives (B.orders book.old) ++ record order.now { shares = left } ∷ [] }
     ensures tokens { tokens.new.tokens ≡ tokens.old.tokens }
-    ensures chains { tokens.new.chains ≡ noted_if order.now.shown tokens.old.tokens order.now.chain tokens.old.chains }
+    ensures chains { tokens.new.chains
+        ≡ noted_if order.now.shown tokens.old.tokens order.now.chain tokens.old.chains }
     ensures keyed { AreKeyed tokens.new.tokens tokens.new.keys (B.orders book.new) }
 {
     let rest = with_shares(order, left);
@@ -60,23 +63,39 @@ pub fn arrive<B: Book>(
     requires good { AreGood fills.now (B.orders book.old) }
     requires place { B.place book.old ≡ Some (terms_of order.now) }
     requires used { is_used tokens.old.tokens order.now.member order.now.token ≡ true }
-    requires before { AreBefore tokens.old.tokens (place_of tokens.old.tokens order.now.member order.now.token) (B.orders book.old) }
+    requires before { AreBefore tokens.old.tokens
+        (place_of tokens.old.tokens order.now.member order.now.token) (B.orders book.old) }
     requires keyed { AreKeyed tokens.old.tokens tokens.old.keys (B.orders book.old) }
     requires chain { order.now.chain ≡ taker.now.chain }
-    requires counts { CanNoteAll tokens.old.tokens taker.now.chain (done_by fills.now (B.orders book.old)) tokens.old.chains }
-    requires own { CanNote tokens.old.tokens taker.now.chain 0 (chains_by tokens.old.tokens taker.now.chain (done_by fills.now (B.orders book.old)) tokens.old.chains) }
+    requires counts { CanNoteAll tokens.old.tokens taker.now.chain
+        (done_by fills.now (B.orders book.old)) tokens.old.chains }
+    requires own { CanNote tokens.old.tokens taker.now.chain 0
+        (chains_by tokens.old.tokens taker.now.chain
+        (done_by fills.now (B.orders book.old)) tokens.old.chains) }
     requires numbers { refs.old.matches + length fills.now < 2 ^ 62 }
     requires feed { vec_len out.old.feed + length fills.now ≤ vec_capacity out.old.feed }
-    requires replies { vec_len out.old.replies + 2 * length fills.now + 1 ≤ vec_capacity out.old.replies }
+    requires replies { vec_len out.old.replies + 2 * length fills.now + 1
+        ≤ vec_capacity out.old.replies }
     ensures rests { listed result ≡ resting_of order.now immediate left }
-    ensures live { lives (B.orders book.new) ≡ lives (left_by fills.now (B.orders book.old)) ++ resting_of order.now immediate left }
+    ensures live { lives (B.orders book.new)
+        ≡ lives (left_by fills.now (B.orders book.old)) ++ resting_of order.now immediate left }
     ensures tokens { tokens.new.tokens ≡ tokens.old.tokens }
-    ensures chains { tokens.new.chains ≡ noted_if (displays (resting_of order.now immediate left)) tokens.old.tokens taker.now.chain (chains_by tokens.old.tokens taker.now.chain (done_by fills.now (B.orders book.old)) tokens.old.chains) }
+    ensures chains { tokens.new.chains
+        ≡ noted_if
+        (displays (resting_of order.now immediate left)) tokens.old.tokens taker.now.chain
+        (chains_by tokens.old.tokens taker.now.chain
+        (done_by fills.now (B.orders book.old)) tokens.old.chains) }
     ensures keyed { AreKeyed tokens.new.tokens tokens.new.keys (B.orders book.new) }
     ensures numbers { refs.new ≡ record refs.old { matches = refs.old.matches + length fills.now } }
-    ensures feed { out.new.feed.items ≡ out.old.feed.items ++ feed_of_executions taker.now.time taker.now.stock refs.old.matches (done_by fills.now (B.orders book.old)) }
-    ensures feed_room { (vec_len out.new.feed ≡ vec_len out.old.feed + length fills.now) × (vec_capacity out.new.feed ≡ vec_capacity out.old.feed) }
-    ensures replies { out.new.replies.items ≡ out.old.replies.items ++ (replies_of_executions taker.now.time taker.now.member taker.now.token refs.old.matches (done_by fills.now (B.orders book.old)) ++ canceled_of taker.now.time taker.now.member taker.now.token immediate left) }
+    ensures feed { out.new.feed.items
+        ≡ out.old.feed.items
+        ++ feed_of_executions taker.now.time taker.now.stock refs.old.matches
+        (done_by fills.now (B.orders book.old)) }
+    ensures feed_room { (vec_len out.new.feed ≡ vec_len out.old.feed + length fills.now)
+        × (vec_capacity out.new.feed ≡ vec_capacity out.old.feed) }
+    ensures replies { out.new.replies.items
+        ≡ out.old.replies.items
+        ++ (replies_of_executions taker.now.time taker.now.member taker.now.token refs.old.matches (done_by fills.now (B.orders book.old)) ++ canceled_of taker.now.time taker.now.member taker.now.token immediate left) }
 {
     execute(book, tokens, refs, out, taker, fills);
     if left == 0 {

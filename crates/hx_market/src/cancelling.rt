@@ -1,6 +1,7 @@
 //! A Cancel, carried out.
 ghost use Rattle.std.specs.Prelude.{◌≡◌, ◌<◌, ◌++◌, [], ◌∷◌};
 ghost use Rattle.std.specs.Vec.{vec_len, vec_capacity};
+ghost use Rattle.hx_rules.specs.Letters.{by_user};
 ghost use Rattle.hx_levels.specs.Book.{lives};
 ghost use Rattle.hx_members.specs.Tokens.{TokenList};
 ghost use Rattle.hx_rules.specs.Leaving.{lessened, taken_off, canceled};
@@ -17,8 +18,10 @@ use hx_rules::Output;
 fn take_off<B: Book>(book: &mut B, act: &Cancelling)
     requires only { IsOnly (B.orders book.old) act.now.member act.now.token act.now.old }
     requires shares { IsCancelling act.now }
-    ensures live { lives (B.orders book.new) ≡ lessened act.now.member act.now.token act.now.by (lives (B.orders book.old)) }
-    ensures keyed { (t : TokenList) → AreKeyed t.tokens t.keys (B.orders book.old) → AreKeyed t.tokens t.keys (B.orders book.new) }
+    ensures live { lives (B.orders book.new)
+        ≡ lessened act.now.member act.now.token act.now.by (lives (B.orders book.old)) }
+    ensures keyed { (t : TokenList) → AreKeyed t.tokens t.keys (B.orders book.old)
+        → AreKeyed t.tokens t.keys (B.orders book.new) }
 {
     if act.by < act.old.order.shares {
         book.reduce(act.old.key, act.by);
@@ -30,7 +33,8 @@ fn take_off<B: Book>(book: &mut B, act: &Cancelling)
 // In the feed: so many shares are off, or the order is gone.
 fn tell_feed(out: &mut Output, act: &Cancelling)
     requires { vec_len out.old.feed < vec_capacity out.old.feed }
-    ensures feed { out.new.feed.items ≡ out.old.feed.items ++ taken_off act.now.time act.now.by act.now.old.order }
+    ensures feed { out.new.feed.items
+        ≡ out.old.feed.items ++ taken_off act.now.time act.now.by act.now.old.order }
     ensures replies { out.new.replies ≡ out.old.replies }
 {
     let order = &act.old.order;
@@ -52,10 +56,15 @@ pub fn cancel<B: Book>(book: &mut B, out: &mut Output, act: &Cancelling)
     requires shares { IsCancelling act.now }
     requires feed_room { vec_len out.old.feed < vec_capacity out.old.feed }
     requires replies_room { vec_len out.old.replies < vec_capacity out.old.replies }
-    ensures live { lives (B.orders book.new) ≡ lessened act.now.member act.now.token act.now.by (lives (B.orders book.old)) }
-    ensures keyed { (t : TokenList) → AreKeyed t.tokens t.keys (B.orders book.old) → AreKeyed t.tokens t.keys (B.orders book.new) }
-    ensures feed { out.new.feed.items ≡ out.old.feed.items ++ taken_off act.now.time act.now.by act.now.old.order }
-    ensures replies { out.new.replies.items ≡ out.old.replies.items ++ canceled act.now.time act.now.member act.now.token act.now.by 85 ∷ [] }
+    ensures live { lives (B.orders book.new)
+        ≡ lessened act.now.member act.now.token act.now.by (lives (B.orders book.old)) }
+    ensures keyed { (t : TokenList) → AreKeyed t.tokens t.keys (B.orders book.old)
+        → AreKeyed t.tokens t.keys (B.orders book.new) }
+    ensures feed { out.new.feed.items
+        ≡ out.old.feed.items ++ taken_off act.now.time act.now.by act.now.old.order }
+    ensures replies { out.new.replies.items
+        ≡ out.old.replies.items
+        ++ canceled act.now.time act.now.member act.now.token act.now.by by_user ∷ [] }
 {
     take_off(book, act);
     tell_feed(out, act);

@@ -25,11 +25,19 @@ fn reject(tokens: &mut Tokens, out: &mut Output, act: &Rejecting)
     requires unused { is_used tokens.old.tokens act.now.member act.now.token ≡ false }
     requires place { tokens.old.place ≡ Some (name_of act.now.member act.now.token) }
     requires room { vec_len out.old.replies < vec_capacity out.old.replies }
-    ensures tokens { tokens.new.tokens ≡ tokens.old.tokens ++ entered_used act.now.member act.now.token ∷ [] }
-    ensures chains { tokens.new.chains ≡ tokens.old.chains ++ entered_chain act.now.member act.now.token ∷ [] }
+    ensures tokens { tokens.new.tokens
+        ≡ tokens.old.tokens ++ entered_used act.now.member act.now.token ∷ [] }
+    ensures chains { tokens.new.chains
+        ≡ tokens.old.chains ++ entered_chain act.now.member act.now.token ∷ [] }
     ensures keys { tokens.new.keys ≡ tokens.old.keys ++ None ∷ [] }
     ensures feed { out.new.feed.items ≡ out.old.feed.items }
-    ensures replies { out.new.replies.items ≡ out.old.replies.items ++ (act.now.member, ToldRejected (record { time = act.now.time; token = act.now.token; reason = act.now.letter })) ∷ [] }
+    ensures replies { out.new.replies.items
+        ≡ out.old.replies.items
+        ++ (
+          act.now.member,
+          ToldRejected
+              (record { time = act.now.time; token = act.now.token; reason = act.now.letter }),
+        ) ∷ [] }
 {
     tokens.consume(act.member, &act.token);
     out.replies.push_reserved((
@@ -55,17 +63,24 @@ pub fn carry_out<B: Book>(
     requires range { IsInRange act }
     requires suits { SuitsTokens tokens.old.tokens tokens.old.chains act }
     requires about { IsAbout (B.orders book.old) act }
-    requires places { HasPlaces (B.orders book.old) (B.place book.old) tokens.old.place fills.now left act }
+    requires places { HasPlaces (B.orders book.old)
+        (B.place book.old) tokens.old.place fills.now left act }
     requires keyed { AreKeyed tokens.old.tokens tokens.old.keys (B.orders book.old) }
     requires fits { FitsAct (market_of (B.orders book.old) tokens.old refs.old 0 []) act }
     requires room { HasRoom (length fills.now) out.old }
-    ensures live { lives (B.orders book.new) ≡ (outcome_over (B.orders book.old) tokens.old refs.old act).market.live }
-    ensures tokens { tokens.new.tokens ≡ (outcome_over (B.orders book.old) tokens.old refs.old act).market.tokens }
-    ensures chains { tokens.new.chains ≡ (outcome_over (B.orders book.old) tokens.old refs.old act).market.chains }
+    ensures live { lives (B.orders book.new)
+        ≡ (outcome_over (B.orders book.old) tokens.old refs.old act).market.live }
+    ensures tokens { tokens.new.tokens
+        ≡ (outcome_over (B.orders book.old) tokens.old refs.old act).market.tokens }
+    ensures chains { tokens.new.chains
+        ≡ (outcome_over (B.orders book.old) tokens.old refs.old act).market.chains }
     ensures keyed { AreKeyed tokens.new.tokens tokens.new.keys (B.orders book.new) }
-    ensures numbers { refs.new ≡ (outcome_over (B.orders book.old) tokens.old refs.old act).market.numbers }
-    ensures feed { out.new.feed.items ≡ (outcome_over (B.orders book.old) tokens.old refs.old act).told.feed }
-    ensures replies { out.new.replies.items ≡ (outcome_over (B.orders book.old) tokens.old refs.old act).told.replies }
+    ensures numbers { refs.new
+        ≡ (outcome_over (B.orders book.old) tokens.old refs.old act).market.numbers }
+    ensures feed { out.new.feed.items
+        ≡ (outcome_over (B.orders book.old) tokens.old refs.old act).told.feed }
+    ensures replies { out.new.replies.items
+        ≡ (outcome_over (B.orders book.old) tokens.old refs.old act).told.replies }
 {
     match act {
         Act::Nothing => {}

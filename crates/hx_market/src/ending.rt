@@ -1,6 +1,8 @@
 //! What the operator's events end and tell.
 ghost use Rattle.std.specs.Prelude.{◌≡◌, ℕ, List, ◌+◌, ◌<◌, ◌≤◌, ◌^◌, ◌++◌, ◌∷◌, [], IfOk, OnOk, map, not, length};
 ghost use Rattle.std.specs.List.{AllByRecursion, filter};
+ghost use Rattle.hx_units.specs.Limits.{day};
+ghost use Rattle.hx_rules.specs.Letters.{timeout};
 ghost use Rattle.hx_itch.specs.Message.{feed_time};
 ghost use Rattle.hx_levels.specs.Book.{lives, KeysDiffer};
 ghost use Rattle.hx_members.specs.Chains.{Used, Chain};
@@ -53,7 +55,8 @@ fn is_due(due: Due, time: u64, order: &Order) -> bool
 
 // Puts the order behind the others, if it ends.
 fn keep_due(orders: &mut Vec<Live>, due: Due, time: u64, live: Live) -> Result<(), NoMemory>
-    ensures { OnOk result (orders.new.items ≡ orders.old.items ++ filter (λ l. is_due due time l.order) (live ∷ [])) }
+    ensures { OnOk result (orders.new.items
+        ≡ orders.old.items ++ filter (λ l. is_due due time l.order) (live ∷ [])) }
 {
     if is_due(due, time, &live.order) {
         orders.push(live)?;
@@ -63,7 +66,8 @@ fn keep_due(orders: &mut Vec<Live>, due: Due, time: u64, live: Live) -> Result<(
 
 // The orders that end, the earlier ones first.
 fn due_orders<B: Book>(alloc: Global, book: &B, due: Due, time: u64) -> Result<Vec<Live>, NoMemory>
-    ensures due { IfOk result (λ orders. orders.items ≡ filter (λ l. is_due due time l.order) (B.orders book.now)) }
+    ensures due { IfOk result (λ orders. orders.items
+        ≡ filter (λ l. is_due due time l.order) (B.orders book.now)) }
     ensures differ { OnOk result (KeysDiffer (B.orders book.now)) }
 {
     let mut orders = Vec::new(alloc);
@@ -80,7 +84,9 @@ fn due_orders<B: Book>(alloc: Global, book: &B, due: Due, time: u64) -> Result<V
 // Tells that an order has ended.
 fn tell_end(out: &mut Output, time: u64, order: &Order) -> Result<(), NoMemory>
     ensures feed { OnOk result (out.new.feed.items ≡ out.old.feed.items ++ deleted time order.now) }
-    ensures replies { OnOk result (out.new.replies.items ≡ out.old.replies.items ++ canceled time order.now.member order.now.token order.now.shares 84 ∷ []) }
+    ensures replies { OnOk result (out.new.replies.items
+        ≡ out.old.replies.items
+        ++ canceled time order.now.member order.now.token order.now.shares timeout ∷ []) }
 {
     out.feed.reserve(1)?;
     out.replies.reserve(1)?;
@@ -91,8 +97,11 @@ fn tell_end(out: &mut Output, time: u64, order: &Order) -> Result<(), NoMemory>
 
 // Tells of all orders that have ended.
 fn tell_ended(out: &mut Output, time: u64, orders: &[Live]) -> Result<(), NoMemory>
-    ensures feed { OnOk result (out.new.feed.items ≡ out.old.feed.items ++ all_deleted time (lives orders.now)) }
-    ensures replies { OnOk result (out.new.replies.items ≡ out.old.replies.items ++ map (λ x. canceled time x.member x.token x.shares 84) (lives orders.now)) }
+    ensures feed { OnOk result (out.new.feed.items
+        ≡ out.old.feed.items ++ all_deleted time (lives orders.now)) }
+    ensures replies { OnOk result (out.new.replies.items
+        ≡ out.old.replies.items
+        ++ map (λ x. canceled time x.member x.token x.shares timeout) (lives orders.now)) }
 {
     for live in orders {
         tell_end(out, time, &live.order)?;
@@ -140,7 +149,8 @@ fn tell_members(
 // What an hours code itself tells.
 fn told_by_code(alloc: Global, setup: &Setup, time: u64, code: u8) -> Result<Output, NoMemory>
     ensures feed { IfOk result (λ out. out.feed.items ≡ (told_by_code setup.now time code).feed) }
-    ensures replies { IfOk result (λ out. out.replies.items ≡ (told_by_code setup.now time code).replies) }
+    ensures replies { IfOk result (λ out. out.replies.items
+        ≡ (told_by_code setup.now time code).replies) }
 {
     let event = Feed::SystemEvent(SystemEvent {
         locate: 0,
@@ -167,9 +177,13 @@ fn end_orders<B: Book>(
     hours: u8,
     first: Output,
 ) -> Result<Act, NoMemory>
-    requires time { time < 86400000000000 }
+    requires time { time < day }
     requires times { AllByRecursion (λ f. feed_time f < 2 ^ 48) first.feed.items }
-    ensures does { IfOk result (λ a. (t : TokenList) (n : Numbers) (before : ℕ) (counts : List ℕ) → end_orders (λ x. is_due due time x) time (market_of (B.orders book.now) t n hours counts) (record { feed = first.feed.items; replies = first.replies.items }) ≡ outcome_of (market_of (B.orders book.now) t n before counts) a) }
+    ensures does { IfOk result (λ a. (t : TokenList) (n : Numbers) (before : ℕ) (counts : List ℕ)
+        → end_orders (λ x. is_due due time x) time
+        (market_of (B.orders book.now) t n hours counts)
+        (record { feed = first.feed.items; replies = first.replies.items })
+        ≡ outcome_of (market_of (B.orders book.now) t n before counts) a) }
     ensures is_act { IfOk result (λ a. (setup : SetupOf) → IsAct setup a) }
     ensures sender { IfOk result (λ a. (i : ℕ) → IsOf i a) }
     ensures suits { IfOk result (λ a. (ts : List Used) (cs : List Chain) → SuitsTokens ts cs a) }
@@ -190,8 +204,10 @@ fn end_orders<B: Book>(
 /// What a tick does, at so many hours codes past. `NoMemory` where the orders that end, and what they tell, find no
 /// room.
 pub fn tick_act<B: Book>(alloc: Global, hours: u8, book: &B, time: u64) -> Result<Act, NoMemory>
-    requires { time < 86400000000000 }
-    ensures does { IfOk result (λ a. (t : TokenList) (n : Numbers) (counts : List ℕ) → tick (market_of (B.orders book.now) t n hours counts) time ≡ outcome_of (market_of (B.orders book.now) t n hours counts) a) }
+    requires { time < day }
+    ensures does { IfOk result (λ a. (t : TokenList) (n : Numbers) (counts : List ℕ)
+        → tick (market_of (B.orders book.now) t n hours counts) time
+        ≡ outcome_of (market_of (B.orders book.now) t n hours counts) a) }
     ensures is_act { IfOk result (λ a. (setup : SetupOf) → IsAct setup a) }
     ensures sender { IfOk result (λ a. (i : ℕ) → IsOf i a) }
     ensures suits { IfOk result (λ a. (ts : List Used) (cs : List Chain) → SuitsTokens ts cs a) }
@@ -222,8 +238,10 @@ pub fn hours_act<B: Book>(
     time: u64,
     code: u8,
 ) -> Result<Act, NoMemory>
-    requires { time < 86400000000000 }
-    ensures does { IfOk result (λ a. (t : TokenList) (n : Numbers) (counts : List ℕ) → next_hours setup.now (market_of (B.orders book.now) t n hours counts) time code ≡ outcome_of (market_of (B.orders book.now) t n hours counts) a) }
+    requires { time < day }
+    ensures does { IfOk result (λ a. (t : TokenList) (n : Numbers) (counts : List ℕ)
+        → next_hours setup.now (market_of (B.orders book.now) t n hours counts) time code
+        ≡ outcome_of (market_of (B.orders book.now) t n hours counts) a) }
     ensures is_act { IfOk result (λ a. IsAct setup.now a) }
     ensures sender { IfOk result (λ a. (i : ℕ) → IsOf i a) }
     ensures suits { IfOk result (λ a. (ts : List Used) (cs : List Chain) → SuitsTokens ts cs a) }
@@ -239,8 +257,10 @@ pub fn hours_act<B: Book>(
 // Takes the orders that end out of the book.
 fn remove_ended<B: Book>(book: &mut B, act: &Ending)
     requires { IsEnding (B.orders book.old) act.now }
-    ensures live { lives (B.orders book.new) ≡ filter (λ x. not (is_due act.now.due act.now.time x)) (lives (B.orders book.old)) }
-    ensures keyed { (t : TokenList) → AreKeyed t.tokens t.keys (B.orders book.old) → AreKeyed t.tokens t.keys (B.orders book.new) }
+    ensures live { lives (B.orders book.new)
+        ≡ filter (λ x. not (is_due act.now.due act.now.time x)) (lives (B.orders book.old)) }
+    ensures keyed { (t : TokenList) → AreKeyed t.tokens t.keys (B.orders book.old)
+        → AreKeyed t.tokens t.keys (B.orders book.new) }
 {
     for live in &act.orders {
         book.remove(live.key);
@@ -250,8 +270,10 @@ fn remove_ended<B: Book>(book: &mut B, act: &Ending)
 /// The orders end, and what was prepared is told.
 pub fn end<B: Book>(book: &mut B, out: &mut Output, act: Ending)
     requires { IsEnding (B.orders book.old) act }
-    ensures live { lives (B.orders book.new) ≡ filter (λ x. not (is_due act.due act.time x)) (lives (B.orders book.old)) }
-    ensures keyed { (t : TokenList) → AreKeyed t.tokens t.keys (B.orders book.old) → AreKeyed t.tokens t.keys (B.orders book.new) }
+    ensures live { lives (B.orders book.new)
+        ≡ filter (λ x. not (is_due act.due act.time x)) (lives (B.orders book.old)) }
+    ensures keyed { (t : TokenList) → AreKeyed t.tokens t.keys (B.orders book.old)
+        → AreKeyed t.tokens t.keys (B.orders book.new) }
     ensures feed { out.new.feed.items ≡ act.told.feed.items }
     ensures replies { out.new.replies.items ≡ act.told.replies.items }
 {

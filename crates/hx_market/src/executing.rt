@@ -33,10 +33,12 @@ pub struct Taker {
 // Takes the shares of a fill off its order, and gives the order as it stood before.
 fn take<B: Book>(book: &mut B, fill: &Fill) -> Order
     requires some { 0 < fill.now.shares }
-    requires enough { IfSome (order_of fill.now.key.0 (B.orders book.old)) (λ x. fill.now.shares ≤ x.shares) }
+    requires enough { IfSome (order_of fill.now.key.0 (B.orders book.old)) (λ x. fill.now.shares
+        ≤ x.shares) }
     requires there { IsSome (order_of fill.now.key.0 (B.orders book.old)) }
     ensures was { order_of fill.now.key.0 (B.orders book.old) ≡ Some result }
-    ensures orders { B.orders book.new ≡ taken fill.now.key.0 fill.now.shares result (B.orders book.old) }
+    ensures orders { B.orders book.new
+        ≡ taken fill.now.key.0 fill.now.shares result (B.orders book.old) }
     ensures place { B.place book.new ≡ B.place book.old }
 {
     let order = *book.get(fill.key).unwrap();
@@ -50,7 +52,8 @@ fn take<B: Book>(book: &mut B, fill: &Fill) -> Order
 
 // In the feed: an execution.
 fn feed_of_execution(taker: &Taker, order: &Order, shares: u32, number: u64) -> Feed
-    ensures { result ≡ feed_of_execution taker.now.time taker.now.stock number (record { order = order.now; shares = shares }) }
+    ensures { result ≡ feed_of_execution taker.now.time taker.now.stock number
+        (record { order = order.now; shares = shares }) }
 {
     if order.shown {
         return Feed::OrderExecuted(OrderExecuted {
@@ -75,10 +78,19 @@ fn feed_of_execution(taker: &Taker, order: &Order, shares: u32, number: u64) -> 
 fn tell(out: &mut Output, taker: &Taker, order: &Order, shares: u32, number: u64)
     requires feed { vec_len out.old.feed < vec_capacity out.old.feed }
     requires replies { vec_len out.old.replies + 2 ≤ vec_capacity out.old.replies }
-    ensures feed { out.new.feed.items ≡ out.old.feed.items ++ feed_of_execution taker.now.time taker.now.stock number (record { order = order.now; shares = shares }) ∷ [] }
-    ensures replies { out.new.replies.items ≡ out.old.replies.items ++ to_maker taker.now.time number (record { order = order.now; shares = shares }) ∷ to_taker taker.now.time taker.now.member taker.now.token number (record { order = order.now; shares = shares }) ∷ [] }
-    ensures feed_room { (vec_len out.new.feed ≡ vec_len out.old.feed + 1) × (vec_capacity out.new.feed ≡ vec_capacity out.old.feed) }
-    ensures replies_room { (vec_len out.new.replies ≡ vec_len out.old.replies + 2) × (vec_capacity out.new.replies ≡ vec_capacity out.old.replies) }
+    ensures feed { out.new.feed.items
+        ≡ out.old.feed.items
+        ++ feed_of_execution taker.now.time taker.now.stock number
+        (record { order = order.now; shares = shares }) ∷ [] }
+    ensures replies { out.new.replies.items
+        ≡ out.old.replies.items
+        ++ to_maker taker.now.time number (record { order = order.now; shares = shares })
+        ∷ to_taker taker.now.time taker.now.member taker.now.token number
+        (record { order = order.now; shares = shares }) ∷ [] }
+    ensures feed_room { (vec_len out.new.feed ≡ vec_len out.old.feed + 1)
+        × (vec_capacity out.new.feed ≡ vec_capacity out.old.feed) }
+    ensures replies_room { (vec_len out.new.replies ≡ vec_len out.old.replies + 2)
+        × (vec_capacity out.new.replies ≡ vec_capacity out.old.replies) }
 {
     let price = order.price.get();
     out.feed
@@ -117,7 +129,8 @@ pub fn execute<B: Book>(
     fills: &[Fill],
 )
     requires good { AreGood fills.now (B.orders book.old) }
-    requires counts { CanNoteAll tokens.old.tokens taker.now.chain (done_by fills.now (B.orders book.old)) tokens.old.chains }
+    requires counts { CanNoteAll tokens.old.tokens taker.now.chain
+        (done_by fills.now (B.orders book.old)) tokens.old.chains }
     requires numbers { refs.old.matches + length fills.now < 2 ^ 62 }
     requires feed { vec_len out.old.feed + length fills.now ≤ vec_capacity out.old.feed }
     requires replies { vec_len out.old.replies + 2 * length fills.now ≤ vec_capacity out.old.replies }
@@ -125,11 +138,22 @@ pub fn execute<B: Book>(
     ensures place { B.place book.new ≡ B.place book.old }
     ensures tokens { tokens.new.tokens ≡ tokens.old.tokens }
     ensures keys { tokens.new.keys ≡ tokens.old.keys }
-    ensures chains { tokens.new.chains ≡ chains_by tokens.old.tokens taker.now.chain (done_by fills.now (B.orders book.old)) tokens.old.chains }
-    ensures feed { out.new.feed.items ≡ out.old.feed.items ++ feed_of_executions taker.now.time taker.now.stock refs.old.matches (done_by fills.now (B.orders book.old)) }
-    ensures replies { out.new.replies.items ≡ out.old.replies.items ++ replies_of_executions taker.now.time taker.now.member taker.now.token refs.old.matches (done_by fills.now (B.orders book.old)) }
-    ensures feed_room { (vec_len out.new.feed ≡ vec_len out.old.feed + length fills.now) × (vec_capacity out.new.feed ≡ vec_capacity out.old.feed) }
-    ensures replies_room { (vec_len out.new.replies ≡ vec_len out.old.replies + 2 * length fills.now) × (vec_capacity out.new.replies ≡ vec_capacity out.old.replies) }
+    ensures chains { tokens.new.chains
+        ≡ chains_by tokens.old.tokens taker.now.chain
+        (done_by fills.now (B.orders book.old)) tokens.old.chains }
+    ensures feed { out.new.feed.items
+        ≡ out.old.feed.items
+        ++ feed_of_executions taker.now.time taker.now.stock refs.old.matches
+        (done_by fills.now (B.orders book.old)) }
+    ensures replies { out.new.replies.items
+        ≡ out.old.replies.items
+        ++ replies_of_executions taker.now.time taker.now.member taker.now.token refs.old.matches
+        (done_by fills.now (B.orders book.old)) }
+    ensures feed_room { (vec_len out.new.feed ≡ vec_len out.old.feed + length fills.now)
+        × (vec_capacity out.new.feed ≡ vec_capacity out.old.feed) }
+    ensures replies_room { (vec_len out.new.replies
+        ≡ vec_len out.old.replies + 2 * length fills.now)
+        × (vec_capacity out.new.replies ≡ vec_capacity out.old.replies) }
     ensures numbers { refs.new ≡ record refs.old { matches = refs.old.matches + length fills.now } }
 {
     for fill in fills {

@@ -23,7 +23,8 @@ pub struct Found {
 
 // The order under a key, if it is the one that the member calls by this token.
 fn confirm<B: Book>(book: &B, key: Key, member: MemberNo, token: &Token) -> Option<Live>
-    ensures confirmed { option_map (λ live. live.order) result ≡ confirmed member token.now (order_of key.0 (B.orders book.now)) }
+    ensures confirmed { option_map (λ live. live.order) result
+        ≡ confirmed member token.now (order_of key.0 (B.orders book.now)) }
     ensures key { IfSome result (λ live. live.key ≡ key) }
     ensures keys { KeysDiffer (B.orders book.now) }
 {
@@ -44,9 +45,11 @@ pub fn find_order<B: Book>(
     token: &Token,
 ) -> Option<Found>
     requires { AreKeyed tokens.now.tokens tokens.now.keys (B.orders book.now) }
-    ensures found { option_map (λ f. f.live.order) result ≡ find (is_called member token.now) (lives (B.orders book.now)) }
+    ensures found { option_map (λ f. f.live.order) result
+        ≡ find (is_called member token.now) (lives (B.orders book.now)) }
     ensures only { IfSome result (λ f. IsOnly (B.orders book.now) member token.now f.live) }
-    ensures executed { IfSome result (λ f. f.executed ≡ executed_by tokens.now.chains member (entered_of tokens.now.tokens member token.now)) }
+    ensures executed { IfSome result (λ f. f.executed
+        ≡ executed_by tokens.now.chains member (entered_of tokens.now.tokens member token.now)) }
 {
     let state = tokens.state(member, token)?;
     let live = confirm(book, Key(state.key?), member, token)?;

@@ -59,9 +59,19 @@ impl<B: Book> Model for Market<B> {
 
     ghost Value = { Seen };
 
-    ghost view = { λ m. record { setup = m.setup; market = market_of (B.orders m.book) m.tokens m.refs m.hours m.recorded; ready = m.ready } };
+    ghost view = { λ m. record {
+      setup = m.setup;
+      market = market_of
+          (B.orders m.book) m.tokens m.refs m.hours m.recorded;
+      ready = m.ready;
+    } };
 
-    ghost invariant = { λ m. IsSound (market_of (B.orders m.book) m.tokens m.refs m.hours m.recorded) × AreKeyed m.tokens.tokens m.tokens.keys (B.orders m.book) × ((p : Planned) → m.ready ≡ Some p → IsPlanned m.setup (market_of (B.orders m.book) m.tokens m.refs m.hours m.recorded) (B.orders m.book) (B.place m.book) m.tokens.place p) };
+    ghost invariant = { λ m. IsSound
+        (market_of (B.orders m.book) m.tokens m.refs m.hours m.recorded)
+        × AreKeyed m.tokens.tokens m.tokens.keys (B.orders m.book)
+        × ((p : Planned) → m.ready ≡ Some p
+        → IsPlanned m.setup (market_of (B.orders m.book) m.tokens m.refs m.hours m.recorded)
+        (B.orders m.book) (B.place m.book) m.tokens.place p) };
 }
 
 // How many of the hours codes are past as the day begins.
@@ -116,10 +126,14 @@ impl<B: Book + Drop> Market<B> {
         ensures market { self.new.market ≡ self.old.market }
         ensures ready { IfOk result (λ p. self.new.ready ≡ Some p) }
         ensures event { IfOk result (λ p. p.event ≡ event.now) }
-        ensures feed_count { IfOk result (λ p. p.feed_count ≡ length (step self.old.setup self.old.market event.now).told.feed) }
-        ensures reply_members { IfOk result (λ p. p.reply_members ≡ map (λ r. r.0) (step self.old.setup self.old.market event.now).told.replies) }
-        ensures passes { OnOk result (refusal self.old.setup self.old.market.recorded event.now ≡ None) }
-        ensures refused { IfErr result (λ e. e ≡ or_no_memory (refusal self.old.setup self.old.market.recorded event.now)) }
+        ensures feed_count { IfOk result (λ p. p.feed_count
+            ≡ length (step self.old.setup self.old.market event.now).told.feed) }
+        ensures reply_members { IfOk result (λ p. p.reply_members
+            ≡ map (λ r. r.0) (step self.old.setup self.old.market event.now).told.replies) }
+        ensures passes { OnOk result (refusal self.old.setup self.old.market.recorded event.now
+            ≡ None) }
+        ensures refused { IfErr result (λ e. e
+            ≡ or_no_memory (refusal self.old.setup self.old.market.recorded event.now)) }
         ensures void { OnErr result (self.new.ready ≡ None) }
     {
         self.ready = Known::none(self.alloc);
@@ -139,9 +153,12 @@ impl<B: Book + Drop> Market<B> {
     /// Does what was prepared last: one step of the market. It takes no memory, and can't refuse.
     pub fn commit(&mut self, prepared: Prepared) -> Output
         requires ready { self.old.ready ≡ Some prepared }
-        ensures market { self.new.market ≡ (step self.old.setup self.old.market prepared.event).market }
-        ensures feed { result.feed.items ≡ (step self.old.setup self.old.market prepared.event).told.feed }
-        ensures replies { result.replies.items ≡ (step self.old.setup self.old.market prepared.event).told.replies }
+        ensures market { self.new.market
+            ≡ (step self.old.setup self.old.market prepared.event).market }
+        ensures feed { result.feed.items
+            ≡ (step self.old.setup self.old.market prepared.event).told.feed }
+        ensures replies { result.replies.items
+            ≡ (step self.old.setup self.old.market prepared.event).told.replies }
         ensures setup { self.new.setup ≡ self.old.setup }
         ensures ready { self.new.ready ≡ None }
 

@@ -48,9 +48,12 @@ fn incoming_by(act: &Replacing) -> Incoming
 fn plan_order<B: Book>(alloc: Global, book: &mut B, incoming: &Incoming) -> Result<Plan, NoMemory>
     ensures orders { B.orders book.new ≡ B.orders book.old }
     ensures place { OnOk result (B.place book.new ≡ Some (terms incoming.now)) }
-    ensures fills { IfOk result (λ plan. plan.fills.items ≡ fills_of incoming.now (B.orders book.new)) }
-    ensures left { IfOk result (λ plan. plan.left ≡ (matched_live incoming.now (B.orders book.new)).left) }
-    ensures executions { IfOk result (λ plan. AreFills incoming.now (B.orders book.new) plan.fills.items plan.left) }
+    ensures fills { IfOk result (λ plan. plan.fills.items
+        ≡ fills_of incoming.now (B.orders book.new)) }
+    ensures left { IfOk result (λ plan. plan.left
+        ≡ (matched_live incoming.now (B.orders book.new)).left) }
+    ensures executions { IfOk result
+        (λ plan. AreFills incoming.now (B.orders book.new) plan.fills.items plan.left) }
     ensures keys { OnOk result (KeysDiffer (B.orders book.new)) }
 {
     book.reserve(incoming.locate, incoming.side, incoming.price)?;
@@ -77,7 +80,9 @@ fn members_of<B: Book>(
     plan: &Plan,
 ) -> Result<Vec<MemberNo>, NoMemory>
     requires { length plan.now.fills.items < 2 ^ 60 }
-    ensures { IfOk result (λ members. members.items ≡ arrival_members member immediate (B.orders book.now) plan.now.fills.items plan.now.left) }
+    ensures { IfOk result (λ members. members.items
+        ≡ arrival_members member immediate
+        (B.orders book.now) plan.now.fills.items plan.now.left) }
 {
     let mut members = Vec::with_capacity(alloc, 2 * plan.fills.len() + 2)?;
     members.push_reserved(member);
@@ -143,10 +148,15 @@ pub struct Draft {
 fn draft_order<B: Book>(alloc: Global, book: &mut B, act: &Accepting) -> Result<Draft, NoMemory>
     ensures orders { B.orders book.new ≡ B.orders book.old }
     ensures place { OnOk result (B.place book.new ≡ Some (terms_of_accepting act.now)) }
-    ensures executions { IfOk result (λ d. AreFills (incoming_of_accepting act.now) (B.orders book.new) d.fills.items d.left) }
+    ensures executions { IfOk result
+        (λ d. AreFills (incoming_of_accepting act.now) (B.orders book.new) d.fills.items d.left) }
     ensures keys { OnOk result (KeysDiffer (B.orders book.new)) }
-    ensures feed_count { IfOk result (λ d. d.feed_count ≡ arrival_count (is_shown act.now.enter.display act.now.enter.time_in_force) d.fills.items d.left) }
-    ensures members { IfOk result (λ d. d.reply_members.items ≡ arrival_members act.now.member (is_immediate act.now.enter.time_in_force) (B.orders book.new) d.fills.items d.left) }
+    ensures feed_count { IfOk result (λ d. d.feed_count
+        ≡ arrival_count
+        (is_shown act.now.enter.display act.now.enter.time_in_force) d.fills.items d.left) }
+    ensures members { IfOk result (λ d. d.reply_members.items
+        ≡ arrival_members act.now.member (is_immediate act.now.enter.time_in_force)
+        (B.orders book.new) d.fills.items d.left) }
 {
     let plan = plan_order(alloc, book, &incoming_of(act))?;
     let immediate = act.enter.time_in_force == 0;
@@ -171,10 +181,15 @@ fn draft_replacement<B: Book>(
     requires old { order_of act.now.old.key.0 (B.orders book.old) ≡ Some act.now.old.order }
     ensures orders { B.orders book.new ≡ B.orders book.old }
     ensures place { OnOk result (B.place book.new ≡ Some (terms_of_replacing act.now)) }
-    ensures executions { IfOk result (λ d. AreFills (incoming_of_replacing act.now) (without act.now.old.key.0 (B.orders book.new)) d.fills.items d.left) }
+    ensures executions { IfOk result
+        (λ d. AreFills (incoming_of_replacing act.now)
+        (without act.now.old.key.0 (B.orders book.new)) d.fills.items d.left) }
     ensures keys { OnOk result (KeysDiffer (B.orders book.new)) }
-    ensures feed_count { IfOk result (λ d. d.feed_count ≡ replaced_count act.now d.fills.items d.left) }
-    ensures members { IfOk result (λ d. d.reply_members.items ≡ arrival_members act.now.member (is_immediate act.now.replace.time_in_force) (B.orders book.new) d.fills.items d.left) }
+    ensures feed_count { IfOk result (λ d. d.feed_count
+        ≡ replaced_count act.now d.fills.items d.left) }
+    ensures members { IfOk result (λ d. d.reply_members.items
+        ≡ arrival_members act.now.member (is_immediate act.now.replace.time_in_force)
+        (B.orders book.new) d.fills.items d.left) }
 {
     let plan = plan_order(alloc, book, &incoming_by(act))?;
     let immediate = act.replace.time_in_force == 0;
@@ -227,9 +242,13 @@ pub fn draft_act<B: Book>(
     ensures tokens { tokens.new.tokens ≡ tokens.old.tokens }
     ensures chains { tokens.new.chains ≡ tokens.old.chains }
     ensures token_keys { tokens.new.keys ≡ tokens.old.keys }
-    ensures places { IfOk result (λ d. HasPlaces (B.orders book.new) (B.place book.new) tokens.new.place d.fills.items d.left act.now) }
-    ensures feed_count { IfOk result (λ d. d.feed_count ≡ act_feed_count act.now d.fills.items d.left) }
-    ensures members { IfOk result (λ d. d.reply_members.items ≡ act_members act.now (B.orders book.new) d.fills.items d.left) }
+    ensures places { IfOk result
+        (λ d. HasPlaces (B.orders book.new)
+        (B.place book.new) tokens.new.place d.fills.items d.left act.now) }
+    ensures feed_count { IfOk result (λ d. d.feed_count
+        ≡ act_feed_count act.now d.fills.items d.left) }
+    ensures members { IfOk result (λ d. d.reply_members.items
+        ≡ act_members act.now (B.orders book.new) d.fills.items d.left) }
 {
     match act {
         Act::Nothing => Ok(draft_told(alloc, 0, Vec::new(alloc))),

@@ -78,9 +78,12 @@ pub fn make<B: Book>(
     ensures keys { tokens.new.keys ≡ tokens.old.keys }
     ensures chains { tokens.new.chains ≡ tokens.old.chains }
     ensures event { IfOk result (λ p. p.event ≡ event.now) }
-    ensures planned { IfOk result (λ p. (n : Numbers) → IsPlanned setup.now (market_of (B.orders book.new) tokens.new n hours recorded.now) (B.orders book.new) (B.place book.new) tokens.new.place p) }
+    ensures planned { IfOk result (λ p. (n : Numbers)
+        → IsPlanned setup.now (market_of (B.orders book.new) tokens.new n hours recorded.now)
+        (B.orders book.new) (B.place book.new) tokens.new.place p) }
     ensures passes { OnOk result (refusal setup.now recorded.now event.now ≡ None) }
-    ensures refused { IfErr result (λ e. e ≡ or_no_memory (refusal setup.now recorded.now event.now)) }
+    ensures refused { IfErr result (λ e. e
+        ≡ or_no_memory (refusal setup.now recorded.now event.now)) }
 {
     let number = admit(setup, recorded, event)?;
     let act = act_of(alloc, setup, hours, tokens, book, event)?;

@@ -1,5 +1,6 @@
 //! How many events are recorded.
 ghost use Rattle.std.specs.Prelude.{◌≡◌, ◌<◌, IfOk, slice_index};
+ghost use Rattle.hx_units.specs.Limits.{member_numbers};
 ghost use Rattle.hx_refs.specs.Numbers.{raised};
 ghost use Rattle.hx_rules.specs.Markets.{no_counts};
 ghost use Rattle.hx_market.specs.Ready.{MayRecord};
@@ -36,7 +37,7 @@ impl Recorded {
 
     /// How many of a number.
     pub fn count(&self, number: u16) -> u32
-        requires { number < 4096 }
+        requires { number < member_numbers }
         ensures { result ≡ slice_index self.now number }
     {
         self.counts[number as usize]

@@ -1,6 +1,7 @@
 //! A Replace, carried out.
 ghost use Rattle.std.specs.Prelude.{◌≡◌, ◌+◌, ◌*◌, ◌<◌, ◌≤◌, ◌^◌, ◌++◌, ◌==◌, ◌&&◌, nat_lt, [], ◌∷◌, length, map, if◌then◌else◌, true, false, Some};
 ghost use Rattle.std.specs.Vec.{vec_len, vec_capacity};
+ghost use Rattle.hx_rules.specs.Letters.{by_user};
 ghost use Rattle.hx_levels.specs.Book.{lives, has_key, without};
 ghost use Rattle.hx_match.specs.Rules.{AreFills};
 ghost use Rattle.hx_members.specs.Chains.{is_used, entered_of, entered_at, place_of, replacing_used, IsEnteredAt};
@@ -44,11 +45,15 @@ fn hand_over<B: Book>(
     requires keyed { AreKeyed tokens.old.tokens tokens.old.keys (B.orders book.old) }
     ensures orders { B.orders book.new ≡ without key.0 (B.orders book.old) }
     ensures book_place { B.place book.new ≡ B.place book.old }
-    ensures tokens { tokens.new.tokens ≡ tokens.old.tokens ++ replacing_used member replacement.now (entered_at tokens.old.tokens chain replacement.now) ∷ [] }
+    ensures tokens { tokens.new.tokens
+        ≡ tokens.old.tokens
+        ++ replacing_used member replacement.now
+        (entered_at tokens.old.tokens chain replacement.now) ∷ [] }
     ensures chains { tokens.new.chains ≡ tokens.old.chains }
     ensures keyed { AreKeyed tokens.new.tokens tokens.new.keys (B.orders book.new) }
     ensures used { is_used tokens.new.tokens member replacement.now ≡ true }
-    ensures before { AreBefore tokens.new.tokens (place_of tokens.new.tokens member replacement.now) (B.orders book.new) }
+    ensures before { AreBefore tokens.new.tokens (place_of tokens.new.tokens member replacement.now)
+        (B.orders book.new) }
 {
     book.remove(key);
     tokens.join_chain(member, replacement, chain);
@@ -63,12 +68,19 @@ pub fn fail<B: Book>(book: &mut B, tokens: &mut Tokens, out: &mut Output, act: &
     requires chain { IsChainOf tokens.old.tokens act.now.member act.now.existing act.now.old.order.chain }
     requires feed_room { vec_len out.old.feed < vec_capacity out.old.feed }
     requires replies_room { vec_len out.old.replies < vec_capacity out.old.replies }
-    ensures live { lives (B.orders book.new) ≡ others act.now.member act.now.existing (lives (B.orders book.old)) }
-    ensures tokens { tokens.new.tokens ≡ tokens.old.tokens ++ replacing_used act.now.member act.now.replacement (entered_of tokens.old.tokens act.now.member act.now.existing) ∷ [] }
+    ensures live { lives (B.orders book.new)
+        ≡ others act.now.member act.now.existing (lives (B.orders book.old)) }
+    ensures tokens { tokens.new.tokens
+        ≡ tokens.old.tokens
+        ++ replacing_used act.now.member act.now.replacement
+        (entered_of tokens.old.tokens act.now.member act.now.existing) ∷ [] }
     ensures chains { tokens.new.chains ≡ tokens.old.chains }
     ensures keyed { AreKeyed tokens.new.tokens tokens.new.keys (B.orders book.new) }
     ensures feed { out.new.feed.items ≡ out.old.feed.items ++ deleted act.now.time act.now.old.order }
-    ensures replies { out.new.replies.items ≡ out.old.replies.items ++ canceled act.now.time act.now.member act.now.existing act.now.old.order.shares 85 ∷ [] }
+    ensures replies { out.new.replies.items
+        ≡ out.old.replies.items
+        ++ canceled act.now.time act.now.member act.now.existing act.now.old.order.shares by_user
+        ∷ [] }
 {
     let old = &act.old.order;
     hand_over(
@@ -162,7 +174,8 @@ pub fn is_one_display(act: &Replacing) -> bool
 
 // Whether the feed tells of old and new by one message.
 fn tells_in_one(act: &Replacing, fills: &[Fill]) -> bool
-    ensures { result ≡ (is_one_display act.now.old.order (order_by_replacing 0 act.now) && nat_lt (length fills.now) 1) }
+    ensures { result ≡ (is_one_display act.now.old.order (order_by_replacing 0 act.now)
+        && nat_lt (length fills.now) 1) }
 {
     is_one_display(act) && fills.is_empty()
 }
@@ -170,8 +183,10 @@ fn tells_in_one(act: &Replacing, fills: &[Fill]) -> bool
 // In the feed, before the executions: the old order is gone, if it was shown and no one message tells of both.
 fn tell_old(out: &mut Output, act: &Replacing, in_one: bool)
     requires { vec_len out.old.feed < vec_capacity out.old.feed }
-    ensures feed { out.new.feed.items ≡ out.old.feed.items ++ (if in_one then [] else deleted act.now.time act.now.old.order) }
-    ensures room { (vec_len out.new.feed ≤ vec_len out.old.feed + 1) × (vec_capacity out.new.feed ≡ vec_capacity out.old.feed) }
+    ensures feed { out.new.feed.items
+        ≡ out.old.feed.items ++ (if in_one then [] else deleted act.now.time act.now.old.order) }
+    ensures room { (vec_len out.new.feed ≤ vec_len out.old.feed + 1)
+        × (vec_capacity out.new.feed ≡ vec_capacity out.old.feed) }
     ensures replies { out.new.replies ≡ out.old.replies }
 {
     if !in_one {
@@ -182,7 +197,11 @@ fn tell_old(out: &mut Output, act: &Replacing, in_one: bool)
 // In the feed, behind the executions: the one message, or what rests shown.
 fn tell_new(out: &mut Output, act: &Replacing, order: &Order, in_one: bool, resting: Option<Order>)
     requires { vec_len out.old.feed < vec_capacity out.old.feed }
-    ensures feed { out.new.feed.items ≡ out.old.feed.items ++ (if in_one then ToReplace (record { locate = order.now.locate; time = act.now.time; original_reference = act.now.old.order.reference; reference = order.now.reference; shares = order.now.shares; price = order.now.price }) ∷ [] else map (published act.now.time act.now.stock) (shown_of (listed resting))) }
+    ensures feed { out.new.feed.items
+        ≡ out.old.feed.items
+        ++ (if in_one
+        then ToReplace
+        (record { locate = order.now.locate; time = act.now.time; original_reference = act.now.old.order.reference; reference = order.now.reference; shares = order.now.shares; price = order.now.price }) ∷ [] else map (published act.now.time act.now.stock) (shown_of (listed resting))) }
     ensures replies { out.new.replies.items ≡ out.old.replies.items }
 {
     if in_one {
@@ -211,22 +230,37 @@ pub fn replace<B: Book>(
     left: u32,
 )
     requires is_replacing { IsReplacing act.now }
-    requires unused { is_used tokens.old.tokens act.now.member act.now.replace.replacement_token ≡ false }
+    requires unused { is_used tokens.old.tokens act.now.member act.now.replace.replacement_token
+        ≡ false }
     requires only { IsOnly (B.orders book.old) act.now.member act.now.replace.existing_token act.now.old }
-    requires token_place { tokens.old.place ≡ Some (name_of act.now.member act.now.replace.replacement_token) }
+    requires token_place { tokens.old.place
+        ≡ Some (name_of act.now.member act.now.replace.replacement_token) }
     requires place { B.place book.old ≡ Some (terms_of_replacing act.now) }
-    requires executions { AreFills (incoming_of_replacing act.now) (without act.now.old.key.0 (B.orders book.old)) fills.now left }
+    requires executions { AreFills (incoming_of_replacing act.now)
+        (without act.now.old.key.0 (B.orders book.old)) fills.now left }
     requires keyed { AreKeyed tokens.old.tokens tokens.old.keys (B.orders book.old) }
-    requires fits { HasRoomToReplace (market_of (B.orders book.old) tokens.old refs.old 0 []) act.now }
+    requires fits { HasRoomToReplace
+        (market_of (B.orders book.old) tokens.old refs.old 0 []) act.now }
     requires chain { IsChainOf tokens.old.tokens act.now.member act.now.replace.existing_token act.now.old.order.chain }
     requires room { HasRoom (length fills.now) out.old }
-    ensures live { lives (B.orders book.new) ≡ (outcome_over (B.orders book.old) tokens.old refs.old (ToReplaceBy act.now)).market.live }
-    ensures tokens { tokens.new.tokens ≡ (outcome_over (B.orders book.old) tokens.old refs.old (ToReplaceBy act.now)).market.tokens }
-    ensures chains { tokens.new.chains ≡ (outcome_over (B.orders book.old) tokens.old refs.old (ToReplaceBy act.now)).market.chains }
+    ensures live { lives (B.orders book.new)
+        ≡ (outcome_over (B.orders book.old) tokens.old refs.old
+        (ToReplaceBy act.now)).market.live }
+    ensures tokens { tokens.new.tokens
+        ≡ (outcome_over (B.orders book.old) tokens.old refs.old
+        (ToReplaceBy act.now)).market.tokens }
+    ensures chains { tokens.new.chains
+        ≡ (outcome_over (B.orders book.old) tokens.old refs.old
+        (ToReplaceBy act.now)).market.chains }
     ensures keyed { AreKeyed tokens.new.tokens tokens.new.keys (B.orders book.new) }
-    ensures numbers { refs.new ≡ (outcome_over (B.orders book.old) tokens.old refs.old (ToReplaceBy act.now)).market.numbers }
-    ensures feed { out.new.feed.items ≡ (outcome_over (B.orders book.old) tokens.old refs.old (ToReplaceBy act.now)).told.feed }
-    ensures replies { out.new.replies.items ≡ (outcome_over (B.orders book.old) tokens.old refs.old (ToReplaceBy act.now)).told.replies }
+    ensures numbers { refs.new
+        ≡ (outcome_over (B.orders book.old) tokens.old refs.old
+        (ToReplaceBy act.now)).market.numbers }
+    ensures feed { out.new.feed.items
+        ≡ (outcome_over (B.orders book.old) tokens.old refs.old (ToReplaceBy act.now)).told.feed }
+    ensures replies { out.new.replies.items
+        ≡ (outcome_over (B.orders book.old) tokens.old refs.old
+        (ToReplaceBy act.now)).told.replies }
 {
     let replace = &act.replace;
     let new_token = &replace.replacement_token;

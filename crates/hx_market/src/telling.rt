@@ -43,7 +43,8 @@ fn published(time: u64, stock: Symbol, order: &Order) -> Feed
 /// Tells the feed of an order that rests, if it is shown.
 pub fn publish(out: &mut Output, time: u64, stock: Symbol, resting: Option<Order>)
     requires { vec_len out.old.feed < vec_capacity out.old.feed }
-    ensures feed { out.new.feed.items ≡ out.old.feed.items ++ map (published time stock) (shown_of (listed resting)) }
+    ensures feed { out.new.feed.items
+        ≡ out.old.feed.items ++ map (published time stock) (shown_of (listed resting)) }
     ensures replies { out.new.replies.items ≡ out.old.replies.items }
 {
     if let Some(order) = resting {
@@ -57,7 +58,8 @@ pub fn publish(out: &mut Output, time: u64, stock: Symbol, resting: Option<Order
 pub fn delete(out: &mut Output, time: u64, order: &Order)
     requires { vec_len out.old.feed < vec_capacity out.old.feed }
     ensures feed { out.new.feed.items ≡ out.old.feed.items ++ deleted time order.now }
-    ensures room { (vec_len out.new.feed ≤ vec_len out.old.feed + 1) × (vec_capacity out.new.feed ≡ vec_capacity out.old.feed) }
+    ensures room { (vec_len out.new.feed ≤ vec_len out.old.feed + 1)
+        × (vec_capacity out.new.feed ≡ vec_capacity out.old.feed) }
     ensures replies { out.new.replies ≡ out.old.replies }
 {
     if order.shown {
@@ -80,7 +82,8 @@ pub fn tell_canceled(
 )
     requires { vec_len out.old.replies < vec_capacity out.old.replies }
     ensures feed { out.new.feed ≡ out.old.feed }
-    ensures replies { out.new.replies.items ≡ out.old.replies.items ++ canceled time member token shares reason ∷ [] }
+    ensures replies { out.new.replies.items
+        ≡ out.old.replies.items ++ canceled time member token shares reason ∷ [] }
 {
     out.replies.push_reserved((
         member,

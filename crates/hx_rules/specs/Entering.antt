@@ -1,27 +1,41 @@
--- The rules of Enter (OUCH 4.2, Enter Order).
+-- The rules of Enter (OUCH 4.2, Enter Order Message).
 use Rattle.std.specs.Prelude.{ℕ, ◌%◌, Bool, true, false, if◌then◌else◌, ◌==◌, ◌&&◌, ◌||◌, not, nat_lt, nat_le, List, [], ◌∷◌, ◌++◌, length, Option, Some, None, is_none, unwrap_or}
 use Rattle.hx_units.specs.declared.names.Firm.{Firm}
+use Rattle.hx_units.specs.Limits.{greatest_price, most_shares}
 use Rattle.hx_units.specs.Names.{is_firm}
-use Rattle.hx_members.specs.Setups.{Setup, locate_of, firm_of}
-use Rattle.hx_members.specs.Chains.{is_used}
+use Rattle.hx_members.specs.Setups.{Setup, locate_of, firm_of, no_firm}
+use Rattle.hx_members.specs.Chains.{is_used, entered_used, entered_chain}
 use Rattle.hx_refs.specs.Numbers.{Numbers, next_public, next_private, public_drawn, private_drawn}
 use Rattle.hx_ouch.specs.declared.inbound.Enter.{Enter}
 use Rattle.hx_ouch.specs.declared.outbound.Outbound.TheVariants.{Accepted, Rejected}
+use Rattle.hx_rules.specs.Letters.{no_cross, order_live, no_weight, closed, invalid_stock, other_reason, invalid_display, invalid_shares, invalid_price, invalid_minimum}
+use Rattle.hx_rules.specs.Limits.{dollar, cent, market_hours}
 use Rattle.hx_rules.specs.Orders.{Order, Token, is_side, side_of, is_display, is_immediate, is_shown, life_of}
 use Rattle.hx_rules.specs.Markets.{Market, is_open, is_after_market}
 use Rattle.hx_rules.specs.Outputs.{Reply, Outcome, nothing}
 use Rattle.hx_rules.specs.Executions.{arrive, arrival_feed}
 
-abbrev pub is_bad_shares : ℕ → Bool
-is_bad_shares shares = shares == 0 || nat_lt 999999 shares
+-- ---- Why a message is rejected
 
--- 0, above the greatest price, or from 1 dollar on no whole number of cents
-abbrev pub is_bad_price : ℕ → Bool
-is_bad_price price = price == 0 || (nat_lt 1999999900 price || (nat_le 10000 price && not (price % 100 == 0)))
+-- no shares, or more than an order may have (Shares)
+abbrev pub is_bad_shares : (shares : ℕ) → Bool
+is_bad_shares shares = shares == 0 || nat_lt most_shares shares
 
--- for the market hours, once code M is past
-abbrev pub is_late : ℕ → ℕ → Bool
-is_late hours time_in_force = time_in_force == 99998 && is_after_market hours
+-- whether a price, from a dollar on, is no whole number of cents
+abbrev pub is_between_cents : (price : ℕ) → Bool
+is_between_cents price = nat_le dollar price && not (price % cent == 0)
+
+-- no price, above the greatest, or between two cents (Price)
+abbrev pub is_bad_price : (price : ℕ) → Bool
+is_bad_price price = price == 0 || (nat_lt greatest_price price || is_between_cents price)
+
+-- for the market hours, once they are over (Time in Force)
+abbrev pub is_late : (hours time_in_force : ℕ) → Bool
+is_late hours time_in_force = time_in_force == market_hours && is_after_market hours
+
+-- a minimum beside a display: a shown order has none (Minimum Quantity)
+abbrev pub is_shown_minimum : (minimum display time_in_force : ℕ) → Bool
+is_shown_minimum minimum display time_in_force = nat_lt 0 minimum && is_shown display time_in_force
 
 -- a reason to reject: whether it applies, and its letter
 pub record Reason : Type 0 where
@@ -33,49 +47,59 @@ abbrev pub first_reason : List Reason → Option ℕ
 first_reason [] = None
 first_reason (r ∷ rs) = if r.applies then Some r.letter else first_reason rs
 
--- `C` closed, `S` stock, `O` side or cross, `D` display, `Z` shares, `X` price, `N` minimum quantity
-abbrev pub reasons : Setup → ℕ → Enter → List Reason
+-- the reasons in their order, with so many hours codes past (Rejected Order Message, Reason)
+abbrev pub reasons : Setup → (hours : ℕ) → Enter → List Reason
 reasons setup hours e =
-    record { applies = not (is_open hours) || is_late hours e.time_in_force; letter = 67 }
-    ∷ record { applies = is_none (locate_of setup e.stock); letter = 83 }
-    ∷ record { applies = not (is_side e.side) || not (e.cross_type == 78); letter = 79 }
-    ∷ record { applies = not (is_display e.display); letter = 68 }
-    ∷ record { applies = is_bad_shares e.shares; letter = 90 }
-    ∷ record { applies = is_bad_price e.price; letter = 88 }
-    ∷ record { applies = nat_lt e.shares e.minimum_quantity || (nat_lt 0 e.minimum_quantity && is_shown e.display e.time_in_force); letter = 78 }
+    record { applies = not (is_open hours) || is_late hours e.time_in_force; letter = closed }
+    ∷ record { applies = is_none (locate_of setup e.stock); letter = invalid_stock }
+    ∷ record {
+      applies = not (is_side e.side) || not (e.cross_type == no_cross);
+      letter = other_reason;
+    }
+    ∷ record { applies = not (is_display e.display); letter = invalid_display }
+    ∷ record { applies = is_bad_shares e.shares; letter = invalid_shares }
+    ∷ record { applies = is_bad_price e.price; letter = invalid_price }
+    ∷ record {
+      applies = nat_lt e.shares e.minimum_quantity
+          || is_shown_minimum e.minimum_quantity e.display e.time_in_force;
+      letter = invalid_minimum;
+    }
     ∷ []
 
-abbrev pub rejection : Setup → ℕ → Enter → Option ℕ
+-- the letter that rejects the message, if any does
+abbrev pub rejection : Setup → (hours : ℕ) → Enter → Option ℕ
 rejection setup hours e = first_reason (reasons setup hours e)
 
+-- ---- What an accepted message becomes
+
 -- the token is used, and is a chain of its own
-abbrev pub consumed : Market → ℕ → Token → Market
+abbrev pub consumed : Market → (member : ℕ) → Token → Market
 consumed market member token =
     record market {
-      tokens = market.tokens ++ record { member = member; token = token; entered = token } ∷ [];
-      chains = market.chains ++ record { member = member; entered = token; executed = 0; displayed = false; traded = false } ∷ [];
+      tokens = market.tokens ++ entered_used member token ∷ [];
+      chains = market.chains ++ entered_chain member token ∷ [];
     }
 
 -- a public reference for a shown order, else one of the member's own
-abbrev pub next_reference : Numbers → ℕ → Bool → ℕ
-next_reference numbers member shown = if shown then next_public numbers else next_private numbers member
+abbrev pub next_reference : Numbers → (member : ℕ) (shown : Bool) → ℕ
+next_reference numbers member shown =
+    if shown then next_public numbers else next_private numbers member
 
 -- the numbers after that reference is drawn
-abbrev pub after_draw : Numbers → ℕ → Bool → Numbers
-after_draw numbers member shown = if shown then public_drawn numbers else private_drawn numbers member
+abbrev pub after_draw : Numbers → (member : ℕ) (shown : Bool) → Numbers
+after_draw numbers member shown =
+    if shown then public_drawn numbers else private_drawn numbers member
 
-abbrev pub drawn : Market → ℕ → Bool → Market
+-- the market after that reference is drawn
+abbrev pub drawn : Market → (member : ℕ) (shown : Bool) → Market
 drawn market member shown = record market { numbers = after_draw market.numbers member shown }
 
-abbrev pub blank : Firm
-blank = record { 0 = 32 ∷ 32 ∷ 32 ∷ 32 ∷ [] }
-
--- a blank firm means the member's
-abbrev pub resolved_firm : Setup → ℕ → Firm → Firm
-resolved_firm setup member firm = if is_firm firm blank then firm_of setup member else firm
+-- a blank firm means the member's (Firm)
+abbrev pub resolved_firm : Setup → (member : ℕ) → Firm → Firm
+resolved_firm setup member firm = if is_firm firm no_firm then firm_of setup member else firm
 
 -- the order of an accepted message, with its chain's number and its reference
-abbrev pub entered_order : Setup → ℕ → ℕ → ℕ → ℕ → Enter → Order
+abbrev pub entered_order : Setup → (chain reference member time : ℕ) → Enter → Order
 entered_order setup chain reference member time e =
     record {
       member = member;
@@ -94,7 +118,8 @@ entered_order setup chain reference member time e =
       life = life_of time e.time_in_force;
     }
 
-abbrev pub accepted_of : Order → ℕ → Enter → Reply
+-- to its member: the order as it was accepted (Accepted Message)
+abbrev pub accepted_of : Order → (time : ℕ) → Enter → Reply
 accepted_of x time e = (
   x.member,
   Accepted (record {
@@ -112,37 +137,54 @@ accepted_of x time e = (
     intermarket_sweep = e.intermarket_sweep;
     minimum_quantity = e.minimum_quantity;
     cross_type = e.cross_type;
-    order_state = 76;
-    bbo_weight = 32;
+    order_state = order_live;
+    bbo_weight = no_weight;
   }),
 )
 
+-- ---- What the message does
+
 -- the order of a message is accepted: its token is used, its reference is drawn, and it arrives
-abbrev pub accept_order : Market → ℕ → Enter → Order → Outcome
+abbrev pub accept_order : Market → (time : ℕ) → Enter → Order → Outcome
 accept_order market time e x =
-    let a = arrive time (is_immediate e.time_in_force) x (drawn (consumed market x.member x.token) x.member x.shown) in
+    let before = drawn (consumed market x.member x.token) x.member x.shown in
+    let a = arrive time (is_immediate e.time_in_force) x before in
     record {
       market = a.market;
-      told = record { feed = arrival_feed time e.stock market.numbers.matches a.executions a.resting; replies = accepted_of x time e ∷ a.replies };
+      told = record {
+        feed = arrival_feed time e.stock market.numbers.matches a.executions a.resting;
+        replies = accepted_of x time e ∷ a.replies;
+      };
     }
 
-abbrev pub accept : Setup → Market → ℕ → ℕ → Enter → Outcome
+-- the message is accepted: the number of its chain is its token's place among the used ones
+abbrev pub accept : Setup → Market → (member time : ℕ) → Enter → Outcome
 accept setup market member time e =
+    let shown = is_shown e.display e.time_in_force in
+    let reference = next_reference market.numbers member shown in
     accept_order market time e
-    (entered_order setup (length market.tokens) (next_reference market.numbers member (is_shown e.display e.time_in_force)) member time e)
+    (entered_order setup (length market.tokens) reference member time e)
 
-abbrev pub reject : Market → ℕ → ℕ → Token → ℕ → Outcome
+-- it is rejected: its token is used, and nothing else changes (Rejected Order Message)
+abbrev pub reject : Market → (member time : ℕ) → Token → (letter : ℕ) → Outcome
 reject market member time token letter =
     record {
       market = consumed market member token;
-      told = record { feed = []; replies = (member, Rejected (record { time = time; token = token; reason = letter })) ∷ [] };
+      told = record {
+        feed = [];
+        replies = (member, Rejected (record { time = time; token = token; reason = letter })) ∷ [];
+      };
     }
 
--- by whether the token is used, and the letter that rejects
-abbrev pub entered_by : Setup → Market → ℕ → ℕ → Enter → Bool → Option ℕ → Outcome
+-- by whether its token is used, and the letter that rejects it: a used token makes it without effect
+abbrev pub entered_by :
+    Setup → Market → (member time : ℕ) → Enter → (used : Bool) → Option ℕ → Outcome
 entered_by setup market member time e true letter = nothing market
 entered_by setup market member time e false (Some letter) = reject market member time e.token letter
 entered_by setup market member time e false None = accept setup market member time e
 
-abbrev pub enter : Setup → Market → ℕ → ℕ → Enter → Outcome
-enter setup market member time e = entered_by setup market member time e (is_used market.tokens member e.token) (rejection setup market.hours e)
+-- a member's Enter
+abbrev pub enter : Setup → Market → (member time : ℕ) → Enter → Outcome
+enter setup market member time e =
+    entered_by setup market member time e
+    (is_used market.tokens member e.token) (rejection setup market.hours e)

@@ -1,3 +1,5 @@
+pub mod Letters
+pub mod Limits
 pub mod Orders
 pub mod Markets
 pub mod Outputs

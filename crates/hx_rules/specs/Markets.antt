@@ -1,9 +1,10 @@
 -- The state of the market.
 use Rattle.std.specs.Prelude.{ℕ, Bool, if◌then◌else◌, ◌&&◌, nat_lt, nat_le, List, [], replicate}
-use Rattle.hx_rules.specs.Orders.{Order}
+use Rattle.hx_units.specs.Limits.{member_numbers}
 use Rattle.hx_members.specs.Chains.{Used, Chain}
 use Rattle.hx_members.specs.Setups.{Setup}
 use Rattle.hx_refs.specs.Numbers.{Numbers, opening_numbers}
+use Rattle.hx_rules.specs.Orders.{Order}
 
 pub record Market : Type 0 where
   -- the live orders, the earlier ones first: time priority is the place in this list
@@ -20,12 +21,13 @@ pub record Market : Type 0 where
 
 -- a count for each number, all of them 0
 abbrev pub no_counts : List ℕ
-no_counts = replicate 4096 0
+no_counts = replicate member_numbers 0
 
--- a day that starts open begins as after the codes O and S
+-- how many codes are past as the day begins: O and S where it begins open, else none
 abbrev pub opening_hours : Setup → ℕ
 opening_hours setup = if setup.start_open then 2 else 0
 
+-- the market as the day begins
 unfoldable pub opening : Setup → Market
 opening setup =
     record {
@@ -37,10 +39,10 @@ opening setup =
       recorded = no_counts;
     }
 
--- orders are accepted from code S to code E
-abbrev pub is_open : ℕ → Bool
+-- whether orders are accepted: from code S, the second, to code E, the fifth
+abbrev pub is_open : (hours : ℕ) → Bool
 is_open hours = nat_le 2 hours && nat_lt hours 5
 
--- code M is past
-abbrev pub is_after_market : ℕ → Bool
+-- whether the market hours are over: code M, the fourth, is past
+abbrev pub is_after_market : (hours : ℕ) → Bool
 is_after_market hours = nat_le 4 hours

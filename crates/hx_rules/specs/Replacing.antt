@@ -10,42 +10,70 @@ use Rattle.hx_itch.specs.declared.message.Feed.{Feed}
 use Rattle.hx_itch.specs.declared.message.Feed.TheVariants.{OrderReplace}
 use Rattle.hx_ouch.specs.declared.inbound.Replace.{Replace}
 use Rattle.hx_ouch.specs.declared.outbound.Outbound.TheVariants.{Replaced}
+use Rattle.hx_rules.specs.Letters.{no_cross, order_live, no_weight, by_user}
 use Rattle.hx_rules.specs.Orders.{Order, Token, is_display, is_immediate, is_shown, life_of, is_called}
 use Rattle.hx_rules.specs.Markets.{Market}
 use Rattle.hx_rules.specs.Outputs.{Reply, Outcome, nothing}
 use Rattle.hx_rules.specs.Executions.{arrive, arrival_feed}
-use Rattle.hx_rules.specs.Entering.{is_bad_shares, is_bad_price, is_late, next_reference, drawn}
+use Rattle.hx_rules.specs.Entering.{is_bad_shares, is_bad_price, is_late, is_shown_minimum, next_reference, drawn}
 use Rattle.hx_rules.specs.Leaving.{others, deleted, canceled}
 
 -- the shares that the chain of a used token has executed
-abbrev pub executed_of : Market → ℕ → Token → ℕ
-executed_of market member token = executed_by market.chains member (entered_of market.tokens member token)
+abbrev pub executed_of : Market → (member : ℕ) → Token → ℕ
+executed_of market member token =
+    executed_by market.chains member (entered_of market.tokens member token)
+
+-- ---- Why a Replace fails
+
+-- whether one of them applies
+abbrev pub some_applies : List Bool → Bool
+some_applies [] = false
+some_applies (applies ∷ []) = applies
+some_applies (applies ∷ (other ∷ more)) = applies || some_applies (other ∷ more)
+
+-- its shares, which are those of the chain, its price or its display would be rejected of an Enter; it
+-- is for the market hours, once they are over; it has a minimum and is shown; or its shares are not
+-- above what the chain has executed
+abbrev pub replace_failures : (hours executed : ℕ) → Replace → List Bool
+replace_failures hours executed r =
+    is_bad_shares r.shares
+    ∷ is_bad_price r.price
+    ∷ not (is_display r.display)
+    ∷ is_late hours r.time_in_force
+    ∷ is_shown_minimum r.minimum_quantity r.display r.time_in_force
+    ∷ nat_le r.shares executed
+    ∷ []
+
+-- a Replace fails where one of these applies: then it cancels the existing order
+abbrev pub replace_fails : (hours executed : ℕ) → Replace → Bool
+replace_fails hours executed r = some_applies (replace_failures hours executed r)
+
+-- ---- What a Replace does
 
 -- the replacement token is used, in the chain of the existing one, and the existing order is gone
-abbrev pub handed_over : Market → ℕ → Token → Token → Market
+abbrev pub handed_over : Market → (member : ℕ) (existing replacement : Token) → Market
 handed_over market member existing replacement =
+    let entered = entered_of market.tokens member existing in
     record market {
       live = others member existing market.live;
-      tokens = market.tokens ++ replacing_used member replacement (entered_of market.tokens member existing) ∷ [];
+      tokens = market.tokens ++ replacing_used member replacement entered ∷ [];
     }
 
--- its shares, which are those of the chain, its price or its display would be rejected of an Enter; or it is for the market hours, once
--- they are over; or a minimum stands with a shown order; or its shares are not above what the chain has executed
-abbrev pub replace_fails : ℕ → ℕ → Replace → Bool
-replace_fails hours executed r =
-    is_bad_shares r.shares || (is_bad_price r.price || (not (is_display r.display) || (is_late hours r.time_in_force
-    || ((nat_lt 0 r.minimum_quantity && is_shown r.display r.time_in_force) || nat_le r.shares executed))))
-
 -- the existing order is cancelled, and nothing replaces it
-abbrev pub fail_replace : Market → ℕ → ℕ → Token → Token → Order → Outcome
+abbrev pub fail_replace :
+    Market → (member time : ℕ) (existing replacement : Token) → Order → Outcome
 fail_replace market member time existing replacement old =
     record {
       market = handed_over market member existing replacement;
-      told = record { feed = deleted time old; replies = canceled time member existing old.shares 85 ∷ [] };
+      told = record {
+        feed = deleted time old;
+        replies = canceled time member existing old.shares by_user ∷ [];
+      };
     }
 
--- the order in place of the old one: with the shares that the chain has not executed, and the old one's side, stock, firm and capacity
-abbrev pub replacing_order : ℕ → ℕ → ℕ → Replace → Order → Order
+-- the order in place of the old one: with the shares that the chain has not executed, and the old
+-- one's side, stock, firm and capacity
+abbrev pub replacing_order : (executed reference time : ℕ) → Replace → Order → Order
 replacing_order executed reference time r old =
     record {
       member = old.member;
@@ -64,7 +92,8 @@ replacing_order executed reference time r old =
       life = life_of time r.time_in_force;
     }
 
-abbrev pub replaced_of : ℕ → ℕ → Symbol → Replace → Order → Reply
+-- to its member: the order as it replaces the old one (Replaced Message)
+abbrev pub replaced_of : (member time : ℕ) → Symbol → Replace → Order → Reply
 replaced_of member time stock r x = (
   member,
   Replaced (record {
@@ -81,29 +110,40 @@ replaced_of member time stock r x = (
     capacity = x.capacity;
     intermarket_sweep = r.intermarket_sweep;
     minimum_quantity = x.minimum;
-    cross_type = 78;
-    order_state = 76;
+    cross_type = no_cross;
+    order_state = order_live;
     previous_token = r.existing_token;
-    bbo_weight = 32;
+    bbo_weight = no_weight;
   }),
 )
 
 -- old and new are shown, and their displays are equal
-abbrev pub is_one_display : Order → Order → Bool
+abbrev pub is_one_display : (old x : Order) → Bool
 is_one_display old x = old.shown && (x.shown && (old.display == x.display))
 
--- in the feed: where they are of one display and nothing traded, that one replaces the other (ITCH 5.0, Order Replace Message); else the
--- old one is gone, and the new one arrives
-abbrev pub replace_feed : ℕ → Symbol → ℕ → Order → Order → List Execution → List Order → List Feed
+-- in the feed: where they are of one display and nothing traded, that one replaces the other (ITCH
+-- 5.0, Order Replace Message); else the old one is gone, and the new one arrives
+abbrev pub replace_feed :
+    (time : ℕ) (stock : Symbol) (matches : ℕ) (old x : Order) → List Execution → List Order
+    → List Feed
 replace_feed time stock matches old x executions resting =
     if is_one_display old x && nat_lt (length executions) 1
-    then OrderReplace (record { locate = x.locate; time = time; original_reference = old.reference; reference = x.reference; shares = x.shares; price = x.price }) ∷ []
+    then OrderReplace (record {
+      locate = x.locate;
+      time = time;
+      original_reference = old.reference;
+      reference = x.reference;
+      shares = x.shares;
+      price = x.price;
+    })
+    ∷ []
     else deleted time old ++ arrival_feed time stock matches executions resting
 
 -- x replaces the old order: its token is used, its reference is drawn, and it arrives
-abbrev pub replace_order : Market → ℕ → ℕ → Symbol → Replace → Order → Order → Outcome
+abbrev pub replace_order : Market → (member time : ℕ) → Symbol → Replace → (old x : Order) → Outcome
 replace_order market member time stock r old x =
-    let a = arrive time (is_immediate r.time_in_force) x (drawn (handed_over market member r.existing_token r.replacement_token) member x.shown) in
+    let handed = handed_over market member r.existing_token r.replacement_token in
+    let a = arrive time (is_immediate r.time_in_force) x (drawn handed member x.shown) in
     record {
       market = a.market;
       told = record {
@@ -112,23 +152,34 @@ replace_order market member time stock r old x =
       };
     }
 
-abbrev pub succeed : Setup → Market → ℕ → ℕ → Replace → Order → Outcome
+-- it replaces the old order, with the next reference
+abbrev pub succeed : Setup → Market → (member time : ℕ) → Replace → Order → Outcome
 succeed setup market member time r old =
+    let executed = executed_of market member r.existing_token in
+    let reference = next_reference market.numbers member (is_shown r.display r.time_in_force) in
     replace_order market member time (symbol_of setup old.locate) r old
-    (replacing_order (executed_of market member r.existing_token) (next_reference market.numbers member (is_shown r.display r.time_in_force)) time r old)
+    (replacing_order executed reference time r old)
 
--- by whether the replacement token is used, and whether the replace fails
-abbrev pub replaced_if : Setup → Market → ℕ → ℕ → Replace → Order → Bool → Bool → Outcome
+-- by whether the replacement token is used, and whether the Replace fails
+abbrev pub replaced_if :
+    Setup → Market → (member time : ℕ) → Replace → Order → (used fails : Bool) → Outcome
 replaced_if setup market member time r old true fails = nothing market
-replaced_if setup market member time r old false true = fail_replace market member time r.existing_token r.replacement_token old
+replaced_if setup market member time r old false true =
+    fail_replace market member time r.existing_token r.replacement_token old
 replaced_if setup market member time r old false false = succeed setup market member time r old
 
--- by the live order that the existing token names
-abbrev pub replaced_by : Setup → Market → ℕ → ℕ → Replace → Option Order → Bool → Bool → Outcome
+-- by the live order that the existing token names: where there is none, nothing
+abbrev pub replaced_by :
+    Setup → Market → (member time : ℕ) → Replace → Option Order → (used fails : Bool) → Outcome
 replaced_by setup market member time r None used fails = nothing market
-replaced_by setup market member time r (Some old) used fails = replaced_if setup market member time r old used fails
+replaced_by setup market member time r (Some old) used fails =
+    replaced_if setup market member time r old used fails
 
-abbrev pub replace : Setup → Market → ℕ → ℕ → Replace → Outcome
+-- a member's Replace
+abbrev pub replace : Setup → Market → (member time : ℕ) → Replace → Outcome
 replace setup market member time r =
-    replaced_by setup market member time r (find (is_called member r.existing_token) market.live) (is_used market.tokens member r.replacement_token)
-    (replace_fails market.hours (executed_of market member r.existing_token) r)
+    let executed = executed_of market member r.existing_token in
+    replaced_by setup market member time r
+    (find (is_called member r.existing_token) market.live)
+    (is_used market.tokens member r.replacement_token)
+    (replace_fails market.hours executed r)

@@ -16,8 +16,8 @@ use Rattle.hx_rules.specs.Replacing.{replace}
 use Rattle.hx_rules.specs.Cancelling.{cancel}
 use Rattle.hx_rules.specs.Ending.{tick, next_hours}
 
--- what a member's message does. One that is not readable has no effect
-abbrev pub act : Setup → Market → ℕ → ℕ → Option Inbound → Outcome
+-- what a member's message does (OUCH 4.2, Inbound Messages). One that is not readable has no effect
+abbrev pub act : Setup → Market → (member time : ℕ) → Option Inbound → Outcome
 act setup market member time None = nothing market
 act setup market member time (Some (Enter e)) = enter setup market member time e
 act setup market member time (Some (Replace r)) = replace setup market member time r
@@ -35,11 +35,13 @@ sender (Message member time bytes) = member
 sender (Tick time) = 0
 sender (Hours time code) = 0
 
+-- when the event was
 abbrev pub time_of : Event → ℕ
 time_of (Message member time bytes) = time
 time_of (Tick time) = time
 time_of (Hours time code) = time
 
+-- the market with the event counted under its number
 abbrev pub with_record : Event → Market → Market
 with_record event market = record market { recorded = raised market.recorded (sender event) }
 
@@ -47,37 +49,47 @@ with_record event market = record market { recorded = raised market.recorded (se
 unfoldable pub step : Setup → Market → Event → Outcome
 step setup market event = happens setup (with_record event market) event
 
--- the market after these events, and what each tells
+-- the market after these events
 unfoldable pub market_after : Setup → Market → List Event → Market
 market_after setup market [] = market
-market_after setup market (event ∷ events) = market_after setup (step setup market event).market events
+market_after setup market (event ∷ events) =
+    market_after setup (step setup market event).market events
 
+-- what each of these events tells
 unfoldable pub told_from : Setup → Market → List Event → List Told
 told_from setup market [] = []
-told_from setup market (event ∷ events) = let outcome = step setup market event in outcome.told ∷ told_from setup outcome.market events
+told_from setup market (event ∷ events) =
+    let outcome = step setup market event in
+    outcome.told ∷ told_from setup outcome.market events
 
--- a whole history, from the opening market
+-- the market after a whole history, from the opening market
 unfoldable pub run : Setup → List Event → Market
 run setup events = market_after setup (opening setup) events
 
+-- what each event of a whole history tells
 unfoldable pub told : Setup → List Event → List Told
 told setup events = told_from setup (opening setup) events
 
+-- the messages of the feed, one after the other
 abbrev pub feed_of : List Told → List Feed
 feed_of [] = []
 feed_of (t ∷ ts) = t.feed ++ feed_of ts
 
-abbrev pub replies_among : ℕ → List Reply → List Outbound
+-- the replies to a member, among those of an event
+abbrev pub replies_among : (member : ℕ) → List Reply → List Outbound
 replies_among member [] = []
-replies_among member (r ∷ rs) = if r.0 == member then r.1 ∷ replies_among member rs else replies_among member rs
+replies_among member (r ∷ rs) =
+    if r.0 == member then r.1 ∷ replies_among member rs else replies_among member rs
 
-abbrev pub replies_of : ℕ → List Told → List Outbound
+-- the replies to a member, of all events
+abbrev pub replies_of : (member : ℕ) → List Told → List Outbound
 replies_of member [] = []
 replies_of member (t ∷ ts) = replies_among member t.replies ++ replies_of member ts
 
--- the feed of a history, and its replies to a member
+-- the feed of a whole history
 unfoldable pub feed : Setup → List Event → List Feed
 feed setup events = feed_of (told setup events)
 
-unfoldable pub replies : Setup → ℕ → List Event → List Outbound
+-- its replies to a member
+unfoldable pub replies : Setup → (member : ℕ) → List Event → List Outbound
 replies setup member events = replies_of member (told setup events)
