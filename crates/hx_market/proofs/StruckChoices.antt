@@ -12,7 +12,7 @@ use Rattle.hx_market.specs.Orders.{Token}
 use Rattle.hx_market.specs.Markets.{Market}
 use Rattle.hx_market.specs.Steps.{run}
 use Rattle.hx_market.specs.Striking.{Choice, is_quiet, quiet_of_one, strike, strike_one, all_but, seen}
-use Rattle.hx_market.specs.Laws.{AreQuietChains, IsUnknownTo, OneMember, listed, AreWholeQuietChains, AnyPart, chained_with, ChainsOfAny}
+use Rattle.hx_market.specs.Laws.{AreQuietChains, IsUnknownTo, OneMember, listed, AreWholeQuietChains, ListedIsChoice, QuietIsChoice, AnyPart, chained_with, ChainsOfAny}
 use Rattle.hx_market.proofs.QuietBefore.{not_true, quiet_loud}
 use Rattle.hx_market.proofs.CoherentSteps.{Coherent}
 use Rattle.hx_market.proofs.EventMoves.{coherent_run}
@@ -100,6 +100,15 @@ listed_quiet a coherent m tokens q = record { whole = whole; quiet = quiet }
     quiet t u h =
         from_any (is_token t) (λ v. is_quiet a m v ≡ true) (is_loud a.chains m (entered_of a.tokens m t) ≡ false)
         (λ v e k. ap (λ z. is_loud a.chains m (entered_of a.tokens m z)) (same_token t v e) ∙ quiet_loud a m v k) tokens h q.quiet
+
+pub listed_is_choice : ListedIsChoice
+listed_is_choice setup events m tokens q =
+    let a = run setup events in
+    quiet_of_test m (λ t. list_any (is_token t) tokens) a (listed_quiet a (coherent_run setup events) m tokens q)
+
+pub quiet_is_choice : QuietIsChoice
+unfolding quiet_of_one
+quiet_is_choice setup events m = among_quiet (run setup events) (coherent_run setup events) (λ p. p == m)
 
 pub any_part : AnyPart
 any_part setup m tokens events q =

@@ -2,16 +2,13 @@
 use Rattle.std.proofs.Common.{◌≡◌, ℕ, Bool, true, false, cond, refl, ap, sym, ◌∙◌, eqb-true, eq-eqb, ◌&&◌, not, List, [], ◌∷◌, ◌++◌, map}
 use Rattle.std.specs.Prelude.{◌==◌}
 use Rattle.std.proofs.lemmas.List.{append_assoc}
-use Rattle.hx_members.specs.Setups.{Setup}
 use Rattle.hx_itch.specs.declared.message.Feed.{Feed}
 use Rattle.hx_ouch.specs.declared.outbound.Outbound.{Outbound}
-use Rattle.hx_market.specs.declared.event.Event.{Event}
-use Rattle.hx_market.specs.Orders.{Token}
 use Rattle.hx_market.specs.Outputs.{Reply, Told}
 use Rattle.hx_market.specs.Steps.{run, told, feed_of, replies_among, replies_of, feed, replies}
-use Rattle.hx_market.specs.Striking.{Choice, is_quiet, quiet_but_one, strike, strike_all, strike_but, Line, reply_lines, lines_of_all}
+use Rattle.hx_market.specs.Striking.{is_quiet, quiet_but_one, strike, strike_all, strike_but, Line, reply_lines, lines_of_all}
 use Rattle.hx_market.specs.Striking.Line.{ToFeed, ToMember}
-use Rattle.hx_market.specs.Laws.{AreQuietChains, AllMembers, AllButOne}
+use Rattle.hx_market.specs.Laws.{FeedOfAnyChoice, RepliesOfAnyChoice, AllMembers, AllButOne}
 use Rattle.hx_market.proofs.QuietBefore.{not_both}
 use Rattle.hx_market.proofs.EventMoves.{coherent_run}
 use Rattle.hx_market.proofs.StruckRuns.{quiet_chains}
@@ -73,16 +70,16 @@ replies_in-lines see p h (t ∷ ts) =
 nobody : ℕ → Bool
 nobody p = false
 
-feed_struck : (s : Choice) (setup : Setup) (events : List Event) → AreQuietChains s (run setup events) → feed setup events ≡ feed setup (strike s events)
+pub feed_alone : FeedOfAnyChoice
 unfolding feed nobody
-feed_struck s setup events q =
+feed_alone setup events s q =
     sym (feed_in-lines nobody (told setup events))
     ∙ ap feed_in (quiet_chains setup events s nobody q (λ p h. absurd (let z : false ≡ true = h in cc)))
     ∙ feed_in-lines nobody (told setup (strike s events))
 
-replies_struck : (s : Choice) (setup : Setup) (events : List Event) (p : ℕ) → AreQuietChains s (run setup events) → ((t : Token) → s p t ≡ false) → replies setup p events ≡ replies setup p (strike s events)
+pub replies_alone : RepliesOfAnyChoice
 unfolding replies
-replies_struck s setup events p q spared =
+replies_alone setup events s p q spared =
     let himself : (p == p) ≡ true = eq-eqb p p refl in
     sym (replies_in-lines (λ m. m == p) p himself (told setup events))
     ∙ ap (replies_in p) (quiet_chains setup events s (λ m. m == p) q (λ m h t. ap (λ k. s k t) (eqb-true m p h) ∙ spared t))
@@ -90,11 +87,13 @@ replies_struck s setup events p q spared =
 
 pub all_members : AllMembers
 unfolding strike_all
-all_members setup events = feed_struck (is_quiet (run setup events)) setup events (among_quiet (run setup events) (coherent_run setup events) (λ p. true))
+all_members setup events =
+    let a = run setup events in
+    feed_alone setup events (is_quiet a) (among_quiet a (coherent_run setup events) (λ p. true))
 
 pub all_but_one : AllButOne
 unfolding strike_but quiet_but_one
 all_but_one setup p events =
     let a = run setup events in
-    replies_struck (quiet_but_one p a) setup events p (among_quiet a (coherent_run setup events) (λ m. not (m == p)))
+    replies_alone setup events (quiet_but_one p a) p (among_quiet a (coherent_run setup events) (λ m. not (m == p)))
     (λ t. ap (λ b. not b && is_quiet a p t) (eq-eqb p p refl))

@@ -12,7 +12,7 @@ use Rattle.hx_market.specs.Markets.{Market}
 use Rattle.hx_market.specs.Outputs.{nothing}
 use Rattle.hx_market.specs.Steps.{with_record, step, run, told, feed, replies}
 use Rattle.hx_market.specs.ShownBooks.{shown_book, shown_orders, IsUncrossed}
-use Rattle.hx_market.specs.Striking.{Choice, is_quiet, bears, strike, strike_one, strike_all, strike_but, lines_of_all, seen}
+use Rattle.hx_market.specs.Striking.{Choice, is_quiet, quiet_of_one, bears, strike, strike_one, strike_all, strike_but, lines_of_all, seen}
 
 -- Three laws that carry the headline.
 
@@ -121,6 +121,36 @@ ChainsOfAny =
     (setup : Setup) (member : ℕ) (tokens : List Token) (events : List Event)
     → AllByRecursion (λ t. is_quiet (run setup events) member t ≡ true) tokens
     → seen member setup events ≡ seen member setup (strike (chained_with member tokens (run setup events)) events)
+
+-- The feed alone, and the replies to one member alone.
+
+-- without the messages of any choice of whole quiet chains, of any members, the feed is the same
+abbrev pub FeedOfAnyChoice : Type 0
+FeedOfAnyChoice =
+    (setup : Setup) (events : List Event) (chosen : Choice)
+    → AreQuietChains chosen (run setup events)
+    → feed setup events ≡ feed setup (strike chosen events)
+
+-- and so are the replies to a member of whom no token is chosen
+abbrev pub RepliesOfAnyChoice : Type 0
+RepliesOfAnyChoice =
+    (setup : Setup) (events : List Event) (chosen : Choice) (member : ℕ)
+    → AreQuietChains chosen (run setup events)
+    → ((token : Token) → chosen member token ≡ false)
+    → replies setup member events ≡ replies setup member (strike chosen events)
+
+-- a list of whole quiet chains of a member is such a choice
+abbrev pub ListedIsChoice : Type 0
+ListedIsChoice =
+    (setup : Setup) (events : List Event) (member : ℕ) (tokens : List Token)
+    → AreWholeQuietChains member tokens (run setup events)
+    → AreQuietChains (listed member tokens) (run setup events)
+
+-- and so are all quiet chains of a member
+abbrev pub QuietIsChoice : Type 0
+QuietIsChoice =
+    (setup : Setup) (events : List Event) (member : ℕ)
+    → AreQuietChains (quiet_of_one member (run setup events)) (run setup events)
 
 -- without the messages of all quiet chains of all members the feed is the same
 abbrev pub AllMembers : Type 0

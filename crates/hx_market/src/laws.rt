@@ -1,6 +1,6 @@
 //! The laws of the market, over its definitions alone: what a step, a whole history and the feed promise, whatever
 //! the code does. Each function is a proved statement, and does nothing.
-ghost use Rattle.hx_market.specs.Laws.{QuietBefore, OneChain, NotChosen, QuietChains, OneMember, AnyPart, ChainsOfAny, AllMembers, AllButOne, FeedIsBook, FeedIsUncrossed};
+ghost use Rattle.hx_market.specs.Laws.{QuietBefore, OneChain, NotChosen, QuietChains, OneMember, AnyPart, ChainsOfAny, FeedOfAnyChoice, RepliesOfAnyChoice, ListedIsChoice, QuietIsChoice, AllMembers, AllButOne, FeedIsBook, FeedIsUncrossed};
 
 /// A token that was used after the beginning of a history, and whose chain is quiet after the whole, was quiet after
 /// the beginning.
@@ -37,6 +37,23 @@ pub fn one_member()
 pub fn any_part()
     ensures listed { AnyPart }
     ensures chained { ChainsOfAny }
+{}
+
+/// The feed alone: without the messages of any choice of whole quiet chains, of any members, it stays the same.
+pub fn feed_alone()
+    ensures { FeedOfAnyChoice }
+{}
+
+/// The replies to one member alone: without the messages of any choice of whole quiet chains of others they stay the
+/// same.
+pub fn replies_alone()
+    ensures { RepliesOfAnyChoice }
+{}
+
+/// What may be chosen: a list of tokens of one member that are those of whole quiet chains, and all his quiet chains.
+pub fn choices()
+    ensures listed { ListedIsChoice }
+    ensures all { QuietIsChoice }
 {}
 
 /// The same of all members at once: without the messages of all quiet chains the feed stays the same.

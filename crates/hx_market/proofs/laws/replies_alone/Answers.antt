@@ -1,0 +1,5 @@
+use Rattle.hx_market.proofs.StruckOfAll as all
+use Rattle.hx_market.proofs.laws.replies_alone.Goals as goal
+
+pub returns : goal.returns
+returns c = all.replies_alone
