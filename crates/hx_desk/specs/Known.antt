@@ -1,5 +1,5 @@
 -- What an end of the log knows of the history.
-use Rattle.std.specs.Prelude.{◌≡◌, ℕ, ◌+◌, List, length, map}
+use Rattle.std.specs.Prelude.{◌<◌, ◌^◌, ◌≡◌, ℕ, ◌+◌, List, length, map}
 use mathlib.Core.List.{IsPrefix}
 use Rattle.hx_blog.specs.Feed.{Entries, feed}
 use Rattle.hx_blog.specs.Ends.{ReaderState, got}
@@ -26,6 +26,10 @@ known_market setup known = run setup (events_of (history_of known))
 abbrev pub known_replies : Setup → (member : ℕ) → (known : Entries Entry) → List (List ℕ)
 known_replies setup member known =
     replies_spelled (replies setup member (events_of (history_of known)))
+
+-- these are so few that their numbers have room in a signed word
+abbrev pub AreFew : Setup → (member : ℕ) → (known : Entries Entry) → Type 0
+AreFew setup member known = length (known_replies setup member known) < 2 ^ 63
 
 -- the replies of a longer history begin with those of a shorter
 abbrev pub RepliesGrow : Type 0

@@ -131,6 +131,7 @@ impl Rows {
     /// The replies to a member from this number on, which count from 1; 0 is read as 1.
     pub fn from(&self, member: MemberNo, from: u64) -> Result<Vec<ArrayVec<u8, 80>>, NoMemory>
         ensures replies { IfOk result (λ rows. texts rows.items ≡ from_number from (row_of self.now.rows member)) }
+        ensures few { length (row_of self.now.rows member) < 2 ^ 63 }
         ensures range { member < 4096 }
     {
         let row = &self.rows[member.get() as usize];
@@ -148,6 +149,7 @@ impl Rows {
         most: u64,
     ) -> Result<Vec<ArrayVec<u8, 80>>, NoMemory>
         ensures replies { IfOk result (λ rows. texts rows.items ≡ page from most (row_of self.now.rows member)) }
+        ensures few { length (row_of self.now.rows member) < 2 ^ 63 }
         ensures range { member < 4096 }
     {
         let row = &self.rows[member.get() as usize];

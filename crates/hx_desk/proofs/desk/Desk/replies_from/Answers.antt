@@ -6,8 +6,8 @@ use Rattle.hx_desk.specs.Entries.{events_of}
 use Rattle.hx_desk.proofs.NoSecrets.{replies_without_trace}
 use Rattle.hx_desk.proofs.desk.Desk.replies_from.Goals as goal
 
-pub returns : goal.returns
-returns c =
+pub returns-clause-replies : goal.returns-clause-replies
+returns-clause-replies c =
     let inside = c.self.inside in
     let setup = inside.market.setup in
     let events = events_of inside.history.items in
