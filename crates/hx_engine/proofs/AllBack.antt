@@ -1,17 +1,16 @@
 -- When all passes are back, each entry is one of theirs.
-use Rattle.std.proofs.Common.{◌≡◌, ◌⊎◌, inl, inr, ℕ, zero, suc, ◌+◌, ◌-◌, ◌<◌, ◌≤◌, Bool, true, false, cond, eqb, eqb-true, eq-eqb, List, [], ◌∷◌, ◌++◌, length, refl, ap, sym, ◌∙◌, subst, arith}
+use Rattle.std.proofs.Common.{◌≡◌, ◌⊎◌, inl, inr, ℕ, zero, suc, ◌+◌, ◌<◌, ◌≤◌, Bool, true, false, cond, eqb, eqb-true, eq-eqb, List, [], ◌∷◌, ◌++◌, length, refl, ap, sym, ◌∙◌, subst, arith}
 use Rattle.std.specs.List.{AllByRecursion}
 use mathlib.Core.List.{IsPrefix}
 use Rattle.hx_blog.specs.Feed.{Entries}
 use Rattle.hx_blog.specs.Feed as blog
 use Rattle.hx_members.specs.Setups.{Setup}
-use Rattle.hx_market.specs.declared.event.Event.{Event}
 use Rattle.hx_market.specs.Steps.{feed}
 use Rattle.hx_desk.specs.declared.entry.Entry.{Entry}
-use Rattle.hx_desk.specs.Entries.{events_of, feed_spelled, ledger}
+use Rattle.hx_desk.specs.Entries.{events_of, ledger}
 use Rattle.hx_desk.specs.Known.{history_of}
 use Rattle.hx_desk.specs.Desks.{DeskState, IsStanding}
-use Rattle.hx_engine.specs.Passes.{Sent, PassState, sent_from, sent_in, AreSomeOf}
+use Rattle.hx_engine.specs.Passes.{PassState, sent_from, sent_in, AreSomeOf}
 use Rattle.hx_engine.specs.Finish.{times_given, AreAllOnce, sent_by_all, IsReturned, IsFinished}
 use Rattle.hx_desk.proofs.Standing.{published_is}
 use Rattle.hx_engine.proofs.Places.{some_length, some_all}

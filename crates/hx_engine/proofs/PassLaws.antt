@@ -1,17 +1,17 @@
 -- What passes know of a desk.
-use Rattle.std.proofs.Common.{◌≡◌, ℕ, ◌+◌, ◌<◌, ◌≤◌, List, [], ◌∷◌, ◌++◌, map, length, refl, ap, sym, ◌∙◌, subst, arith, length-append}
-use Rattle.std.specs.List.{AllByRecursion}
+use Rattle.std.proofs.Common.{◌≡◌, ℕ, ◌+◌, ◌<◌, List, [], ◌∷◌, ◌++◌, length, refl, ap, sym, ◌∙◌, subst, arith, length-append}
 use mathlib.Core.List.{IsPrefix}
 use Rattle.hx_blog.specs.Feed.{Entries, feed}
 use Rattle.hx_blog.specs.Ends.{ReaderState}
 use Rattle.hx_members.specs.Setups.{Setup}
 use Rattle.hx_market.specs.declared.event.Event.{Event}
 use Rattle.hx_market.specs.Markets.{Market}
-use Rattle.hx_market.specs.Steps.{step, run}
+use Rattle.hx_market.specs.Steps.{step, run, replies}
 use Rattle.hx_desk.specs.declared.entry.Entry.{Entry}
 use Rattle.hx_desk.specs.declared.entry.Done.{Done}
 use Rattle.hx_desk.specs.Entries.{entry_of, events_of, ledger}
-use Rattle.hx_desk.specs.Known.{history_of}
+use Rattle.hx_desk.specs.Known.{history_of, known_market, known_replies}
+use Rattle.hx_desk.specs.Rows.{row_of, row_count, replies_spelled}
 use Rattle.hx_desk.specs.Secrecy.{IsFeedWithoutTrace}
 use Rattle.hx_desk.specs.Desks.{DeskState, IsStanding, TellsNoSecret, Grows}
 use Rattle.hx_engine.specs.Passes.{Sent, PassState, sent_in, AreSomeOf}
@@ -28,6 +28,18 @@ history_known d known s is = ap history_of (is ∙ s.published) ∙ history_of_l
 
 pub knows_whole : (setup : Setup) (d : DeskState) (known : Entries Entry) → IsStanding d → d.setup ≡ setup → known ≡ d.published → IsWhole setup known
 knows_whole setup d known s of_setup is = is ∙ published_by setup d s of_setup ∙ ap (ledger setup) (sym (history_known d known s is))
+
+-- the market, and the row of a member, are those of what is known
+pub market_known : (setup : Setup) (d : DeskState) (known : Entries Entry) → IsStanding d → d.setup ≡ setup → known ≡ d.published → d.market ≡ known_market setup known
+market_known setup d known s of_setup is =
+    s.market ∙ ap (λ (x : Setup). run x (events_of d.history)) of_setup ∙ ap (λ (h : List Entry). run setup (events_of h)) (sym (history_known d known s is))
+
+pub row_known : (setup : Setup) (d : DeskState) (known : Entries Entry) (member : ℕ) → IsStanding d → d.setup ≡ setup → known ≡ d.published → member < row_count
+    → row_of d.rows member ≡ known_replies setup member known
+row_known setup d known member s of_setup is small =
+    s.rows member small
+    ∙ ap (λ (x : Setup). replies_spelled (replies x member (events_of d.history))) of_setup
+    ∙ ap (λ (h : List Entry). replies_spelled (replies setup member (events_of h))) (sym (history_known d known s is))
 
 -- what a pass sent stands in all that is published
 pub still_sent : (n : ℕ) (sent : List Sent) (old published new : Entries Entry) → IsPrefix old published → new ≡ published → AreSomeOf sent (sent_in n (history_of old)) → AreSomeOf sent (sent_in n (history_of new))

@@ -43,7 +43,9 @@ is_bad_time event = nat_le day (time_of event)
 
 -- It is refused for its time exactly where that is not within the day, and for its member exactly
 -- where the time is and the setup has no such member.
-pub record IsRefusedOutright (setup : Setup) (event : Event) (result : Result Done DeskError) : Type 0 where
+pub record IsRefusedOutright
+    (setup : Setup) (event : Event) (result : Result Done DeskError)
+    : Type 0 where
   pub bad_time : (result ≡ Err fault.BadTime) ↔ (is_bad_time event ≡ true)
   pub no_member :
       (result ≡ Err fault.NoMember)
@@ -58,22 +60,25 @@ pub record LearnsMore (old new : PassState) : Type 0 where
 -- The history is exactly what the reader and the pass know; the events of the pass are among its
 -- entries under its number, each at its place, in their order; and the feed that the reader knows,
 -- of which it has read a beginning, tells nothing of quiet chains.
-pub record IsAudit (setup : Setup) (history : List Entry) (reader : ReaderState Entry) (pass : PassState) : Type 0 where
+pub record IsAudit
+    (setup : Setup) (history : List Entry) (reader : ReaderState Entry) (pass : PassState)
+    : Type 0 where
   pub reader_knows : reader.known ≡ ledger setup history
   pub pass_knows : pass.known ≡ ledger setup history
   pub sent : AreSomeOf pass.sent (sent_in pass.number history)
   pub stand : AllByRecursion (StandsAt pass.number history) pass.sent
   pub secret : IsFeedWithoutTrace setup (events_of history) (feed reader.known)
 
--- the rows are this part of the replies to a member up to what is known, and tell nothing of others'
--- quiet chains
-abbrev pub AreKnownReplies : Setup → (known : Entries Entry) → (member : ℕ) → Part → List (List ℕ) → Type 0
-AreKnownReplies setup known member part rows =
+-- The rows are this part of the replies to a member up to what is known, and tell nothing of others'
+-- quiet chains.
+abbrev pub AreKnownReplies :
+    Setup → (member : ℕ) → (known : Entries Entry) → Part → List (List ℕ) → Type 0
+AreKnownReplies setup member known part rows =
     AreRepliesWithoutTrace setup (events_of (history_of known)) member part rows
 
--- how many replies a member has up to what is known, and whether code C, the last of the hours codes,
--- is past then
-pub record IsNews (setup : Setup) (known : Entries Entry) (member : ℕ) (news : News) : Type 0 where
+-- How many replies a member has up to what is known, and whether code C, the last of the hours
+-- codes, is past then.
+pub record IsNews (setup : Setup) (member : ℕ) (known : Entries Entry) (news : News) : Type 0 where
   pub replies : news.replies ≡ length (known_replies setup member known)
   pub few : news.replies < 2 ^ 63
   pub ended : news.ended ≡ is_over (known_market setup known)

@@ -36,7 +36,9 @@ sent_by_all (p ∷ passes) = length p.sent + sent_by_all passes
 -- The history has exactly as many entries as the passes sent events; the entries of each pass are its
 -- events, each once, at its places, in its order; what a pass knew is a beginning of the history with
 -- its feed; and so many messages of the feed it gave.
-pub record IsFinished (setup : Setup) (passes : List PassState) (history : List Entry) (messages : ℕ) : Type 0 where
+pub record IsFinished
+    (setup : Setup) (passes : List PassState) (history : List Entry) (messages : ℕ)
+    : Type 0 where
   pub all : length history ≡ sent_by_all passes
   pub each : AllByRecursion (λ p. p.sent ≡ sent_in p.number history) passes
   pub knew : AllByRecursion (λ p. IsPrefix p.known (ledger setup history)) passes

@@ -1,32 +1,32 @@
 //! The exchange: a desk behind a lock.
 ghost use Rattle.std.specs.Prelude.{◌≡◌, ℕ, ◌≤◌, [], IfOk, IfErr, OnErr, OnOk};
-ghost use Rattle.hx_desk.specs.Rows.{texts, from_number, page};
-ghost use Rattle.hx_desk.specs.Known.{CatchesUp, IsWhole};
+ghost use Rattle.hx_desk.specs.Known.{CatchesUp};
 ghost use Rattle.hx_engine.specs.Passes.{new_passes};
-ghost use Rattle.hx_engine.specs.Exchanges.{Sends, IsRefusedOutright, LearnsMore, IsAudit, AreKnownReplies, IsNews};
+ghost use Rattle.hx_engine.specs.Exchanges.{Sends, IsRefusedOutright, LearnsMore, IsAudit};
 ghost use Rattle.hx_engine.specs.Finish.{AreAllOnce, IsMissing, IsFinished};
 
-use crate::answers::{Audit, FinishError, Finished, News};
+use crate::answers::{Audit, FinishError, Finished};
 use crate::handed_in::{missing, take_all_back};
 use crate::held::Held;
 use crate::pass::{Pass, make_passes};
 use crate::pass_count::PassCount;
 use crate::venue::Venue;
-use arrayvec::ArrayVec;
 use hx_blog::{Log, Reader, Writer};
 use hx_desk::{Desk, DeskError, Done, Entry};
 use hx_market::Event;
 use hx_members::Setup;
-use hx_units::{MemberNo, NoMemory};
+use hx_units::NoMemory;
 use std::alloc::Global;
 use std::sync::ledger::Blank;
-use std::sync::{Mutex, Wait};
+use std::sync::{Condvar, Mutex, Wait};
 
 /// A desk behind a lock, with the log that everybody may read.
 #[derive(Drop)]
 pub struct Exchange<V: Venue> {
-    log: Log<Entry>,
-    desk: Mutex<Held<V>>,
+    pub(crate) log: Log<Entry>,
+    pub(crate) desk: Mutex<Held<V>>,
+    // Told of each event that was recorded.
+    pub(crate) recorded: Condvar,
     passes: PassCount<V>,
     alloc: Global,
     ghost named: { log ≡ V.log },
@@ -56,6 +56,7 @@ impl<V: Venue> Exchange<V> {
         let exchange = Exchange {
             log,
             desk: Mutex::new(Held::new(desk, book, spare)),
+            recorded: Condvar::new(),
             passes: PassCount::of(passes),
             alloc,
         };
@@ -64,9 +65,11 @@ impl<V: Venue> Exchange<V> {
 
     /// Ends the exchange, where each of its passes is handed in exactly once.
     pub fn finish(self, passes: Vec<Pass<V>>) -> Result<Finished, FinishError<V>>
-        ensures ok { IfOk result (λ finished. IsFinished V.setup passes.items finished.history.items finished.feed) }
+        ensures ok { IfOk result (λ f. IsFinished V.setup passes.items f.history.items f.feed) }
         ensures once { OnOk result (AreAllOnce V.parts passes.items) }
-        ensures missing { IfErr result (λ e. (number : ℕ) × IsMissing V.parts passes.items number × (e ≡ FinishError.Missing number self passes)) }
+        ensures missing { IfErr result (λ e.
+            (number : ℕ) × IsMissing V.parts passes.items number
+            × (e ≡ FinishError.Missing number self passes)) }
     {
         if let Some(number) = missing(&passes, self.passes.get()) {
             return Err(FinishError::Missing {
@@ -78,6 +81,7 @@ impl<V: Venue> Exchange<V> {
         let Exchange {
             log,
             desk,
+            recorded: _,
             passes: _,
             alloc: _,
         } = self;
@@ -96,13 +100,27 @@ impl<V: Venue> Exchange<V> {
         })
     }
 
-    /// Records an event for a pass. Where it is refused, the pass is as before.
+    /// Records an event for a pass, and wakes who waits for news. Where it is refused, the pass is as before.
     pub fn submit(
         &self,
         rt: &impl Wait,
         pass: &mut Pass<V>,
         event: &Event,
     ) -> Result<Done, DeskError>
+        ensures ok { IfOk result (Sends V.setup pass.old pass.new event.now) }
+        ensures err { OnErr result (pass.new ≡ pass.old) }
+        ensures outright { IsRefusedOutright V.setup event.now result }
+    {
+        let done = self.record(rt, pass, event);
+        if done.is_ok() {
+            self.recorded.notify_all();
+        }
+        done
+    }
+
+    // Records an event for a pass: what takes memory for the pass comes before the lock, and what it refuses is
+    // answered under the lock, where the market's own refusals come first.
+    fn record(&self, rt: &impl Wait, pass: &mut Pass<V>, event: &Event) -> Result<Done, DeskError>
         ensures ok { IfOk result (Sends V.setup pass.old pass.new event.now) }
         ensures err { OnErr result (pass.new ≡ pass.old) }
         ensures outright { IsRefusedOutright V.setup event.now result }
@@ -147,27 +165,6 @@ impl<V: Venue> Exchange<V> {
         Ok(Audit {
             history: held.desk.copy_history()?,
         })
-    }
-
-    /// The replies to a member from this number on, which count from 1; 0 is read as 1. The reader knows from then on the
-    /// history to which they are.
-    pub fn replies(
-        &self,
-        rt: &impl Wait,
-        reader: &mut Reader<Entry>,
-        member: MemberNo,
-        from: u64,
-    ) -> Result<Vec<ArrayVec<u8, 80>>, NoMemory>
-        requires { reader.old.log ≡ V.log }
-        ensures replies { IfOk result (λ rows. AreKnownReplies V.setup reader.new.known member (from_number from) (texts rows.items)) }
-        ensures whole { IsWhole V.setup reader.new.known }
-        ensures reader { CatchesUp reader.old reader.new }
-    {
-        let mut held = self.desk.lock(rt);
-        let held = &mut *held;
-        held.desk.inform(&self.log, reader);
-        held.desk.stands();
-        held.desk.replies_from(member, from)
     }
 
     /// The log of the feed, which waits for nobody.

@@ -16,6 +16,7 @@ mod handed_in;
 mod held;
 mod pass;
 mod pass_count;
+mod replies;
 mod venue;
 
 pub use answers::{Audit, FinishError, Finished, News};

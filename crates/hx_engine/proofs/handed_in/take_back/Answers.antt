@@ -1,5 +1,4 @@
-use Rattle.std.proofs.Common.{◌≡◌, ap, subst}
-use Rattle.hx_desk.specs.Desks.{DeskState}
+use Rattle.std.proofs.Common.{subst}
 use Rattle.hx_engine.specs.Passes.{PassState}
 use Rattle.hx_engine.specs.Finish.{IsReturned}
 use Rattle.hx_engine.proofs.Places.{more_known}

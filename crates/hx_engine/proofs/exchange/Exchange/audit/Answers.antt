@@ -1,7 +1,5 @@
-use Rattle.std.proofs.Common.{◌≡◌, ◌∙◌, ap, sym, subst}
+use Rattle.std.proofs.Common.{◌≡◌, ◌∙◌, ap, sym}
 use Rattle.hx_desk.specs.Desks.{DeskState}
-use Rattle.hx_engine.specs.Passes.{sent_in, AreSomeOf}
-use Rattle.hx_desk.specs.Known.{history_of}
 use Rattle.hx_engine.proofs.PassLaws.{still_sent, audited}
 use Rattle.hx_engine.proofs.exchange.Exchange.audit.Goals as goal
 

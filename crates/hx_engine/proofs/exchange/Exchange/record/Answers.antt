@@ -1,4 +1,4 @@
-use Rattle.std.proofs.Common.{◌≡◌, ◌+◌, ◌∙◌, ◌++◌, ◌∷◌, [], List, refl, ap, sym, subst, arith, length, length-append}
+use Rattle.std.proofs.Common.{◌≡◌, ◌∙◌, ◌++◌, ◌∷◌, [], List, refl, ap, sym, subst, arith, length, length-append}
 use mathlib.Core.List.{IsPrefix}
 use Rattle.hx_blog.specs.Feed.{Entries}
 use Rattle.hx_market.specs.declared.event.Event.{Event}
@@ -8,7 +8,7 @@ use Rattle.hx_desk.specs.Desks.{DeskState, Grows, IsStanding}
 use Rattle.hx_engine.specs.Passes.{Sent, PassState}
 use Rattle.hx_engine.specs.Exchanges.{Sends}
 use Rattle.hx_engine.proofs.PassLaws.{sent_one, one_more_sent}
-use Rattle.hx_engine.proofs.exchange.Exchange.submit.Goals as goal
+use Rattle.hx_engine.proofs.exchange.Exchange.record.Goals as goal
 
 pub invariant_of-pass-2 : goal.invariant_of-pass-2
 invariant_of-pass-2 g c =
