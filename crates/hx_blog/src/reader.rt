@@ -34,7 +34,7 @@ impl<E> Model for Reader<E> {
 }
 
 impl<E> Reader<E> {
-    /// Loads the count, and gives it: the number of messages published.
+    /// Loads the count, and gives it: the number of messages published, at most 1,000,000.
     pub fn look(&mut self, log: &Log<E>) -> u64
         requires { self.old.log ≡ log.now }
         ensures same { (self.new.log ≡ self.old.log) × (self.new.read ≡ self.old.read) }
@@ -42,6 +42,7 @@ impl<E> Reader<E> {
         ensures count { (result ≡ length (feed self.new.known)) × (self.new.seen ≡ result) }
         ensures got { got self.new ≡ got self.old }
         ensures loaded { self.new.loads ≡ self.old.loads + 1 }
+        ensures few { result ≤ 1000000 }
     {
         self.seen = load_count(&log.table, &mut self.seat);
         self.seen

@@ -1,0 +1,5 @@
+pub mod Staging
+pub mod RowLaws
+pub mod Growth
+pub mod Standing
+pub mod NoSecrets

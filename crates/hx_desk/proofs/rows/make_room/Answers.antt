@@ -1,0 +1,55 @@
+use Rattle.std.proofs.Common.{◌≡◌, ◌+◌, ◌<◌, ◌≤◌, inl, inr, ℕ, List, Bool, cond, eqb, eq-eqb, get_or, map, length, slice_index, set, take, ap, sym, ◌∙◌, arith}
+use Rattle.std.proofs.lemmas.Grind.{get_or_default_zero}
+use Rattle.std.proofs.lemmas.List.{get_or_read}
+use lib.ListN.{length-set}
+use Rattle.hx_desk.specs.Rows.{times, texts, row_texts, row_spare}
+use Rattle.hx_desk.proofs.RowLaws.{same_set, room_set, next_time, times_at_most, raised, room_next}
+use Rattle.hx_desk.proofs.rows.make_room.Goals as goal
+
+-- the count before the loop's step is how often the member was met
+counted : (counts members : List ℕ) (i place n : ℕ) → i < length members → place < length counts → place ≡ slice_index members i → n ≡ get_or counts place n
+    → ((k : ℕ) → k < length members → slice_index counts (slice_index members k) ≡ times (slice_index members k) (take i members))
+    → (n ≡ slice_index counts place) × (n ≡ times place (take i members))
+counted counts members i place n within in' is at all =
+    let read : n ≡ slice_index counts place = get_or_read counts place n in' at 0 in
+    (read, read ∙ ap (slice_index counts) is ∙ all i within ∙ ap (λ (m : ℕ). times m (take i members)) (sym is))
+
+pub overflow_add-count : goal.overflow_add-count
+overflow_add-count c =
+    let members = c.args.members.now in
+    let i = c.loop-member.member-index in
+    let is : c.get-place.result ≡ slice_index members i = c.get-place.ensures.value ∙ c.member-item.is ∙ get_or_default_zero members i c.member-item.result (omega arith) in
+    let n = counted c.loop-member.counts.items members i c.get-place.result c.index.result.now (omega arith) (omega (arith, c.get-place.ensures.range)) is c.index.ensures c.loop-member.invariant.3 in
+    omega (arith, n.1, times_at_most c.get-place.result members i)
+
+pub returns-in_err-reserve-clause-same : goal.returns-in_err-reserve-clause-same
+returns-in_err-reserve-clause-same c =
+    same_set row_texts c.loop-member.rows.items c.get-place.result c.index_mut-row.result.now c.reserve.new.self (omega (arith, c.get-place.ensures.range)) c.index_mut-row.ensures.value (ap texts c.reserve.ensures.items)
+    ∙ c.loop-member.invariant.2
+
+pub loop-member-preserved : goal.loop-member-preserved
+loop-member-preserved c =
+    let rows = c.loop-member.rows.items in
+    let counts = c.loop-member.counts.items in
+    let members = c.args.members.now in
+    let i = c.loop-member.member-index in
+    let place = c.get-place.result in
+    let within : i < length members = omega arith in
+    let in_rows : place < length rows = omega (arith, c.get-place.ensures.range) in
+    let in_counts : place < length counts = omega (arith, c.get-place.ensures.range) in
+    let is : place ≡ slice_index members i = c.get-place.ensures.value ∙ c.member-item.is ∙ get_or_default_zero members i c.member-item.result within in
+    let count = counted counts members i place c.index.result.now within in_counts is c.index.ensures c.loop-member.invariant.3 in
+    let once : ◌≡◌ {A = ℕ} (cond (eqb (slice_index members i) place) 1 0) 1 = ap (λ (b : Bool). cond b 1 0) (eq-eqb (slice_index members i) place (sym is)) in
+    let room : times place (take (i + 1) members) ≤ row_spare c.reserve.new.self = omega (arith, c.in_ok-reserve.ensures.ok, count.1, once, next_time place members i within) in (
+      length-set rows place c.reserve.new.self ∙ c.loop-member.invariant.0,
+      length-set counts place (c.index.result.now + 1) ∙ c.loop-member.invariant.1,
+      same_set row_texts rows place c.index_mut-row.result.now c.reserve.new.self in_rows c.index_mut-row.ensures.value (ap texts c.reserve.ensures.items) ∙ c.loop-member.invariant.2,
+      (λ k l. let x = slice_index members k in
+          ap (λ (n : ℕ). slice_index (set counts place (n + 1)) x) count.0
+          ∙ raised counts place x in_counts
+          ∙ ap (λ (n : ℕ). slice_index counts x + cond (eqb n x) 1 0) is
+          ∙ ap (λ (n : ℕ). n + cond (eqb (slice_index members i) x) 1 0) (c.loop-member.invariant.3 k l)
+          ∙ sym (next_time x members i within)),
+      (λ m l. room_set row_spare rows place c.reserve.new.self (λ k. times k (take (i + 1) members)) m in_rows room
+          (elim (room_next (map row_spare rows) members i m within (c.loop-member.invariant.4 m l)) [ inl h ↦ inl h | inr e ↦ inr (e ∙ sym is) ])),
+    )

@@ -1,0 +1,140 @@
+-- What contracts see of a desk.
+use Rattle.std.specs.Prelude.{◌≡◌, ℕ, ◌+◌, ◌-◌, ◌<◌, ◌≤◌, Bool, nat_le, List, [], ◌∷◌, ◌++◌, length, Option, Some, None}
+use Rattle.hx_blog.specs.Feed.{Entries, feed}
+use Rattle.hx_blog.specs.Ends.{LogId, WriterState, room_of}
+use Rattle.hx_itch.specs.declared.message.Feed.{Feed}
+use Rattle.hx_members.specs.Setups.{Setup}
+use Rattle.hx_market.specs.declared.event.Event.{Event}
+use Rattle.hx_market.specs.declared.fault.PrepareError.{PrepareError}
+use Rattle.hx_market.specs.declared.fault.PrepareError.TheVariants as market
+use Rattle.hx_market.specs.Markets.{Market, opening}
+use Rattle.hx_market.specs.Outputs.{Outcome}
+use Rattle.hx_market.specs.Admitting.{refusal}
+use Rattle.hx_market.specs.Ready.{Seen}
+use Rattle.hx_market.specs.Steps.{step, run, replies}
+use Rattle.hx_desk.specs.declared.entry.Entry.{Entry}
+use Rattle.hx_desk.specs.declared.entry.Done.{Done}
+use Rattle.hx_desk.specs.declared.fault.DeskError.{DeskError}
+use Rattle.hx_desk.specs.declared.fault.DeskError.TheVariants as fault
+use Rattle.hx_desk.specs.Rows.{RowList, RoomyRows, Part, row_of, row_count, no_rows, replies_spelled}
+use Rattle.hx_desk.specs.Entries.{events_of, feed_spelled, ledger}
+use Rattle.hx_desk.specs.Secrecy.{IsFeedWithoutTrace, AreRepliesWithoutTrace}
+
+-- A desk: its log and its setup; the history; its market; what is published in the log; the replies
+-- to each member number.
+pub record DeskState : Type 0 where
+  pub log : LogId
+  pub setup : Setup
+  pub history : List Entry
+  pub market : Market
+  pub published : Entries Entry
+  pub rows : RowList
+
+-- the desk of a log's writer, a market, a history and the rows of replies
+abbrev pub desk_of : WriterState Entry → Seen → List Entry → RoomyRows → DeskState
+desk_of writer market history rows =
+    record {
+      log = writer.log;
+      setup = market.setup;
+      history = history;
+      market = market.market;
+      published = writer.published;
+      rows = rows.rows;
+    }
+
+-- a desk at its start
+abbrev pub start_of : LogId → Setup → DeskState
+start_of log setup =
+    record {
+      log = log;
+      setup = setup;
+      history = [];
+      market = opening setup;
+      published = [];
+      rows = no_rows;
+    }
+
+-- The market is the run of the history, what is published is the history with its feed, and each row
+-- is its member's replies.
+pub record IsStanding (d : DeskState) : Type 0 where
+  pub market : d.market ≡ run d.setup (events_of d.history)
+  pub published : d.published ≡ ledger d.setup d.history
+  pub rows :
+      (member : ℕ) → member < row_count
+      → row_of d.rows member ≡ replies_spelled (replies d.setup member (events_of d.history))
+
+-- all replies
+abbrev pub all_of_them : Part
+all_of_them replies = replies
+
+-- the rows are this part of the replies to a member of a desk, and tell nothing of others' quiet
+-- chains
+abbrev pub AreRepliesAt : DeskState → (reader : ℕ) → Part → List (List ℕ) → Type 0
+AreRepliesAt d reader part rows =
+    AreRepliesWithoutTrace d.setup (events_of d.history) reader part rows
+
+-- the published feed, and the row of each member, tell nothing of quiet chains
+pub record TellsNoSecret (d : DeskState) : Type 0 where
+  pub feed_published : IsFeedWithoutTrace d.setup (events_of d.history) (feed d.published)
+  pub rows :
+      (member : ℕ) → member < row_count
+      → AreRepliesAt d member all_of_them (row_of d.rows member)
+
+-- One event more.
+
+-- what an event does at a desk's market
+abbrev pub outcome_at : Seen → Event → Outcome
+outcome_at market event = step market.setup market.market event
+
+-- how many slots of the log are free, and how many messages of the feed an event gives
+abbrev pub free_of : DeskState → ℕ
+free_of d = room_of d.log - length (feed d.published)
+
+abbrev pub needed_of : DeskState → Event → ℕ
+needed_of d event = length (step d.setup d.market event).told.feed
+
+-- why the market refuses an event, but for want of memory
+abbrev pub refusal_of : DeskState → Event → Option PrepareError
+refusal_of d event = refusal d.setup d.market.recorded event
+
+-- The desk has grown by an entry: its place in the history is counted from 1, and so is the number
+-- of its first message of the feed.
+pub record Grows (old new : DeskState) (entry : Entry) (done : Done) : Type 0 where
+  pub log : new.log ≡ old.log
+  pub setup : new.setup ≡ old.setup
+  pub history : new.history ≡ old.history ++ entry ∷ []
+  pub place : done.place ≡ length new.history
+  pub first : done.first ≡ length (feed old.published) + 1
+  pub count : done.count ≡ needed_of old entry.event
+  pub accepted : refusal_of old entry.event ≡ None
+  pub room : needed_of old entry.event ≤ free_of old
+
+-- the event was not refused for its time, its member or a limit, and its messages of the feed exceed
+-- the free slots
+pub record IsFull (d : DeskState) (event : Event) (free needed : ℕ) : Type 0 where
+  pub accepted : refusal_of d event ≡ None
+  pub free_slots : free ≡ free_of d
+  pub messages : needed ≡ needed_of d event
+  pub exceeds : free < needed
+
+-- Why an event is refused: for its time, its member or a limit, as the market says; else, where none
+-- of these is wrong, because its messages exceed the free slots, or for want of memory.
+abbrev pub Faults : DeskState → Event → DeskError → Type 0
+Faults d event fault.BadTime = refusal_of d event ≡ Some market.BadTime
+Faults d event fault.NoMember = refusal_of d event ≡ Some market.NoMember
+Faults d event (fault.Limit member) = refusal_of d event ≡ Some (market.Limit member)
+Faults d event (fault.Full free needed) = IsFull d event free needed
+Faults d event fault.NoMemory = refusal_of d event ≡ None
+
+-- how many messages a writer published and staged
+abbrev pub messages_in : WriterState Entry → ℕ
+messages_in writer = length (feed writer.published) + length writer.staged
+
+-- the entry and its messages of the feed are published
+abbrev pub with_published : WriterState Entry → Entry → List Feed → WriterState Entry
+with_published writer entry messages =
+    record writer { published = writer.published ++ (entry, feed_spelled messages) ∷ [] }
+
+-- code C, the last of the six hours codes, is past
+abbrev pub is_over : Market → Bool
+is_over market = nat_le 6 market.hours

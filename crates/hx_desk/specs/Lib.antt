@@ -1,0 +1,6 @@
+pub mod Rows
+pub mod Entries
+pub mod Faults
+pub mod Secrecy
+pub mod Desks
+pub mod Known

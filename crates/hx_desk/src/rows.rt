@@ -1,0 +1,162 @@
+//! The replies that were sent to each member.
+ghost use Rattle.std.specs.Prelude.{◌≡◌, ℕ, ◌<◌, ◌^◌, map, length, slice_index, IfOk, OnOk};
+ghost use Rattle.hx_desk.specs.Rows.{AreZeroAt, texts, row_texts, row_spare, row_of, row_count, no_rows, members_of, with_replies, HasRoomFor, from_number, page};
+
+use arrayvec::ArrayVec;
+use hx_ouch::{Outbound, encode_out};
+use hx_units::{MemberNo, NoMemory};
+use std::alloc::Global;
+use std::marker::Model;
+
+// The replies to one member.
+type Row = Vec<ArrayVec<u8, 80>>;
+
+/// The replies that were sent, in bytes, a row for each member number. Contracts see them, and for how many
+/// more replies each row has room.
+#[derive(Drop)]
+pub struct Rows {
+    rows: Vec<Row>,
+    // For `reserve` alone: how many replies it has counted to a member.
+    counts: Vec<usize>,
+    alloc: Global,
+}
+
+impl Model for Rows {
+    ghost use Rattle.std.specs.Prelude.{◌≡◌, map, length};
+    ghost use Rattle.hx_desk.specs.Rows.{RoomyRows, row_texts, row_spare, row_count};
+
+    ghost Value = { RoomyRows };
+
+    ghost view = { λ r. record { rows = map row_texts r.rows.items; spare = map row_spare r.rows.items } };
+
+    ghost invariant = { λ r. (length r.rows.items ≡ row_count) × (length r.counts.items ≡ row_count) };
+}
+
+// Sets the counts of these members to 0.
+fn clear(counts: &mut Vec<usize>, members: &[MemberNo])
+    requires { length counts.old.items ≡ row_count }
+    ensures sized { length counts.new.items ≡ row_count }
+    ensures zero { AreZeroAt counts.new.items members.now }
+{
+    for member in members {
+        counts[member.get() as usize] = 0;
+    }
+}
+
+// Makes room for the replies to these members, once it has counted them. What is counted of others has no effect.
+fn make_room(
+    rows: &mut Vec<Row>,
+    counts: &mut Vec<usize>,
+    members: &[MemberNo],
+) -> Result<(), NoMemory>
+    requires rows { length rows.old.items ≡ row_count }
+    requires counts { length counts.old.items ≡ row_count }
+    ensures same { map row_texts rows.new.items ≡ map row_texts rows.old.items }
+    ensures counts { length counts.new.items ≡ row_count }
+    ensures room { OnOk result (HasRoomFor (map row_spare rows.new.items) members.now) }
+{
+    clear(counts, members);
+    for member in members {
+        let place = member.get() as usize;
+        let count = counts[place] + 1;
+        counts[place] = count;
+        let row = &mut rows[place];
+        row.reserve(count)?;
+    }
+    Ok(())
+}
+
+// Adds replies, for which there is room.
+fn add_all(rows: &mut Vec<Row>, replies: &[(MemberNo, Outbound)])
+    requires sized { length rows.old.items ≡ row_count }
+    requires room { HasRoomFor (map row_spare rows.old.items) (members_of replies.now) }
+    ensures sized { length rows.new.items ≡ row_count }
+    ensures rows { map row_texts rows.new.items ≡ with_replies (map row_texts rows.old.items) replies.now }
+{
+    for (member, reply) in replies {
+        let row = &mut rows[member.get() as usize];
+        row.push_reserved(encode_out(reply));
+    }
+}
+
+// An empty row for each member number.
+fn empty_rows(alloc: Global) -> Result<Vec<Row>, NoMemory>
+    ensures rows { IfOk result (λ rows. map row_texts rows.items ≡ no_rows) }
+    ensures sized { IfOk result (λ rows. length rows.items ≡ row_count) }
+{
+    let mut rows = Vec::new(alloc);
+    for _number in 0..=MemberNo::MAX {
+        rows.push(Vec::new(alloc))?;
+    }
+    Ok(rows)
+}
+
+impl Rows {
+    /// No reply to anybody. `NoMemory` where there is no place for the rows.
+    pub fn new(alloc: Global) -> Result<Rows, NoMemory>
+        ensures { IfOk result (λ rows. rows.rows ≡ no_rows) }
+    {
+        Ok(Rows {
+            rows: empty_rows(alloc)?,
+            counts: vec![in alloc; 0; 4096]?,
+            alloc,
+        })
+    }
+
+    /// Makes room for the replies to these members.
+    pub fn reserve(&mut self, members: &[MemberNo]) -> Result<(), NoMemory>
+        ensures same { self.new.rows ≡ self.old.rows }
+        ensures room { OnOk result (HasRoomFor self.new.spare members.now) }
+    {
+        make_room(&mut self.rows, &mut self.counts, members)
+    }
+
+    /// Adds replies, for which there is room.
+    pub fn add(&mut self, replies: &[(MemberNo, Outbound)])
+        requires { HasRoomFor self.old.spare (members_of replies.now) }
+        ensures { self.new.rows ≡ with_replies self.old.rows replies.now }
+    {
+        add_all(&mut self.rows, replies);
+    }
+
+    /// How many replies a member has.
+    pub fn count(&self, member: MemberNo) -> u64
+        ensures count { result ≡ length (row_of self.now.rows member) }
+        ensures few { result < 2 ^ 63 }
+        ensures range { member < 4096 }
+    {
+        self.rows[member.get() as usize].len() as u64
+    }
+
+    /// The replies to a member from this number on, which count from 1; 0 is read as 1.
+    pub fn from(&self, member: MemberNo, from: u64) -> Result<Vec<ArrayVec<u8, 80>>, NoMemory>
+        ensures replies { IfOk result (λ rows. texts rows.items ≡ from_number from (row_of self.now.rows member)) }
+        ensures few { length (row_of self.now.rows member) < 2 ^ 63 }
+        ensures range { member < 4096 }
+    {
+        let row = &self.rows[member.get() as usize];
+        let first = (from.saturating_sub(1) as usize).min(row.len());
+        let mut replies: Row = Vec::new(self.alloc);
+        replies.extend_from_slice(&row[first..])?;
+        Ok(replies)
+    }
+
+    /// At most so many replies to a member, from this number on.
+    pub fn page(
+        &self,
+        member: MemberNo,
+        from: u64,
+        most: u64,
+    ) -> Result<Vec<ArrayVec<u8, 80>>, NoMemory>
+        ensures replies { IfOk result (λ rows. texts rows.items ≡ page from most (row_of self.now.rows member)) }
+        ensures few { length (row_of self.now.rows member) < 2 ^ 63 }
+        ensures range { member < 4096 }
+    {
+        let row = &self.rows[member.get() as usize];
+        let first = (from.saturating_sub(1) as usize).min(row.len());
+        let count = (most as usize).min(row.len() - first);
+        let mut replies: Row = Vec::new(self.alloc);
+        replies.extend_from_slice(&row[first..first + count])?;
+        Ok(replies)
+    }
+}

@@ -1,0 +1,171 @@
+-- When all passes are back, each entry is one of theirs.
+use Rattle.std.proofs.Common.{◌≡◌, ◌⊎◌, inl, inr, ℕ, zero, suc, ◌+◌, ◌<◌, ◌≤◌, Bool, true, false, cond, eqb, eqb-true, eq-eqb, List, [], ◌∷◌, ◌++◌, length, refl, ap, sym, ◌∙◌, subst, arith}
+use Rattle.std.specs.List.{AllByRecursion}
+use mathlib.Core.List.{IsPrefix}
+use Rattle.hx_blog.specs.Feed.{Entries}
+use Rattle.hx_blog.specs.Feed as blog
+use Rattle.hx_members.specs.Setups.{Setup}
+use Rattle.hx_market.specs.Steps.{feed}
+use Rattle.hx_desk.specs.declared.entry.Entry.{Entry}
+use Rattle.hx_desk.specs.Entries.{events_of, ledger}
+use Rattle.hx_desk.specs.Known.{history_of}
+use Rattle.hx_desk.specs.Desks.{DeskState, IsStanding}
+use Rattle.hx_engine.specs.Passes.{PassState, sent_from, sent_in, AreSomeOf}
+use Rattle.hx_engine.specs.Finish.{times_given, AreAllOnce, sent_by_all, IsReturned, IsFinished}
+use Rattle.hx_desk.proofs.Standing.{published_is}
+use Rattle.hx_engine.proofs.Places.{some_length, some_all}
+use Rattle.hx_engine.proofs.PassLaws.{published_by, history_known}
+use lib.ListN.{length-map}
+use Rattle.hx_itch.specs.Message.{feed_bytes}
+
+pub sent_more : (ps : List PassState) (p : PassState) → sent_by_all (ps ++ p ∷ []) ≡ sent_by_all ps + length p.sent
+sent_more [] p = omega arith
+sent_more (q ∷ ps) p = omega (arith, sent_more ps p)
+
+pub all_more : (P : PassState → Type 0) (ps : List PassState) (p : PassState) → AllByRecursion P ps → P p → AllByRecursion P (ps ++ p ∷ [])
+all_more P [] p a h = (h, tt)
+all_more P (q ∷ ps) p a h = (a.0, all_more P ps p a.1 h)
+
+weaker_all : (P Q : PassState → Type 0) (ps : List PassState) → ((p : PassState) → P p → Q p) → AllByRecursion P ps → AllByRecursion Q ps
+weaker_all P Q [] f a = tt
+weaker_all P Q (p ∷ ps) f a = (f p a.0, weaker_all P Q ps f a.1)
+
+-- As many passes as there are numbers.
+
+sum_to : ℕ → (ℕ → ℕ) → ℕ
+sum_to zero f = 0
+sum_to (suc n) f = sum_to n f + f (suc n)
+
+-- one exactly where a number is m
+abbrev at_number : ℕ → ℕ → ℕ
+at_number m k = cond (eqb k m) 1 0
+
+not_at : (m k : ℕ) → (k ≡ m → ⊥) → at_number m k ≡ 0
+not_at m k ne = at (eqb k m) refl
+  where
+    at : (b : Bool) → eqb k m ≡ b → ◌≡◌ {A = ℕ} (cond b 1 0) 0
+    at true e = absurd (ne (eqb-true k m e))
+    at false e = refl
+
+sum_above : (n m : ℕ) → n < m → sum_to n (at_number m) ≡ 0
+unfolding sum_to
+sum_above zero m l = refl
+sum_above (suc n) m l = omega (arith, sum_above n m (omega arith), not_at m (suc n) (λ e. omega arith))
+
+sum_one : (n m : ℕ) → 1 ≤ m → m ≤ n → sum_to n (at_number m) ≡ 1
+unfolding sum_to
+sum_one zero m f l = absurd (omega arith)
+sum_one (suc n) m f l = elim (split m (suc n) l) [
+  | inl h ↦ omega (arith, sum_one n m f (omega arith), not_at m (suc n) (λ e. omega arith))
+  | inr e ↦ omega (arith, sum_above n m (omega arith), ap {B = ℕ} (λ (b : Bool). cond b 1 0) (eq-eqb (suc n) m (sym e)))
+]
+  where
+    split : (k n : ℕ) → k ≤ n → (k < n) ⊎ (k ≡ n)
+    split zero zero l = inr refl
+    split zero (suc n) l = inl (omega arith)
+    split (suc k) zero l = absurd (omega arith)
+    split (suc k) (suc n) l = elim (split k n (omega arith)) [ inl h ↦ inl (omega arith) | inr e ↦ inr (ap (λ j. suc j) e) ]
+
+sum_both : (n : ℕ) (f g : ℕ → ℕ) → sum_to n (λ k. f k + g k) ≡ sum_to n f + sum_to n g
+unfolding sum_to
+sum_both zero f g = refl
+sum_both (suc n) f g = omega (arith, sum_both n f g)
+
+sum_none : (n : ℕ) → sum_to n (λ k. 0) ≡ 0
+unfolding sum_to
+sum_none zero = refl
+sum_none (suc n) = omega (arith, sum_none n)
+
+given_in_all : (n : ℕ) (ps : List PassState) → AllByRecursion (λ p. (1 ≤ p.number) × (p.number ≤ n)) ps → sum_to n (λ k. times_given k ps) ≡ length ps
+given_in_all n [] a = sum_none n
+given_in_all n (p ∷ ps) a =
+    sum_both n (at_number p.number) (λ k. times_given k ps) ∙ omega (arith, sum_one n p.number a.0.0 a.0.1, given_in_all n ps a.1)
+
+sum_of_ones : (n : ℕ) (f : ℕ → ℕ) → ((k : ℕ) → 1 ≤ k → k ≤ n → f k ≡ 1) → sum_to n f ≡ n
+unfolding sum_to
+sum_of_ones zero f h = refl
+sum_of_ones (suc n) f h = omega (arith, sum_of_ones n f (λ k a b. h k a (omega arith)), h (suc n) (omega arith) (omega arith))
+
+pub all_given : (n : ℕ) (published : Entries Entry) (ps : List PassState) → AllByRecursion (IsReturned n published) ps → AreAllOnce n ps → length ps ≡ n
+all_given n published ps a once =
+    sym (given_in_all n ps (weaker_all (IsReturned n published) (λ p. (1 ≤ p.number) × (p.number ≤ n)) ps (λ p r. (r.first, r.last)) a)) ∙ sum_of_ones n (λ k. times_given k ps) once
+
+-- a number is given once at most
+never_given : (n k : ℕ) (ps : List PassState) → n < k → AllByRecursion (λ p. p.number ≤ n) ps → times_given k ps ≡ 0
+never_given n k [] l a = refl
+never_given n k (p ∷ ps) l a = let b = a.0 in omega (arith, not_at p.number k (λ e. omega arith), never_given n k ps l a.1)
+
+none_given : (ps : List PassState) → AllByRecursion (λ p. 1 ≤ p.number) ps → times_given 0 ps ≡ 0
+none_given [] a = refl
+none_given (p ∷ ps) a = let b = a.0 in omega (arith, not_at p.number 0 (λ e. omega arith), none_given ps a.1)
+
+once_at_most : (n : ℕ) (published : Entries Entry) (ps : List PassState) → AllByRecursion (IsReturned n published) ps → AreAllOnce n ps → (k : ℕ) → times_given k ps ≤ 1
+once_at_most n published ps a once zero = omega (arith, none_given ps (weaker_all (IsReturned n published) (λ p. 1 ≤ p.number) ps (λ p r. r.first) a))
+once_at_most n published ps a once (suc k) = at (below (suc k) n)
+  where
+    below : (k n : ℕ) → (k ≤ n) ⊎ (n < k)
+    below zero n = inl (omega arith)
+    below (suc k) zero = inr (omega arith)
+    below (suc k) (suc n) = elim (below k n) [ inl h ↦ inl (omega arith) | inr h ↦ inr (omega arith) ]
+
+    at : (suc k ≤ n) ⊎ (n < suc k) → times_given (suc k) ps ≤ 1
+    at (inl h) = omega (arith, once (suc k) (omega arith) h)
+    at (inr h) = omega (arith, never_given n (suc k) ps h (weaker_all (IsReturned n published) (λ p. p.number ≤ n) ps (λ p r. r.last) a))
+
+-- The entries of all these passes in a history.
+
+entries_of_all : ℕ → List PassState → List Entry → ℕ
+entries_of_all k [] history = 0
+entries_of_all k (p ∷ ps) history = length (sent_from p.number k history) + entries_of_all k ps history
+
+one_entry : (n k : ℕ) (e : Entry) (history : List Entry) → length (sent_from n k (e ∷ history)) ≡ cond (eqb e.pass n) 1 0 + length (sent_from n (k + 1) history)
+one_entry n k e history = at (eqb e.pass n)
+  where
+    at : (b : Bool) → ◌≡◌ {A = ℕ} (length (cond b ((k, e.event) ∷ sent_from n (k + 1) history) (sent_from n (k + 1) history))) (cond b 1 0 + length (sent_from n (k + 1) history))
+    at true = omega arith
+    at false = omega arith
+
+one_entry_of_all : (k : ℕ) (ps : List PassState) (e : Entry) (history : List Entry) → entries_of_all k ps (e ∷ history) ≡ times_given e.pass ps + entries_of_all (k + 1) ps history
+unfolding entries_of_all
+one_entry_of_all k [] e history = refl
+one_entry_of_all k (p ∷ ps) e history = omega (arith, one_entry p.number k e history, one_entry_of_all k ps e history)
+
+no_entries : (k : ℕ) (ps : List PassState) → entries_of_all k ps [] ≡ 0
+unfolding entries_of_all
+no_entries k [] = refl
+no_entries k (p ∷ ps) = omega (arith, no_entries k ps)
+
+at_most_all : (k : ℕ) (ps : List PassState) (history : List Entry) → ((n : ℕ) → times_given n ps ≤ 1) → entries_of_all k ps history ≤ length history
+at_most_all k ps [] once = omega (arith, no_entries k ps)
+at_most_all k ps (e ∷ history) once = omega (arith, one_entry_of_all k ps e history, once e.pass, at_most_all (k + 1) ps history once)
+
+sent_at_most : (history : List Entry) (ps : List PassState) → AllByRecursion (λ p. AreSomeOf p.sent (sent_in p.number history)) ps → sent_by_all ps ≤ entries_of_all 1 ps history
+unfolding entries_of_all
+sent_at_most history [] a = omega arith
+sent_at_most history (p ∷ ps) a = omega (arith, some_length p.sent (sent_in p.number history) a.0, sent_at_most history ps a.1)
+
+all_sent : (history : List Entry) (ps : List PassState) → AllByRecursion (λ p. AreSomeOf p.sent (sent_in p.number history)) ps → entries_of_all 1 ps history ≤ sent_by_all ps
+    → AllByRecursion (λ p. p.sent ≡ sent_in p.number history) ps
+unfolding entries_of_all
+all_sent history [] a l = tt
+all_sent history (p ∷ ps) a l =
+    let here = some_length p.sent (sent_in p.number history) a.0 in
+    let rest = sent_at_most history ps a.1 in
+    (some_all p.sent (sent_in p.number history) a.0 (omega arith), all_sent history ps a.1 (omega arith))
+
+pub finished : (setup : Setup) (d : DeskState) (n : ℕ) (ps : List PassState) (history : List Entry) (messages : ℕ) → IsStanding d → d.setup ≡ setup → AllByRecursion (IsReturned n d.published) ps → AreAllOnce n ps
+    → length d.history ≡ sent_by_all ps → history ≡ d.history → messages ≡ length (blog.feed d.published) → IsFinished setup ps history messages
+finished setup d n ps history messages s of_setup returned once counted same count =
+    let known : history_of d.published ≡ history = history_known d d.published s refl ∙ sym same in
+    let published : d.published ≡ ledger setup history = published_by setup d s of_setup ∙ ap (ledger setup) (sym same) in
+    let some : AllByRecursion (λ p. AreSomeOf p.sent (sent_in p.number history)) ps =
+    weaker_all (IsReturned n d.published) (λ p. AreSomeOf p.sent (sent_in p.number history)) ps (λ p r. subst (λ (h : List Entry). AreSomeOf p.sent (sent_in p.number h)) known r.sent) returned in
+    let all : length history ≡ sent_by_all ps = ap (λ (h : List Entry). length h) same ∙ counted in
+    record {
+      all = all;
+      each = all_sent history ps some (omega (arith, at_most_all 1 ps history (once_at_most n d.published ps returned once)));
+      knew = weaker_all (IsReturned n d.published) (λ p. IsPrefix p.known (ledger setup history)) ps (λ p r. subst (IsPrefix p.known) published r.knew) returned;
+      feed_count =
+          count ∙ ap (λ (k : Entries Entry). length (blog.feed k)) published ∙ ap (λ (l : List (List ℕ)). length l) (published_is setup history)
+          ∙ length-map (feed setup (events_of history)) feed_bytes;
+    }

@@ -1,0 +1,18 @@
+use Rattle.std.proofs.Common.{subst}
+use Rattle.hx_engine.specs.Passes.{PassState}
+use Rattle.hx_engine.specs.Finish.{IsReturned}
+use Rattle.hx_engine.proofs.Places.{more_known}
+use Rattle.hx_engine.proofs.handed_in.take_back.Goals as goal
+
+pub returns-clause-returned : goal.returns-clause-returned
+returns-clause-returned g c =
+    let inside = c.pass.inside in
+    let i = c.pass.invariant in
+    let old : PassState = record { number = inside.number; sent = inside.sent.items; known = inside.knows.known } in
+    subst (λ (p : PassState). IsReturned g.V.Ledger.parts c.args.desk.now.published p) c.pass.view_is
+    (record {
+      first = i.3;
+      last = i.4;
+      sent = more_known inside.number inside.sent.items inside.knows.known c.args.desk.now.published c.confirm.ensures.begins i.5;
+      knew = c.confirm.ensures.begins;
+    })

@@ -1,0 +1,4 @@
+pub mod Nowhere
+pub mod Passes
+pub mod Exchanges
+pub mod Finish

@@ -1,0 +1,47 @@
+-- What contracts see of a pass.
+use Rattle.std.specs.Prelude.{◌≡◌, ◌⊎◌, ℕ, zero, suc, ◌+◌, ◌-◌, ◌≤◌, ◌==◌, if◌then◌else◌, List, [], ◌∷◌, ◌++◌, slice_get, Some}
+use Rattle.hx_blog.specs.Feed.{Entries}
+use Rattle.hx_market.specs.declared.event.Event.{Event}
+use Rattle.hx_desk.specs.declared.entry.Entry.{Entry}
+use Rattle.hx_desk.specs.Entries.{entry_of}
+
+-- an event that was sent, behind its place in the history, which is counted from 1
+abbrev pub Sent : Type 0
+Sent = ℕ × Event
+
+-- A pass: its number, the events that it sent, and the entries that it knows.
+pub record PassState : Type 0 where
+  pub number : ℕ
+  pub sent : List Sent
+  pub known : Entries Entry
+
+-- a pass that has sent nothing and knows nothing
+abbrev pub new_pass : (number : ℕ) → PassState
+new_pass number = record { number = number; sent = []; known = [] }
+
+-- the passes 1 to n of a new exchange
+abbrev pub new_passes : (count : ℕ) → List PassState
+new_passes zero = []
+new_passes (suc n) = new_passes n ++ new_pass (suc n) ∷ []
+
+-- the entries of a pass with their places, in a history of which the first entry has this place
+abbrev pub sent_from : (number place : ℕ) → List Entry → List Sent
+sent_from number place [] = []
+sent_from number place (e ∷ history) =
+    if e.pass == number then (place, e.event) ∷ sent_from number (place + 1) history
+    else sent_from number (place + 1) history
+
+-- the entries of a pass in a history, with their places
+abbrev pub sent_in : (number : ℕ) → List Entry → List Sent
+sent_in number history = sent_from number 1 history
+
+-- some of the list, in its order
+abbrev pub AreSomeOf : List Sent → List Sent → Type 0
+AreSomeOf xs [] = xs ≡ []
+AreSomeOf xs (y ∷ ys) =
+    AreSomeOf xs ys ⊎ ((rest : List Sent) × (xs ≡ y ∷ rest) × AreSomeOf rest ys)
+
+-- the event stands at its place under this number
+abbrev pub StandsAt : (number : ℕ) → List Entry → Sent → Type 0
+StandsAt number history x =
+    (1 ≤ x.0) × (slice_get history (x.0 - 1) ≡ Some (entry_of number x.1))

@@ -1,0 +1,26 @@
+//! The exchange: a desk behind a lock, passes through which events are sent, and the log of the feed, which everybody
+//! reads without waiting.
+//!
+//! Under the lock is the desk with the book of the ledger: the market, the history, the writer of the log, and the
+//! replies to each member. Nothing else is: a pass and a reader belong to their thread, and the words of the log are
+//! shared without a lock. A call that takes the lock may wait, and so asks for a `Wait`.
+//!
+//! What is behind the lock belongs to one `Venue`: its log, its setup and its ledger of entries. So each thread knows
+//! of the history what its pass and its reader know, which is a beginning of what is published, and the passes of an
+//! exchange together know it exactly.
+#![tactic(auto)]
+
+mod answers;
+mod exchange;
+mod handed_in;
+mod held;
+mod pass;
+mod pass_count;
+mod replies;
+mod venue;
+
+pub use answers::{Audit, FinishError, Finished, News};
+pub use exchange::Exchange;
+pub use hx_desk::{Desk, DeskError, Done, Entry, laws};
+pub use pass::Pass;
+pub use venue::Venue;

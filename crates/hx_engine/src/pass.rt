@@ -1,0 +1,97 @@
+//! Passes, through which events are sent.
+ghost use Rattle.std.specs.Prelude.{◌≡◌, ◌<◌, ◌≤◌, [], IfOk, OnOk};
+ghost use Rattle.hx_engine.specs.Passes.{new_passes};
+
+use crate::venue::Venue;
+use hx_blog::{Log, Receipt, Writer};
+use hx_desk::Entry;
+use hx_market::Event;
+use hx_units::NoMemory;
+use std::alloc::Global;
+use std::marker::Model;
+use std::sync::ledger::Share;
+
+/// What one client of an exchange sent, and what he knows. Contracts see its number, its events with their places, and
+/// the entries that it knows.
+#[derive(Drop)]
+pub struct Pass<V: Venue> {
+    pub(crate) number: u16,
+    pub(crate) sent: Vec<(u64, Event)>,
+    pub(crate) knows: Receipt<Entry>,
+    pub(crate) share: Share<V>,
+}
+
+impl<V: Venue> Model for Pass<V> {
+    ghost use Rattle.std.specs.Prelude.{◌≡◌, ◌<◌, ◌≤◌, length};
+    ghost use Rattle.hx_desk.specs.Known.{history_of};
+    ghost use Rattle.hx_engine.specs.Passes.{PassState, sent_in, AreSomeOf};
+
+    ghost Value = { PassState };
+
+    ghost view = { λ p. record { number = p.number; sent = p.sent.items; known = p.knows.known } };
+
+    ghost invariant = { λ p.
+        (p.share.parts ≡ 1)
+        × (p.share.amount ≡ length p.sent.items)
+        × (p.knows.log ≡ V.log)
+        × (0 < p.number)
+        × (p.number ≤ V.parts)
+        × AreSomeOf p.sent.items (sent_in p.number (history_of p.knows.known)) };
+}
+
+impl<V: Venue> Pass<V> {
+    /// Its number, from 1.
+    pub fn number(&self) -> u16
+        ensures number { result ≡ self.now.number }
+        ensures range { (0 < result) × (result ≤ V.parts) }
+    {
+        self.number
+    }
+
+    /// Its events, each with its place in the history.
+    pub fn sent(&self) -> &[(u64, Event)]
+        ensures { result.now ≡ self.now.sent }
+    {
+        &self.sent
+    }
+
+    /// A receipt for what it knows: a reader that learns it reads at least the feed of all that the pass sent.
+    pub fn receipt(&mut self, log: &Log<Entry>) -> Receipt<Entry>
+        requires { log.now ≡ V.log }
+        ensures same { self.new ≡ self.old }
+        ensures receipt { result ≡ record { log = V.log; known = self.old.known } }
+    {
+        self.knows.again(log)
+    }
+}
+
+/// The passes of a new exchange, each with one part of the ledger.
+pub(crate) fn make_passes<V: Venue>(
+    alloc: Global,
+    log: &Log<Entry>,
+    writer: &mut Writer<Entry>,
+    spare: &mut Share<V>,
+    count: u16,
+) -> Result<Vec<Pass<V>>, NoMemory>
+    requires log { log.now ≡ V.log }
+    requires writer { writer.old ≡ record { log = V.log; published = []; staged = [] } }
+    requires spare { (spare.old.parts ≡ count) × (spare.old.amount ≡ 0) }
+    requires passes { (count ≡ V.parts) × (count ≤ 64) }
+    ensures passes { IfOk result (λ passes. passes.items ≡ new_passes count) }
+    ensures writer { writer.new ≡ writer.old }
+    ensures spare { OnOk result ((spare.new.parts ≡ 0) × (spare.new.amount ≡ 0)) }
+{
+    let mut passes = Vec::with_capacity(alloc, count as usize)?;
+    for before in 0..count {
+        let number = before + 1;
+        let share = spare.split_off(1, 0);
+        let knows = writer.receipt(log);
+        passes.push(Pass {
+            number,
+            sent: Vec::new(alloc),
+            knows,
+            share,
+        })?;
+    }
+    Ok(passes)
+}

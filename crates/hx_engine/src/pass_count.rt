@@ -1,0 +1,43 @@
+//! How many passes an exchange has.
+ghost use Rattle.std.specs.Prelude.{◌≡◌, ◌≤◌};
+
+use crate::venue::Venue;
+use std::marker::{Model, PhantomData};
+
+/// How many passes an exchange gave: one for each part of its venue's ledger.
+#[derive(Drop)]
+pub struct PassCount<V: Venue> {
+    count: u16,
+    of: PhantomData<V>,
+}
+
+impl<V: Venue> Model for PassCount<V> {
+    ghost use Rattle.std.specs.Prelude.{◌≡◌, ◌≤◌, ℕ};
+
+    ghost Value = { ℕ };
+
+    ghost view = { λ c. c.count };
+
+    ghost invariant = { λ c. (c.count ≡ V.parts) × (c.count ≤ 64) };
+}
+
+impl<V: Venue> PassCount<V> {
+    /// So many.
+    pub fn of(count: u16) -> PassCount<V>
+        requires { (count ≡ V.parts) × (count ≤ 64) }
+        ensures { result ≡ count }
+    {
+        PassCount {
+            count,
+            of: PhantomData,
+        }
+    }
+
+    /// The number.
+    pub fn get(&self) -> u16
+        ensures value { result ≡ V.parts }
+        ensures limit { result ≤ 64 }
+    {
+        self.count
+    }
+}

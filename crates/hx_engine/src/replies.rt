@@ -1,0 +1,128 @@
+//! What an exchange tells of a member's replies, and of the end of the day.
+ghost use Rattle.std.specs.Prelude.{◌≡◌, IfOk};
+ghost use Rattle.hx_desk.specs.Rows.{texts, from_number, page};
+ghost use Rattle.hx_desk.specs.Known.{AreFew, CatchesUp, IsWhole};
+ghost use Rattle.hx_engine.specs.Exchanges.{AreKnownReplies, IsNews};
+
+use crate::answers::News;
+use crate::exchange::Exchange;
+use crate::held::Held;
+use crate::venue::Venue;
+use arrayvec::ArrayVec;
+use hx_blog::{Log, Reader};
+use hx_desk::Entry;
+use hx_units::{MemberNo, NoMemory};
+use std::sync::{CondvarTimeouts, Wait};
+use std::time::{Clock, Duration};
+
+// The reader knows from now on all that is published: how much stands then for a member.
+fn tell<V: Venue>(
+    held: &mut Held<V>,
+    log: &Log<Entry>,
+    reader: &mut Reader<Entry>,
+    member: MemberNo,
+) -> News
+    requires log { log.now ≡ V.log }
+    requires reader { reader.old.log ≡ V.log }
+    ensures news { IsNews V.setup member reader.new.known result }
+    ensures whole { IsWhole V.setup reader.new.known }
+    ensures reader { CatchesUp reader.old reader.new }
+{
+    held.desk.inform(log, reader);
+    held.desk.stands();
+    News {
+        replies: held.desk.reply_count(member),
+        ended: held.desk.ended(),
+    }
+}
+
+impl<V: Venue> Exchange<V> {
+    /// How many replies a member has, and whether the day is over. The reader knows from then on the history of which
+    /// that is.
+    pub fn news(&self, rt: &impl Wait, reader: &mut Reader<Entry>, member: MemberNo) -> News
+        requires { reader.old.log ≡ V.log }
+        ensures news { IsNews V.setup member reader.new.known result }
+        ensures whole { IsWhole V.setup reader.new.known }
+        ensures reader { CatchesUp reader.old reader.new }
+    {
+        let mut held = self.desk.lock(rt);
+        let held = &mut *held;
+        tell(held, &self.log, reader, member)
+    }
+
+    /// The same, once the member has more than `seen` replies or the day is over, or once this time has passed. It
+    /// sleeps until then, and holds the lock only while it looks.
+    pub fn wait_for_news<R: Wait + Clock>(
+        &self,
+        rt: &R,
+        reader: &mut Reader<Entry>,
+        member: MemberNo,
+        seen: u64,
+        limit: Duration,
+    ) -> News
+        requires { reader.old.log ≡ V.log }
+        ensures news { IsNews V.setup member reader.new.known result }
+        ensures whole { IsWhole V.setup reader.new.known }
+        ensures reader { CatchesUp reader.old reader.new }
+    {
+        let mut held = self
+            .recorded
+            .wait_timeout_while(rt, self.desk.lock(rt), limit, |held| {
+                held.desk.reply_count(member) <= seen && !held.desk.ended()
+            })
+            .0;
+        let held = &mut *held;
+        tell(held, &self.log, reader, member)
+    }
+
+    /// The replies to a member from this number on, which count from 1; 0 is read as 1. The reader knows from then on
+    /// the history to which they are.
+    pub fn replies(
+        &self,
+        rt: &impl Wait,
+        reader: &mut Reader<Entry>,
+        member: MemberNo,
+        from: u64,
+    ) -> Result<Vec<ArrayVec<u8, 80>>, NoMemory>
+        requires { reader.old.log ≡ V.log }
+        ensures replies { IfOk result (λ rows.
+            AreKnownReplies V.setup member reader.new.known (from_number from) (texts rows.items)) }
+        ensures few { AreFew V.setup member reader.new.known }
+        ensures whole { IsWhole V.setup reader.new.known }
+        ensures reader { CatchesUp reader.old reader.new }
+    {
+        let mut held = self.desk.lock(rt);
+        let held = &mut *held;
+        held.desk.inform(&self.log, reader);
+        held.desk.stands();
+        held.desk.replies_from(member, from)
+    }
+
+    /// At most so many replies to a member, from this number on: it holds the lock no longer than these take.
+    pub fn replies_page(
+        &self,
+        rt: &impl Wait,
+        reader: &mut Reader<Entry>,
+        member: MemberNo,
+        from: u64,
+        most: u64,
+    ) -> Result<Vec<ArrayVec<u8, 80>>, NoMemory>
+        requires { reader.old.log ≡ V.log }
+        ensures replies { IfOk result (λ rows.
+            AreKnownReplies V.setup member reader.new.known (page from most) (texts rows.items)) }
+        ensures few { AreFew V.setup member reader.new.known }
+        ensures whole { IsWhole V.setup reader.new.known }
+        ensures reader { CatchesUp reader.old reader.new }
+    {
+        let mut held = self.desk.lock(rt);
+        let held = &mut *held;
+        held.desk.inform(&self.log, reader);
+        held.desk.stands();
+        held.desk.replies_page(member, from, most)
+    }
+
+    /// Whether hours code `C` is past. No clause says what the market was when it was asked: `news` does.
+    pub fn ended(&self, rt: &impl Wait) -> bool {
+        self.desk.lock(rt).desk.ended()
+    }
+}
