@@ -5,7 +5,7 @@ use Rattle.hx_blog.specs.Feed.{Entries}
 use Rattle.hx_ouch.specs.declared.outbound.Outbound.{Outbound}
 use Rattle.hx_ouch.specs.Outbound.{outbound_bytes}
 use Rattle.hx_members.specs.Setups.{Setup}
-use Rattle.hx_market.specs.declared.event.Event.{Event}
+use Rattle.hx_rules.specs.declared.event.Event.{Event}
 use Rattle.hx_market.specs.Markets.{Market, opening}
 use Rattle.hx_market.specs.Steps.{step, market_after, told_from, told, replies_among, replies_of, replies}
 use Rattle.hx_desk.specs.declared.entry.Entry.{Entry}

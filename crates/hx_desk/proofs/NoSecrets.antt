@@ -6,13 +6,13 @@ use Rattle.hx_units.specs.Names.{is_token}
 use Rattle.hx_blog.specs.Feed as blog
 use Rattle.hx_ouch.specs.declared.outbound.Outbound.{Outbound}
 use Rattle.hx_members.specs.Setups.{Setup}
-use Rattle.hx_market.specs.declared.event.Event.{Event}
+use Rattle.hx_rules.specs.declared.event.Event.{Event}
 use Rattle.hx_market.specs.Orders.{Token}
 use Rattle.hx_market.specs.Steps.{run, feed, replies}
 use Rattle.hx_market.specs.Striking.{Choice, is_quiet, quiet_of_one, strike, strike_one}
 use Rattle.hx_market.specs.Laws.{AreQuietChains, listed}
-use Rattle.hx_market.proofs.StruckChoices.{listed_is_choice, quiet_is_choice}
-use Rattle.hx_market.proofs.StruckOfAll.{feed_alone, replies_alone, all_members, all_but_one}
+use Rattle.hx_laws.proofs.Quiet.StruckChoices.{listed_is_choice, quiet_is_choice}
+use Rattle.hx_laws.proofs.Quiet.StruckOfAll.{feed_alone, replies_alone, all_members, all_but_one}
 use Rattle.hx_desk.specs.Rows.{Part, replies_spelled, row_of}
 use Rattle.hx_desk.specs.Entries.{feed_spelled, events_of}
 use Rattle.hx_desk.specs.Secrecy.{IsFeedWithoutTrace, AreRepliesWithoutTrace}

@@ -6,7 +6,7 @@ use Rattle.hx_ouch.specs.declared.outbound.Outbound.{Outbound}
 use Rattle.hx_itch.specs.Message.{feed_bytes}
 use Rattle.hx_ouch.specs.Outbound.{outbound_bytes}
 use Rattle.hx_members.specs.Setups.{Setup}
-use Rattle.hx_market.specs.declared.event.Event.{Event}
+use Rattle.hx_rules.specs.declared.event.Event.{Event}
 use Rattle.hx_market.specs.Markets.{Market, opening}
 use Rattle.hx_market.specs.Outputs.{Reply}
 use Rattle.hx_market.specs.Steps.{step, market_after, told_from, run, told, feed_of, replies_among, replies_of, feed, replies}

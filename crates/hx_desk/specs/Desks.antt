@@ -4,9 +4,9 @@ use Rattle.hx_blog.specs.Feed.{Entries, feed}
 use Rattle.hx_blog.specs.Ends.{LogId, WriterState, room_of}
 use Rattle.hx_itch.specs.declared.message.Feed.{Feed}
 use Rattle.hx_members.specs.Setups.{Setup}
-use Rattle.hx_market.specs.declared.event.Event.{Event}
-use Rattle.hx_market.specs.declared.fault.PrepareError.{PrepareError}
-use Rattle.hx_market.specs.declared.fault.PrepareError.TheVariants as market
+use Rattle.hx_rules.specs.declared.event.Event.{Event}
+use Rattle.hx_rules.specs.declared.fault.PrepareError.{PrepareError}
+use Rattle.hx_rules.specs.declared.fault.PrepareError.TheVariants as market
 use Rattle.hx_market.specs.Markets.{Market, opening}
 use Rattle.hx_market.specs.Outputs.{Outcome}
 use Rattle.hx_market.specs.Admitting.{refusal}

@@ -4,7 +4,7 @@ use Rattle.hx_blog.specs.Feed.{Entries}
 use Rattle.hx_itch.specs.declared.message.Feed.{Feed}
 use Rattle.hx_itch.specs.Message.{feed_bytes}
 use Rattle.hx_members.specs.Setups.{Setup}
-use Rattle.hx_market.specs.declared.event.Event.{Event}
+use Rattle.hx_rules.specs.declared.event.Event.{Event}
 use Rattle.hx_market.specs.Markets.{Market, opening}
 use Rattle.hx_market.specs.Steps.{step}
 use Rattle.hx_desk.specs.declared.entry.Entry.{Entry}

@@ -1,6 +1,6 @@
 -- The refusals of a desk.
-use Rattle.hx_market.specs.declared.fault.PrepareError.{PrepareError}
-use Rattle.hx_market.specs.declared.fault.PrepareError.TheVariants as market
+use Rattle.hx_rules.specs.declared.fault.PrepareError.{PrepareError}
+use Rattle.hx_rules.specs.declared.fault.PrepareError.TheVariants as market
 use Rattle.hx_desk.specs.declared.fault.DeskError.{DeskError}
 use Rattle.hx_desk.specs.declared.fault.DeskError.TheVariants as desk
 

@@ -1,7 +1,7 @@
 -- What the feed and the replies to a member do not tell.
 use Rattle.std.specs.Prelude.{◌≡◌, ◌≢◌, ℕ, false, List}
 use Rattle.hx_members.specs.Setups.{Setup}
-use Rattle.hx_market.specs.declared.event.Event.{Event}
+use Rattle.hx_rules.specs.declared.event.Event.{Event}
 use Rattle.hx_market.specs.Orders.{Token}
 use Rattle.hx_market.specs.Steps.{run, feed, replies}
 use Rattle.hx_market.specs.Striking.{Choice, strike, strike_one, strike_all, strike_but}

@@ -4,7 +4,7 @@ use mathlib.Core.List.{IsPrefix}
 use Rattle.hx_blog.specs.Feed.{Entries, feed}
 use Rattle.hx_blog.specs.Ends.{ReaderState}
 use Rattle.hx_members.specs.Setups.{Setup}
-use Rattle.hx_market.specs.declared.event.Event.{Event}
+use Rattle.hx_rules.specs.declared.event.Event.{Event}
 use Rattle.hx_market.specs.Markets.{Market}
 use Rattle.hx_market.specs.Steps.{step, run, replies}
 use Rattle.hx_desk.specs.declared.entry.Entry.{Entry}

@@ -1,7 +1,7 @@
 -- What contracts see of a pass.
 use Rattle.std.specs.Prelude.{◌≡◌, ◌⊎◌, ℕ, zero, suc, ◌+◌, ◌-◌, ◌≤◌, ◌==◌, if◌then◌else◌, List, [], ◌∷◌, ◌++◌, slice_get, Some}
 use Rattle.hx_blog.specs.Feed.{Entries}
-use Rattle.hx_market.specs.declared.event.Event.{Event}
+use Rattle.hx_rules.specs.declared.event.Event.{Event}
 use Rattle.hx_desk.specs.declared.entry.Entry.{Entry}
 use Rattle.hx_desk.specs.Entries.{entry_of}
 
