@@ -4,10 +4,13 @@
 //! Only the calls named `append` take memory.
 #![tactic(auto)]
 
+pub mod laws;
 mod list;
+mod log;
 mod publisher;
 mod server;
 
 pub use list::ListMessages;
+pub use log::LogMessages;
 pub use publisher::Publisher;
 pub use server::Server;
