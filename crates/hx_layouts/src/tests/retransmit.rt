@@ -1,39 +1,135 @@
 //! Forty messages asked for again, and a publisher's turns, byte for byte (MoldUDP64 1.00), under the session
-//! HX00000001.
+//! HX00000001: of a list of messages, and of a log.
+ghost use Rattle.std.specs.Prelude.{◌≡◌};
+
 use super::packets::{SESSION, first_packet, last_packet, numbered};
+use arrayvec::ArrayVec;
+use hx_blog::{Log, Writer};
 use hx_mold::{Messages, Request, answer};
-use hx_retransmit::{ListMessages, Publisher, Server};
+use hx_retransmit::{ListMessages, LogMessages, Publisher, Server};
+use std::process::Abort;
 use std::test::Fail;
 
-#[test]
-fn forty_messages_asked_for_again(rt: HostRuntime) -> Result<(), Fail> {
-    let alloc = rt.alloc();
-    let first = first_packet(alloc)?;
-    let last = last_packet(alloc)?;
-    assert_eq!(rt; first.len(), 1388);
-    assert_eq!(rt; last.len(), 172);
-    let mut server = Server::new(SESSION, ListMessages::new(alloc));
-    server.append(&numbered(alloc, 0, 40)?)?;
-    let nothing: [&[u8]; 6] = [
-        b"HX00000001\0\0\0\0\0\0\0\x01\0\0",
-        b"HX00000001\0\0\0\0\0\0\0\x29\0\x01",
-        b"HX00000001\0\0\0\0\0\0\0\0\0\x01",
-        b"HX00000002\0\0\0\0\0\0\0\x01\0\x01",
-        b"HX00000001\0\0\0\0\0\0\0\x01\0",
-        b"HX00000001\0\0\0\0\0\0\0\x01\0\x01\0",
-    ];
-    for request in nothing {
+// Requests that are not answered: for no message, for one that is not there, for number 0, of another session, and two
+// that are no request.
+const NOTHING: [&[u8]; 6] = [
+    b"HX00000001\0\0\0\0\0\0\0\x01\0\0",
+    b"HX00000001\0\0\0\0\0\0\0\x29\0\x01",
+    b"HX00000001\0\0\0\0\0\0\0\0\0\x01",
+    b"HX00000002\0\0\0\0\0\0\0\x01\0\x01",
+    b"HX00000001\0\0\0\0\0\0\0\x01\0",
+    b"HX00000001\0\0\0\0\0\0\0\x01\0\x01\0",
+];
+
+// The request is answered by this packet.
+fn expect_answer<M: Messages>(
+    rt: &impl Abort,
+    server: &mut Server<M>,
+    request: &[u8],
+    packet: &[u8],
+) -> Result<(), Fail> {
+    let answer = server.answer(request).ok_or("an answer")?;
+    assert_eq!(rt; answer.as_slice(), packet);
+    Ok(())
+}
+
+// A server of forty messages.
+fn expect_answers<M: Messages, R: AllocGlobal + Abort>(
+    rt: &R,
+    server: &mut Server<M>,
+) -> Result<(), Fail> {
+    let first = first_packet(rt.alloc())?;
+    let last = last_packet(rt.alloc())?;
+    assert_eq!(rt; (first.len(), last.len()), (1388, 172));
+    for request in NOTHING {
         assert!(rt; server.answer(request).is_none());
     }
-    let from_one = server
-        .answer(b"HX00000001\0\0\0\0\0\0\0\x01\xff\xff")
-        .ok_or("an answer")?;
-    assert_eq!(rt; from_one.as_slice(), first.as_slice());
-    let from_37 = server
-        .answer(b"HX00000001\0\0\0\0\0\0\0\x25\xff\xff")
-        .ok_or("an answer")?;
-    assert_eq!(rt; from_37.as_slice(), last.as_slice());
+    expect_answer(rt, server, b"HX00000001\0\0\0\0\0\0\0\x01\xff\xff", &first)?;
+    expect_answer(rt, server, b"HX00000001\0\0\0\0\0\0\0\x25\xff\xff", &last)
+}
+
+// The packet of a turn.
+fn expect_turn<M: Messages>(
+    rt: &impl Abort,
+    publisher: &mut Publisher<M>,
+    now: u64,
+    packet: &[u8],
+) -> Result<(), Fail> {
+    let sent = publisher.turn(now).ok_or("a packet")?;
+    assert_eq!(rt; sent.as_slice(), packet);
     Ok(())
+}
+
+// A publisher of forty messages, made at 0.
+fn expect_turns<M: Messages, R: AllocGlobal + Abort>(
+    rt: &R,
+    publisher: &mut Publisher<M>,
+) -> Result<(), Fail> {
+    let pulse = b"HX00000001\0\0\0\0\0\0\0\x29\0\0";
+    let end = b"HX00000001\0\0\0\0\0\0\0\x29\xff\xff".as_slice();
+    expect_turn(rt, publisher, 0, &first_packet(rt.alloc())?)?;
+    expect_turn(rt, publisher, 0, &last_packet(rt.alloc())?)?;
+    for now in [0, 999_999_999] {
+        assert!(rt; publisher.turn(now).is_none());
+    }
+    for now in [1_000_000_000, 5] {
+        expect_turn(rt, publisher, now, pulse)?;
+    }
+    assert_eq!(rt; publisher.end().as_slice(), end);
+    Ok(())
+}
+
+// Publishes messages under one event.
+fn publish(
+    log: &Log<u8>,
+    writer: &mut Writer<u8>,
+    messages: &[ArrayVec<u8, 44>],
+) -> Result<(), Fail>
+    requires { writer.old.log ≡ log.now }
+    ensures { writer.new.log ≡ writer.old.log }
+{
+    for message in messages {
+        if writer.stage(log, message).is_err() {
+            return Err("no slot is free".into());
+        }
+    }
+    writer.publish(log, &1);
+    Ok(())
+}
+
+#[test]
+fn answers_of_a_list(rt: HostRuntime) -> Result<(), Fail> {
+    let mut server = Server::new(SESSION, ListMessages::new(rt.alloc()));
+    server.append(&numbered(rt.alloc(), 0, 40)?)?;
+    expect_answers(&rt, &mut server)
+}
+
+#[test]
+fn turns_over_a_list(rt: HostRuntime) -> Result<(), Fail> {
+    let mut publisher = Publisher::new(SESSION, ListMessages::new(rt.alloc()), 0);
+    publisher.append(&numbered(rt.alloc(), 0, 40)?)?;
+    expect_turns(&rt, &mut publisher)
+}
+
+#[test]
+fn answers_and_turns_of_a_log(rt: HostRuntime) -> Result<(), Fail> {
+    let (log, mut writer, mut reader) = Log::new(rt.alloc(), 40)?;
+    let other = reader.split(&log);
+    let mut server = Server::new(SESSION, LogMessages::new(&log, other));
+    let mut publisher = Publisher::new(SESSION, LogMessages::new(&log, reader), 0);
+    assert!(rt; publisher.turn(0).is_none());
+    publish(&log, &mut writer, &numbered(rt.alloc(), 0, 40)?)?;
+    expect_answers(&rt, &mut server)?;
+    expect_turns(&rt, &mut publisher)
+}
+
+#[test]
+fn a_receipt_is_sent_to_its_end(rt: HostRuntime) -> Result<(), Fail> {
+    let (log, mut writer, reader) = Log::new(rt.alloc(), 40)?;
+    let mut publisher = Publisher::new(SESSION, LogMessages::new(&log, reader), 0);
+    publish(&log, &mut writer, &numbered(rt.alloc(), 0, 40)?)?;
+    publisher.learn(writer.receipt(&log));
+    expect_turns(&rt, &mut publisher)
 }
 
 #[test]
@@ -54,38 +150,5 @@ fn messages_of_a_list(rt: HostRuntime) -> Result<(), Fail> {
     };
     let packet = answer(SESSION, &mut messages, &request).ok_or("an answer")?;
     assert_eq!(rt; packet.len(), 58);
-    Ok(())
-}
-
-#[test]
-fn turns_of_a_publisher(rt: HostRuntime) -> Result<(), Fail> {
-    let alloc = rt.alloc();
-    let first = first_packet(alloc)?;
-    let last = last_packet(alloc)?;
-    let pulse = b"HX00000001\0\0\0\0\0\0\0\x29\0\0".as_slice();
-    let mut publisher = Publisher::new(SESSION, ListMessages::new(alloc), 0);
-    publisher.append(&numbered(alloc, 0, 40)?)?;
-    assert_eq!(rt;
-        publisher.turn(0).ok_or("data")?.as_slice(),
-        first.as_slice()
-    );
-    assert_eq!(rt;
-        publisher.turn(0).ok_or("data")?.as_slice(),
-        last.as_slice()
-    );
-    assert!(rt; publisher.turn(0).is_none());
-    assert!(rt; publisher.turn(999_999_999).is_none());
-    assert_eq!(rt;
-        publisher
-            .turn(1_000_000_000)
-            .ok_or("a heartbeat")?
-            .as_slice(),
-        pulse
-    );
-    assert_eq!(rt; publisher.turn(5).ok_or("a heartbeat")?.as_slice(), pulse);
-    assert_eq!(rt;
-        publisher.end().as_slice(),
-        b"HX00000001\0\0\0\0\0\0\0\x29\xff\xff".as_slice()
-    );
     Ok(())
 }
