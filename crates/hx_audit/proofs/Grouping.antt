@@ -7,7 +7,8 @@ use Rattle.std.proofs.lemmas.List.{map-append}
 use Rattle.indexmap.specs.IndexMap.{insert_entry}
 use Rattle.hx_units.specs.Names.{is_token}
 use Rattle.hx_units.specs.declared.names.Token.{Token}
-use Rattle.hx_members.proofs.ChainLaws.{same_bools, same_token, is_token-itself}
+use Rattle.hx_members.proofs.ChainLaws.{same_token, is_token-itself}
+use Rattle.hx_units.proofs.Booleans.{same_bools}
 use Rattle.hx_audit.specs.Listing.{Use, use_of, tokens_in, each_once, grouped}
 use Rattle.hx_audit.specs.Finding.{with_use}
 

@@ -7,6 +7,10 @@ use Rattle.hx_blog.specs.Feed.{Entries, feed}
 abbrev pub LogId : Type 0
 LogId = TableId
 
+-- the most messages that a log may have room for
+abbrev pub most_room : ℕ
+most_room = 1000000
+
 -- how many messages a log has room for: it has a count word, and six words a message
 abbrev pub room_of : LogId → ℕ
 room_of log = (log.words - 1) / 6
@@ -17,7 +21,8 @@ pub record WriterState (E : Type 0) : Type 0 where
   pub published : Entries E
   pub staged : List (List ℕ)
 
--- A reader: its log, the entries that it knows, the count that it has seen, how many messages it has read, and how often it loaded the count.
+-- A reader: its log, the entries that it knows, the count that it has seen, how many messages it has read, and how often
+-- it loaded the count.
 pub record ReaderState (E : Type 0) : Type 0 where
   pub log : LogId
   pub known : Entries E

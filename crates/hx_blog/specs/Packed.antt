@@ -2,24 +2,31 @@
 use Rattle.std.specs.Prelude.{ℕ, ◌-◌, ◌<◌, ◌≤◌, List, [], ◌∷◌, ◌++◌, All, length, take, drop, replicate}
 use Rattle.std.specs.Int.{w64, from_be_bytes}
 
+-- one byte
 abbrev pub IsByte : ℕ → Type 0
 IsByte b = b < 256
 
--- What the log takes as a message: at most 44 bytes, the length of the feed's longest message (TotalView-ITCH 5.0, Trade Message).
+-- the bytes of the feed's longest message (ITCH 5.0, Trade Message)
+abbrev pub longest : ℕ
+longest = 44
+
+-- What the log takes as a message.
 abbrev pub IsMessage : List ℕ → Type 0
-IsMessage m = (length m ≤ 44) × All IsByte m
+IsMessage m = (length m ≤ longest) × All IsByte m
 
 -- the 48 bytes that stand for a message: its length, its bytes, and zeros
 abbrev pub padded : List ℕ → List ℕ
 padded m = length m ∷ (m ++ replicate (47 - length m) 0)
 
 -- the eight bytes from byte k on as a number, the most significant byte first
-unfoldable pub word_at : List ℕ → ℕ → ℕ
+unfoldable pub word_at : (bytes : List ℕ) → (k : ℕ) → ℕ
 word_at bytes k = from_be_bytes w64 (take 8 (drop k bytes))
 
 -- the six words that stand for a message
 unfoldable pub packed : List ℕ → List ℕ
-packed m = word_at (padded m) 0 ∷ word_at (padded m) 8 ∷ word_at (padded m) 16 ∷ word_at (padded m) 24 ∷ word_at (padded m) 32 ∷ word_at (padded m) 40 ∷ []
+packed m =
+    word_at (padded m) 0 ∷ word_at (padded m) 8 ∷ word_at (padded m) 16 ∷ word_at (padded m) 24
+    ∷ word_at (padded m) 32 ∷ word_at (padded m) 40 ∷ []
 
 -- the words of several messages, in order
 abbrev pub words_of : List (List ℕ) → List ℕ

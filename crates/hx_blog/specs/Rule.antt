@@ -10,7 +10,8 @@ use Rattle.hx_blog.specs.declared.view.View.{View}
 
 module _ {E : Type 0} where
   -- What a seat knows is a beginning of what is published, and so is what it was just told; it has read at most the messages that it knows; and no seat but the writer's is a writer's.
-  pub record KnowsABeginning (room writer : ℕ) (published : Entries E) (seat : ℕ) (v : View E) : Type 0 where
+  pub record KnowsABeginning (room writer : ℕ) (published : Entries E) (seat : ℕ) (v : View E)
+      : Type 0 where
     pub room_is : v.room ≡ room
     pub known : IsPrefix v.known published
     pub told : IsPrefix v.told published
@@ -24,10 +25,12 @@ module _ {E : Type 0} where
     pub live : w.gone ≡ false
     pub writes : w.writes ≡ true
     pub unused : List ℕ
-    pub words : s.words ≡ length (feed w.known) ∷ (words_of (feed w.known ++ w.staged) ++ (w.begun ++ unused))
+    pub words : s.words ≡ length (feed w.known)
+        ∷ (words_of (feed w.known ++ w.staged) ++ (w.begun ++ unused))
     pub word_count : length s.words ≡ 6 * room + 1
     pub messages : All IsMessage (feed w.known ++ w.staged)
-    pub seats : (seat : ℕ) (v : View E) → get_elem? s.views seat ≡ some v → v.gone ≡ false → KnowsABeginning room writer w.known seat v
+    pub seats : (seat : ℕ) (v : View E) → get_elem? s.views seat ≡ some v → v.gone ≡ false
+        → KnowsABeginning room writer w.known seat v
 
   -- The rule of the log with room for so many messages: some seat is the writer's, and the words and all seats agree with it.
   abbrev pub RuleOfTheLog : ℕ → LogState E → Type 0

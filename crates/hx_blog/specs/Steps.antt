@@ -16,11 +16,13 @@ module _ {E : Type 0} where
 
   -- The same, where the word is the last one of this message: the message is staged.
   abbrev pub StoresLastWord : List ℕ → Step (Unit {0}) → SeatState E → ℕ → SeatState E → Type 0
-  StoresLastWord message step old word new = new ≡ (record old.0 { staged = old.0.staged ++ message ∷ []; begun = [] }, old.1)
+  StoresLastWord message step old word new =
+      new ≡ (record old.0 { staged = old.0.staged ++ message ∷ []; begun = [] }, old.1)
 
   -- Second kind: the writer stores the count, also where it stays the same. This entry is published, and nothing is staged any more. It is the one step of an event.
   abbrev pub StoresCount : Entries E → Step (Unit {0}) → SeatState E → ℕ → SeatState E → Type 0
-  StoresCount entry step old count new = new ≡ (record old.0 { known = old.0.known ++ entry; staged = [] }, old.1)
+  StoresCount entry step old count new =
+      new ≡ (record old.0 { known = old.0.known ++ entry; staged = [] }, old.1)
 
   -- The readers' pass
 
@@ -28,11 +30,14 @@ module _ {E : Type 0} where
   abbrev pub LoadsCount : Step (Unit {0}) → SeatState E → ℕ → SeatState E → Type 0
   LoadsCount step old count new =
       (new ≡ (record old.0 { known = new.0.known; loads = old.0.loads + 1 }, old.1))
-      × IsPrefix old.0.known new.0.known × (count ≡ length (feed new.0.known)) × (count ≤ old.0.room)
+      × IsPrefix old.0.known new.0.known × (count ≡ length (feed new.0.known))
+      × (count ≤ old.0.room)
 
   -- The word that is loaded is the one that stands there in the feed that the seat knows, whose messages are messages of the log.
   abbrev pub IsWordOfFeed : Step (Unit {0}) → SeatState E → ℕ → Type 0
-  IsWordOfFeed step old word = (word ≡ slice_index (words_of (feed old.0.known)) (step.word - 1)) × All IsMessage (feed old.0.known)
+  IsWordOfFeed step old word =
+      (word ≡ slice_index (words_of (feed old.0.known)) (step.word - 1))
+      × All IsMessage (feed old.0.known)
 
   -- Fourth kind: a reader loads a word below the count that it has seen. It is the word of the feed that it knows.
   abbrev pub LoadsWord : Step (Unit {0}) → SeatState E → ℕ → SeatState E → Type 0
@@ -40,7 +45,8 @@ module _ {E : Type 0} where
 
   -- The same, where the word is the last one of the next message: the reader has read one message more.
   abbrev pub LoadsLastWord : Step (Unit {0}) → SeatState E → ℕ → SeatState E → Type 0
-  LoadsLastWord step old word new = (new ≡ (record old.0 { read = old.0.read + 1 }, old.1)) × IsWordOfFeed step old word
+  LoadsLastWord step old word new =
+      (new ≡ (record old.0 { read = old.0.read + 1 }, old.1)) × IsWordOfFeed step old word
 
   -- The seats' pass
 
@@ -56,8 +62,10 @@ module _ {E : Type 0} where
   abbrev pub Learns : Step (Unit {0}) → SeatState E → ℕ → SeatState E → Type 0
   Learns step old count new =
       (new ≡ (record old.0 { known = new.0.known; told = [] }, old.1))
-      × IsPrefix old.0.known new.0.known × IsPrefix old.0.told new.0.known × ((new.0.known ≡ old.0.known) ⊎ (new.0.known ≡ old.0.told))
+      × IsPrefix old.0.known new.0.known × IsPrefix old.0.told new.0.known
+      × ((new.0.known ≡ old.0.known) ⊎ (new.0.known ≡ old.0.told))
 
   -- The writer compares the lists: what it was told is a beginning of what it published.
   abbrev pub Confirms : Step (Unit {0}) → SeatState E → ℕ → SeatState E → Type 0
-  Confirms step old count new = (new ≡ (record old.0 { told = [] }, old.1)) × IsPrefix old.0.told old.0.known
+  Confirms step old count new =
+      (new ≡ (record old.0 { told = [] }, old.1)) × IsPrefix old.0.told old.0.known

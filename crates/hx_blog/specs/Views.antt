@@ -1,7 +1,7 @@
 -- What the seats of a log know. A seat stands for an end of the log: the writer, a reader or a receipt.
 use Rattle.std.specs.Prelude.{◌≡◌, ℕ, ◌+◌, ◌*◌, ◌≤◌, List, [], length, true, false}
 use Rattle.atomic_table.specs.Table.{State, Me}
-use Rattle.hx_blog.specs.Ends.{LogId}
+use Rattle.hx_blog.specs.Ends.{LogId, most_room}
 use Rattle.hx_blog.specs.Feed.{Entries, feed}
 use Rattle.hx_blog.specs.declared.view.View.{View}
 
@@ -15,16 +15,29 @@ SeatState E = Me (Unit {0}) (View E)
 
 module _ {E : Type 0} where
   -- the writer's view
-  abbrev pub writing : ℕ → Entries E → List (List ℕ) → List ℕ → View E
-  writing room known staged begun = record { gone = false; writes = true; room = room; known = known; told = []; staged = staged; begun = begun; read = 0; loads = 0 }
+  abbrev pub writing : (room : ℕ) → (known : Entries E) → (staged : List (List ℕ)) → (begun : List ℕ)
+      → View E
+  writing room known staged begun =
+      record {
+        gone = false; writes = true; room = room; known = known; told = [];
+        staged = staged; begun = begun; read = 0; loads = 0;
+      }
 
   -- the view of a reader, or of a receipt, which has read nothing and loaded nothing
-  abbrev pub reading : ℕ → Entries E → ℕ → ℕ → View E
-  reading room known read loads = record { gone = false; writes = false; room = room; known = known; told = []; staged = []; begun = []; read = read; loads = loads }
+  abbrev pub reading : (room : ℕ) → (known : Entries E) → (read loads : ℕ) → View E
+  reading room known read loads =
+      record {
+        gone = false; writes = false; room = room; known = known; told = [];
+        staged = []; begun = []; read = read; loads = loads;
+      }
 
   -- the view of a seat that was joined into another
   abbrev pub spent : View E
-  spent = record { gone = true; writes = false; room = 0; known = []; told = []; staged = []; begun = []; read = 0; loads = 0 }
+  spent =
+      record {
+        gone = true; writes = false; room = 0; known = []; told = [];
+        staged = []; begun = []; read = 0; loads = 0;
+      }
 
   -- the writer's seat between two calls: no message is begun
   abbrev pub IsWriting : SeatState E → Type 0
@@ -38,7 +51,7 @@ module _ {E : Type 0} where
   pub record KeepsWriting (log : LogId) (me : SeatState E) (count staged : ℕ) : Type 0 where
     pub writing : IsWriting me
     pub words : log.words ≡ 6 * me.0.room + 1
-    pub limit : me.0.room ≤ 1000000
+    pub limit : me.0.room ≤ most_room
     pub published : count ≡ length (feed me.0.known)
     pub above : staged ≡ length me.0.staged
     pub room : count + staged ≤ me.0.room
@@ -47,7 +60,7 @@ module _ {E : Type 0} where
   pub record KeepsReading (log : LogId) (me : SeatState E) (seen read : ℕ) : Type 0 where
     pub reading : IsReading me
     pub words : log.words ≡ 6 * me.0.room + 1
-    pub limit : me.0.room ≤ 1000000
+    pub limit : me.0.room ≤ most_room
     pub has_read : read ≡ me.0.read
     pub in_order : read ≤ seen
     pub known : seen ≤ length (feed me.0.known)

@@ -1,4 +1,5 @@
 //! The readers' pass: they load the count, and words below the count that they have seen.
+ghost use Rattle.hx_blog.specs.Ends.{most_room};
 ghost use Rattle.std.specs.Prelude.{◌≡◌, ℕ, ◌+◌, ◌*◌, ◌<◌, ◌≤◌, [], length, slice_get, slice_index, slice_index_or, Some};
 ghost use mathlib.Core.List.{IsPrefix};
 ghost use Rattle.hx_blog.specs.Packed.{IsMessage, packed};
@@ -41,7 +42,9 @@ pub(crate) fn load_count<E>(table: &LogTable<E>, seat: &mut LogSeat<E>) -> u64
     requires sized { table.now.shared.table_id.words ≡ 6 * table.now.shared.key + 1 }
     requires reading { IsReading seat.old.me }
     ensures log { seat.new.table_id ≡ seat.old.table_id }
-    ensures loaded { seat.new.me ≡ (reading seat.old.me.0.room seat.new.me.0.known seat.old.me.0.read (seat.old.me.0.loads + 1), []) }
+    ensures loaded { seat.new.me
+        ≡ (reading seat.old.me.0.room seat.new.me.0.known seat.old.me.0.read
+        (seat.old.me.0.loads + 1), []) }
     ensures known { IsPrefix seat.old.me.0.known seat.new.me.0.known }
     ensures count { result ≡ length (feed seat.new.me.0.known) }
     ensures within { result ≤ seat.old.me.0.room }
@@ -55,9 +58,10 @@ fn load_front<E>(table: &LogTable<E>, seat: &mut LogSeat<E>, place: u64) -> [u64
     requires sized { table.now.shared.table_id.words ≡ 6 * seat.old.me.0.room + 1 }
     requires reading { IsReading seat.old.me }
     requires known { place < length (feed seat.old.me.0.known) }
-    requires room { (place < seat.old.me.0.room) × (seat.old.me.0.room ≤ 1000000) }
+    requires room { (place < seat.old.me.0.room) × (seat.old.me.0.room ≤ most_room) }
     ensures same { (seat.new.table_id ≡ seat.old.table_id) × (seat.new.me ≡ seat.old.me) }
-    ensures words { (k : ℕ) → k < 5 → slice_index result k ≡ slice_index (packed (slice_index_or (feed seat.old.me.0.known) place [])) k }
+    ensures words { (k : ℕ) → k < 5 → slice_index result k
+        ≡ slice_index (packed (slice_index_or (feed seat.old.me.0.known) place [])) k }
     ensures length { length result ≡ 6 }
 {
     let mut words = [0; 6];
@@ -78,7 +82,7 @@ pub(crate) fn load_message<E>(
     requires sized { table.now.shared.table_id.words ≡ 6 * seat.old.me.0.room + 1 }
     requires reading { IsReading seat.old.me }
     requires known { place < length (feed seat.old.me.0.known) }
-    requires room { (place < seat.old.me.0.room) × (seat.old.me.0.room ≤ 1000000) }
+    requires room { (place < seat.old.me.0.room) × (seat.old.me.0.room ≤ most_room) }
     ensures same { (seat.new.table_id ≡ seat.old.table_id) × (seat.new.me ≡ seat.old.me) }
     ensures message { slice_get (feed seat.old.me.0.known) place ≡ Some result.items }
 {
@@ -98,9 +102,10 @@ pub(crate) fn load_next_message<E>(
     requires reading { IsReading seat.old.me }
     requires read { read ≡ seat.old.me.0.read }
     requires known { read < length (feed seat.old.me.0.known) }
-    requires room { (read < seat.old.me.0.room) × (seat.old.me.0.room ≤ 1000000) }
+    requires room { (read < seat.old.me.0.room) × (seat.old.me.0.room ≤ most_room) }
     ensures log { seat.new.table_id ≡ seat.old.table_id }
-    ensures read { seat.new.me ≡ (reading seat.old.me.0.room seat.old.me.0.known (read + 1) seat.old.me.0.loads, []) }
+    ensures read { seat.new.me ≡ (reading seat.old.me.0.room seat.old.me.0.known
+        (read + 1) seat.old.me.0.loads, []) }
     ensures message { slice_get (feed seat.old.me.0.known) read ≡ Some result.items }
 {
     let mut words = load_front(table, seat, read);

@@ -1,6 +1,6 @@
 //! The log itself.
 ghost use Rattle.std.specs.Prelude.{◌≡◌, ◌+◌, ◌*◌, ◌≤◌, [], replicate, IfOk};
-ghost use Rattle.hx_blog.specs.Ends.{room_of};
+ghost use Rattle.hx_blog.specs.Ends.{room_of, most_room};
 ghost use Rattle.hx_blog.specs.Views.{writing};
 
 use crate::reader::Reader;
@@ -23,7 +23,7 @@ pub struct Log<E> {
 impl<E> Model for Log<E> {
     ghost use Rattle.std.specs.Prelude.{◌≡◌, ◌+◌, ◌*◌, ◌≤◌};
     ghost use Rattle.atomic_table.specs.Seated.{table_id_coded};
-    ghost use Rattle.hx_blog.specs.Ends.{LogId};
+    ghost use Rattle.hx_blog.specs.Ends.{LogId, most_room};
 
     ghost Value = { LogId };
 
@@ -34,17 +34,19 @@ impl<E> Model for Log<E> {
     ghost invariant = { λ l.
         (l.table.shared.key ≡ l.capacity)
         × (l.table.shared.table_id.words ≡ 6 * l.capacity + 1)
-        × (l.capacity ≤ 1000000) };
+        × (l.capacity ≤ most_room) };
 }
 
 impl<E> Log<E> {
     /// A log with room for so many messages, 1 to 1,000,000, its writer, and a reader that knows nothing. It
     /// takes 48 bytes a message, and for a moment twice as much.
     pub fn new(alloc: Global, capacity: u64) -> Result<(Log<E>, Writer<E>, Reader<E>), NoMemory>
-        requires { (1 ≤ capacity) × (capacity ≤ 1000000) }
+        requires { (1 ≤ capacity) × (capacity ≤ most_room) }
         ensures room { IfOk result (λ ends. room_of ends.0 ≡ capacity) }
-        ensures writer { IfOk result (λ ends. ends.1 ≡ record { log = ends.0; published = []; staged = [] }) }
-        ensures reader { IfOk result (λ ends. ends.2 ≡ record { log = ends.0; known = []; seen = 0; read = 0; loads = 0 }) }
+        ensures writer { IfOk result
+            (λ ends. ends.1 ≡ record { log = ends.0; published = []; staged = [] }) }
+        ensures reader { IfOk result
+            (λ ends. ends.2 ≡ record { log = ends.0; known = []; seen = 0; read = 0; loads = 0 }) }
     {
         let words = zeros(alloc, 6 * capacity as usize + 1)?;
         let (table, seat) = Table::of_words(alloc, words.as_slice(), &capacity)?;
@@ -65,13 +67,15 @@ fn opened<E>(
     mut seat: LogSeat<E>,
     capacity: u64,
 ) -> (Log<E>, Writer<E>, Reader<E>)
-    requires room { (table.shared.key ≡ capacity) × (capacity ≤ 1000000) }
+    requires room { (table.shared.key ≡ capacity) × (capacity ≤ most_room) }
     requires sized { table.shared.table_id.words ≡ 6 * capacity + 1 }
     requires log { seat.table_id ≡ table.shared.table_id }
     requires writing { seat.me ≡ (writing capacity [] [] [], []) }
     ensures log { result.0 ≡ table.shared.table_id }
-    ensures writer { result.1 ≡ record { log = table.shared.table_id; published = []; staged = [] } }
-    ensures reader { result.2 ≡ record { log = table.shared.table_id; known = []; seen = 0; read = 0; loads = 0 } }
+    ensures writer { result.1 ≡ record { log = table.shared.table_id; published = [];
+        staged = [] } }
+    ensures reader { result.2 ≡ record { log = table.shared.table_id; known = []; seen = 0;
+        read = 0; loads = 0 } }
 {
     let first = split_off(&table, &mut seat);
     (

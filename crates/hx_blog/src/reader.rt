@@ -28,7 +28,8 @@ impl<E> Model for Reader<E> {
 
     ghost Value = { ReaderState E };
 
-    ghost view = { λ r. record { log = r.seat.table_id; known = r.seat.me.0.known; seen = r.seen; read = r.read; loads = r.seat.me.0.loads } };
+    ghost view = { λ r. record { log = r.seat.table_id; known = r.seat.me.0.known; seen = r.seen;
+        read = r.read; loads = r.seat.me.0.loads } };
 
     ghost invariant = { λ r. KeepsReading r.seat.table_id r.seat.me r.seen r.read };
 }
@@ -51,7 +52,8 @@ impl<E> Reader<E> {
     /// How many messages were read by `next`.
     pub fn read_so_far(&self) -> u64
         ensures read { result ≡ self.now.read }
-        ensures within { (self.now.read ≤ self.now.seen) × (self.now.seen ≤ length (feed self.now.known)) }
+        ensures within { (self.now.read ≤ self.now.seen)
+            × (self.now.seen ≤ length (feed self.now.known)) }
     {
         self.read
     }
@@ -61,7 +63,9 @@ impl<E> Reader<E> {
         requires { self.old.log ≡ log.now }
         ensures same { self.new ≡ self.old }
         ensures within { self.old.seen ≤ length (feed self.old.known) }
-        ensures message { MatchOption result ((n ≡ 0) ⊎ (self.old.seen < n)) (λ m. (1 ≤ n) × (n ≤ self.old.seen) × (slice_get (feed self.old.known) (n - 1) ≡ Some m.items)) }
+        ensures message { MatchOption result ((n ≡ 0) ⊎ (self.old.seen < n))
+            (λ m. (1 ≤ n) × (n ≤ self.old.seen)
+            × (slice_get (feed self.old.known) (n - 1) ≡ Some m.items)) }
     {
         if n == 0 || self.seen < n {
             return None;
@@ -75,13 +79,19 @@ impl<E> Reader<E> {
         requires { self.old.log ≡ log.now }
         ensures log { self.new.log ≡ self.old.log }
         ensures known { IsPrefix self.old.known self.new.known }
-        ensures some { IfSome result (λ m. (slice_get (feed self.new.known) self.old.read ≡ Some m.items) × (self.new.read ≡ self.old.read + 1)) }
-        ensures none { IfNone result ((self.old.read ≡ self.old.seen) × (self.new.read ≡ self.old.read) × (length (feed self.new.known) ≡ self.old.read)) }
-        ensures got { MatchOption result (got self.new ≡ got self.old) (λ m. got self.new ≡ got self.old ++ m.items ∷ []) }
+        ensures some { IfSome result
+            (λ m. (slice_get (feed self.new.known) self.old.read ≡ Some m.items)
+            × (self.new.read ≡ self.old.read + 1)) }
+        ensures none { IfNone result ((self.old.read ≡ self.old.seen)
+            × (self.new.read ≡ self.old.read) × (length (feed self.new.known) ≡ self.old.read)) }
+        ensures got { MatchOption result (got self.new ≡ got self.old)
+            (λ m. got self.new ≡ got self.old ++ m.items ∷ []) }
 
         // It loads the count only where there is no message left below the count seen.
-        ensures left { self.old.read < self.old.seen → (self.new.known ≡ self.old.known) × (self.new.seen ≡ self.old.seen) × (self.new.loads ≡ self.old.loads) }
-        ensures loaded { self.old.read ≡ self.old.seen → (self.new.seen ≡ length (feed self.new.known)) × (self.new.loads ≡ self.old.loads + 1) }
+        ensures left { self.old.read < self.old.seen → (self.new.known ≡ self.old.known)
+            × (self.new.seen ≡ self.old.seen) × (self.new.loads ≡ self.old.loads) }
+        ensures loaded { self.old.read ≡ self.old.seen →
+            (self.new.seen ≡ length (feed self.new.known)) × (self.new.loads ≡ self.old.loads + 1) }
     {
         if self.read == self.seen && self.look(log) == self.read {
             return None;
@@ -147,7 +157,8 @@ impl<E> Reader<E> {
         requires writer { writer.old.log ≡ log.now }
         ensures writer { writer.new ≡ writer.old }
         ensures begins { IsPrefix self.old.known writer.old.published }
-        ensures reader { self.new ≡ record { log = self.old.log; known = writer.old.published; seen = self.new.seen; read = self.old.read; loads = self.old.loads + 1 } }
+        ensures reader { self.new ≡ record { log = self.old.log; known = writer.old.published;
+            seen = self.new.seen; read = self.old.read; loads = self.old.loads + 1 } }
         ensures count { self.new.seen ≡ length (feed writer.old.published) }
         ensures got { got self.new ≡ got self.old }
     {

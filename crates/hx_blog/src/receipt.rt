@@ -1,4 +1,5 @@
 //! Receipts, which tell others what their maker knew.
+ghost use Rattle.hx_blog.specs.Ends.{most_room};
 ghost use Rattle.std.specs.Prelude.{◌≡◌, ◌⊎◌, ◌+◌, ◌*◌, ◌≤◌};
 ghost use mathlib.Core.List.{IsPrefix};
 
@@ -17,7 +18,7 @@ pub struct Receipt<E> {
 
 impl<E> Model for Receipt<E> {
     ghost use Rattle.std.specs.Prelude.{◌≡◌, ◌+◌, ◌*◌, ◌≤◌};
-    ghost use Rattle.hx_blog.specs.Ends.{ReceiptState};
+    ghost use Rattle.hx_blog.specs.Ends.{ReceiptState, most_room};
     ghost use Rattle.hx_blog.specs.Views.{IsReading};
 
     ghost Value = { ReceiptState E };
@@ -27,7 +28,7 @@ impl<E> Model for Receipt<E> {
     ghost invariant = { λ r.
         IsReading r.seat.me
         × (r.seat.table_id.words ≡ 6 * r.seat.me.0.room + 1)
-        × (r.seat.me.0.room ≤ 1000000) };
+        × (r.seat.me.0.room ≤ most_room) };
 }
 
 impl<E> Receipt<E> {

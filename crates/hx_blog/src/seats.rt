@@ -59,14 +59,17 @@ pub(crate) fn split_off<E>(table: &LogTable<E>, seat: &mut LogSeat<E>) -> LogSea
 
 /// Joins a reader's or a receipt's seat into another one's, which knows from then on what either knew.
 pub(crate) fn tell_reader<E>(table: &LogTable<E>, seat: &mut LogSeat<E>, other: LogSeat<E>)
-    requires log { (seat.old.table_id ≡ table.now.shared.table_id) × (other.table_id ≡ table.now.shared.table_id) }
+    requires log { (seat.old.table_id ≡ table.now.shared.table_id)
+        × (other.table_id ≡ table.now.shared.table_id) }
     requires sized { table.now.shared.table_id.words ≡ 6 * table.now.shared.key + 1 }
     requires reading { IsReading seat.old.me × IsReading other.me }
     ensures log { seat.new.table_id ≡ seat.old.table_id }
-    ensures same { seat.new.me ≡ (reading seat.old.me.0.room seat.new.me.0.known seat.old.me.0.read seat.old.me.0.loads, []) }
+    ensures same { seat.new.me
+        ≡ (reading seat.old.me.0.room seat.new.me.0.known seat.old.me.0.read seat.old.me.0.loads, []) }
     ensures known { IsPrefix seat.old.me.0.known seat.new.me.0.known }
     ensures told { IsPrefix other.me.0.known seat.new.me.0.known }
-    ensures longer { (seat.new.me.0.known ≡ seat.old.me.0.known) ⊎ (seat.new.me.0.known ≡ other.me.0.known) }
+    ensures longer { (seat.new.me.0.known ≡ seat.old.me.0.known)
+        ⊎ (seat.new.me.0.known ≡ other.me.0.known) }
 {
     table.shared.join_seat::<Tell>(seat, other);
     table.shared.load::<Learn>(seat, 0);
@@ -74,7 +77,8 @@ pub(crate) fn tell_reader<E>(table: &LogTable<E>, seat: &mut LogSeat<E>, other: 
 
 /// Joins a reader's or a receipt's seat into the writer's. What it knew is a beginning of what is published.
 pub(crate) fn tell_writer<E>(table: &LogTable<E>, seat: &mut LogSeat<E>, other: LogSeat<E>)
-    requires log { (seat.old.table_id ≡ table.now.shared.table_id) × (other.table_id ≡ table.now.shared.table_id) }
+    requires log { (seat.old.table_id ≡ table.now.shared.table_id)
+        × (other.table_id ≡ table.now.shared.table_id) }
     requires sized { table.now.shared.table_id.words ≡ 6 * table.now.shared.key + 1 }
     requires writing { IsWriting seat.old.me }
     requires reading { IsReading other.me }

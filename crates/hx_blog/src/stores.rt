@@ -1,4 +1,5 @@
 //! The writer's pass: it stores words above the count, and then the count.
+ghost use Rattle.hx_blog.specs.Ends.{most_room};
 ghost use Rattle.std.specs.Prelude.{◌≡◌, suc, ◌+◌, ◌*◌, ◌<◌, ◌≤◌, ◌++◌, ◌∷◌, [], length};
 ghost use Rattle.hx_blog.specs.Packed.{IsMessage, packed};
 ghost use Rattle.hx_blog.specs.Feed.{feed};
@@ -73,12 +74,15 @@ pub(crate) fn store_message<E, N: NamesMessage>(
     requires log { seat.old.table_id ≡ table.now.shared.table_id }
     requires sized { table.now.shared.table_id.words ≡ 6 * table.now.shared.key + 1 }
     requires writing { IsWriting seat.old.me }
-    requires behind { first ≡ suc (6 * (length (feed seat.old.me.0.known) + length seat.old.me.0.staged)) }
-    requires room { (first + 5 < table.now.shared.table_id.words) × (table.now.shared.key ≤ 1000000) }
+    requires behind { first
+        ≡ suc (6 * (length (feed seat.old.me.0.known) + length seat.old.me.0.staged)) }
+    requires room { (first + 5 < table.now.shared.table_id.words)
+        × (table.now.shared.key ≤ most_room) }
     requires words { words.now ≡ packed N.message }
     requires message { IsMessage N.message }
     ensures log { seat.new.table_id ≡ seat.old.table_id }
-    ensures staged { seat.new.me ≡ (writing seat.old.me.0.room seat.old.me.0.known (seat.old.me.0.staged ++ N.message ∷ []) [], []) }
+    ensures staged { seat.new.me ≡ (writing seat.old.me.0.room seat.old.me.0.known
+        (seat.old.me.0.staged ++ N.message ∷ []) [], []) }
 {
     for k in 0..5 {
         table.shared.store::<StoreWord>(seat, first + k, words[k]);
@@ -100,7 +104,8 @@ pub(crate) fn store_count<E, N: NamesEntry<E>>(
     requires count { count ≡ length (feed seat.old.me.0.known) + length seat.old.me.0.staged }
     requires entry { feed N.entry ≡ seat.old.me.0.staged }
     ensures log { seat.new.table_id ≡ seat.old.table_id }
-    ensures published { seat.new.me ≡ (writing seat.old.me.0.room (seat.old.me.0.known ++ N.entry) [] [], []) }
+    ensures published { seat.new.me ≡ (writing seat.old.me.0.room
+        (seat.old.me.0.known ++ N.entry) [] [], []) }
 {
     table.shared.store::<StoreCount<N>>(seat, 0, count);
 }

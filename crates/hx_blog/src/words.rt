@@ -1,12 +1,12 @@
 //! A message as six words: its length, its bytes and zeros, eight bytes a word, the most significant first.
 ghost use Rattle.std.specs.Prelude.{◌≡◌, ℕ, ◌+◌, ◌*◌, ◌<◌, ◌≤◌, List, length, slice_index};
-ghost use Rattle.hx_blog.specs.Packed.{IsMessage, padded, packed, word_at};
+ghost use Rattle.hx_blog.specs.Packed.{longest, IsMessage, padded, packed, word_at};
 
 use arrayvec::ArrayVec;
 
 // Byte k of the 48 that stand for the message.
 fn padded_byte(message: &[u8], k: usize) -> u8
-    requires { (k < 48) × (length message.now ≤ 44) }
+    requires { (k < 48) × (length message.now ≤ longest) }
     ensures { result ≡ slice_index (padded message.now) k }
 {
     if k == 0 {
@@ -20,7 +20,7 @@ fn padded_byte(message: &[u8], k: usize) -> u8
 
 // The word of the eight bytes from byte k on.
 fn padded_word(message: &[u8], k: usize) -> u64
-    requires { (k ≤ 40) × (length message.now ≤ 44) }
+    requires { (k ≤ 40) × (length message.now ≤ longest) }
     ensures { result ≡ word_at (padded message.now) k }
 {
     u64::from_be_bytes([
@@ -37,7 +37,7 @@ fn padded_word(message: &[u8], k: usize) -> u64
 
 /// The six words that stand for a message.
 pub(crate) fn pack(message: &[u8]) -> [u64; 6]
-    requires { length message.now ≤ 44 }
+    requires { length message.now ≤ longest }
     ensures words { result ≡ packed message.now }
     ensures message { IsMessage message.now }
 {
@@ -54,7 +54,8 @@ pub(crate) fn pack(message: &[u8]) -> [u64; 6]
 // Byte k of the 48 that the words hold.
 fn byte_of(words: &[u64; 6], k: usize) -> u8
     requires { k < 48 }
-    ensures { (m : List ℕ) → IsMessage m → words.now ≡ packed m → result ≡ slice_index (padded m) k }
+    ensures { (m : List ℕ) → IsMessage m → words.now ≡ packed m
+        → result ≡ slice_index (padded m) k }
 {
     words[k / 8].to_be_bytes()[k % 8]
 }

@@ -1,7 +1,7 @@
 //! The writer.
 ghost use Rattle.std.specs.Prelude.{◌≡◌, ◌+◌, ◌*◌, ◌<◌, ◌≤◌, ◌∷◌, ◌++◌, [], length, IsOk, OnOk, OnErr, ◌↔◌};
 ghost use mathlib.Core.List.{IsPrefix};
-ghost use Rattle.hx_blog.specs.Ends.{room_of};
+ghost use Rattle.hx_blog.specs.Ends.{room_of, most_room};
 ghost use Rattle.hx_blog.specs.Feed.{feed};
 
 use crate::log::Log;
@@ -34,7 +34,8 @@ impl<E> Model for Writer<E> {
 
     ghost Value = { WriterState E };
 
-    ghost view = { λ w. record { log = w.seat.table_id; published = w.seat.me.0.known; staged = w.seat.me.0.staged } };
+    ghost view = { λ w. record { log = w.seat.table_id; published = w.seat.me.0.known;
+        staged = w.seat.me.0.staged } };
 
     ghost invariant = { λ w. KeepsWriting w.seat.table_id w.seat.me w.count w.staged };
 }
@@ -43,7 +44,8 @@ impl<E> Writer<E> {
     /// How many more messages can be staged.
     pub fn free(&self, log: &Log<E>) -> u64
         requires { self.now.log ≡ log.now }
-        ensures { result + length (feed self.now.published) + length self.now.staged ≡ room_of log.now }
+        ensures { result + length (feed self.now.published) + length self.now.staged
+            ≡ room_of log.now }
     {
         log.capacity - self.count - self.staged
     }
@@ -51,7 +53,7 @@ impl<E> Writer<E> {
     /// How many messages are published, at most 1,000,000.
     pub fn count(&self) -> u64
         ensures messages { result ≡ length (feed self.now.published) }
-        ensures limit { result ≤ 1000000 }
+        ensures limit { result ≤ most_room }
     {
         self.count
     }
@@ -60,9 +62,11 @@ impl<E> Writer<E> {
     /// free, and then nothing changes.
     pub fn stage(&mut self, log: &Log<E>, message: &ArrayVec<u8, 44>) -> Result<(), Full>
         requires { self.old.log ≡ log.now }
-        ensures ok { OnOk result (self.new ≡ record self.old { staged = self.old.staged ++ message.now.items ∷ [] }) }
+        ensures ok { OnOk result
+            (self.new ≡ record self.old { staged = self.old.staged ++ message.now.items ∷ [] }) }
         ensures err { OnErr result (self.new ≡ self.old) }
-        ensures full { IsOk result ↔ (length (feed self.old.published) + length self.old.staged < room_of log.now) }
+        ensures full { IsOk result
+            ↔ (length (feed self.old.published) + length self.old.staged < room_of log.now) }
     {
         if self.free(log) == 0 {
             return Err(Full);
@@ -73,7 +77,8 @@ impl<E> Writer<E> {
 
     fn stage_as<N: NamesMessage>(&mut self, log: &Log<E>, message: &ArrayVec<u8, 44>)
         requires log { self.old.log ≡ log.now }
-        requires room { length (feed self.old.published) + length self.old.staged < room_of log.now }
+        requires room {
+            length (feed self.old.published) + length self.old.staged < room_of log.now }
         requires named { N.message ≡ message.now.items }
         ensures { self.new ≡ record self.old { staged = self.old.staged ++ N.message ∷ [] } }
     {
@@ -87,7 +92,8 @@ impl<E> Writer<E> {
     /// count, also where it stays. Contracts know the event; the log does not keep it.
     pub fn publish(&mut self, log: &Log<E>, event: &E)
         requires { self.old.log ≡ log.now }
-        ensures { self.new ≡ record { log = self.old.log; published = self.old.published ++ (event.now, self.old.staged) ∷ []; staged = [] } }
+        ensures { self.new ≡ record { log = self.old.log;
+            published = self.old.published ++ (event.now, self.old.staged) ∷ []; staged = [] } }
     {
         self.publish_as::<Brand>(log, event);
     }
@@ -95,7 +101,8 @@ impl<E> Writer<E> {
     fn publish_as<N: NamesEntry<E>>(&mut self, log: &Log<E>, event: &E)
         requires log { self.old.log ≡ log.now }
         requires named { N.entry ≡ (event.now, self.old.staged) ∷ [] }
-        ensures { self.new ≡ record { log = self.old.log; published = self.old.published ++ N.entry; staged = [] } }
+        ensures { self.new ≡ record { log = self.old.log; published = self.old.published ++ N.entry;
+            staged = [] } }
     {
         store_count::<E, N>(&log.table, &mut self.seat, self.count + self.staged);
         self.count += self.staged;

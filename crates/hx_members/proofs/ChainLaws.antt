@@ -1,6 +1,8 @@
 -- Laws of used tokens and chains: what the words of `Chains` say after a token is used, a chain begins, or one is noted.
 use Rattle.std.proofs.Common.{◌≡◌, ℕ, ◌+◌, ◌++◌, ◌∷◌, [], List, Bool, true, false, cond, ◌==◌, ◌&&◌, ◌||◌, nat_lt, zero, suc, Some, None, length, slice_get, if◌then◌else◌, refl, ap, sym, ◌∙◌, subst, arith}
-use Rattle.std.proofs.lemmas.Bool.{true≢false}
+use Rattle.std.proofs.lemmas.Bool.{true≢false, and_parts, and_from}
+use Rattle.std.proofs.Math.Bool.{or-false, or_assoc}
+use Rattle.hx_units.proofs.Booleans.{same_bools}
 use Rattle.std.proofs.lemmas.Bool.Decides.{Decides-eqb}
 use Rattle.std.proofs.lemmas.Slice.Eq.{bytes_eq-Decides}
 use Rattle.hx_units.specs.Names.{is_token}
@@ -10,26 +12,6 @@ use Rattle.hx_members.specs.Chains.{Used, Chain, is_use, is_used, entered_of, pl
 -- whether two names are the same
 abbrev pub is_same : ℕ → Token → ℕ → Token → Bool
 is_same a s b t = a == b && is_token s t
-
-pub and_parts : (a b : Bool) → (a && b) ≡ true → (a ≡ true) × (b ≡ true)
-and_parts true b h = (refl, h)
-and_parts false b h = absurd (true≢false (sym h))
-
-pub and_from : (a b : Bool) → a ≡ true → b ≡ true → (a && b) ≡ true
-and_from a b p q = ap (λ x. x && b) p ∙ q
-
-pub or_false : (b : Bool) → (b || false) ≡ b
-or_false true = refl
-or_false false = refl
-
-or_assoc : (a b c : Bool) → (a || (b || c)) ≡ ((a || b) || c)
-or_assoc true b c = refl
-or_assoc false b c = refl
-
-pub same_bools : (a b : Bool) → (a ≡ true → b ≡ true) → (b ≡ true → a ≡ true) → a ≡ b
-same_bools true b f g = sym (f refl)
-same_bools false true f g = g refl
-same_bools false false f g = refl
 
 pub same_token : (s t : Token) → is_token s t ≡ true → s ≡ t
 same_token s t h = let e : s.0 ≡ t.0 = (bytes_eq-Decides s.0 t.0).0 h in λ j. record { 0 = e j }
@@ -55,8 +37,8 @@ is_same-flip a s b t = same_bools (is_same a s b t) (is_same b t a s) (over a s 
 -- after a token is used
 
 pub is_used-pushed : (tokens : List Used) (u : Used) (m : ℕ) (t : Token) → is_used (tokens ++ u ∷ []) m t ≡ (is_used tokens m t || is_use m t u)
-is_used-pushed [] u m t = or_false (is_use m t u)
-is_used-pushed (v ∷ vs) u m t = ap (λ b. is_use m t v || b) (is_used-pushed vs u m t) ∙ or_assoc (is_use m t v) (is_used vs m t) (is_use m t u)
+is_used-pushed [] u m t = or-false (is_use m t u)
+is_used-pushed (v ∷ vs) u m t = ap (λ b. is_use m t v || b) (is_used-pushed vs u m t) ∙ sym (or_assoc (is_use m t v) (is_used vs m t) (is_use m t u))
 
 pub entered_of-pushed : (tokens : List Used) (u : Used) (m : ℕ) (t : Token) → is_used tokens m t ≡ true → entered_of (tokens ++ u ∷ []) m t ≡ entered_of tokens m t
 entered_of-pushed [] u m t h = absurd (true≢false (sym h))
@@ -139,8 +121,8 @@ slice_get-pushed (z ∷ zs) y (suc i) x h = slice_get-pushed zs y i x h
 -- after a chain begins
 
 pub has_chain-pushed : (chains : List Chain) (c : Chain) (m : ℕ) (e : Token) → has_chain (chains ++ c ∷ []) m e ≡ (has_chain chains m e || is_chain m e c)
-has_chain-pushed [] c m e = or_false (is_chain m e c)
-has_chain-pushed (d ∷ ds) c m e = ap (λ b. is_chain m e d || b) (has_chain-pushed ds c m e) ∙ or_assoc (is_chain m e d) (has_chain ds m e) (is_chain m e c)
+has_chain-pushed [] c m e = or-false (is_chain m e c)
+has_chain-pushed (d ∷ ds) c m e = ap (λ b. is_chain m e d || b) (has_chain-pushed ds c m e) ∙ sym (or_assoc (is_chain m e d) (has_chain ds m e) (is_chain m e c))
 
 pub executed_by-pushed : (chains : List Chain) (c : Chain) (m : ℕ) (e : Token) → has_chain chains m e ≡ true → executed_by (chains ++ c ∷ []) m e ≡ executed_by chains m e
 executed_by-pushed [] c m e h = absurd (true≢false (sym h))
@@ -222,7 +204,7 @@ plain : (a b x y : Bool) → (((a || x) || (b || y)) || false) ≡ (((a || b) ||
 plain a b x y = same-or (((a || x) || (b || y))) (((a || b) || false) || (x || y)) (mixed a b x y)
   where
     same-or : (p q : Bool) → p ≡ q → (p || false) ≡ q
-    same-or p q h = or_false p ∙ h
+    same-or p q h = or-false p ∙ h
 
     mixed : (a b x y : Bool) → ((a || x) || (b || y)) ≡ (((a || b) || false) || (x || y))
     mixed true b x y = refl

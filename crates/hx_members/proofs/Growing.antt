@@ -15,7 +15,8 @@ use Rattle.hx_members.specs.declared.stock.Member.{Member}
 use Rattle.hx_members.specs.Setups.{names_differ, numbers_rise, users_differ, is_login}
 use Rattle.hx_members.specs.SetupText.{text_of, stock_line, member_line, HasStockLine, HasMemberLine}
 use Rattle.hx_members.specs.Reading.{IsNext, AreStocks, AreMembers, IsLongest}
-use Rattle.hx_members.proofs.ChainLaws.{and_parts, same_bools}
+use Rattle.std.proofs.lemmas.Bool.{and_from, and_parts}
+use Rattle.hx_units.proofs.Booleans.{same_bools}
 use Rattle.hx_members.proofs.SetupLaws.{is_login-same, symbol-flip}
 use Rattle.hx_members.proofs.Spelling.{next_same, stock_feed, member_feed, stock_same, member_same}
 
@@ -58,10 +59,7 @@ pairwise_front R [] ys h = refl
 pairwise_front R (x ∷ xs) ys h =
     let parts = and_parts (list_all (R x) (xs ++ ys)) (pairwise R (xs ++ ys)) h in
     let all = and_parts (list_all (R x) xs) (list_all (R x) ys) (sym (list_all-append (R x) xs ys) ∙ parts.0) in
-    both (list_all (R x) xs) (pairwise R xs) all.0 (pairwise_front R xs ys parts.1)
-  where
-    both : (p q : Bool) → p ≡ true → q ≡ true → (p && q) ≡ true
-    both p q h k = rw (h, k) refl
+    and_from (list_all (R x) xs) (pairwise R xs) all.0 (pairwise_front R xs ys parts.1)
 
 none_is_all : {A : Type 0} (p : A → Bool) (xs : List A) → not (list_any p xs) ≡ list_all (λ x. not (p x)) xs
 none_is_all p [] = refl
@@ -140,14 +138,11 @@ text_more line text rest after items x e next =
     ∙ sym (append_assoc (text_of (map line items)) (text_of (line x ∷ [])) after)
     ∙ ap (λ (l : List ℕ). l ++ after) (sym (flat_map-append (λ (l : List ℕ). l ++ 10 ∷ []) (map line items) (line x ∷ [])) ∙ ap text_of (sym (map-append line items (x ∷ []))))
 
-both : (p q : Bool) → p ≡ true → q ≡ true → (p && q) ≡ true
-both p q h k = rw (h, k) refl
-
 pub stocks_more : (stocks : List Stock) (s : Stock) → AreStocks stocks → HasStockLine s → list_all (λ (t : Stock). not (is_symbol t.symbol s.symbol)) stocks ≡ true → length stocks < 1000 → AreStocks (stocks ++ s ∷ [])
 stocks_more stocks s are has fresh few = record {
   each = each_more HasStockLine stocks s are.each has;
   names = names_are (stocks ++ s ∷ []) ∙ pairwise-more other_name stocks s
-      ∙ both (pairwise other_name stocks) (list_all (λ t. other_name t s) stocks) (sym (names_are stocks) ∙ are.names) fresh;
+      ∙ and_from (pairwise other_name stocks) (list_all (λ t. other_name t s) stocks) (sym (names_are stocks) ∙ are.names) fresh;
   few = omega (arith, few, length-append stocks (s ∷ []));
 }
 
@@ -157,9 +152,9 @@ pub members_more : (members : List Member) (m : Member) → AreMembers members �
 members_more members m are has above fresh few = record {
   each = each_more HasMemberLine members m are.each has;
   numbers = numbers_are (members ++ m ∷ []) ∙ pairwise-more lower_number members m
-      ∙ both (pairwise lower_number members) (list_all (λ n. lower_number n m) members) (sym (numbers_are members) ∙ are.numbers) above;
+      ∙ and_from (pairwise lower_number members) (list_all (λ n. lower_number n m) members) (sym (numbers_are members) ∙ are.numbers) above;
   users = users_are (members ++ m ∷ []) ∙ pairwise-more other_user members m
-      ∙ both (pairwise other_user members) (list_all (λ n. other_user n m) members) (sym (users_are members) ∙ are.users) fresh;
+      ∙ and_from (pairwise other_user members) (list_all (λ n. other_user n m) members) (sym (users_are members) ∙ are.users) fresh;
   few = omega (arith, few, length-append members (m ∷ []));
 }
 
@@ -186,7 +181,7 @@ member_refused members m rest behind next refused item after are e =
     let same = next_same member_line HasMemberLine member_feed member_same rest item m after behind (record { has = each_item HasMemberLine members item [] are.each; of_text = e }) next in
     let numbers = and_parts (pairwise lower_number members) (list_all (λ n. lower_number n item) members) (sym (pairwise-more lower_number members item) ∙ sym (numbers_are (members ++ item ∷ [])) ∙ are.numbers) in
     let users = and_parts (pairwise other_user members) (list_all (λ n. other_user n item) members) (sym (pairwise-more other_user members item) ∙ sym (users_are (members ++ item ∷ [])) ∙ are.users) in
-    true≢false (sym (both (list_all (λ n. lower_number n item) members) (list_all (λ n. other_user n item) members) numbers.1 users.1)
+    true≢false (sym (and_from (list_all (λ n. lower_number n item) members) (list_all (λ n. other_user n item) members) numbers.1 users.1)
     ∙ ap (λ (i : Member). list_all (λ (n : Member). nat_lt n.number i.number) members && list_all (λ (n : Member). not (is_login n.user i.user)) members) same.0 ∙ refused)
 
 -- there are as many as may be

@@ -12,8 +12,10 @@ use Rattle.hx_units.specs.Names.{is_symbol}
 use Rattle.hx_units.specs.declared.names.Symbol.{Symbol}
 use Rattle.hx_members.specs.declared.stock.Stock.{Stock}
 use Rattle.hx_members.specs.declared.stock.Member.{Member}
-use Rattle.hx_members.specs.Setups.{places_by, locate_from, names_differ, numbers_rise, without_spaces}
-use Rattle.hx_members.proofs.ChainLaws.{and_parts, same_bools}
+use Rattle.hx_text.specs.Spaces.{without_back}
+use Rattle.hx_members.specs.Setups.{places_by, locate_from, names_differ, numbers_rise}
+use Rattle.std.proofs.lemmas.Bool.{and_parts}
+use Rattle.hx_units.proofs.Booleans.{same_bools}
 use Rattle.hx_members.proofs.TokenLaws.{some_same}
 use Rattle.indexmap.specs.IndexMap.{insert_entry}
 
@@ -108,15 +110,15 @@ drop-next (y ∷ ys) zero x h = λ j. some_same y x h j ∷ ys
 drop-next (y ∷ ys) (suc i) x h = drop-next ys i x h
 
 -- texts of the same length are the same, if they are so without the spaces on their right
-pub without_spaces-same : (a b : List ℕ) → length a ≡ length b → without_spaces a ≡ without_spaces b → a ≡ b
-without_spaces-same [] [] l h = refl
-without_spaces-same [] (y ∷ ys) l h = absurd (omega (arith, l))
-without_spaces-same (x ∷ xs) [] l h = absurd (omega (arith, l))
-without_spaces-same (x ∷ xs) (y ∷ ys) l h =
-    at (x == 32) (bytes_eq (without_spaces xs) []) (y == 32) (bytes_eq (without_spaces ys) []) refl refl refl refl h (without_spaces-same xs ys (let k : length xs ≡ length ys = omega (arith, l) in k))
+pub without_back-same : (a b : List ℕ) → length a ≡ length b → without_back a ≡ without_back b → a ≡ b
+without_back-same [] [] l h = refl
+without_back-same [] (y ∷ ys) l h = absurd (omega (arith, l))
+without_back-same (x ∷ xs) [] l h = absurd (omega (arith, l))
+without_back-same (x ∷ xs) (y ∷ ys) l h =
+    at (x == 32) (bytes_eq (without_back xs) []) (y == 32) (bytes_eq (without_back ys) []) refl refl refl refl h (without_back-same xs ys (let k : length xs ≡ length ys = omega (arith, l) in k))
   where
-    rest : (zs : List ℕ) → bytes_eq (without_spaces zs) [] ≡ true → without_spaces zs ≡ []
-    rest zs e = (bytes_eq-Decides (without_spaces zs) []).0 e
+    rest : (zs : List ℕ) → bytes_eq (without_back zs) [] ≡ true → without_back zs ≡ []
+    rest zs e = (bytes_eq-Decides (without_back zs) []).0 e
 
     head : (n : ℕ) (ns : List ℕ) (m : ℕ) (ms : List ℕ) → n ∷ ns ≡ m ∷ ms → n ≡ m
     head n ns m ms e = ap (λ l. elim l as (λ _. ℕ) [ [] ↦ n | k ∷ ks ↦ k ]) e
@@ -124,11 +126,11 @@ without_spaces-same (x ∷ xs) (y ∷ ys) l h =
     tail : (n : ℕ) (ns : List ℕ) (m : ℕ) (ms : List ℕ) → n ∷ ns ≡ m ∷ ms → ns ≡ ms
     tail n ns m ms e = ap (λ l. elim l as (λ _. List ℕ) [ [] ↦ ns | k ∷ ks ↦ ks ]) e
 
-    both : x ∷ without_spaces xs ≡ y ∷ without_spaces ys → (without_spaces xs ≡ without_spaces ys → xs ≡ ys) → x ∷ xs ≡ y ∷ ys
-    both e ih = λ j. head x (without_spaces xs) y (without_spaces ys) e j ∷ ih (tail x (without_spaces xs) y (without_spaces ys) e) j
+    both : x ∷ without_back xs ≡ y ∷ without_back ys → (without_back xs ≡ without_back ys → xs ≡ ys) → x ∷ xs ≡ y ∷ ys
+    both e ih = λ j. head x (without_back xs) y (without_back ys) e j ∷ ih (tail x (without_back xs) y (without_back ys) e) j
 
-    at : (p q r s : Bool) → (x == 32) ≡ p → bytes_eq (without_spaces xs) [] ≡ q → (y == 32) ≡ r → bytes_eq (without_spaces ys) [] ≡ s
-        → cond (p && q) [] (x ∷ without_spaces xs) ≡ cond (r && s) [] (y ∷ without_spaces ys) → (without_spaces xs ≡ without_spaces ys → xs ≡ ys) → x ∷ xs ≡ y ∷ ys
+    at : (p q r s : Bool) → (x == 32) ≡ p → bytes_eq (without_back xs) [] ≡ q → (y == 32) ≡ r → bytes_eq (without_back ys) [] ≡ s
+        → cond (p && q) [] (x ∷ without_back xs) ≡ cond (r && s) [] (y ∷ without_back ys) → (without_back xs ≡ without_back ys → xs ≡ ys) → x ∷ xs ≡ y ∷ ys
     at true true true true e f g k h ih = λ j. ((Decides-eqb x 32).0 e ∙ sym ((Decides-eqb y 32).0 g)) j ∷ ih (rest xs f ∙ sym (rest ys k)) j
     at true true true false e f g k h ih = absurd cc
     at true true false s e f g k h ih = absurd cc
@@ -140,11 +142,11 @@ without_spaces-same (x ∷ xs) (y ∷ ys) l h =
     at false q false s e f g k h ih = both h ih
 
 -- for texts of the same length the spaces do not matter
-pub is_login-same : (f : ℕ → ℕ) (a b : List ℕ) → length (map f a) ≡ length (map f b) → bytes_eq (without_spaces (map f a)) (without_spaces (map f b)) ≡ bytes_eq (map f a) (map f b)
+pub is_login-same : (f : ℕ → ℕ) (a b : List ℕ) → length (map f a) ≡ length (map f b) → bytes_eq (without_back (map f a)) (without_back (map f b)) ≡ bytes_eq (map f a) (map f b)
 is_login-same f a b l =
-    same_bools (bytes_eq (without_spaces (map f a)) (without_spaces (map f b))) (bytes_eq (map f a) (map f b))
-    (λ h. (bytes_eq-Decides (map f a) (map f b)).1 (without_spaces-same (map f a) (map f b) l ((bytes_eq-Decides (without_spaces (map f a)) (without_spaces (map f b))).0 h)))
-    (λ h. (bytes_eq-Decides (without_spaces (map f a)) (without_spaces (map f b))).1 (ap without_spaces ((bytes_eq-Decides (map f a) (map f b)).0 h)))
+    same_bools (bytes_eq (without_back (map f a)) (without_back (map f b))) (bytes_eq (map f a) (map f b))
+    (λ h. (bytes_eq-Decides (map f a) (map f b)).1 (without_back-same (map f a) (map f b) l ((bytes_eq-Decides (without_back (map f a)) (without_back (map f b))).0 h)))
+    (λ h. (bytes_eq-Decides (without_back (map f a)) (without_back (map f b))).1 (ap without_back ((bytes_eq-Decides (map f a) (map f b)).0 h)))
 
 -- what `get` gives of a slice
 pub read-item : {A : Type 0} (r : Option (Bor A)) (xs : List A) (k : ℕ) → is_some r ≡ nat_lt k (length xs) → IfSome r (λ x. x.now ≡ get_or xs k x.now) → option_map (λ x. x.now) r ≡ slice_get xs k

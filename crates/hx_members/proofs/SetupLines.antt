@@ -7,8 +7,9 @@ use Rattle.hx_members.specs.declared.stock.Stock.{Stock}
 use Rattle.hx_members.specs.declared.stock.Member.{Member}
 use Rattle.hx_members.specs.Setups.{Setup}
 use Rattle.hx_members.specs.SetupText.{text_of, session_line, start_line, stock_line, member_line, setup_lines, HasStockLine, HasMemberLine, HasText}
-use Rattle.hx_members.specs.Reading.{Lacks, IsSession, IsNext}
-use Rattle.hx_members.proofs.Words.{same_split}
+use Rattle.hx_members.specs.Reading.{IsSession, IsNext}
+use Rattle.hx_text.specs.Cuts.{Lacks}
+use Rattle.hx_text.proofs.Splits.{same_split}
 use Rattle.hx_members.proofs.Spelling.{session_feed, start_feed, stock_feed, member_feed, stock_same, member_same, stock_not_member}
 
 -- ---- lines have no line feed in them

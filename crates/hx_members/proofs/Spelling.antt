@@ -9,12 +9,16 @@ use Rattle.std.proofs.lemmas.List.Elements.{All-cons, All-append}
 use Rattle.hex.specs.Hex.{encode_lower}
 use Rattle.hx_members.specs.declared.stock.Stock.{Stock}
 use Rattle.hx_members.specs.declared.stock.Member.{Member}
-use Rattle.hx_members.specs.Setups.{without_spaces, is_filled, is_visible, is_capital_or_digit, is_member}
+use Rattle.hx_text.specs.Spaces.{without_back}
+use Rattle.hx_members.specs.Setups.{is_filled, is_visible, is_capital_or_digit, is_member}
 use Rattle.hx_members.specs.SetupText.{session_line, start_line, stock_line, member_fields, member_line, HasStockLine, HasMemberLine}
-use Rattle.hx_members.specs.Reading.{Lacks, IsSession, AreFields, IsNext}
-use Rattle.hx_members.proofs.ChainLaws.{and_parts}
-use Rattle.hx_members.proofs.SetupLaws.{without_spaces-same}
-use Rattle.hx_members.proofs.Words.{same_split, none_split, lacks, lacks-decimal, lacks-hex, hex-same, decimal-same}
+use Rattle.hx_members.specs.Reading.{IsSession, AreFields, IsNext}
+use Rattle.hx_text.specs.Cuts.{Lacks}
+use Rattle.std.proofs.lemmas.Bool.{and_from, and_parts}
+use Rattle.hx_members.proofs.SetupLaws.{without_back-same}
+use Rattle.hx_members.proofs.Words.{lacks, lacks-hex, hex-same, decimal-same}
+use Rattle.hx_text.proofs.Splits.{same_split, none_split}
+use Rattle.hx_text.proofs.Numbers.{lacks-decimal}
 
 -- ---- what the fields of a line are
 
@@ -32,20 +36,17 @@ member_parts m has =
     let d = and_parts (is_filled is_ascii_alphanumeric m.password) (nat_lt 0 m.limit) b.1 in
     record { firm = a.0; user = b.0; password = d.0; limit = ltb-true 0 m.limit d.1 }
 
-both : (p q : Bool) → p ≡ true → q ≡ true → (p && q) ≡ true
-both p q h k = rw (h, k) refl
-
 above : (n : ℕ) → 0 < n → nat_lt 0 n ≡ true
 above n h = lt-ltb 0 n h
 
 pub member_whole : (m : Member) → MemberParts m → is_member m ≡ true
 member_whole m p =
-    both (list_all is_capital_or_digit m.firm.0) (is_filled is_ascii_alphanumeric m.user && (is_filled is_ascii_alphanumeric m.password && nat_lt 0 m.limit)) p.firm
-    (both (is_filled is_ascii_alphanumeric m.user) (is_filled is_ascii_alphanumeric m.password && nat_lt 0 m.limit) p.user
-    (both (is_filled is_ascii_alphanumeric m.password) (nat_lt 0 m.limit) p.password (above m.limit p.limit)))
+    and_from (list_all is_capital_or_digit m.firm.0) (is_filled is_ascii_alphanumeric m.user && (is_filled is_ascii_alphanumeric m.password && nat_lt 0 m.limit)) p.firm
+    (and_from (is_filled is_ascii_alphanumeric m.user) (is_filled is_ascii_alphanumeric m.password && nat_lt 0 m.limit) p.user
+    (and_from (is_filled is_ascii_alphanumeric m.password) (nat_lt 0 m.limit) p.password (above m.limit p.limit)))
 
-lacks-filled : (test : ℕ → Bool) (b : ℕ) → test b ≡ false → (bytes : List ℕ) → is_filled test bytes ≡ true → Lacks b (without_spaces bytes)
-lacks-filled test b fails bytes h = lacks test b fails (without_spaces bytes) (and_parts (nat_lt 0 (length (without_spaces bytes))) (list_all test (without_spaces bytes)) h).1
+lacks-filled : (test : ℕ → Bool) (b : ℕ) → test b ≡ false → (bytes : List ℕ) → is_filled test bytes ≡ true → Lacks b (without_back bytes)
+lacks-filled test b fails bytes h = lacks test b fails (without_back bytes) (and_parts (nat_lt 0 (length (without_back bytes))) (list_all test (without_back bytes)) h).1
 
 -- a literal
 lacks-test : (b : ℕ) (xs : List ℕ) → list_all (λ x. not (x == b)) xs ≡ true → Lacks b xs
@@ -70,8 +71,8 @@ start_feed false = lacks-test 10 (codes "start closed") refl
 pub stock_feed : (s : Stock) → HasStockLine s → Lacks 10 (stock_line s)
 unfolding stock_line
 stock_feed s has =
-    All-append (λ x. x ≢ 10) (codes "stock ") (without_spaces s.symbol.0 ++ 32 ∷ encode_lower s.tail) (lacks-test 10 (codes "stock ") refl)
-    (joined 10 (without_spaces s.symbol.0) (encode_lower s.tail) (omega arith) (lacks-filled is_visible 10 refl s.symbol.0 has.name) (lacks-hex 10 s.tail refl has.tail_bytes))
+    All-append (λ x. x ≢ 10) (codes "stock ") (without_back s.symbol.0 ++ 32 ∷ encode_lower s.tail) (lacks-test 10 (codes "stock ") refl)
+    (joined 10 (without_back s.symbol.0) (encode_lower s.tail) (omega arith) (lacks-filled is_visible 10 refl s.symbol.0 has.name) (lacks-hex 10 s.tail refl has.tail_bytes))
 
 pub member_feed : (m : Member) → HasMemberLine m → Lacks 10 (member_line m)
 unfolding member_line member_fields
@@ -80,27 +81,27 @@ member_feed m has =
     All-append (λ x. x ≢ 10) (codes "member ") _ (lacks-test 10 (codes "member ") refl)
     (joined 10 (decimal m.number) _ (omega arith) (lacks-decimal 10 m.number (omega arith) (omega (arith, has.number.1)))
     (joined 10 m.firm.0 _ (omega arith) (lacks is_capital_or_digit 10 refl m.firm.0 p.firm)
-    (joined 10 (without_spaces m.user) _ (omega arith) (lacks-filled is_ascii_alphanumeric 10 refl m.user p.user)
-    (joined 10 (without_spaces m.password) (decimal m.limit) (omega arith) (lacks-filled is_ascii_alphanumeric 10 refl m.password p.password)
+    (joined 10 (without_back m.user) _ (omega arith) (lacks-filled is_ascii_alphanumeric 10 refl m.user p.user)
+    (joined 10 (without_back m.password) (decimal m.limit) (omega arith) (lacks-filled is_ascii_alphanumeric 10 refl m.password p.password)
     (lacks-decimal 10 m.limit (omega arith) (omega (arith, has.limit)))))))
 
 -- ---- one item a line
 
-pub stock_name : (s : Stock) → HasStockLine s → Lacks 32 (without_spaces s.symbol.0)
+pub stock_name : (s : Stock) → HasStockLine s → Lacks 32 (without_back s.symbol.0)
 stock_name s has = lacks-filled is_visible 32 refl s.symbol.0 has.name
 
 pub stock_same : (s t : Stock) → HasStockLine s → HasStockLine t → stock_line s ≡ stock_line t → s ≡ t
 unfolding stock_line
 stock_same s t p q e =
-    let cut : without_spaces s.symbol.0 ++ 32 ∷ encode_lower s.tail ≡ without_spaces t.symbol.0 ++ 32 ∷ encode_lower t.tail = append_cancel_left (codes "stock ") _ _ e in
-    let parts = same_split 32 (without_spaces s.symbol.0) (encode_lower s.tail) (without_spaces t.symbol.0) (encode_lower t.tail) (stock_name s p) (stock_name t q) cut in
-    let symbols = without_spaces-same s.symbol.0 t.symbol.0 (p.symbol_size ∙ sym q.symbol_size) parts.0 in
+    let cut : without_back s.symbol.0 ++ 32 ∷ encode_lower s.tail ≡ without_back t.symbol.0 ++ 32 ∷ encode_lower t.tail = append_cancel_left (codes "stock ") _ _ e in
+    let parts = same_split 32 (without_back s.symbol.0) (encode_lower s.tail) (without_back t.symbol.0) (encode_lower t.tail) (stock_name s p) (stock_name t q) cut in
+    let symbols = without_back-same s.symbol.0 t.symbol.0 (p.symbol_size ∙ sym q.symbol_size) parts.0 in
     let tails = hex-same s.tail t.tail p.tail_bytes q.tail_bytes parts.1 in
     let made : List ℕ → List ℕ → Stock = λ symbol tail. record { symbol = record { 0 = symbol }; tail = tail } in
     ap (λ (l : List ℕ). made l s.tail) symbols ∙ ap (λ (l : List ℕ). made t.symbol.0 l) tails
 
 -- the fields of a member are those of its line
-pub fields_of : (line : List ℕ) (m : Member) → HasMemberLine m → line ≡ member_line m → AreFields line (decimal m.number) m.firm.0 (without_spaces m.user) (without_spaces m.password) (decimal m.limit)
+pub fields_of : (line : List ℕ) (m : Member) → HasMemberLine m → line ≡ member_line m → AreFields line (decimal m.number) m.firm.0 (without_back m.user) (without_back m.password) (decimal m.limit)
 unfolding member_line
 fields_of line m has e =
     let p = member_parts m has in
@@ -135,8 +136,8 @@ pub member_same : (m n : Member) → HasMemberLine m → HasMemberLine n → mem
 member_same m n p q e =
     let same = fields_same (member_line m) _ _ _ _ _ _ _ _ _ _ (fields_of (member_line m) m p refl) (fields_of (member_line m) n q e) in
     let numbers = decimal-same m.number n.number (omega (arith, p.number.1)) (omega (arith, q.number.1)) same.number in
-    let users = without_spaces-same m.user n.user (p.user_size ∙ sym q.user_size) same.user in
-    let passwords = without_spaces-same m.password n.password (p.password_size ∙ sym q.password_size) same.password in
+    let users = without_back-same m.user n.user (p.user_size ∙ sym q.user_size) same.user in
+    let passwords = without_back-same m.password n.password (p.password_size ∙ sym q.password_size) same.password in
     let limits = decimal-same m.limit n.limit p.limit q.limit same.limit in
     let made : ℕ → List ℕ → List ℕ → List ℕ → ℕ → Member = λ number firm user password limit. record { number = number; firm = record { 0 = firm }; user = user; password = password; limit = limit } in
     ap (λ (x : ℕ). made x m.firm.0 m.user m.password m.limit) numbers ∙ ap (λ (x : List ℕ). made n.number x m.user m.password m.limit) same.firm
@@ -174,13 +175,13 @@ cut_next rest a b w r e none cut = same_split 32 a b w r cut.1 none (sym cut.0 �
 pub cut_none : (rest w r : List ℕ) → rest ≡ w ++ 32 ∷ r → Lacks 32 rest → ⊥
 cut_none rest w r e none = none_split 32 w r (subst (Lacks 32) e none)
 
-pub stock_rest : (text rest : List ℕ) (s : Stock) → text ≡ codes "stock " ++ rest → text ≡ stock_line s → rest ≡ without_spaces s.symbol.0 ++ 32 ∷ encode_lower s.tail
+pub stock_rest : (text rest : List ℕ) (s : Stock) → text ≡ codes "stock " ++ rest → text ≡ stock_line s → rest ≡ without_back s.symbol.0 ++ 32 ∷ encode_lower s.tail
 unfolding stock_line
 stock_rest text rest s cut e = append_cancel_left (codes "stock ") _ _ (sym cut ∙ e)
 
-pub stock_made : (text rest a b symbol tail : List ℕ) → text ≡ codes "stock " ++ rest → rest ≡ a ++ 32 ∷ b → a ≡ without_spaces symbol → b ≡ encode_lower tail → text ≡ stock_line (record { symbol = record { 0 = symbol }; tail = tail })
+pub stock_made : (text rest a b symbol tail : List ℕ) → text ≡ codes "stock " ++ rest → rest ≡ a ++ 32 ∷ b → a ≡ without_back symbol → b ≡ encode_lower tail → text ≡ stock_line (record { symbol = record { 0 = symbol }; tail = tail })
 unfolding stock_line
-stock_made text rest a b symbol tail cut e p q = cut ∙ ap (λ (l : List ℕ). codes "stock " ++ l) (e ∙ ap (λ (l : List ℕ). l ++ 32 ∷ b) p ∙ ap (λ (l : List ℕ). without_spaces symbol ++ 32 ∷ l) q)
+stock_made text rest a b symbol tail cut e p q = cut ∙ ap (λ (l : List ℕ). codes "stock " ++ l) (e ∙ ap (λ (l : List ℕ). l ++ 32 ∷ b) p ∙ ap (λ (l : List ℕ). without_back symbol ++ 32 ∷ l) q)
 
 pub member_rest : (text rest n f u p l : List ℕ) → text ≡ codes "member " ++ rest → AreFields text n f u p l → rest ≡ n ++ 32 ∷ (f ++ 32 ∷ (u ++ 32 ∷ (p ++ 32 ∷ l)))
 unfolding member_fields
@@ -199,10 +200,10 @@ member_made text r1 r2 r3 r4 n f u p l e e1 e2 e3 e4 = record {
 }
 
 pub member_spelled : (text n f u p l user password : List ℕ) (number limit : ℕ) (firm : List ℕ) → AreFields text n f u p l
-    → n ≡ decimal number → f ≡ firm → u ≡ without_spaces user → p ≡ without_spaces password → l ≡ decimal limit
+    → n ≡ decimal number → f ≡ firm → u ≡ without_back user → p ≡ without_back password → l ≡ decimal limit
     → text ≡ member_line (record { number = number; firm = record { 0 = firm }; user = user; password = password; limit = limit })
 unfolding member_line
 member_spelled text n f u p l user password number limit firm are a b d e g =
     are.of_line ∙ ap (λ (x : List ℕ). member_fields x f u p l) a ∙ ap (λ (x : List ℕ). member_fields (decimal number) x u p l) b
-    ∙ ap (λ (x : List ℕ). member_fields (decimal number) firm x p l) d ∙ ap (λ (x : List ℕ). member_fields (decimal number) firm (without_spaces user) x l) e
-    ∙ ap (λ (x : List ℕ). member_fields (decimal number) firm (without_spaces user) (without_spaces password) x) g
+    ∙ ap (λ (x : List ℕ). member_fields (decimal number) firm x p l) d ∙ ap (λ (x : List ℕ). member_fields (decimal number) firm (without_back user) x l) e
+    ∙ ap (λ (x : List ℕ). member_fields (decimal number) firm (without_back user) (without_back password) x) g

@@ -1,5 +1,5 @@
 -- Lists of stocks and of members make a setup, and those of a setup's front may be a setup's.
-use Rattle.std.proofs.Common.{◌≡◌, ℕ, ◌<◌, ◌&&◌, zero, suc, Bool, true, nat_lt, List, [], ◌∷◌, ◌++◌, length, refl, sym, ap, ◌∙◌, subst, arith, length-append, ltb-true}
+use Rattle.std.proofs.Common.{◌≡◌, ℕ, ◌<◌, zero, suc, Bool, true, nat_lt, List, [], ◌∷◌, ◌++◌, length, refl, sym, ap, ◌∙◌, subst, arith, length-append, ltb-true}
 use Rattle.std.specs.Prelude.{codes}
 use Rattle.std.specs.List.{AllByRecursion, list_all}
 use Rattle.hex.specs.Hex.{IsBytes}
@@ -8,21 +8,18 @@ use Rattle.hx_members.specs.declared.stock.Member.{Member}
 use Rattle.hx_members.specs.Setups.{Setup, is_stock, is_member, names_differ, numbers_rise, users_differ, stock_named, member_with}
 use Rattle.hx_members.specs.SetupText.{HasStockLine, HasMemberLine, HasText}
 use Rattle.hx_members.specs.Reading.{IsSession, AreStocks, AreMembers}
-use Rattle.hx_members.proofs.ChainLaws.{and_parts}
+use Rattle.std.proofs.lemmas.Bool.{and_from, and_parts}
 use Rattle.hx_members.proofs.Growing.{each_front, pairwise_front, other_name, other_user, lower_number, names_are, users_are, numbers_are}
 
 -- ---- what is read is a setup
 
-both : (p q : Bool) → p ≡ true → q ≡ true → (p && q) ≡ true
-both p q h k = rw (h, k) refl
-
 all_stocks : (stocks : List Stock) → AllByRecursion HasStockLine stocks → list_all is_stock stocks ≡ true
 all_stocks [] h = refl
-all_stocks (s ∷ stocks) h = both (is_stock s) (list_all is_stock stocks) h.0.name (all_stocks stocks h.1)
+all_stocks (s ∷ stocks) h = and_from (is_stock s) (list_all is_stock stocks) h.0.name (all_stocks stocks h.1)
 
 all_members : (members : List Member) → AllByRecursion HasMemberLine members → list_all is_member members ≡ true
 all_members [] h = refl
-all_members (m ∷ members) h = both (is_member m) (list_all is_member members) h.0.names (all_members members h.1)
+all_members (m ∷ members) h = and_from (is_member m) (list_all is_member members) h.0.names (all_members members h.1)
 
 pub has_text : (session : List ℕ) (start_open : Bool) (stocks : List Stock) (members : List Member) → IsSession session → AreStocks stocks → AreMembers members → 0 < length stocks → 0 < length members
     → HasText (record { session = session; start_open = start_open; stocks = stocks; members = members })

@@ -1,38 +1,19 @@
 -- The words of a line: text that is cut at a byte, names that are filled with spaces, numbers and hexadecimal digits.
-use Rattle.std.proofs.Common.{◌≡◌, ℕ, ◌-◌, ◌<◌, ◌≤◌, ◌^◌, ◌==◌, ◌&&◌, zero, suc, Bool, true, false, not, cond, nat_lt, List, [], ◌∷◌, ◌++◌, length, Option, Some, None, Result, Ok, Err, Bor, refl, sym, ap, ◌∙◌, inl, inr, arith, lt-ltb, replicate, ◌*◌}
+use Rattle.std.proofs.Common.{◌≡◌, ℕ, ◌-◌, ◌<◌, ◌≤◌, ◌^◌, ◌==◌, ◌&&◌, zero, suc, Bool, true, false, not, cond, nat_lt, List, [], ◌∷◌, ◌++◌, length, Option, Some, None, Result, Ok, Err, refl, sym, ap, ◌∙◌, inl, inr, arith, lt-ltb, replicate, ◌*◌}
 use Rattle.std.specs.Prelude.{◌≢◌, IsSome, IfSome, IfNone, MatchOption, bytes_eq}
 use Rattle.std.specs.List.{All, list_all}
 use Rattle.std.specs.Fmt.{decimal}
 use Rattle.std.proofs.lemmas.Bool.{true≢false, cases_Bool}
 use Rattle.std.proofs.lemmas.Bool.Decides.{Decides-eqb}
 use Rattle.std.proofs.lemmas.Slice.Eq.{bytes_eq-Decides}
-use Rattle.std.proofs.lemmas.Grind.{get_or_default_zero}
-use Rattle.std.specs.Result.{MatchResult, OkIff, is_ok, result_ok}
-use Rattle.std.specs.Str.{IsUtf8}
-use Rattle.std.proofs.lemmas.Str.{IsUtf8-from_ascii}
-use Rattle.std.proofs.lemmas.Fmt.{decimal_is_IsNumeral, IsAscii-decimal, decimal_injective}
-use Rattle.std.proofs.lemmas.Str.Parse.{digit_at}
-use Rattle.std.proofs.lemmas.List.Elements.{All-nil, All-cons, All-head, All-tail, All-weaker}
+use Rattle.std.specs.Result.{OkIff, result_ok}
+use Rattle.std.proofs.lemmas.Fmt.{decimal_injective}
+use Rattle.std.proofs.lemmas.List.Elements.{All-nil, All-cons, All-weaker}
 use Rattle.hex.specs.Hex.{encode_lower, lower_digits, decode_of, decode_sized, is_hex_digit, IsBytes}
 use Rattle.hex.proofs.HexLemmas.{decode_of-encode_lower, decode_of-ok, decode_sized-twice, decode_sized-ok, length-encode_with}
-use Rattle.hx_members.specs.Setups.{without_spaces, is_filled}
-use Rattle.hx_members.proofs.ChainLaws.{and_parts}
-
--- ---- text that is cut at the first place of a byte
-
-pub same_split : (b : ℕ) (a x c y : List ℕ) → All (λ n. n ≢ b) a → All (λ n. n ≢ b) c → a ++ b ∷ x ≡ c ++ b ∷ y → (a ≡ c) × (x ≡ y)
-same_split b [] x [] y p q e = (refl, cc)
-same_split b [] x (c ∷ cs) y p q e = absurd (All-head (λ n. n ≢ b) c cs q (cc))
-same_split b (a ∷ as') x [] y p q e = absurd (All-head (λ n. n ≢ b) a as' p (cc))
-same_split b (a ∷ as') x (c ∷ cs) y p q e =
-    let heads : a ≡ c = cc in
-    let tails : as' ++ b ∷ x ≡ cs ++ b ∷ y = cc in
-    let rest = same_split b as' x cs y (All-tail (λ n. n ≢ b) a as' p) (All-tail (λ n. n ≢ b) c cs q) tails in
-    (cc, rest.1)
-
-pub none_split : (b : ℕ) (a x : List ℕ) → All (λ n. n ≢ b) (a ++ b ∷ x) → ⊥
-none_split b [] x p = All-head (λ n. n ≢ b) b x p refl
-none_split b (a ∷ as') x p = none_split b as' x (All-tail (λ n. n ≢ b) a (as' ++ b ∷ x) p)
+use Rattle.hx_text.specs.Spaces.{without_back}
+use Rattle.hx_members.specs.Setups.{is_filled}
+use Rattle.std.proofs.lemmas.Bool.{and_parts, and_from}
 
 -- ---- bytes that do not stand in a word
 
@@ -42,13 +23,6 @@ lacks test b fails [] h = All-nil (λ x. x ≢ b)
 lacks test b fails (x ∷ xs) h =
     let parts = and_parts (test x) (list_all test xs) h in
     All-cons (λ n. n ≢ b) x xs (λ e. true≢false (sym parts.0 ∙ ap test e ∙ fails)) (lacks test b fails xs parts.1)
-
--- a number
-pub lacks-decimal : (b n : ℕ) → b < 48 → n < 2 ^ 64 → All (λ x. x ≢ b) (decimal n)
-lacks-decimal b n low lt k d below e =
-    let numeral = decimal_is_IsNumeral n lt in
-    let range = digit_at (decimal n) k numeral.0.1 below in
-    omega (arith, range, get_or_default_zero (decimal n) k d below)
 
 -- hexadecimal digits
 pub lacks-hex : (b : ℕ) (bytes : List ℕ) → is_hex_digit b ≡ false → IsBytes bytes → All (λ x. x ≢ b) (encode_lower bytes)
@@ -63,29 +37,29 @@ hex-same a b p q e =
 
 -- ---- names that are filled with spaces
 
-without_spaces-spaces : (k : ℕ) → without_spaces (replicate k 32) ≡ []
-without_spaces-spaces zero = refl
-without_spaces-spaces (suc k) = ap (λ l. cond (bytes_eq l []) [] (32 ∷ l)) (without_spaces-spaces k)
+without_back-spaces : (k : ℕ) → without_back (replicate k 32) ≡ []
+without_back-spaces zero = refl
+without_back-spaces (suc k) = ap (λ l. cond (bytes_eq l []) [] (32 ∷ l)) (without_back-spaces k)
 
-without_spaces-filled : (test : ℕ → Bool) → test 32 ≡ false → (text : List ℕ) (k : ℕ) → list_all test text ≡ true → without_spaces (text ++ replicate k 32) ≡ text
-without_spaces-filled test fails [] k h = without_spaces-spaces k
-without_spaces-filled test fails (b ∷ text) k h =
+without_back-filled : (test : ℕ → Bool) → test 32 ≡ false → (text : List ℕ) (k : ℕ) → list_all test text ≡ true → without_back (text ++ replicate k 32) ≡ text
+without_back-filled test fails [] k h = without_back-spaces k
+without_back-filled test fails (b ∷ text) k h =
     let parts = and_parts (test b) (list_all test text) h in
-    let rest = without_spaces-filled test fails text k parts.1 in
+    let rest = without_back-filled test fails text k parts.1 in
     let other : (b == 32) ≡ false =
     elim (cases_Bool (b == 32)) [
       | inl e ↦ absurd (true≢false (sym parts.0 ∙ ap test ((Decides-eqb b 32).0 e) ∙ fails))
       | inr n ↦ n
     ] in
-    ap (λ t. cond (t && bytes_eq (without_spaces (text ++ replicate k 32)) []) [] (b ∷ without_spaces (text ++ replicate k 32))) other
+    ap (λ t. cond (t && bytes_eq (without_back (text ++ replicate k 32)) []) [] (b ∷ without_back (text ++ replicate k 32))) other
     ∙ ap (λ l. b ∷ l) rest
 
-length-without_spaces : (bytes : List ℕ) → length (without_spaces bytes) ≤ length bytes
-length-without_spaces [] = omega arith
-length-without_spaces (b ∷ bytes) =
-    at ((b == 32) && bytes_eq (without_spaces bytes) []) (length-without_spaces bytes)
+length-without_back : (bytes : List ℕ) → length (without_back bytes) ≤ length bytes
+length-without_back [] = omega arith
+length-without_back (b ∷ bytes) =
+    at ((b == 32) && bytes_eq (without_back bytes) []) (length-without_back bytes)
   where
-    at : (t : Bool) → length (without_spaces bytes) ≤ length bytes → length (cond t [] (b ∷ without_spaces bytes)) ≤ length (b ∷ bytes)
+    at : (t : Bool) → length (without_back bytes) ≤ length bytes → length (cond t [] (b ∷ without_back bytes)) ≤ length (b ∷ bytes)
     at true h = omega arith
     at false h = omega (arith, h)
 
@@ -93,23 +67,20 @@ not_empty : (text : List ℕ) → false ≡ (length text == 0) → nat_lt 0 (len
 not_empty [] h = absurd (true≢false (sym h))
 not_empty (b ∷ text) h = lt-ltb 0 (length (b ∷ text)) (omega arith)
 
-both : (p q : Bool) → p ≡ true → q ≡ true → (p && q) ≡ true
-both p q h k = rw (h, k) refl
-
 -- what a text gives, filled to n bytes
 abbrev pub Fills : ℕ → List ℕ → Option (List ℕ) → Type 0
 Fills n text r = MatchOption r (n < length text) (λ bytes. (length bytes ≡ n) × (bytes ≡ text ++ replicate (n - length text) 32))
 
 pub filled-some : (test : ℕ → Bool) → test 32 ≡ false → (r : Option (List ℕ)) (text : List ℕ) (n : ℕ) → Fills n text r → false ≡ (length text == 0) → true ≡ list_all test text
-    → IfSome r (λ bytes. (length bytes ≡ n) × (is_filled test bytes ≡ true) × (text ≡ without_spaces bytes))
+    → IfSome r (λ bytes. (length bytes ≡ n) × (is_filled test bytes ≡ true) × (text ≡ without_back bytes))
 filled-some test fails None text n h some all = tt
 filled-some test fails (Some bytes) text n h some all =
-    let same : without_spaces bytes ≡ text = ap without_spaces h.1 ∙ without_spaces-filled test fails text (n - length text) (sym all) in
-    (h.0, ap (λ l. nat_lt 0 (length l) && list_all test l) same ∙ both (nat_lt 0 (length text)) (list_all test text) (not_empty text some) (sym all), sym same)
+    let same : without_back bytes ≡ text = ap without_back h.1 ∙ without_back-filled test fails text (n - length text) (sym all) in
+    (h.0, ap (λ l. nat_lt 0 (length l) && list_all test l) same ∙ and_from (nat_lt 0 (length text)) (list_all test text) (not_empty text some) (sym all), sym same)
 
 -- no longer text is a filled one without its spaces
-pub filled-none : (test : ℕ → Bool) (r : Option (List ℕ)) (text : List ℕ) (n : ℕ) → Fills n text r → IfNone r ((bytes : List ℕ) → length bytes ≡ n → is_filled test bytes ≡ true → text ≢ without_spaces bytes)
-filled-none test None text n h = λ bytes long is e. let short = length-without_spaces bytes in let same = ap length e in absurd (omega (arith, h, long, short, same))
+pub filled-none : (test : ℕ → Bool) (r : Option (List ℕ)) (text : List ℕ) (n : ℕ) → Fills n text r → IfNone r ((bytes : List ℕ) → length bytes ≡ n → is_filled test bytes ≡ true → text ≢ without_back bytes)
+filled-none test None text n h = λ bytes long is e. let short = length-without_back bytes in let same = ap length e in absurd (omega (arith, h, long, short, same))
 filled-none test (Some bytes) text n h = tt
 
 -- ---- a tail
@@ -139,14 +110,6 @@ ok_kept r x y o e is some = let both : Some x ≡ Some y = sym (is ∙ ap result
 
 -- ---- numbers
 
--- a text of digits is text
-pub failed : {T E : Type 0} (r : Result T E) (P : T → Type 0) (Q : Type 0) (R : E → Type 0) → MatchResult r P (λ e. Q × R e) → false ≡ is_ok r → Q
-failed (Ok x) P Q R h e = absurd cc
-failed (Err x) P Q R h e = h.0
-
-pub decimal_IsUtf8 : (text : List ℕ) (n : ℕ) → n < 2 ^ 32 → text ≡ decimal n → IsUtf8 text
-decimal_IsUtf8 text n lt e = IsUtf8-from_ascii text (rw e (IsAscii-decimal n (omega (arith, lt))))
-
 pub decimal-same : (m n : ℕ) → m < 2 ^ 32 → n < 2 ^ 32 → decimal m ≡ decimal n → m ≡ n
 decimal-same m n p q e = decimal_injective m n (omega (arith, p)) (omega (arith, q)) e
 
@@ -163,10 +126,6 @@ agree a b h = (bytes_eq-Decides a b).0 (same (bytes_eq a b) h)
 
 -- ---- what conversions answer
 
-pub utf8_text : {E : Type 0} (r : Result (Bor (List ℕ)) E) (s : Bor (List ℕ)) (text : List ℕ) (P : Type 0) (Q : E → Type 0) → MatchResult r (λ s. (s.now ≡ text) × P) Q → Some s ≡ result_ok r → s.now ≡ text
-utf8_text (Ok x) s text P Q h e = let same : s ≡ x = cc in ap (λ (b : Bor (List ℕ)). b.now) same ∙ h.0
-utf8_text (Err x) s text P Q h e = absurd cc
-
 pub small_is_ok : {T E : Type 0} (r : Result T E) (P : Type 0) (v : T) → OkIff r P v → None ≡ result_ok r → P → ⊥
 small_is_ok (Ok x) P v h e p = absurd cc
 small_is_ok (Err x) P v h e p = h p
@@ -174,6 +133,14 @@ small_is_ok (Err x) P v h e p = h p
 pub small_is_same : {T E : Type 0} (r : Result T E) (P : Type 0) (v x : T) → OkIff r P v → Some x ≡ result_ok r → x ≡ v
 small_is_same (Ok y) P v x h e = let same : x ≡ y = cc in same ∙ h.1
 small_is_same (Err y) P v x h e = absurd cc
+
+-- a number that fits into no 32 bits is no other number's text
+pub too_large : {E : Type 0} (text : List ℕ) (m : ℕ) (r : Result ℕ E) (o : Option ℕ) → m < 10 ^ 14 → text ≡ decimal m → OkIff r (m < 2 ^ 32) m → o ≡ result_ok r
+    → IfNone o ((n : ℕ) → n < 2 ^ 32 → text ≢ decimal n)
+too_large text m r None small is h e = λ n lt same.
+    let other : m ≡ n = decimal_injective m n (omega (arith, small)) (omega (arith, lt)) (sym is ∙ same) in
+    small_is_ok r (m < 2 ^ 32) m h e (omega (arith, lt, other))
+too_large text m r (Some x) small is h e = tt
 
 pub unless : {A : Type 0} (r : Option A) (P Q : Type 0) → (P → IsSome r) → ((P → ⊥) → Q) → IfNone r Q
 unless None P Q some rest = rest (λ p. true≢false (sym (some p)))

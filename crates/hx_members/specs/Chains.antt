@@ -20,6 +20,7 @@ pub record Chain : Type 0 where
   pub displayed : Bool
   pub traded : Bool
 
+-- whether the used token is the member's token
 abbrev pub is_use : ℕ → Token → Used → Bool
 is_use member token u = u.member == member && is_token u.token token
 
@@ -30,44 +31,58 @@ is_used tokens member token = list_any (is_use member token) tokens
 -- the entered token of a used token's chain
 abbrev pub entered_of : List Used → ℕ → Token → Token
 entered_of [] member token = token
-entered_of (u ∷ tokens) member token = if is_use member token u then u.entered else entered_of tokens member token
+entered_of (u ∷ tokens) member token =
+    if is_use member token u then u.entered else entered_of tokens member token
 
 -- the place of a used token
 abbrev pub place_of : List Used → ℕ → Token → ℕ
 place_of [] member token = 0
-place_of (u ∷ tokens) member token = if is_use member token u then 0 else place_of tokens member token + 1
+place_of (u ∷ tokens) member token =
+    if is_use member token u then 0 else place_of tokens member token + 1
 
+-- whether the chain is the member's of this entered token
 abbrev pub is_chain : ℕ → Token → Chain → Bool
 is_chain member entered c = c.member == member && is_token c.entered entered
 
--- whether there is such a chain, and whether it was displayed or has traded
+-- whether there is such a chain
 abbrev pub has_chain : List Chain → ℕ → Token → Bool
 has_chain chains member entered = list_any (is_chain member entered) chains
 
+-- whether it was displayed or has traded
 abbrev pub is_loud : List Chain → ℕ → Token → Bool
-is_loud chains member entered = list_any (λ c. is_chain member entered c && (c.displayed || c.traded)) chains
+is_loud chains member entered =
+    list_any (λ c. is_chain member entered c && (c.displayed || c.traded)) chains
 
 -- the shares that a chain has executed
 abbrev pub executed_by : List Chain → ℕ → Token → ℕ
 executed_by [] member entered = 0
-executed_by (c ∷ chains) member entered = if is_chain member entered c then c.executed else executed_by chains member entered
+executed_by (c ∷ chains) member entered =
+    if is_chain member entered c then c.executed else executed_by chains member entered
 
 -- a chain with so many more executed shares, which perhaps was displayed
 abbrev pub noted : ℕ → Bool → Chain → Chain
 noted shares displayed c =
-    record c { executed = c.executed + shares; displayed = c.displayed || displayed; traded = c.traded || nat_lt 0 shares }
+    record c {
+      executed = c.executed + shares;
+      displayed = c.displayed || displayed;
+      traded = c.traded || nat_lt 0 shares;
+    }
 
-abbrev pub note : ℕ → Token → ℕ → Bool → List Chain → List Chain
+-- the chains after a member's chain did so much more
+abbrev pub note : (member : ℕ) → (entered : Token) → (shares : ℕ) → (displayed : Bool) → List Chain → List Chain
 note member entered shares displayed [] = []
 note member entered shares displayed (c ∷ chains) =
-    (if is_chain member entered c then noted shares displayed c else c) ∷ note member entered shares displayed chains
+    (if is_chain member entered c then noted shares displayed c else c)
+    ∷ note member entered shares displayed chains
 
--- a token that is entered: it is a chain of its own, of which nothing is executed, displayed or traded yet
+-- a token that is entered, in a chain of its own
 abbrev pub entered_used : ℕ → Token → Used
 entered_used member token = record { member = member; token = token; entered = token }
 
+-- its chain, of which nothing is executed, displayed or traded yet
 abbrev pub entered_chain : ℕ → Token → Chain
-entered_chain member token = record { member = member; entered = token; executed = 0; displayed = false; traded = false }
+entered_chain member token =
+    record { member = member; entered = token; executed = 0; displayed = false; traded = false }
 
 -- a token that replaces, in the chain of an entered token
 abbrev pub replacing_used : ℕ → Token → Token → Used
@@ -75,21 +90,25 @@ replacing_used member token entered = record { member = member; token = token; e
 
 -- the member's entered token stands at this place of the used tokens
 abbrev pub IsEnteredAt : List Used → ℕ → Token → ℕ → Type 0
-IsEnteredAt tokens member entered place = slice_get tokens place ≡ Some (entered_used member entered)
+IsEnteredAt tokens member entered place =
+    slice_get tokens place ≡ Some (entered_used member entered)
 
 -- some chain's entered token stands at this place
 abbrev pub IsChainAt : List Used → ℕ → Type 0
-IsChainAt tokens place = (member : ℕ) × ((entered : Token) × IsEnteredAt tokens member entered place)
+IsChainAt tokens place =
+    (member : ℕ) × ((entered : Token) × IsEnteredAt tokens member entered place)
 
 -- the entered token of the chain at a place, or the given one where no token stands there
 abbrev pub entered_at : List Used → ℕ → Token → Token
 entered_at tokens place token = option_map_or (λ u. u.entered) (slice_get tokens place) token
 
 -- the shares that the chain at a place has executed
-abbrev pub executed_at : List Used → List Chain → ℕ → ℕ
-executed_at tokens chains place = option_map_or (λ u. executed_by chains u.member u.entered) (slice_get tokens place) 0
+abbrev pub executed_at : List Used → List Chain → (place : ℕ) → ℕ
+executed_at tokens chains place =
+    option_map_or (λ u. executed_by chains u.member u.entered) (slice_get tokens place) 0
 
 -- the chains after the one at a place did so much more
-abbrev pub noted_at : List Used → ℕ → ℕ → Bool → List Chain → List Chain
+abbrev pub noted_at : List Used → (place shares : ℕ) → (displayed : Bool) → List Chain → List Chain
 noted_at tokens place shares displayed chains =
-    option_map_or (λ u. note u.member u.entered shares displayed chains) (slice_get tokens place) chains
+    option_map_or (λ u. note u.member u.entered shares displayed chains) (slice_get tokens place)
+    chains

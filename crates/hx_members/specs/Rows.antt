@@ -10,6 +10,7 @@ use Rattle.hx_members.specs.declared.name.TokenState.{TokenState}
 use Rattle.hx_members.specs.Chains.{Used, Chain, is_used, IsEnteredAt}
 use Rattle.indexmap.specs.Layout.{set_value_at}
 
+-- a row: a member's token, and what is kept of it
 abbrev pub Row : Type 0
 Row = Name × UsedToken
 
@@ -18,20 +19,25 @@ pub record RowList : Type 0 where
   pub rows : List Row
   pub place : Option Name
 
+-- a member's token
 abbrev pub name_of : ℕ → Token → Name
 name_of member token = record { member = member; token = token }
 
+-- whether two names are the same
 abbrev pub is_name : Name → Name → Bool
 is_name a b = a.member == b.member && is_token a.token b.token
 
+-- the place of a name in the rows
 abbrev pub row_place : Name → List Row → Option ℕ
 row_place name [] = None
-row_place name (row ∷ rows) = if is_name name row.0 then Some 0 else option_map suc (row_place name rows)
+row_place name (row ∷ rows) =
+    if is_name name row.0 then Some 0 else option_map suc (row_place name rows)
 
 -- no row has the name
 abbrev pub IsUnused : Name → List Row → Type 0
 IsUnused name rows = row_place name rows ≡ None
 
+-- what a chain has done that has done nothing
 abbrev pub no_facts : ChainFacts
 no_facts = record { executed = 0; displayed = false; traded = false }
 
@@ -39,33 +45,45 @@ no_facts = record { executed = 0; displayed = false; traded = false }
 abbrev pub fresh : Token → ℕ → UsedToken
 fresh entered chain = record { entered = entered; chain = chain; key = None; facts = no_facts }
 
-abbrev pub with_note : ℕ → Bool → UsedToken → UsedToken
+-- a used token after its chain did so much more
+abbrev pub with_note : (shares : ℕ) → (displayed : Bool) → UsedToken → UsedToken
 with_note shares displayed used =
     record used {
-      facts = record { executed = used.facts.executed + shares; displayed = used.facts.displayed || displayed; traded = used.facts.traded || nat_lt 0 shares };
+      facts = record {
+        executed = used.facts.executed + shares;
+        displayed = used.facts.displayed || displayed;
+        traded = used.facts.traded || nat_lt 0 shares;
+      };
     }
 
+-- a used token with another key of its live order
 abbrev pub with_key : Option ℕ → UsedToken → UsedToken
 with_key key used = record used { key = key }
 
 -- the rows with the used token at a place changed, where there is one
 abbrev pub updated : (UsedToken → UsedToken) → ℕ → List Row → List Row
-updated change place rows = option_map_or (λ row. set_value_at rows place (change row.1)) (slice_get rows place) rows
+updated change place rows =
+    option_map_or (λ row. set_value_at rows place (change row.1)) (slice_get rows place) rows
 
 -- the rows after the chain whose entered token stands at the place did so much more
-abbrev pub noted_rows : ℕ → ℕ → Bool → List Row → List Row
+abbrev pub noted_rows : (chain shares : ℕ) → (displayed : Bool) → List Row → List Row
 noted_rows chain shares displayed rows = updated (with_note shares displayed) chain rows
 
 -- the rows after the token at the place got this key
-abbrev pub settled_rows : ℕ → Option ℕ → List Row → List Row
+abbrev pub settled_rows : (place : ℕ) → (key : Option ℕ) → List Row → List Row
 settled_rows place key rows = updated (with_key key) place rows
 
 -- what is told of the token at a place, by its row and the row of its chain
 abbrev pub told_of : List Row → Row → Option TokenState
-told_of rows row = option_map (λ e. record { chain = row.1.chain; facts = e.1.facts; key = row.1.key }) (slice_get rows row.1.chain)
+told_of rows row =
+    option_map (λ e. record { chain = row.1.chain; facts = e.1.facts; key = row.1.key })
+    (slice_get rows row.1.chain)
 
+-- what is told of a name
 abbrev pub row_state : Name → List Row → Option TokenState
-row_state name rows = option_map_or (λ place. option_map_or (told_of rows) (slice_get rows place) None) (row_place name rows) None
+row_state name rows =
+    option_map_or (λ place. option_map_or (told_of rows) (slice_get rows place) None)
+    (row_place name rows) None
 
 -- what the rows stand for: the used tokens, the places of their chains, the keys of their live orders, and the chains
 abbrev pub used_of : Row → Used
@@ -83,9 +101,11 @@ abbrev pub live_keys_of : List Row → List (Option ℕ)
 live_keys_of [] = []
 live_keys_of (row ∷ rows) = row.1.key ∷ live_keys_of rows
 
+-- whether the row's token was entered, and replaced none
 abbrev pub is_entered : Row → Bool
 is_entered row = is_token row.0.token row.1.entered
 
+-- the chain of an entered token
 abbrev pub chain_of : Row → Chain
 chain_of row =
     record {
@@ -108,8 +128,10 @@ AreDistinct (u ∷ tokens) = (is_used tokens u.member u.token ≡ false) × AreD
 -- each used token's chain is at the place of its entered token
 abbrev pub AreChained : List Used → List ℕ → Type 0
 AreChained tokens places =
-    (i : ℕ) (u : Used) (c : ℕ) → slice_get tokens i ≡ Some u → slice_get places i ≡ Some c → IsEnteredAt tokens u.member u.entered c
+    (i : ℕ) (u : Used) (c : ℕ) → slice_get tokens i ≡ Some u → slice_get places i ≡ Some c
+    → IsEnteredAt tokens u.member u.entered c
 
+-- no token is used twice, and each stands in its chain
 pub record IsSound (rows : List Row) : Type 0 where
   pub distinct : AreDistinct (tokens_of rows)
   pub chained : AreChained (tokens_of rows) (places_of rows)

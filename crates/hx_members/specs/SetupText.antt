@@ -3,42 +3,52 @@ use Rattle.std.specs.Prelude.{◌≡◌, ◌≢◌, ℕ, ◌+◌, ◌^◌, ◌<�
 use Rattle.std.specs.List.{flat_map, AllByRecursion}
 use Rattle.std.specs.Fmt.{decimal}
 use Rattle.hex.specs.Hex.{encode_lower, IsBytes}
+use Rattle.hx_units.specs.Letters.{space, line_feed}
 use Rattle.hx_units.specs.Ranges.{IsMember}
 use Rattle.hx_members.specs.declared.stock.Stock.{Stock}
 use Rattle.hx_members.specs.declared.stock.Member.{Member}
 use Rattle.hx_members.specs.declared.fault.SetupError.{SetupError}
 use Rattle.hx_members.specs.declared.fault.SetupError.TheVariants as fault
-use Rattle.hx_members.specs.Setups.{Setup, IsSetup, without_spaces, is_stock, is_member}
+use Rattle.hx_text.specs.Spaces.{without_back}
+use Rattle.hx_members.specs.Setups.{Setup, IsSetup, is_stock, is_member}
 
 -- ---- the lines, without their line feeds
 
+-- the session's line
 unfoldable pub session_line : List ℕ → List ℕ
 session_line session = codes "session " ++ session
 
+-- the line for how the day begins
 unfoldable pub start_line : Bool → List ℕ
 start_line is_open = if is_open then codes "start open" else codes "start closed"
 
--- the name without the spaces that fill it, and the tail in lower-case hexadecimal
+-- a stock's line: the name without the spaces that fill it, and the tail in lower-case hexadecimal
 unfoldable pub stock_line : Stock → List ℕ
-stock_line s = codes "stock " ++ (without_spaces s.symbol.0 ++ 32 ∷ encode_lower s.tail)
+stock_line s = codes "stock " ++ (without_back s.symbol.0 ++ space ∷ encode_lower s.tail)
 
 -- the line of these fields: one space stands between two
-unfoldable pub member_fields : List ℕ → List ℕ → List ℕ → List ℕ → List ℕ → List ℕ
+unfoldable pub member_fields : (number firm user password limit : List ℕ) → List ℕ
 member_fields number firm user password limit =
-    codes "member " ++ (number ++ 32 ∷ (firm ++ 32 ∷ (user ++ 32 ∷ (password ++ 32 ∷ limit))))
+    codes "member "
+    ++ (number ++ space ∷ (firm ++ space ∷ (user ++ space ∷ (password ++ space ∷ limit))))
 
--- numbers in decimal, user and password without the spaces that fill them
+-- a member's line: numbers in decimal, user and password without the spaces that fill them
 unfoldable pub member_line : Member → List ℕ
-member_line m = member_fields (decimal m.number) m.firm.0 (without_spaces m.user) (without_spaces m.password) (decimal m.limit)
+member_line m =
+    member_fields (decimal m.number) m.firm.0 (without_back m.user) (without_back m.password)
+    (decimal m.limit)
 
 -- ---- the text
 
+-- the lines of a setup
 abbrev pub setup_lines : Setup → List (List ℕ)
-setup_lines setup = session_line setup.session ∷ start_line setup.start_open ∷ (map stock_line setup.stocks ++ map member_line setup.members)
+setup_lines setup =
+    session_line setup.session ∷ start_line setup.start_open
+    ∷ (map stock_line setup.stocks ++ map member_line setup.members)
 
 -- the text of lines, each ended by a line feed
 abbrev pub text_of : List (List ℕ) → List ℕ
-text_of lines = flat_map (λ line. line ++ 10 ∷ []) lines
+text_of lines = flat_map (λ line. line ++ line_feed ∷ []) lines
 
 -- the one text of a setup
 abbrev pub setup_text : Setup → List ℕ

@@ -19,13 +19,19 @@ pub record TokenList : Type 0 where
 -- what the rows stand for
 abbrev pub list_of : RowList → TokenList
 list_of kept =
-    record { tokens = tokens_of kept.rows; chains = chains_of kept.rows; keys = live_keys_of kept.rows; place = kept.place }
+    record {
+      tokens = tokens_of kept.rows;
+      chains = chains_of kept.rows;
+      keys = live_keys_of kept.rows;
+      place = kept.place;
+    }
 
 -- what a chain has done
 abbrev pub facts_of : List Chain → ℕ → Token → ChainFacts
 facts_of [] member entered = no_facts
 facts_of (c ∷ chains) member entered =
-    if is_chain member entered c then record { executed = c.executed; displayed = c.displayed; traded = c.traded }
+    if is_chain member entered c
+    then record { executed = c.executed; displayed = c.displayed; traded = c.traded }
     else facts_of chains member entered
 
 -- the key at a place

@@ -5,21 +5,12 @@ ghost use Rattle.std.specs.Char.{is_ascii_alphanumeric};
 ghost use Rattle.std.specs.Fmt.{decimal};
 ghost use Rattle.hex.specs.Hex.{encode_lower, IsBytes};
 ghost use Rattle.hx_units.specs.Ranges.{IsMember};
-ghost use Rattle.hx_members.specs.Setups.{without_spaces, is_filled, is_visible, is_capital_or_digit};
+ghost use Rattle.hx_text.specs.Spaces.{without_back};
+ghost use Rattle.hx_members.specs.Setups.{is_filled, is_visible, is_capital_or_digit};
 
 use hex::FromHex;
+use hx_text::read_number;
 use hx_units::MemberNo;
-use itoa::Buffer;
-use std::str;
-
-/// What stands before the first such byte, and after it.
-pub(crate) fn split_once(text: &[u8], byte: u8) -> Option<(&[u8], &[u8])>
-    ensures some { IfSome result (λ p. (text.now ≡ p.0.now ++ byte ∷ p.1.now) × All (λ x. x ≢ byte) p.0.now) }
-    ensures none { IfNone result (All (λ x. x ≢ byte) text.now) }
-{
-    let at = text.iter().position(|b| *b == byte)?;
-    Some((&text[..at], &text[at + 1..]))
-}
 
 /// What stands behind this front.
 pub(crate) fn behind<'a>(text: &'a [u8], front: &[u8]) -> Option<&'a [u8]>
@@ -34,12 +25,7 @@ pub(crate) fn number(text: &[u8]) -> Option<u32>
     ensures some { IfSome result (λ n. (n < 2 ^ 32) × (text.now ≡ decimal n)) }
     ensures none { IfNone result ((n : ℕ) → n < 2 ^ 32 → text.now ≢ decimal n) }
 {
-    let number: u32 = str::from_utf8(text).ok()?.parse().ok()?;
-    let mut spelled = Buffer::new();
-    if spelled.format(number).as_bytes() != text {
-        return None;
-    }
-    Some(number)
+    u32::try_from(read_number(text)?).ok()
 }
 
 /// The number of a member.
@@ -83,14 +69,16 @@ fn are_visible(text: &[u8]) -> bool
 
 // The bytes, where they are so many.
 fn exactly<const N: usize>(text: &[u8]) -> Option<[u8; N]>
-    ensures { MatchOption result (length text.now ≢ N) (λ bytes. (length bytes ≡ N) × (bytes ≡ text.now)) }
+    ensures { MatchOption result (length text.now ≢ N)
+        (λ bytes. (length bytes ≡ N) × (bytes ≡ text.now)) }
 {
     text.try_into().ok()
 }
 
 // The bytes, filled with spaces on the right, where they are not too many.
 fn filled<const N: usize>(text: &[u8]) -> Option<[u8; N]>
-    ensures { MatchOption result (N < length text.now) (λ bytes. (length bytes ≡ N) × (bytes ≡ text.now ++ replicate (N - length text.now) 32)) }
+    ensures { MatchOption result (N < length text.now)
+        (λ bytes. (length bytes ≡ N) × (bytes ≡ text.now ++ replicate (N - length text.now) 32)) }
 {
     if text.len() > N {
         return None;
@@ -102,8 +90,10 @@ fn filled<const N: usize>(text: &[u8]) -> Option<[u8; N]>
 
 /// The session: 10 letters or digits.
 pub(crate) fn session(text: &[u8]) -> Option<[u8; 10]>
-    ensures some { IfSome result (λ bytes. (length bytes ≡ 10) × (list_all is_ascii_alphanumeric bytes ≡ true) × (bytes ≡ text.now)) }
-    ensures none { IfNone result (length text.now ≡ 10 → list_all is_ascii_alphanumeric text.now ≢ true) }
+    ensures some { IfSome result (λ bytes. (length bytes ≡ 10)
+        × (list_all is_ascii_alphanumeric bytes ≡ true) × (bytes ≡ text.now)) }
+    ensures none { IfNone result
+        (length text.now ≡ 10 → list_all is_ascii_alphanumeric text.now ≢ true) }
 {
     if !are_letters_or_digits(text) {
         return None;
@@ -113,8 +103,10 @@ pub(crate) fn session(text: &[u8]) -> Option<[u8; 10]>
 
 /// A firm: 4 capital letters or digits.
 pub(crate) fn firm(text: &[u8]) -> Option<[u8; 4]>
-    ensures some { IfSome result (λ bytes. (length bytes ≡ 4) × (list_all is_capital_or_digit bytes ≡ true) × (bytes ≡ text.now)) }
-    ensures none { IfNone result (length text.now ≡ 4 → list_all is_capital_or_digit text.now ≢ true) }
+    ensures some { IfSome result (λ bytes. (length bytes ≡ 4)
+        × (list_all is_capital_or_digit bytes ≡ true) × (bytes ≡ text.now)) }
+    ensures none { IfNone result
+        (length text.now ≡ 4 → list_all is_capital_or_digit text.now ≢ true) }
 {
     if !are_capitals_or_digits(text) {
         return None;
@@ -124,8 +116,10 @@ pub(crate) fn firm(text: &[u8]) -> Option<[u8; 4]>
 
 /// A stock's name: 1 to 8 visible characters, which are filled with spaces.
 pub(crate) fn name(text: &[u8]) -> Option<[u8; 8]>
-    ensures some { IfSome result (λ bytes. (length bytes ≡ 8) × (is_filled is_visible bytes ≡ true) × (text.now ≡ without_spaces bytes)) }
-    ensures none { IfNone result ((bytes : List ℕ) → length bytes ≡ 8 → is_filled is_visible bytes ≡ true → text.now ≢ without_spaces bytes) }
+    ensures some { IfSome result (λ bytes. (length bytes ≡ 8) × (is_filled is_visible bytes ≡ true)
+        × (text.now ≡ without_back bytes)) }
+    ensures none { IfNone result ((bytes : List ℕ) → length bytes ≡ 8
+        → is_filled is_visible bytes ≡ true → text.now ≢ without_back bytes) }
 {
     if text.is_empty() || !are_visible(text) {
         return None;
@@ -135,8 +129,10 @@ pub(crate) fn name(text: &[u8]) -> Option<[u8; 8]>
 
 /// A user or a password: letters or digits, which are filled with spaces.
 pub(crate) fn login_name<const N: usize>(text: &[u8]) -> Option<[u8; N]>
-    ensures some { IfSome result (λ bytes. (length bytes ≡ N) × (is_filled is_ascii_alphanumeric bytes ≡ true) × (text.now ≡ without_spaces bytes)) }
-    ensures none { IfNone result ((bytes : List ℕ) → length bytes ≡ N → is_filled is_ascii_alphanumeric bytes ≡ true → text.now ≢ without_spaces bytes) }
+    ensures some { IfSome result (λ bytes. (length bytes ≡ N)
+        × (is_filled is_ascii_alphanumeric bytes ≡ true) × (text.now ≡ without_back bytes)) }
+    ensures none { IfNone result ((bytes : List ℕ) → length bytes ≡ N
+        → is_filled is_ascii_alphanumeric bytes ≡ true → text.now ≢ without_back bytes) }
 {
     if text.is_empty() || !are_letters_or_digits(text) {
         return None;
@@ -146,8 +142,10 @@ pub(crate) fn login_name<const N: usize>(text: &[u8]) -> Option<[u8; N]>
 
 /// A stock's tail: 20 bytes in lower-case hexadecimal.
 pub(crate) fn tail(text: &[u8]) -> Option<[u8; 20]>
-    ensures some { IfSome result (λ bytes. (length bytes ≡ 20) × IsBytes bytes × (text.now ≡ encode_lower bytes)) }
-    ensures none { IfNone result ((bytes : List ℕ) → length bytes ≡ 20 → IsBytes bytes → text.now ≢ encode_lower bytes) }
+    ensures some { IfSome result (λ bytes. (length bytes ≡ 20) × IsBytes bytes
+        × (text.now ≡ encode_lower bytes)) }
+    ensures none { IfNone result ((bytes : List ℕ) → length bytes ≡ 20 → IsBytes bytes
+        → text.now ≢ encode_lower bytes) }
 {
     let tail = <[u8; 20]>::from_hex(text).ok()?;
     let mut spelled = [0; 40];

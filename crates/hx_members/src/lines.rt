@@ -5,10 +5,9 @@ ghost use Rattle.hx_members.specs.declared.stock.Member.{Member as MemberName};
 ghost use Rattle.hx_members.specs.SetupText.{session_line, start_line, stock_line, member_line, HasStockLine, HasMemberLine};
 ghost use Rattle.hx_members.specs.Reading.{IsSession, AreFields, IsNext};
 
-use crate::fields::{
-    behind, firm, limit, login_name, member_number, name, session, split_once, tail,
-};
+use crate::fields::{behind, firm, limit, login_name, member_number, name, session, tail};
 use crate::stock::{Member, Stock};
+use hx_text::split_once;
 use hx_units::{Firm, Symbol};
 
 /// The fields of a member's line, as they are spelled.
@@ -24,7 +23,8 @@ struct MemberFields<'a> {
 /// The session that the line at the front of a text tells, and the text behind that line.
 pub(crate) fn next_session(text: &[u8]) -> Option<([u8; 10], &[u8])>
     ensures some { IfSome result (λ p. IsNext session_line IsSession text.now p.0 p.1.now) }
-    ensures none { IfNone result ((s rest : List ℕ) → IsNext session_line IsSession text.now s rest → ⊥) }
+    ensures none { IfNone result
+        ((s rest : List ℕ) → IsNext session_line IsSession text.now s rest → ⊥) }
 {
     let (line, rest) = split_once(text, b'\n')?;
     Some((read_session(line)?, rest))
@@ -33,7 +33,8 @@ pub(crate) fn next_session(text: &[u8]) -> Option<([u8; 10], &[u8])>
 /// How the day begins, by the line at the front of a text, and the text behind that line.
 pub(crate) fn next_start(text: &[u8]) -> Option<(bool, &[u8])>
     ensures some { IfSome result (λ p. IsNext start_line (λ _. Unit {0}) text.now p.0 p.1.now) }
-    ensures none { IfNone result ((is_open : Bool) (rest : List ℕ) → IsNext start_line (λ _. Unit {0}) text.now is_open rest → ⊥) }
+    ensures none { IfNone result ((is_open : Bool) (rest : List ℕ)
+        → IsNext start_line (λ _. Unit {0}) text.now is_open rest → ⊥) }
 {
     let (line, rest) = split_once(text, b'\n')?;
     Some((read_start(line)?, rest))
@@ -42,7 +43,8 @@ pub(crate) fn next_start(text: &[u8]) -> Option<(bool, &[u8])>
 /// The stock that the line at the front of a text tells, and the text behind that line.
 pub(crate) fn next_stock(text: &[u8]) -> Option<(Stock, &[u8])>
     ensures some { IfSome result (λ p. IsNext stock_line HasStockLine text.now p.0 p.1.now) }
-    ensures none { IfNone result ((s : StockName) (rest : List ℕ) → IsNext stock_line HasStockLine text.now s rest → ⊥) }
+    ensures none { IfNone result ((s : StockName) (rest : List ℕ)
+        → IsNext stock_line HasStockLine text.now s rest → ⊥) }
 {
     let (line, rest) = split_once(text, b'\n')?;
     Some((read_stock(line)?, rest))
@@ -51,7 +53,8 @@ pub(crate) fn next_stock(text: &[u8]) -> Option<(Stock, &[u8])>
 /// The member that the line at the front of a text tells, and the text behind that line.
 pub(crate) fn next_member(text: &[u8]) -> Option<(Member, &[u8])>
     ensures some { IfSome result (λ p. IsNext member_line HasMemberLine text.now p.0 p.1.now) }
-    ensures none { IfNone result ((m : MemberName) (rest : List ℕ) → IsNext member_line HasMemberLine text.now m rest → ⊥) }
+    ensures none { IfNone result ((m : MemberName) (rest : List ℕ)
+        → IsNext member_line HasMemberLine text.now m rest → ⊥) }
 {
     let (line, rest) = split_once(text, b'\n')?;
     Some((read_member(line)?, rest))
@@ -94,7 +97,8 @@ fn read_stock(line: &[u8]) -> Option<Stock>
 
 // The fields of a member's line.
 fn split_member(line: &[u8]) -> Option<MemberFields<'_>>
-    ensures some { IfSome result (λ f. AreFields line.now f.number.now f.firm.now f.user.now f.password.now f.limit.now) }
+    ensures some { IfSome result
+        (λ f. AreFields line.now f.number.now f.firm.now f.user.now f.password.now f.limit.now) }
     ensures none { IfNone result ((n f u p l : List ℕ) → AreFields line.now n f u p l → ⊥) }
 {
     let (number, rest) = split_once(behind(line, b"member ")?, b' ')?;

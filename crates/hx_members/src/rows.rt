@@ -150,7 +150,8 @@ impl Rows {
 
     /// Adds to what the chain at a place has done.
     pub(crate) fn note(&mut self, chain: usize, shares: u32, displayed: bool)
-        requires { (row : Row) × (slice_get self.old.rows chain ≡ Some row) × (row.1.facts.executed + shares < 2 ^ 32) }
+        requires { (row : Row) × (slice_get self.old.rows chain ≡ Some row)
+            × (row.1.facts.executed + shares < 2 ^ 32) }
         ensures rows { self.new.rows ≡ noted_rows chain shares displayed self.old.rows }
         ensures place { self.new.place ≡ self.old.place }
     {

@@ -2,7 +2,7 @@
 ghost use Rattle.std.specs.Prelude.{◌≡◌, ◌≤◌, ◌<◌, ◌+◌, length, map, IfOk, IfErr, OnOk, true};
 ghost use Rattle.std.specs.Option.{option_map};
 ghost use Rattle.hx_units.specs.Ranges.{IsMember};
-ghost use Rattle.hx_members.specs.Setups.{is_login, names_differ, numbers_rise, locates_of, places_of, stock_named, member_with};
+ghost use Rattle.hx_members.specs.Setups.{setup_with, is_login, names_differ, numbers_rise, locates_of, places_of, stock_named, member_with};
 
 use crate::fault::SetupError;
 use crate::lines::{next_session, next_start};
@@ -39,13 +39,16 @@ impl Drop for Setup {
 
 impl Model for Setup {
     ghost use Rattle.std.specs.Prelude.{◌≡◌};
-    ghost use Rattle.hx_members.specs.Setups.{Setup, IsSetup, locates_of, places_of};
+    ghost use Rattle.hx_members.specs.Setups.{Setup, setup_with, IsSetup, locates_of, places_of};
 
     ghost Value = { Setup };
 
-    ghost view = { λ s. record { session = s.session; start_open = s.start_open; stocks = s.stocks.items; members = s.members.items } };
+    ghost view = { λ s. setup_with s.session s.start_open s.stocks.items s.members.items };
 
-    ghost invariant = { λ s. IsSetup (record { session = s.session; start_open = s.start_open; stocks = s.stocks.items; members = s.members.items }) × (s.locates.entries ≡ locates_of s.stocks.items) × (s.places.entries ≡ places_of s.members.items) };
+    ghost invariant = { λ s.
+        IsSetup (setup_with s.session s.start_open s.stocks.items s.members.items)
+        × (s.locates.entries ≡ locates_of s.stocks.items)
+        × (s.places.entries ≡ places_of s.members.items) };
 }
 
 /// Whether a user, or a password, is the one that is kept: without regard to case and to spaces on the right.
@@ -98,8 +101,9 @@ impl Setup {
         stocks: Vec<Stock>,
         members: Vec<Member>,
     ) -> Result<Self, NoMemory>
-        requires { IsSetup (record { session = session; start_open = start_open; stocks = stocks.items; members = members.items }) }
-        ensures { IfOk result (λ setup. setup ≡ record { session = session; start_open = start_open; stocks = stocks.items; members = members.items }) }
+        requires { IsSetup (setup_with session start_open stocks.items members.items) }
+        ensures { IfOk result (λ setup.
+            setup ≡ setup_with session start_open stocks.items members.items) }
     {
         let locates = index_stocks(alloc, &stocks)?;
         let places = index_members(alloc, &members)?;

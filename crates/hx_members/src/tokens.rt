@@ -59,8 +59,10 @@ impl Tokens {
 
     /// What is told of a token, if the member has used it.
     pub fn state(&self, member: MemberNo, token: &Token) -> Option<TokenState>
-        ensures state { result ≡ state_of self.now.tokens self.now.chains self.now.keys member token.now }
-        ensures entered { IfSome result (λ state. IsEnteredAt self.now.tokens member (entered_of self.now.tokens member token.now) state.chain) }
+        ensures state { result
+            ≡ state_of self.now.tokens self.now.chains self.now.keys member token.now }
+        ensures entered { IfSome result (λ state. IsEnteredAt self.now.tokens member
+            (entered_of self.now.tokens member token.now) state.chain) }
     {
         self.kept.state(Name {
             member,
@@ -105,7 +107,8 @@ impl Tokens {
         requires place { self.old.place ≡ Some (name_of member token.now) }
         requires unused { is_used self.old.tokens member token.now ≡ false }
         requires there { (entered : TokenName) × IsEnteredAt self.old.tokens member entered chain }
-        ensures tokens { self.new.tokens ≡ self.old.tokens ++ replacing_used member token.now (entered_at self.old.tokens chain token.now) ∷ [] }
+        ensures tokens { self.new.tokens ≡ self.old.tokens
+            ++ replacing_used member token.now (entered_at self.old.tokens chain token.now) ∷ [] }
         ensures chains { self.new.chains ≡ self.old.chains }
         ensures keys { self.new.keys ≡ self.old.keys ++ None ∷ [] }
         ensures place { self.new.place ≡ None }
@@ -123,7 +126,8 @@ impl Tokens {
         requires used { is_used self.old.tokens member token.now ≡ true }
         ensures tokens { self.new.tokens ≡ self.old.tokens }
         ensures chains { self.new.chains ≡ self.old.chains }
-        ensures keys { self.new.keys ≡ slice_set self.old.keys (place_of self.old.tokens member token.now) key }
+        ensures keys { self.new.keys ≡ slice_set self.old.keys
+            (place_of self.old.tokens member token.now) key }
         ensures place { self.new.place ≡ self.old.place }
     {
         let name = Name {
@@ -141,7 +145,8 @@ impl Tokens {
         requires there { IsChainAt self.old.tokens chain }
         requires fits { executed_at self.old.tokens self.old.chains chain + shares < 2 ^ 32 }
         ensures tokens { self.new.tokens ≡ self.old.tokens }
-        ensures chains { self.new.chains ≡ noted_at self.old.tokens chain shares displayed self.old.chains }
+        ensures chains { self.new.chains
+            ≡ noted_at self.old.tokens chain shares displayed self.old.chains }
         ensures keys { self.new.keys ≡ self.old.keys }
         ensures place { self.new.place ≡ self.old.place }
     {

@@ -1,6 +1,4 @@
-pub mod Numbers
 pub mod Pairs
-pub mod Splits
 pub mod Lines
 pub mod Writing
 pub mod Told

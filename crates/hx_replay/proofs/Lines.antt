@@ -4,22 +4,23 @@ use Rattle.std.specs.Prelude.{IfSome, IfNone}
 use Rattle.std.specs.Fmt.{decimal}
 use Rattle.hex.specs.Hex.{encode_lower, IsBytes}
 use Rattle.hex.proofs.HexLemmas.{length-encode_with}
-use Rattle.hx_replay.specs.Text.{Entry, IsEntry, line, HasParts, HasNone}
-use Rattle.hx_replay.proofs.Numbers.{decimal_HasNone}
-use Rattle.hx_replay.proofs.Splits.{same_split}
+use Rattle.hx_text.specs.Cuts.{Lacks}
+use Rattle.hx_replay.specs.Text.{Entry, IsEntry, line, HasParts}
+use Rattle.hx_text.proofs.Numbers.{lacks-decimal}
+use Rattle.hx_text.proofs.Splits.{same_split}
 
 -- the text after the time
 abbrev pub after_time : Entry → List ℕ
 after_time e = decimal e.member ++ 32 ∷ encode_lower e.bytes
 
-pub time_HasNone : (e : Entry) → IsEntry e → HasNone 32 (decimal e.time)
-time_HasNone e fits = decimal_HasNone e.time (omega (arith, fits.time))
+pub time_Lacks : (e : Entry) → IsEntry e → Lacks 32 (decimal e.time)
+time_Lacks e fits = lacks-decimal 32 e.time (omega arith) (omega (arith, fits.time))
 
-pub member_HasNone : (e : Entry) → IsEntry e → HasNone 32 (decimal e.member)
-member_HasNone e fits = decimal_HasNone e.member (omega (arith, fits.member))
+pub member_Lacks : (e : Entry) → IsEntry e → Lacks 32 (decimal e.member)
+member_Lacks e fits = lacks-decimal 32 e.member (omega arith) (omega (arith, fits.member))
 
-pub two_fields : (e : Entry) (text a b : List ℕ) → IsEntry e → text ≡ line e → text ≡ a ++ 32 ∷ b → HasNone 32 a → (a ≡ decimal e.time) × (b ≡ after_time e)
-two_fields e text a b fits is cut none = same_split 32 a b (decimal e.time) (after_time e) none (time_HasNone e fits) (sym cut ∙ is)
+pub two_fields : (e : Entry) (text a b : List ℕ) → IsEntry e → text ≡ line e → text ≡ a ++ 32 ∷ b → Lacks 32 a → (a ≡ decimal e.time) × (b ≡ after_time e)
+two_fields e text a b fits is cut none = same_split 32 a b (decimal e.time) (after_time e) none (time_Lacks e fits) (sym cut ∙ is)
 
 -- all three
 pub record Fields (e : Entry) (a b x : List ℕ) : Type 0 where
@@ -27,10 +28,10 @@ pub record Fields (e : Entry) (a b x : List ℕ) : Type 0 where
   pub member : b ≡ decimal e.member
   pub hex : x ≡ encode_lower e.bytes
 
-pub three_fields : (e : Entry) (text a others b x : List ℕ) → IsEntry e → text ≡ line e → text ≡ a ++ 32 ∷ others → HasNone 32 a → others ≡ b ++ 32 ∷ x → HasNone 32 b → Fields e a b x
+pub three_fields : (e : Entry) (text a others b x : List ℕ) → IsEntry e → text ≡ line e → text ≡ a ++ 32 ∷ others → Lacks 32 a → others ≡ b ++ 32 ∷ x → Lacks 32 b → Fields e a b x
 three_fields e text a others b x fits is cut none cut2 none2 =
     let first = two_fields e text a others fits is cut none in
-    let second = same_split 32 b x (decimal e.member) (encode_lower e.bytes) none2 (member_HasNone e fits) (sym cut2 ∙ first.1) in
+    let second = same_split 32 b x (decimal e.member) (encode_lower e.bytes) none2 (member_Lacks e fits) (sym cut2 ∙ first.1) in
     record { time = first.0; member = second.0; hex = second.1 }
 
 pub hex_length : (bytes : List ℕ) → length (encode_lower bytes) ≡ 2 * length bytes
@@ -39,7 +40,7 @@ hex_length bytes = length-encode_with _ bytes
 -- the digits of a line
 pub parts_digits : (e : Entry) (text : List ℕ) (t m : ℕ) (digits : List ℕ) → IsEntry e → HasParts text t m digits → text ≡ line e → digits ≡ encode_lower e.bytes
 parts_digits e text t m digits fits h is =
-    (three_fields e text (decimal t) (decimal m ++ 32 ∷ digits) (decimal m) digits fits is h.text_is (decimal_HasNone t (omega (arith, h.time))) refl (decimal_HasNone m (omega (arith, h.member)))).hex
+    (three_fields e text (decimal t) (decimal m ++ 32 ∷ digits) (decimal m) digits fits is h.text_is (lacks-decimal 32 t (omega arith) (omega (arith, h.time))) refl (lacks-decimal 32 m (omega arith) (omega (arith, h.member)))).hex
 
 pub parts_found : (text : List ℕ) (t m : ℕ) (digits bytes : List ℕ) → HasParts text t m digits → digits ≡ encode_lower bytes → IsBytes bytes
     → (let e : Entry = record { time = t; member = m; bytes = bytes } in (text ≡ line e) × IsEntry e)
@@ -48,10 +49,6 @@ parts_found text t m digits bytes h is fits =
       h.text_is ∙ ap (λ (x : List ℕ). decimal t ++ 32 ∷ (decimal m ++ 32 ∷ x)) is,
       record { time = h.time; member = h.member; some = omega (arith, size, h.some); few = omega (arith, size, h.few); are_bytes = fits },
     )
-
-pub not_empty : (xs : List ℕ) → eqb (length xs) 0 ≡ false → 0 < length xs
-not_empty [] e = absurd cc
-not_empty (x ∷ xs) e = omega arith
 
 pub same_entry : (a b : Entry) → a.time ≡ b.time → a.member ≡ b.member → a.bytes ≡ b.bytes → a ≡ b
 same_entry a b p q r =

@@ -12,10 +12,12 @@ use Rattle.std.proofs.lemmas.Str.Parse.{digit_at}
 use Rattle.std.proofs.lemmas.Grind.{get_or_default_zero}
 use Rattle.hex.specs.Hex.{encode_lower, decode_of, is_hex_digit, IsBytes}
 use Rattle.hex.proofs.HexLemmas.{decode_of-encode_lower, decode_of-same, decode_of-ok}
-use Rattle.hx_replay.specs.Text.{Entry, IsEntry, line, HasNone}
+use Rattle.hx_text.specs.Cuts.{Lacks}
+use Rattle.hx_replay.specs.Text.{Entry, IsEntry, line}
 use Rattle.hx_replay.specs.Run.{tape}
-use Rattle.hx_replay.proofs.Splits.{same_split}
-use Rattle.hx_replay.proofs.Lines.{three_fields, same_entry, time_HasNone, member_HasNone, after_time}
+use Rattle.hx_text.proofs.Splits.{same_split}
+use Rattle.hx_text.proofs.Numbers.{lacks-decimal}
+use Rattle.hx_replay.proofs.Lines.{three_fields, same_entry, time_Lacks, member_Lacks, after_time}
 
 decimal_same : (m n : ℕ) → m < 2 ^ 64 → n < 2 ^ 64 → decimal m ≡ decimal n → m ≡ n
 decimal_same m n p q e = sym (decimal_is_IsNumeral m p).1 ∙ ap (digits_value 10) e ∙ (decimal_is_IsNumeral n q).1
@@ -25,32 +27,26 @@ hex_same a b p q e = decode_of-same (encode_lower a) a b (decode_of-encode_lower
 
 line_same : (a b : Entry) → IsEntry a → IsEntry b → line a ≡ line b → a ≡ b
 line_same a b p q e =
-    let f = three_fields b (line a) (decimal a.time) (after_time a) (decimal a.member) (encode_lower a.bytes) q e refl (time_HasNone a p) refl (member_HasNone a p) in
+    let f = three_fields b (line a) (decimal a.time) (after_time a) (decimal a.member) (encode_lower a.bytes) q e refl (time_Lacks a p) refl (member_Lacks a p) in
     same_entry a b (decimal_same a.time b.time (omega (arith, p.time)) (omega (arith, q.time)) f.time)
     (decimal_same a.member b.member (omega (arith, p.member)) (omega (arith, q.member)) f.member)
     (hex_same a.bytes b.bytes p.are_bytes q.are_bytes f.hex)
 
 -- ---- no line feed stands in a line
 
-decimal_no_feed : (n : ℕ) → n < 2 ^ 64 → HasNone 10 (decimal n)
-decimal_no_feed n lt k d below e =
-    let numeral = decimal_is_IsNumeral n lt in
-    let range = digit_at (decimal n) k numeral.0.1 below in
-    omega (arith, range, get_or_default_zero (decimal n) k d below)
-
 no_digit : (c : ℕ) → c ≡ 10 → is_hex_digit c ≡ true → ⊥
 no_digit c e h = let bad : is_hex_digit 10 ≡ true = subst (λ (x : ℕ). is_hex_digit x ≡ true) e h in cc
 
-hex_no_feed : (bytes : List ℕ) → IsBytes bytes → HasNone 10 (encode_lower bytes)
+hex_no_feed : (bytes : List ℕ) → IsBytes bytes → Lacks 10 (encode_lower bytes)
 hex_no_feed bytes fits k d below e =
     let digits = (decode_of-ok (encode_lower bytes) bytes (decode_of-encode_lower bytes fits)).1 in
     no_digit (get_or (encode_lower bytes) k d) e (digits k d below)
 
-pub line_no_feed : (a : Entry) → IsEntry a → HasNone 10 (line a)
+pub line_no_feed : (a : Entry) → IsEntry a → Lacks 10 (line a)
 line_no_feed a p =
     let P : ℕ → Type 0 = λ x. x ≢ 10 in
-    All-append P (decimal a.time) (32 ∷ after_time a) (decimal_no_feed a.time (omega (arith, p.time))) (All-cons P 32 (after_time a) (λ e. omega (arith, e))
-    (All-append P (decimal a.member) (32 ∷ encode_lower a.bytes) (decimal_no_feed a.member (omega (arith, p.member))) (All-cons P 32 (encode_lower a.bytes) (λ e. omega (arith, e)) (hex_no_feed a.bytes p.are_bytes))))
+    All-append P (decimal a.time) (32 ∷ after_time a) (lacks-decimal 10 a.time (omega arith) (omega (arith, p.time))) (All-cons P 32 (after_time a) (λ e. omega (arith, e))
+    (All-append P (decimal a.member) (32 ∷ encode_lower a.bytes) (lacks-decimal 10 a.member (omega arith) (omega (arith, p.member))) (All-cons P 32 (encode_lower a.bytes) (λ e. omega (arith, e)) (hex_no_feed a.bytes p.are_bytes))))
 
 pub tape-cons : (e : Entry) (es : List Entry) → tape (e ∷ es) ≡ line e ++ 10 ∷ tape es
 tape-cons e es = flat_map-cons (λ x. line x ++ 10 ∷ []) e es ∙ append_assoc (line e) (10 ∷ []) (tape es)

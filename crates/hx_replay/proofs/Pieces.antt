@@ -8,7 +8,8 @@ use Rattle.hx_replay.specs.declared.fault.TapeError.TheVariants as fault
 use Rattle.hx_replay.specs.declared.fault.Kind.{Kind}
 use Rattle.hx_replay.specs.declared.fault.Kind.TheVariants as kinds
 use Rattle.hx_members.specs.Setups.{Setup, IsSetup}
-use Rattle.hx_replay.specs.Text.{Entry, HasNone}
+use Rattle.hx_text.specs.Cuts.{Lacks}
+use Rattle.hx_replay.specs.Text.{Entry}
 use Rattle.hx_replay.specs.Run.{Progress, tape, after_all, output_all, start, counts_of, FailsAs, IsFew, AreEvents, Replays, Stops, EndsBy, BeginsBadly, IsFront}
 use Rattle.hx_replay.specs.Whole.{ReplaysAll, StopsAt}
 use Rattle.hx_replay.proofs.NoTrace.{no_trace}
@@ -20,7 +21,7 @@ pub record SoFar (setup : Setup) (r s w v : Option (List ℕ)) (counts : Progres
   pub text : List ℕ
   pub read : Consumes r s text
   pub plays : Replays (start setup) counts text w v pending
-  pub no_feed : HasNone 10 pending
+  pub no_feed : Lacks 10 pending
   pub short : length text ≤ 8192 * turn
 
 -- ---- joined replays
@@ -83,7 +84,7 @@ starts_so setup copied c pending r w copy i is none =
     subst (λ (x : List ℕ). SoFar setup r r w w c x 0) (sym none) (subst (λ (x : Progress). SoFar setup r r w w x [] 0) start_is (so_far_none setup r w i))
 
 pub so_far_more : (setup : Setup) (r s s' w v u : Option (List ℕ)) (c c' : Progress) (pending piece pending' : List ℕ) (turn : ℕ) → SoFar setup r s w v c pending turn → Consumes s s' piece → length piece ≤ 8192
-    → Replays c c' (pending ++ piece) v u pending' → HasNone 10 pending' → SoFar setup r s' w u c' pending' (turn + 1)
+    → Replays c c' (pending ++ piece) v u pending' → Lacks 10 pending' → SoFar setup r s' w u c' pending' (turn + 1)
 so_far_more setup r s s' w v u c c' pending piece pending' turn h took small plays none = record {
   is_setup = h.is_setup;
   text = h.text ++ piece;

@@ -7,7 +7,8 @@ use Rattle.std.proofs.lemmas.List.Concat.{flat_map-cons, flat_map-append}
 use Rattle.hx_replay.specs.declared.fault.TapeError.{TapeError}
 use Rattle.hx_replay.specs.declared.fault.TapeError.TheVariants as fault
 use Rattle.hx_replay.specs.declared.fault.Kind.TheVariants as kinds
-use Rattle.hx_replay.specs.Text.{Entry, line, HasNone}
+use Rattle.hx_text.specs.Cuts.{Lacks}
+use Rattle.hx_replay.specs.Text.{Entry, line}
 use Rattle.hx_replay.specs.Run.{Progress, output_of, after, IsEvent, AreEvents, tape, after_all, output_all, Plays, Replays, Stops, EndsBy, Faults, FailsAs, Writes, IsFew}
 use Rattle.hx_replay.proofs.Few.{few-after}
 
@@ -87,7 +88,7 @@ replays_more c d d' text w v u rest l output others h cut p wrote =
       wrote = subst (Appends w u) (sym g.output_is) (Appends-trans w v u (output_all c h.events) output h.wrote wrote);
     }
 
-pub stops_at_line : (c d : Progress) (text : List ℕ) (w v : Option (List ℕ)) (rest l others : List ℕ) (e : TapeError) → Replays c d text w v rest → rest ≡ l ++ 10 ∷ others → HasNone 10 l → Faults d l e
+pub stops_at_line : (c d : Progress) (text : List ℕ) (w v : Option (List ℕ)) (rest l others : List ℕ) (e : TapeError) → Replays c d text w v rest → rest ≡ l ++ 10 ∷ others → Lacks 10 l → Faults d l e
     → Stops ⊥ c text w v e
 stops_at_line c d text w v rest l others e h cut none fails =
     let stop : (x : TapeError) → EndsBy ⊥ c h.events rest (output_all c h.events) x → Stops ⊥ c text w v x = λ x why.
@@ -126,7 +127,7 @@ stops_without_memory c d text w v rest h = record {
   why = ([], sym (append-nil (output_all c h.events)));
 }
 
-pub stops_at_rest : (End : Type 0) (c d : Progress) (text : List ℕ) (w v : Option (List ℕ)) (rest : List ℕ) → Replays c d text w v rest → HasNone 10 rest → (2066 < length rest) ⊎ ((0 < length rest) × End)
+pub stops_at_rest : (End : Type 0) (c d : Progress) (text : List ℕ) (w v : Option (List ℕ)) (rest : List ℕ) → Replays c d text w v rest → Lacks 10 rest → (2066 < length rest) ⊎ ((0 < length rest) × End)
     → Stops End c text w v (fault.Line (d.events + 1) kinds.Bad)
 stops_at_rest End c d text w v rest h none why =
     let lines : d.events ≡ c.events + length h.events = ap (λ (x : Progress). x.events) h.after_is ∙ events_counted c h.events in

@@ -18,7 +18,8 @@ use Rattle.hx_replay.specs.declared.fault.Kind.TheVariants as kind
 use Rattle.hx_replay.specs.declared.fault.TapeError.{TapeError}
 use Rattle.hx_replay.specs.declared.fault.TapeError.TheVariants as fault
 use Rattle.hx_replay.specs.declared.run.Counts.{Counts}
-use Rattle.hx_replay.specs.Text.{Entry, IsEntry, line, HasNone}
+use Rattle.hx_text.specs.Cuts.{Lacks}
+use Rattle.hx_replay.specs.Text.{Entry, IsEntry, line}
 use Rattle.hx_replay.specs.Output.{feed_lines, reply_lines, counts_after}
 
 -- ---- one event
@@ -180,9 +181,9 @@ pub record Replays (old new : Progress) (text : List ℕ) (w v : Option (List �
 -- line feed, or where nothing follows the last bytes without one.
 abbrev pub BeginsBadly : Type 0 → Progress → Kind → List ℕ → Type 0
 BeginsBadly End p k rest =
-    ((bad : List ℕ) × (more : List ℕ) × (rest ≡ bad ++ 10 ∷ more) × HasNone 10 bad
+    ((bad : List ℕ) × (more : List ℕ) × (rest ≡ bad ++ 10 ∷ more) × Lacks 10 bad
     × FailsAs p k bad)
-    ⊎ ((k ≡ kind.Bad) × HasNone 10 rest × ((2066 < length rest) ⊎ ((0 < length rest) × End)))
+    ⊎ ((k ≡ kind.Bad) × Lacks 10 rest × ((2066 < length rest) ⊎ ((0 < length rest) × End)))
 
 -- where and why a replay ended: after these events, with these bytes read behind them and these written
 abbrev pub EndsBy : Type 0 → Progress → List Entry → List ℕ → List ℕ → TapeError → Type 0
@@ -191,8 +192,8 @@ EndsBy End p events rest written (fault.Line n k) =
     × BeginsBadly End (after_all p events) k rest
 EndsBy End p events rest written fault.NoMemory = IsFront written (output_all p events)
 EndsBy End p events rest written fault.Write = IsFront written (output_all p events)
-EndsBy End p events rest written fault.Read = (written ≡ output_all p events) × HasNone 10 rest
-EndsBy End p events rest written fault.Turns = (written ≡ output_all p events) × HasNone 10 rest
+EndsBy End p events rest written fault.Read = (written ≡ output_all p events) × Lacks 10 rest
+EndsBy End p events rest written fault.Turns = (written ≡ output_all p events) × Lacks 10 rest
 
 pub record Stops (End : Type 0) (p : Progress) (text : List ℕ) (w v : Option (List ℕ)) (e : TapeError) : Type 0 where
   pub events : List Entry

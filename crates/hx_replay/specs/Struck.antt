@@ -12,7 +12,8 @@ use Rattle.hx_replay.specs.declared.fault.Kind.{Kind}
 use Rattle.hx_replay.specs.declared.fault.TapeError.{TapeError}
 use Rattle.hx_replay.specs.declared.fault.TapeError.TheVariants as fault
 use Rattle.hx_replay.specs.declared.run.Counts.{Counts}
-use Rattle.hx_replay.specs.Text.{Entry, IsEntry, line, HasNone}
+use Rattle.hx_text.specs.Cuts.{Lacks}
+use Rattle.hx_replay.specs.Text.{Entry, IsEntry, line}
 use Rattle.hx_replay.specs.Run.{start, event_of, is_unknown, tape, after_all, AreEvents, BeginsBadly, IsFront}
 
 -- the lines that stay: those whose event is no message that bears a token of the member's chains that the whole tape never displayed and never traded
@@ -50,8 +51,8 @@ IsNoLine text =
 -- it begins with a line of no event, or it is the beginning of a line
 abbrev pub BreaksOff : List ℕ → Type 0
 BreaksOff rest =
-    ((bad : List ℕ) × (more : List ℕ) × (rest ≡ bad ++ 10 ∷ more) × HasNone 10 bad × IsNoLine bad)
-    ⊎ (HasNone 10 rest × (0 < length rest))
+    ((bad : List ℕ) × (more : List ℕ) × (rest ≡ bad ++ 10 ∷ more) × Lacks 10 bad × IsNoLine bad)
+    ⊎ (Lacks 10 rest × (0 < length rest))
 
 -- the text is the lines of these events, and a rest
 pub record Collects (text : List ℕ) (events : List Event) (rest : List ℕ) : Type 0 where

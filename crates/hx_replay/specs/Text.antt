@@ -1,6 +1,5 @@
 -- The text of a tape.
-use Rattle.std.specs.Prelude.{◌≡◌, ◌≢◌, ℕ, ◌^◌, ◌<◌, ◌≤◌, List, ◌∷◌, ◌++◌, length}
-use Rattle.std.specs.List.{All}
+use Rattle.std.specs.Prelude.{◌≡◌, ℕ, ◌^◌, ◌<◌, ◌≤◌, List, ◌∷◌, ◌++◌, length}
 use Rattle.std.specs.Fmt.{decimal}
 use Rattle.hex.specs.Hex.{encode_lower, IsBytes}
 use Rattle.hx_replay.specs.declared.line.Fields.{Fields}
@@ -33,7 +32,3 @@ pub record HasParts (text : List ℕ) (t m : ℕ) (digits : List ℕ) : Type 0 w
   pub member : m < 10 ^ 4
   pub some : 0 < length digits
   pub few : length digits ≤ 2046
-
--- no place has this byte
-abbrev pub HasNone : ℕ → List ℕ → Type 0
-HasNone byte xs = All (λ x. x ≢ byte) xs

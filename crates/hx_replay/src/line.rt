@@ -1,10 +1,10 @@
 //! The lines of a tape.
 ghost use Rattle.std.specs.Prelude.{◌≡◌, ◌≢◌, ◌∷◌, ◌++◌, IfSome, IfNone, IfOk};
-ghost use Rattle.hx_replay.specs.Text.{Entry, entry_of, IsEntry, line, HasParts, HasNone};
+ghost use Rattle.hx_text.specs.Cuts.{Lacks};
+ghost use Rattle.hx_replay.specs.Text.{Entry, entry_of, IsEntry, line, HasParts};
 
-use crate::decimal::read_number;
 use crate::hexadecimal::read_bytes;
-use memchr::memchr;
+use hx_text::{read_number, split_once};
 use std::alloc::{AllocError, Global};
 
 /// A timed message of a member.
@@ -21,15 +21,6 @@ struct Parts<'a> {
     time: u64,
     member: u16,
     digits: &'a [u8],
-}
-
-/// What stands before the first such byte, and after it.
-pub fn split_once(text: &[u8], byte: u8) -> Option<(&[u8], &[u8])>
-    ensures some { IfSome result (λ p. (text.now ≡ p.0.now ++ byte ∷ p.1.now) × HasNone byte p.0.now) }
-    ensures none { IfNone result (HasNone byte text.now) }
-{
-    let at = memchr(byte, text)?;
-    Some((&text[..at], &text[at + 1..]))
 }
 
 /// The event of a line, where it is the event's one line.

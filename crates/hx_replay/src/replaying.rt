@@ -1,17 +1,17 @@
 //! A tape from its lines to its output lines.
 ghost use Rattle.std.specs.Prelude.{List, ℕ, ◌≡◌, ◌≤◌, ◌<◌, ◌^◌, ◌+◌, ◌*◌, ◌++◌, [], OnOk, OnErr, IfOk, IfErr, length};
 ghost use Rattle.std.specs.Io.KnownBytes.{Appends};
-ghost use Rattle.hx_replay.specs.Text.{HasNone};
+ghost use Rattle.hx_text.specs.Cuts.{Lacks};
 ghost use Rattle.hx_replay.specs.Run.{Writes, Replays, Stops, IsFew, counts_of};
 ghost use Rattle.hx_replay.specs.Whole.{ReplaysAll, StopsAt};
 ghost use Rattle.hx_replay.specs.declared.fault.TapeError.TheVariants as fault;
 ghost use Rattle.hx_replay.specs.declared.fault.Kind.TheVariants as kinds;
 
 use crate::fault::{Kind, TapeError};
-use crate::line::split_once;
 use crate::run::{Counts, Run};
 use hx_levels::{Book, LevelBook};
 use hx_members::Setup;
+use hx_text::split_once;
 use std::alloc::Global;
 use std::io::{ErrorKind, Read, Write};
 
@@ -50,7 +50,7 @@ fn play_lines<'a, B: Book + Drop, W: Write>(
     requires events { run.old.events + length text.now < 2 ^ 48 }
     requires few { IsFew run.old }
     ensures ok { IfOk result (λ rest. Replays run.old run.new text.now (W.contents writer.old) (W.contents writer.new) rest.now
-        × HasNone 10 rest.now) }
+        × Lacks 10 rest.now) }
     ensures err { IfErr result (Stops ⊥ run.old text.now (W.contents writer.old) (W.contents writer.new)) }
 {
     let mut output = Vec::new(alloc);
@@ -130,7 +130,7 @@ fn play_piece<B: Book + Drop, W: Write>(
     requires events { run.old.events + length (pending.old.items ++ piece.now) < 2 ^ 48 }
     requires few { IsFew run.old }
     ensures ok { OnOk result (Replays run.old run.new (pending.old.items ++ piece.now) (W.contents writer.old) (W.contents writer.new)
-        pending.new.items × HasNone 10 pending.new.items × (length pending.new.items ≤ 2066)) }
+        pending.new.items × Lacks 10 pending.new.items × (length pending.new.items ≤ 2066)) }
     ensures err { IfErr result (Stops ⊥ run.old (pending.old.items ++ piece.now) (W.contents writer.old)
         (W.contents writer.new)) }
 {

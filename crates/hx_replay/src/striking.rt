@@ -8,12 +8,13 @@ ghost use Rattle.hx_replay.specs.Struck.{entry_of_event, IsOfReading, ReadsSome,
 
 use crate::decimal::write_number;
 use crate::fault::{Kind, TapeError};
-use crate::line::{self, split_once};
+use crate::line;
 use crate::replaying::{READS, write_whole};
 use crate::run::{Counts, event_of, fault_of};
 use hx_audit::{StrikeError, strike};
 use hx_market::Event;
 use hx_members::Setup;
+use hx_text::split_once;
 use hx_units::MemberNo;
 use std::alloc::{AllocError, Global};
 use std::io::{ErrorKind, Read, Write};

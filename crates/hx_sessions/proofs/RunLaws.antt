@@ -10,67 +10,68 @@ use Rattle.hx_sessions.specs.Runs.{Asked, Runs, Brings, BringsAll}
 
 -- ---- one turn
 
-brings_reply : (over after : Bool) (row : List ℕ) (rest : List (List ℕ)) (t : Turn) → over ≡ false → after ≡ false → IsFrame sequenced_data row t → Brings over after (row ∷ rest) rest t
-brings_reply over after row rest (turn.Frame f) o a is = (o, inl (record { row = row; first = refl; bytes_are = is; goes_on = a }))
-brings_reply over after row rest turn.Idle o a is = absurd is
-brings_reply over after row rest turn.Over o a is = absurd is
+brings_reply : (a : Asked) (over after : Bool) (row : List ℕ) (rest : List (List ℕ)) (t : Turn) → over ≡ false → after ≡ false → IsFrame sequenced_data row t → Brings a over after (row ∷ rest) rest t
+brings_reply a over after row rest (turn.Frame f) o e is = (o, inl (record { row = row; first = refl; bytes_are = is; goes_on = e }))
+brings_reply a over after row rest turn.Idle o e is = absurd is
+brings_reply a over after row rest turn.Over o e is = absurd is
 
-brings_heartbeat : (over after : Bool) (left : List (List ℕ)) (t : Turn) → over ≡ false → after ≡ false → IsFrame server_heartbeat [] t → Brings over after left left t
-brings_heartbeat over after left (turn.Frame f) o a is = (o, inr (inl (record { same = refl; bytes_are = is; goes_on = a })))
-brings_heartbeat over after left turn.Idle o a is = absurd is
-brings_heartbeat over after left turn.Over o a is = absurd is
+brings_heartbeat : (a : Asked) (over after : Bool) (left : List (List ℕ)) (t : Turn) → over ≡ false → after ≡ false → IsFrame server_heartbeat [] t → Brings a over after left left t
+brings_heartbeat a over after left (turn.Frame f) o e is = (o, inr (inl (record { same = refl; bytes_are = is; goes_on = e })))
+brings_heartbeat a over after left turn.Idle o e is = absurd is
+brings_heartbeat a over after left turn.Over o e is = absurd is
 
-brings_end : (over after : Bool) (left : List (List ℕ)) (t : Turn) → over ≡ false → after ≡ true → IsFrame end_of_session [] t → Brings over after left left t
-brings_end over after left (turn.Frame f) o a is = (o, inr (inr (record { same = refl; bytes_are = is; is_over = a })))
-brings_end over after left turn.Idle o a is = absurd is
-brings_end over after left turn.Over o a is = absurd is
+brings_end : (a : Asked) (over after : Bool) (left : List (List ℕ)) (t : Turn) → a.ended ≡ true → a.rows ≡ [] → over ≡ false → after ≡ true → IsFrame end_of_session [] t → Brings a over after left left t
+brings_end a over after left (turn.Frame f) ended none o e is = (o, inr (inr (record { ended = ended; none_left = none; same = refl; bytes_are = is; is_over = e })))
+brings_end a over after left turn.Idle ended none o e is = absurd is
+brings_end a over after left turn.Over ended none o e is = absurd is
 
 -- a turn that brings the first of its rows
-record Moves (old new : Delivery) (rows : List (List ℕ)) (t : Turn) : Type 0 where
+record Moves (a : Asked) (old new : Delivery) (rows : List (List ℕ)) (t : Turn) : Type 0 where
   pub row : List ℕ
   pub others : List (List ℕ)
   pub rows_are : rows ≡ row ∷ others
   pub next : new.next ≡ old.next + 1
-  pub brings : (rest : List (List ℕ)) → Brings old.over new.over (row ∷ rest) rest t
+  pub brings : (rest : List (List ℕ)) → Brings a old.over new.over (row ∷ rest) rest t
 
 -- a turn that brings none
-record Waits (old new : Delivery) (t : Turn) : Type 0 where
+record Waits (a : Asked) (old new : Delivery) (t : Turn) : Type 0 where
   pub next : new.next ≡ old.next
-  pub brings : (left : List (List ℕ)) → Brings old.over new.over left left t
+  pub brings : (left : List (List ℕ)) → Brings a old.over new.over left left t
 
-waits_over : (old new : Delivery) (t : Turn) → old.over ≡ true → (t ≡ turn.Over) × (new ≡ old) → Waits old new t
-waits_over old new t o (is, same) = record {
+waits_over : (a : Asked) (old new : Delivery) (t : Turn) → old.over ≡ true → (t ≡ turn.Over) × (new ≡ old) → Waits a old new t
+waits_over a old new t o (is, same) = record {
   next = ap (λ (d : Delivery). d.next) same;
-  brings = λ left. subst (Brings old.over new.over left left) (sym is) (o, ap (λ (d : Delivery). d.over) same ∙ o, refl);
+  brings = λ left. subst (Brings a old.over new.over left left) (sym is) (o, ap (λ (d : Delivery). d.over) same ∙ o, refl);
 }
 
-goes : (old new : Delivery) (rows : List (List ℕ)) (ended : Bool) (now : ℕ) (t : Turn) → old.over ≡ false → Goes old new rows ended now t → Moves old new rows t ⊎ Waits old new t
-goes old new (row ∷ rows) ended now t o g = inl (record {
+goes : (a : Asked) (old new : Delivery) (rows : List (List ℕ)) (ended : Bool) (now : ℕ) (t : Turn) → a.rows ≡ rows → a.ended ≡ ended → old.over ≡ false → Goes old new rows ended now t
+    → Moves a old new rows t ⊎ Waits a old new t
+goes a old new (row ∷ rows) ended now t r e o g = inl (record {
   row = row;
   others = rows;
   rows_are = refl;
   next = ap (λ (d : Delivery). d.next) g.is;
-  brings = λ rest. brings_reply old.over new.over row rest t o (ap (λ (d : Delivery). d.over) g.is) g.is_frame;
+  brings = λ rest. brings_reply a old.over new.over row rest t o (ap (λ (d : Delivery). d.over) g.is) g.is_frame;
 })
-goes old new [] true now t o g = inr (record {
+goes a old new [] true now t r e o g = inr (record {
   next = ap (λ (d : Delivery). d.next) g.is;
-  brings = λ left. brings_end old.over new.over left t o (ap (λ (d : Delivery). d.over) g.is) g.is_frame;
+  brings = λ left. brings_end a old.over new.over left t e r o (ap (λ (d : Delivery). d.over) g.is) g.is_frame;
 })
-goes old new [] false now t o g = inr (elim g [
+goes a old new [] false now t r e o g = inr (elim g [
   | inl h ↦ record {
     next = ap (λ (d : Delivery). d.next) h.is;
-    brings = λ left. brings_heartbeat old.over new.over left t o (ap (λ (d : Delivery). d.over) h.is) h.is_frame;
+    brings = λ left. brings_heartbeat a old.over new.over left t o (ap (λ (d : Delivery). d.over) h.is) h.is_frame;
   }
   | inr n ↦ record {
     next = ap (λ (d : Delivery). d.next) n.is;
-    brings = λ left. subst (Brings old.over new.over left left) (sym n.is_idle) (o, ap (λ (d : Delivery). d.over) n.is ∙ o, refl);
+    brings = λ left. subst (Brings a old.over new.over left left) (sym n.is_idle) (o, ap (λ (d : Delivery). d.over) n.is ∙ o, refl);
   }
 ])
 
-one_turn : (old new : Delivery) (rows : List (List ℕ)) (ended : Bool) (now : ℕ) (t : Turn) (over : Bool) → old.over ≡ over → MatchBool over ((t ≡ turn.Over) × (new ≡ old)) (Goes old new rows ended now t)
-    → Moves old new rows t ⊎ Waits old new t
-one_turn old new rows ended now t true o g = inr (waits_over old new t o g)
-one_turn old new rows ended now t false o g = goes old new rows ended now t o g
+one_turn : (a : Asked) (old new : Delivery) (t : Turn) (over : Bool) → old.over ≡ over → MatchBool over ((t ≡ turn.Over) × (new ≡ old)) (Goes old new a.rows a.ended a.now t)
+    → Moves a old new a.rows t ⊎ Waits a old new t
+one_turn a old new t true o g = inr (waits_over a old new t o g)
+one_turn a old new t false o g = goes a old new a.rows a.ended a.now t refl refl o g
 
 -- ---- the replies of a run
 
@@ -89,11 +90,11 @@ first_between replies rest row n m some room is =
     ap (λ (k : ℕ). take k (drop (n - 1) replies)) count ∙ ap (take (suc (m - (n + 1)))) is ∙ ap (λ (xs : List (List ℕ)). row ∷ take (m - (n + 1)) xs) (sym behind)
 
 run : (replies : List (List ℕ)) (old new : Delivery) (asked : List Asked) (turns : List Turn) → 0 < old.next → Runs replies old new asked turns
-    → (old.next ≤ new.next) × BringsAll old.over (between_of replies old.next new.next) turns
+    → (old.next ≤ new.next) × BringsAll old.over (between_of replies old.next new.next) asked turns
 run replies old new [] [] some same = let n : new.next ≡ old.next = ap (λ (d : Delivery). d.next) same in (omega (arith, n), none_between replies old.next new.next n)
 run replies old new [] (t ∷ turns) some r = absurd r
 run replies old new (a ∷ asked) [] some r = absurd r
-run replies old new (a ∷ asked) (t ∷ turns) some (between, later, rows_are, gives, r) = elim (one_turn old between a.rows a.ended a.now t old.over refl gives) [
+run replies old new (a ∷ asked) (t ∷ turns) some (between, later, rows_are, gives, r) = elim (one_turn a old between t old.over refl gives) [
   | inl m ↦
       let h = run replies between new asked turns (omega (arith, m.next)) r in
       let first : drop (old.next - 1) replies ≡ m.row ∷ (m.others ++ later) = rows_are ∙ ap (λ (rows : List (List ℕ)). rows ++ later) m.rows_are in
@@ -103,18 +104,18 @@ run replies old new (a ∷ asked) (t ∷ turns) some (between, later, rows_are, 
         (
           between.over,
           rest,
-          subst (λ (left : List (List ℕ)). Brings old.over between.over left rest t) (sym (first_between replies (m.others ++ later) m.row old.next new.next some room first)) (m.brings rest),
-          subst (λ (n : ℕ). BringsAll between.over (between_of replies n new.next) turns) m.next h.1,
+          subst (λ (left : List (List ℕ)). Brings a old.over between.over left rest t) (sym (first_between replies (m.others ++ later) m.row old.next new.next some room first)) (m.brings rest),
+          subst (λ (n : ℕ). BringsAll between.over (between_of replies n new.next) asked turns) m.next h.1,
         ),
       )
   | inr w ↦
       let h = run replies between new asked turns (omega (arith, w.next, some)) r in
       let left = between_of replies old.next new.next in
-      (omega (arith, h.0, w.next), (between.over, left, w.brings left, subst (λ (n : ℕ). BringsAll between.over (between_of replies n new.next) turns) w.next h.1))
+      (omega (arith, h.0, w.next), (between.over, left, w.brings left, subst (λ (n : ℕ). BringsAll between.over (between_of replies n new.next) asked turns) w.next h.1))
 ]
 
 pub brings_all : (replies : List (List ℕ)) (old new : Delivery) (asked : List Asked) (turns : List Turn) → 0 < old.next → old.over ≡ false → Runs replies old new asked turns
-    → (old.next ≤ new.next) × BringsAll false (take (new.next - old.next) (drop (old.next - 1) replies)) turns
+    → (old.next ≤ new.next) × BringsAll false (take (new.next - old.next) (drop (old.next - 1) replies)) asked turns
 brings_all replies old new asked turns some live r =
     let h = run replies old new asked turns some r in
-    (h.0, subst (λ (over : Bool). BringsAll over (between_of replies old.next new.next) turns) live h.1)
+    (h.0, subst (λ (over : Bool). BringsAll over (between_of replies old.next new.next) asked turns) live h.1)

@@ -35,25 +35,30 @@ pub record IsHeartbeat (after : Bool) (left rest : List (List ℕ)) (bytes : Lis
   pub bytes_are : bytes ≡ framed server_heartbeat []
   pub goes_on : after ≡ false
 
--- The end of the session goes out, and no reply.
-pub record IsEnd (after : Bool) (left rest : List (List ℕ)) (bytes : List ℕ) : Type 0 where
+-- The end of the session goes out, and no reply: the day has ended, and no reply is left.
+pub record IsEnd (asked : Asked) (after : Bool) (left rest : List (List ℕ)) (bytes : List ℕ)
+    : Type 0 where
+  pub ended : asked.ended ≡ true
+  pub none_left : asked.rows ≡ []
   pub same : rest ≡ left
   pub bytes_are : bytes ≡ framed end_of_session []
   pub is_over : after ≡ true
 
--- What a turn brings of the replies that are left. Only before the end of the session does anything go out.
-abbrev pub Brings : (over after : Bool) → (left rest : List (List ℕ)) → Turn → Type 0
-Brings over after left rest (turn.Frame frame) =
+-- What a turn brings of the replies that are to go out. Only before the end of the session does anything go out.
+abbrev pub Brings : Asked → (over after : Bool) → (left rest : List (List ℕ)) → Turn → Type 0
+Brings asked over after left rest (turn.Frame frame) =
     (over ≡ false)
     × (IsReply after left rest frame.items ⊎ IsHeartbeat after left rest frame.items
-    ⊎ IsEnd after left rest frame.items)
-Brings over after left rest turn.Idle = (over ≡ false) × (after ≡ false) × (rest ≡ left)
-Brings over after left rest turn.Over = (over ≡ true) × (after ≡ true) × (rest ≡ left)
+    ⊎ IsEnd asked after left rest frame.items)
+Brings asked over after left rest turn.Idle = (over ≡ false) × (after ≡ false) × (rest ≡ left)
+Brings asked over after left rest turn.Over = (over ≡ true) × (after ≡ true) × (rest ≡ left)
 
 -- The turns bring just these replies, each once and in order, with heartbeats between them and one end of the
 -- session at most.
-abbrev pub BringsAll : (over : Bool) → (replies : List (List ℕ)) → List Turn → Type 0
-BringsAll over replies [] = replies ≡ []
-BringsAll over replies (given ∷ turns) =
-    (after : Bool) × (rest : List (List ℕ)) × Brings over after replies rest given
-    × BringsAll after rest turns
+abbrev pub BringsAll : (over : Bool) → (replies : List (List ℕ)) → List Asked → List Turn → Type 0
+BringsAll over replies [] [] = replies ≡ []
+BringsAll over replies [] (given ∷ turns) = ⊥
+BringsAll over replies (a ∷ asked) [] = ⊥
+BringsAll over replies (a ∷ asked) (given ∷ turns) =
+    (after : Bool) × (rest : List (List ℕ)) × Brings a over after replies rest given
+    × BringsAll after rest asked turns

@@ -1,6 +1,5 @@
 pub mod Growth
 pub mod Readings
-pub mod Trimming
 pub mod Numbers
 pub mod Fields
 pub mod Pieces

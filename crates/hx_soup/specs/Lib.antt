@@ -2,5 +2,4 @@ pub mod Kinds
 pub mod Packets
 pub mod Framers
 pub mod Steps
-pub mod Spaces
 pub mod Logins

@@ -1,12 +1,8 @@
 -- Logins and the answers to them (SoupBinTCP 3.00, Login Request Packet and Login Accepted Packet).
-use Rattle.std.specs.Prelude.{ℕ, ◌≡◌, ◌-◌, ◌^◌, ◌<◌, List, ◌++◌, length, replicate, decimal}
+use Rattle.std.specs.Prelude.{ℕ, ◌≡◌, ◌-◌, ◌^◌, ◌<◌, List, ◌++◌, length, decimal}
 use Rattle.std.specs.Str.Parse.{AllDigits, digits_value}
-use Rattle.hx_units.specs.Letters.{space}
+use Rattle.hx_text.specs.Spaces.{spaces}
 use Rattle.hx_soup.specs.declared.login.LoginRequest.{LoginRequest}
-
--- so many spaces
-abbrev pub spaces : ℕ → List ℕ
-spaces n = replicate n space
 
 -- A number as a client may write it: spaces, decimal digits, spaces. No digit at all is 0.
 pub record SpellsNumber (text : List ℕ) (n : ℕ) : Type 0 where

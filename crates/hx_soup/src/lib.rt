@@ -8,11 +8,10 @@ mod framer;
 pub mod laws;
 mod login;
 mod packet;
-mod spaces;
 mod step;
 
 pub use answer::{NOT_AUTHORIZED, SESSION_NOT_AVAILABLE, accepted, rejected};
 pub use framer::{Framer, FramerError};
+pub use hx_text::trimmed;
 pub use login::{LoginRequest, decode_login};
 pub use packet::{SoupPacket, frame};
-pub use spaces::trimmed;

@@ -6,6 +6,10 @@ use Prim.Native.Char.{Char, code}
 abbrev pub letter : Char → ℕ
 letter character = code character
 
+-- the byte that ends a line
+abbrev pub line_feed : ℕ
+line_feed = letter "\n"
+
 -- the byte that fills a text on its right or left
 abbrev pub space : ℕ
 space = letter " "

@@ -6,7 +6,8 @@ use Rattle.std.proofs.lemmas.Bool.{and_parts, and_from}
 use Rattle.hx_units.specs.Names.{is_token}
 use Rattle.hx_members.specs.Setups.{Setup}
 use Rattle.hx_members.specs.Chains.{is_used, is_loud, entered_of}
-use Rattle.hx_members.proofs.ChainLaws.{same_bools, same_token}
+use Rattle.hx_units.proofs.Booleans.{same_bools}
+use Rattle.hx_members.proofs.ChainLaws.{same_token}
 use Rattle.hx_rules.specs.declared.event.Event.{Event}
 use Rattle.hx_rules.specs.Orders.{Token}
 use Rattle.hx_rules.specs.Markets.{Market}

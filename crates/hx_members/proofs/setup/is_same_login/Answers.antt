@@ -3,7 +3,7 @@ use Rattle.std.specs.Char.{to_ascii_lowercase}
 use Rattle.std.specs.Prelude.{bytes_eq}
 use Rattle.std.proofs.lemmas.List.{length-map}
 use Rattle.std.proofs.lemmas.Slice.Eq.{bytes_eq-Decides}
-use Rattle.hx_members.proofs.ChainLaws.{same_bools}
+use Rattle.hx_units.proofs.Booleans.{same_bools}
 use Rattle.hx_members.proofs.SetupLaws.{is_login-same}
 use Rattle.hx_members.proofs.setup.is_same_login.Goals as goal
 

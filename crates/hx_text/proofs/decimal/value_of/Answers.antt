@@ -3,8 +3,8 @@ use Rattle.std.specs.Str.Parse.{digits_value, AllDigits}
 use Rattle.std.proofs.lemmas.Int.Digits.{digits_value_more, digits_more}
 use Rattle.std.proofs.lemmas.List.{take_all}
 use Rattle.std.proofs.lemmas.Str.Parse.{digit_at}
-use Rattle.hx_replay.proofs.Numbers.{value_small_front, digit_value_of, digit_value_small, is_digit}
-use Rattle.hx_replay.proofs.decimal.value_of.Goals as goal
+use Rattle.hx_text.proofs.Numbers.{value_small_front, digit_value_of, digit_value_small, is_digit}
+use Rattle.hx_text.proofs.decimal.value_of.Goals as goal
 
 pub returns-then-not-is_ascii_digit-clause-none : goal.returns-then-not-is_ascii_digit-clause-none
 returns-then-not-is_ascii_digit-clause-none c = λ all.

@@ -1,6 +1,6 @@
 //! Texts that are filled with spaces.
 ghost use Rattle.std.specs.Prelude.{◌≡◌};
-ghost use Rattle.hx_soup.specs.Spaces.{without_front, without_back, trimmed};
+ghost use Rattle.hx_text.specs.Spaces.{without_front, without_back, trimmed};
 
 /// A text without the spaces on both sides.
 pub fn trimmed(text: &[u8]) -> &[u8]

@@ -1,10 +1,10 @@
 use Rattle.std.proofs.Common.{◌≡◌, ◌<◌, ℕ, List, length, get_or, sym, ap, subst, arith}
 use Rattle.std.proofs.lemmas.Bool.{eqb-true}
 use Rattle.std.specs.Fmt.{decimal}
-use Rattle.hx_replay.proofs.Numbers.{decimal_size, decimal_front, reads_some, reads_none}
-use Rattle.hx_replay.proofs.Lines.{not_empty}
-use Rattle.hx_replay.proofs.decimal.read_number.Goals as goal
-use Rattle.hx_replay.proofs.decimal.read_number.Goals.{then-is_empty-via-then-is_empty, then-is_empty-via-else-is_empty+then-digits-gt14, else-digits-eq48-via-then-digits-eq48+else-digits-gt1, else-digits-eq48-via-else-digits-eq48}
+use Rattle.hx_text.proofs.Numbers.{decimal_size, decimal_front, reads_some, reads_none}
+use Rattle.hx_text.proofs.Numbers.{not_empty}
+use Rattle.hx_text.proofs.decimal.read_number.Goals as goal
+use Rattle.hx_text.proofs.decimal.read_number.Goals.{then-is_empty-via-then-is_empty, then-is_empty-via-else-is_empty+then-digits-gt14, else-digits-eq48-via-then-digits-eq48+else-digits-gt1, else-digits-eq48-via-else-digits-eq48}
 
 pub returns-then-is_empty-clause-none : goal.returns-then-is_empty-clause-none
 returns-then-is_empty-clause-none c = λ n lt is.

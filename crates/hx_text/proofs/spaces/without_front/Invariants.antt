@@ -1,6 +1,6 @@
 use Rattle.std.proofs.Common.{◌≡◌, length}
-use Rattle.hx_soup.specs.Spaces.{without_front}
-use Rattle.hx_soup.proofs.spaces.without_front.Given as goal
+use Rattle.hx_text.specs.Spaces.{without_front}
+use Rattle.hx_text.proofs.spaces.without_front.Given as goal
 
 abbrev pub invariant-loop-first : goal.invariant-loop-first
 invariant-loop-first l = without_front l.rest ≡ without_front l.fn.text

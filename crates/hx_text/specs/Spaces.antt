@@ -1,6 +1,10 @@
 -- Texts that are filled with spaces.
-use Rattle.std.specs.Prelude.{ℕ, List, [], ◌∷◌, ◌==◌, ◌&&◌, bytes_eq, if◌then◌else◌}
+use Rattle.std.specs.Prelude.{ℕ, List, replicate, [], ◌∷◌, ◌==◌, ◌&&◌, bytes_eq, if◌then◌else◌}
 use Rattle.hx_units.specs.Letters.{space}
+
+-- so many spaces
+abbrev pub spaces : ℕ → List ℕ
+spaces n = replicate n space
 
 -- a text without the spaces in front
 abbrev pub without_front : List ℕ → List ℕ

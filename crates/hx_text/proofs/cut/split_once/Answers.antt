@@ -1,7 +1,7 @@
 use Rattle.std.proofs.Common.{◌≡◌, ◌+◌, ◌-◌, length, take, drop, arith, length-drop}
 use Rattle.std.proofs.lemmas.List.{take_all}
-use Rattle.hx_replay.proofs.Splits.{first_place, no_place}
-use Rattle.hx_replay.proofs.line.split_once.Goals as goal
+use Rattle.hx_text.proofs.Splits.{first_place, no_place}
+use Rattle.hx_text.proofs.cut.split_once.Goals as goal
 
 pub returns-clause-some : goal.returns-clause-some
 returns-clause-some c =

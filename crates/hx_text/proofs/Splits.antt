@@ -6,9 +6,9 @@ use Rattle.std.proofs.lemmas.Grind.{get_or_default_zero}
 use Rattle.std.proofs.lemmas.List.{get_or-take, length-take}
 use Rattle.std.proofs.lemmas.List.Elements.{All-head, All-tail}
 use Rattle.memchr.specs.Find.{NoneBefore, Nowhere, Passes, is_byte}
-use Rattle.hx_replay.specs.Text.{HasNone}
+use Rattle.hx_text.specs.Cuts.{Lacks}
 
-pub same_split : (b : ℕ) (a x c y : List ℕ) → HasNone b a → HasNone b c → a ++ b ∷ x ≡ c ++ b ∷ y → (a ≡ c) × (x ≡ y)
+pub same_split : (b : ℕ) (a x c y : List ℕ) → Lacks b a → Lacks b c → a ++ b ∷ x ≡ c ++ b ∷ y → (a ≡ c) × (x ≡ y)
 same_split b [] x [] y p q e = (refl, cc)
 same_split b [] x (c ∷ cs) y p q e = absurd (All-head (λ n. n ≢ b) c cs q (cc))
 same_split b (a ∷ as') x [] y p q e = absurd (All-head (λ n. n ≢ b) a as' p (cc))
@@ -18,7 +18,7 @@ same_split b (a ∷ as') x (c ∷ cs) y p q e =
     let rest = same_split b as' x cs y (All-tail (λ n. n ≢ b) a as' p) (All-tail (λ n. n ≢ b) c cs q) tails in
     (cc, rest.1)
 
-pub none_split : (b : ℕ) (a x : List ℕ) → HasNone b (a ++ b ∷ x) → ⊥
+pub none_split : (b : ℕ) (a x : List ℕ) → Lacks b (a ++ b ∷ x) → ⊥
 none_split b [] x p = All-head (λ n. n ≢ b) b x p refl
 none_split b (a ∷ as') x p = none_split b as' x (All-tail (λ n. n ≢ b) a (as' ++ b ∷ x) p)
 
@@ -26,7 +26,7 @@ passes : (text : List ℕ) (b k : ℕ) → get_or text k 0 ≡ b → Passes (is_
 passes text b k e = eq-eqb (get_or text k 0) b e
 
 -- a text is cut at the first place that a search finds
-pub first_place : (text : List ℕ) (b k : ℕ) → NoneBefore (Passes (is_byte b) text) 0 (length text) k × Passes (is_byte b) text k → (text ≡ take k text ++ b ∷ drop (k + 1) text) × HasNone b (take k text)
+pub first_place : (text : List ℕ) (b k : ℕ) → NoneBefore (Passes (is_byte b) text) 0 (length text) k × Passes (is_byte b) text k → (text ≡ take k text ++ b ∷ drop (k + 1) text) × Lacks b (take k text)
 first_place text b k h =
     let here : get_or text k 0 ≡ b = eqb-true (get_or text k 0) b h.1 in
     let next : suc k ≡ k + 1 = omega arith in
@@ -39,5 +39,5 @@ first_place text b k h =
           h.0.before j (omega arith) inside (passes text b j same),
     )
 
-pub no_place : (text : List ℕ) (b : ℕ) → Nowhere (Passes (is_byte b) text) 0 (length text) → HasNone b text
+pub no_place : (text : List ℕ) (b : ℕ) → Nowhere (Passes (is_byte b) text) 0 (length text) → Lacks b text
 no_place text b h k d below e = h k (omega arith) below (passes text b k (sym (get_or_default_zero text k d below) ∙ e))

@@ -1,5 +1,5 @@
 -- Numbers in decimal.
-use Rattle.std.proofs.Common.{◌≡◌, ℕ, zero, suc, ◌-◌, ◌^◌, ◌<◌, ◌≤◌, List, [], length, take, get_or, Option, Some, None, true, sym, ap, ◌∙◌, subst, arith}
+use Rattle.std.proofs.Common.{◌≡◌, ℕ, zero, suc, ◌-◌, ◌^◌, ◌<◌, ◌≤◌, List, [], ◌∷◌, length, take, get_or, Option, Some, None, eqb, true, false, sym, ap, ◌∙◌, subst, arith}
 use Rattle.std.specs.Prelude.{◌≢◌, IfSome, IfNone}
 use Rattle.std.specs.Fmt.{decimal}
 use Rattle.std.specs.Char.{is_ascii_digit, digit_value}
@@ -11,7 +11,7 @@ use Rattle.std.proofs.lemmas.List.{length-take}
 use Rattle.std.proofs.lemmas.Fmt.{decimal_is_IsNumeral, length-decimal-le, decimal_nonempty, decimal_digit, first_decimal, decimal-digits_value}
 use Rattle.std.proofs.lemmas.Str.Parse.{digit_at, IsNumeralModel, numerals_by_value, tells_digits}
 use Rattle.std.proofs.Math.Nat.{pow-le-pow_right}
-use Rattle.hx_replay.specs.Text.{HasNone}
+use Rattle.hx_text.specs.Cuts.{Lacks}
 
 pub value_small : (ds : List ℕ) → length ds ≤ 14 → AllDigits 10 ds → digits_value 10 ds < 10 ^ 14
 value_small ds short all = omega (arith, digits_value-lt 10 ds all, pow-le-pow_right {n = 10} (omega arith) {i = length ds} {j = 14} short)
@@ -47,12 +47,16 @@ reads_none ds None some h = λ n lt is.
     let gone : length ds ≡ 0 = ap length (h (subst (AllDigits 10) (sym is) numeral.0.1)) in
     omega (arith, some, gone)
 
--- no space stands in a number
-pub decimal_HasNone : (n : ℕ) → n < 2 ^ 64 → HasNone 32 (decimal n)
-decimal_HasNone n lt k d below e =
+-- a byte below the digits stands in no number
+pub lacks-decimal : (b n : ℕ) → b < 48 → n < 2 ^ 64 → Lacks b (decimal n)
+lacks-decimal b n low lt k d below e =
     let numeral = decimal_is_IsNumeral n lt in
     let range = digit_at (decimal n) k numeral.0.1 below in
     omega (arith, range, get_or_default_zero (decimal n) k d below)
+
+pub not_empty : (xs : List ℕ) → eqb (length xs) 0 ≡ false → 0 < length xs
+not_empty [] e = absurd cc
+not_empty (x ∷ xs) e = omega arith
 
 pub digit_value_of : (c : ℕ) → is_ascii_digit c ≡ true → digit_value c ≡ c - 48
 digit_value_of c e = grind (arith, nat_tests)

@@ -1,7 +1,7 @@
 use Rattle.std.proofs.Common.{◌∙◌, ap, sym, ◌++◌, ◌∷◌, [], ℕ}
-use Rattle.hx_soup.specs.Spaces.{without_back}
-use Rattle.hx_soup.proofs.Trimming.{without_back-space, without_back-last}
-use Rattle.hx_soup.proofs.spaces.without_back.Goals as goal
+use Rattle.hx_text.specs.Spaces.{without_back}
+use Rattle.hx_text.proofs.Trimming.{without_back-space, without_back-last}
+use Rattle.hx_text.proofs.spaces.without_back.Goals as goal
 
 pub loop-last-preserved : goal.loop-last-preserved
 loop-last-preserved c =

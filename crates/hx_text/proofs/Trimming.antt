@@ -5,8 +5,8 @@ use Rattle.std.specs.Str.Parse.{AllDigits}
 use Rattle.std.specs.Char.{digit_value}
 use Rattle.std.proofs.lemmas.Bool.{and_parts, eqb-true}
 use Rattle.std.proofs.lemmas.Str.Parse.{digit_from_value}
-use Rattle.hx_soup.specs.Spaces.{without_front, without_back, trimmed}
-use Rattle.hx_soup.specs.Logins.{spaces}
+use Rattle.hx_text.specs.Spaces.{without_front, without_back, trimmed}
+use Rattle.hx_text.specs.Spaces.{spaces}
 
 is_false : (b : Bool) → (b ≡ true → ⊥) → b ≡ false
 is_false true h = absurd (h refl)
