@@ -11,8 +11,8 @@ use Rattle.hx_ouch.specs.declared.inbound.Inbound.{Inbound}
 use Rattle.hx_ouch.specs.declared.inbound.Inbound.TheVariants.{Enter, Replace, Cancel}
 use Rattle.hx_rules.specs.declared.event.Event.{Event}
 use Rattle.hx_market.specs.Markets.{Market}
-use Rattle.hx_market.specs.Ready.{chain_facts}
-use Rattle.hx_market.specs.Striking.{Choice, is_quiet, quiet_of_one, message_bears, bears, strike}
+use Rattle.hx_market.specs.MarketModel.{chain_facts}
+use Rattle.hx_market.specs.QuietChains.{Choice, is_quiet, quiet_of_one, message_bears, bears, strike}
 use Rattle.hx_audit.specs.Facts.{are_loud, FactsTell}
 
 -- a message of another bears none

@@ -15,11 +15,11 @@ use Rattle.hx_rules.specs.declared.event.Event.TheVariants.{Message, Tick, Hours
 use Rattle.hx_market.specs.Orders.{Order, is_called, is_immediate, is_shown}
 use Rattle.hx_market.specs.Markets.{Market, opening}
 use Rattle.hx_market.specs.Executions.{incoming_of, displays, resting_of, chains_after, arrive}
-use Rattle.hx_market.specs.Entering.{rejection, next_reference, consumed, drawn, entered_order, entered_by, enter}
-use Rattle.hx_market.specs.Replacing.{executed_of, replace_fails, handed_over, replacing_order, replaced_by, replace}
-use Rattle.hx_market.specs.Cancelling.{cancelled_if, cancelled_by, cancel}
-use Rattle.hx_market.specs.Ending.{hours_by, next_hours}
-use Rattle.hx_market.specs.Steps.{act, happens, with_record, step, market_after, run}
+use Rattle.hx_market.specs.Enter.{rejection, next_reference, consumed, drawn, entered_order, entered_by, enter}
+use Rattle.hx_market.specs.Replace.{executed_of, replace_fails, handed_over, replacing_order, replaced_by, replace}
+use Rattle.hx_market.specs.Cancel.{cancelled_if, cancelled_by, cancel}
+use Rattle.hx_market.specs.Hours.{hours_by, next_hours}
+use Rattle.hx_market.specs.Steps.{receive, happens, with_record, step, market_after, run}
 use Rattle.hx_audit.proofs.Led.{AreLed, led_pushed, led_executions, led_displayed}
 
 -- the uses of a replacement token: one where the existing token names a live order, and the new one is not used yet
@@ -95,7 +95,7 @@ hours_goes setup a time code = choose _
     choose false = stays a
     choose true = record { tokens = sym (append-nil a.tokens); led = λ h. h }
 
-act_goes : (setup : Setup) (a : Market) (m time : ℕ) (message : Option Inbound) → Goes a (act setup a m time message).market (message_uses a m message)
+act_goes : (setup : Setup) (a : Market) (m time : ℕ) (message : Option Inbound) → Goes a (receive setup a m time message).market (message_uses a m message)
 act_goes setup a m time None = stays a
 act_goes setup a m time (Some (Enter e)) = enter_goes setup a m time e
 act_goes setup a m time (Some (Replace r)) = replace_goes setup a m time r

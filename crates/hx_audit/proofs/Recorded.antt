@@ -7,7 +7,7 @@ use Rattle.hx_rules.specs.declared.event.Event.{Event}
 use Rattle.hx_rules.specs.declared.fault.PrepareError.{PrepareError}
 use Rattle.hx_rules.specs.declared.fault.PrepareError.TheVariants as reason
 use Rattle.hx_market.specs.Markets.{Market, opening}
-use Rattle.hx_market.specs.Admitting.{refusal, or_no_memory}
+use Rattle.hx_market.specs.Refusals.{refusal, or_no_memory}
 use Rattle.hx_market.specs.Steps.{step, market_after, run}
 use Rattle.hx_audit.specs.Recording.{AreAccepted, AreRecorded, IsRefusedAt, Explains, IsErrorAt, error_at}
 use Rattle.hx_audit.specs.declared.fault.StrikeError.{StrikeError}

@@ -17,7 +17,7 @@ use Rattle.hx_rules.specs.declared.event.Event.{Event}
 use Rattle.hx_rules.specs.declared.event.Event.TheVariants.{Message, Tick, Hours}
 use Rattle.hx_market.specs.Orders.{Order, is_called}
 use Rattle.hx_market.specs.Markets.{Market, opening}
-use Rattle.hx_market.specs.Ready.{chain_facts}
+use Rattle.hx_market.specs.MarketModel.{chain_facts}
 use Rattle.hx_market.specs.Steps.{step, market_after, run}
 use Rattle.hx_laws.proofs.History.CoherentSteps.{Coherent, used_last}
 use Rattle.hx_laws.proofs.History.EventMoves.{called_used, step_moves, coherent_opening}

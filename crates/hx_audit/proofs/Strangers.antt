@@ -8,10 +8,10 @@ use Rattle.hx_rules.specs.declared.event.Event.{Event}
 use Rattle.hx_rules.specs.declared.event.Event.TheVariants.{Message, Tick, Hours}
 use Rattle.hx_rules.specs.declared.fault.PrepareError.{PrepareError}
 use Rattle.hx_rules.specs.declared.fault.PrepareError.TheVariants.{NoMember, BadTime}
-use Rattle.hx_market.specs.Admitting.{known_member, refusal}
+use Rattle.hx_market.specs.Refusals.{known_member, refusal}
 use Rattle.hx_market.specs.Markets.{Market, opening}
 use Rattle.hx_market.specs.Steps.{step, market_after, run}
-use Rattle.hx_market.specs.Striking.{quiet_of_one, bears, strike, strike_one}
+use Rattle.hx_market.specs.QuietChains.{quiet_of_one, bears, strike, strike_one}
 use Rattle.hx_audit.specs.Listing.{Use, uses_of, chains_of, grouped, told_chain}
 use Rattle.hx_audit.specs.Finding.{named}
 use Rattle.hx_audit.specs.Recording.{AreAccepted, AreRecorded}

@@ -10,7 +10,7 @@ use Rattle.hx_ouch.specs.Inbound.{inbound_of}
 use Rattle.hx_rules.specs.declared.event.Event.{Event}
 use Rattle.hx_rules.specs.declared.event.Event.TheVariants.{Message, Tick, Hours}
 use Rattle.hx_market.specs.Markets.{Market}
-use Rattle.hx_market.specs.Ready.{chain_facts}
+use Rattle.hx_market.specs.MarketModel.{chain_facts}
 use Rattle.hx_audit.specs.declared.listing.Naming.{Naming}
 
 -- the token that a message would use, and the token whose chain it would join: at an Enter its own

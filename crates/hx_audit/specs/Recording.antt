@@ -5,7 +5,7 @@ use Rattle.hx_rules.specs.declared.event.Event.{Event}
 use Rattle.hx_rules.specs.declared.fault.PrepareError.{PrepareError}
 use Rattle.hx_rules.specs.declared.fault.PrepareError.TheVariants.{NoMemory as NoRoom, Limit, NoMember, BadTime}
 use Rattle.hx_market.specs.Markets.{Market, opening}
-use Rattle.hx_market.specs.Admitting.{refusal, or_no_memory}
+use Rattle.hx_market.specs.Refusals.{refusal, or_no_memory}
 use Rattle.hx_market.specs.Steps.{step, run}
 use Rattle.hx_audit.specs.declared.fault.StrikeError.{StrikeError}
 use Rattle.hx_audit.specs.declared.fault.StrikeError.TheVariants.{NoMemory, Refused}

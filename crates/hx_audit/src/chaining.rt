@@ -4,7 +4,7 @@ ghost use Rattle.std.specs.Map.{lookup};
 ghost use Rattle.hx_units.specs.Names.{is_token};
 ghost use Rattle.hx_members.specs.Chains.{is_used};
 ghost use Rattle.hx_members.specs.Setups.{member_of};
-ghost use Rattle.hx_market.specs.Admitting.{refusal};
+ghost use Rattle.hx_market.specs.Refusals.{refusal};
 ghost use Rattle.hx_market.specs.Markets.{opening};
 ghost use Rattle.hx_market.specs.Steps.{step, run};
 ghost use Rattle.hx_audit.specs.Listing.{uses_of, grouped, told_chain, chains_of};

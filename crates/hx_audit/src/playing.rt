@@ -1,6 +1,6 @@
 //! A market that takes a history.
 ghost use Rattle.std.specs.Prelude.{◌≡◌, None, IfOk, OnOk, IfErr};
-ghost use Rattle.hx_market.specs.Admitting.{refusal, or_no_memory};
+ghost use Rattle.hx_market.specs.Refusals.{refusal, or_no_memory};
 ghost use Rattle.hx_market.specs.Markets.{opening};
 ghost use Rattle.hx_market.specs.Steps.{step, run};
 ghost use Rattle.hx_audit.specs.Recording.{AreRecorded, Explains, error_at};

@@ -1,7 +1,7 @@
 //! A history without the messages of a member's quiet chains.
 ghost use Rattle.std.specs.Prelude.{◌≡◌, IfOk, OnOk, IfErr, Some, None};
 ghost use Rattle.hx_members.specs.Setups.{member_of};
-ghost use Rattle.hx_market.specs.Striking.{is_quiet, message_bears, bears, quiet_of_one, strike, strike_one};
+ghost use Rattle.hx_market.specs.QuietChains.{is_quiet, message_bears, bears, quiet_of_one, strike, strike_one};
 ghost use Rattle.hx_audit.specs.Facts.{FactsTell};
 ghost use Rattle.hx_audit.specs.Recording.{AreRecorded, Explains};
 

@@ -11,8 +11,8 @@ use Rattle.hx_rules.specs.Orders.{Order, Token}
 use Rattle.hx_rules.specs.Markets.{Market}
 use Rattle.hx_rules.specs.Outputs.{nothing}
 use Rattle.hx_rules.specs.Steps.{with_record, step, run, told, feed, replies}
-use Rattle.hx_laws.specs.ShownBooks.{shown_book, shown_orders, IsUncrossed}
-use Rattle.hx_laws.specs.Striking.{Choice, is_quiet, quiet_of_one, bears, strike, strike_one, strike_all, strike_but, lines_of_all, seen}
+use Rattle.hx_laws.specs.FeedBook.{shown_book, shown_orders, IsUncrossed}
+use Rattle.hx_laws.specs.QuietChains.{Choice, is_quiet, quiet_of_one, bears, strike, strike_one, strike_all, strike_but, lines_of_all, seen}
 
 -- Three laws that carry the headline.
 

@@ -1,3 +1,3 @@
-pub mod Striking
-pub mod ShownBooks
+pub mod QuietChains
+pub mod FeedBook
 pub mod Laws

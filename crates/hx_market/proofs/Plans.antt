@@ -11,23 +11,23 @@ use Rattle.hx_levels.specs.Book.{order_of, is_under, has_key, KeysDiffer, reduce
 use Rattle.hx_match.specs.declared.fills.Fill.{Fill}
 use Rattle.hx_match.specs.Matching.{Execution, Matched, matched}
 use Rattle.hx_match.specs.Executing.{done_by, done_with, AreGood, IsGoodWith, taken}
-use Rattle.hx_market.specs.declared.acting.Accepting.{Accepting}
+use Rattle.hx_market.specs.declared.effect.AcceptedEnter.{AcceptedEnter}
 use Rattle.hx_rules.specs.Markets.{Market}
 use Rattle.hx_rules.specs.Orders.{is_immediate, is_shown, is_visible}
 use Rattle.hx_itch.specs.declared.message.Feed.{Feed}
 use Rattle.hx_ouch.specs.declared.outbound.Outbound.TheVariants.{Canceled}
 use Rattle.hx_rules.specs.Outputs.{Reply}
-use Rattle.hx_rules.specs.Entering.{after_draw, next_reference, accepted_of}
+use Rattle.hx_rules.specs.Enter.{after_draw, next_reference, accepted_of}
 use Rattle.hx_rules.specs.Executions.{feed_of_executions, replies_of_executions, resting_of, shown_of, published, canceled_of, arrival_feed}
 use Rattle.hx_match.specs.Rules.{AreFills}
-use Rattle.hx_market.specs.declared.acting.Replacing.{Replacing}
-use Rattle.hx_rules.specs.Leaving.{others, deleted, taken_off}
-use Rattle.hx_rules.specs.Replacing.{replaced_of, is_one_display}
-use Rattle.hx_market.specs.Acts.{incoming_of_accepting, order_of_accepting, accepted_by, IsOnly, open_shares, incoming_of_replacing, order_by_replacing, replaced_by_act}
-use Rattle.hx_market.proofs.Called.{others_lives}
-use Rattle.hx_market.proofs.Used.{same-name}
+use Rattle.hx_market.specs.declared.effect.Replacement.{Replacement}
+use Rattle.hx_rules.specs.Removal.{others, deleted, taken_off}
+use Rattle.hx_rules.specs.Replace.{replaced_of, is_one_display}
+use Rattle.hx_market.specs.Effects.{incoming_of_enter, order_of_enter, accepted_by, IsOnly, open_shares, incoming_of_replacement, replacement_order, replaced_by_effect}
+use Rattle.hx_market.proofs.OrdersByToken.{others_lives}
+use Rattle.hx_market.proofs.Bounds.UsedTokens.{same-name}
 use Rattle.hx_itch.specs.declared.message.Feed.TheVariants.{OrderReplace, OrderCancel, OrderDelete}
-use Rattle.hx_market.specs.Ready.{maker_of, makers_and, arrival_members, arrival_count, one_if, replaced_count}
+use Rattle.hx_market.specs.Prepared.{maker_of, makers_and, arrival_members, arrival_count, one_if, replaced_count}
 
 -- each fill is one execution
 pub length-done : (fills : List Fill) (orders : List Live) → AreGood fills orders → length (done_by fills orders) ≡ length fills
@@ -142,12 +142,12 @@ members_arrived time number m token imm r orders xs fills left k first of good d
     ∙ ap (λ n. n ∷ map who (replies k.fills ++ tail k.left)) (sym first)
 
 -- the members of an accepted order's replies
-pub members_accepted : (m : Market) (a : Accepting) (orders : List Live) (fills : List Fill) (left : ℕ) → m.live ≡ lives orders → KeysDiffer orders → AreFills (incoming_of_accepting a) orders fills left
+pub members_accepted : (m : Market) (a : AcceptedEnter) (orders : List Live) (fills : List Fill) (left : ℕ) → m.live ≡ lives orders → KeysDiffer orders → AreFills (incoming_of_enter a) orders fills left
     → arrival_members a.member (is_immediate a.enter.time_in_force) orders fills left ≡ map who (accepted_by m a).told.replies
 members_accepted m a orders fills left live differ h =
     let shown : Bool = is_shown a.enter.display a.enter.time_in_force in
-    let of : List Order → Matched = λ xs. matched (incoming_of_accepting a) a.enter.shares xs in
-    let x : Order = order_of_accepting (length m.tokens) (next_reference m.numbers a.member shown) a in
+    let of : List Order → Matched = λ xs. matched (incoming_of_enter a) a.enter.shares xs in
+    let x : Order = order_of_enter (length m.tokens) (next_reference m.numbers a.member shown) a in
     members_arrived a.time (after_draw m.numbers a.member shown).matches a.member a.enter.token (is_immediate a.enter.time_in_force) (accepted_of x a.time a.enter) orders orders fills left (of m.live) refl
     (of_itself orders differ) h.good (h.done ∙ ap (λ (xs : List Order). (of xs).fills) (sym live)) (h.remains ∙ ap (λ (xs : List Order). (of xs).left) (sym live))
 
@@ -190,31 +190,31 @@ feed_arrived time stock number x visible imm orders fills left k shown good done
     ∙ sym (length-join (feed_of_executions time stock number k.fills) (map (published time stock) (shown_of (resting_of x imm k.left))))
 
 -- how many messages of the feed an accepted order gives
-pub feed_accepted : (m : Market) (a : Accepting) (orders : List Live) (fills : List Fill) (left : ℕ) → m.live ≡ lives orders → AreFills (incoming_of_accepting a) orders fills left
+pub feed_accepted : (m : Market) (a : AcceptedEnter) (orders : List Live) (fills : List Fill) (left : ℕ) → m.live ≡ lives orders → AreFills (incoming_of_enter a) orders fills left
     → arrival_count (is_shown a.enter.display a.enter.time_in_force) fills left ≡ length (accepted_by m a).told.feed
 feed_accepted m a orders fills left live h =
     let shown : Bool = is_shown a.enter.display a.enter.time_in_force in
-    let of : List Order → Matched = λ xs. matched (incoming_of_accepting a) a.enter.shares xs in
-    feed_arrived a.time a.enter.stock m.numbers.matches (order_of_accepting (length m.tokens) (next_reference m.numbers a.member shown) a) (is_visible a.enter.display) (is_immediate a.enter.time_in_force) orders fills left
+    let of : List Order → Matched = λ xs. matched (incoming_of_enter a) a.enter.shares xs in
+    feed_arrived a.time a.enter.stock m.numbers.matches (order_of_enter (length m.tokens) (next_reference m.numbers a.member shown) a) (is_visible a.enter.display) (is_immediate a.enter.time_in_force) orders fills left
     (of m.live) refl h.good (h.done ∙ ap (λ (xs : List Order). (of xs).fills) (sym live)) (h.remains ∙ ap (λ (xs : List Order). (of xs).left) (sym live))
 
 -- The same of an order that replaces another.
 
 -- the executions against the others, as the market has them
-others_matched : (m : Market) (a : Replacing) (orders : List Live) (fills : List Fill) (left : ℕ) → m.live ≡ lives orders → IsOnly orders a.member a.replace.existing_token a.old → AreFills (incoming_of_replacing a) (without a.old.key.0 orders) fills left
-    → let k : Matched = matched (incoming_of_replacing a) (open_shares a) (others a.member a.replace.existing_token m.live) in (done_by fills (without a.old.key.0 orders) ≡ k.fills) × (left ≡ k.left)
+others_matched : (m : Market) (a : Replacement) (orders : List Live) (fills : List Fill) (left : ℕ) → m.live ≡ lives orders → IsOnly orders a.member a.replace.existing_token a.old → AreFills (incoming_of_replacement a) (without a.old.key.0 orders) fills left
+    → let k : Matched = matched (incoming_of_replacement a) (open_shares a) (others a.member a.replace.existing_token m.live) in (done_by fills (without a.old.key.0 orders) ≡ k.fills) × (left ≡ k.left)
 others_matched m a orders fills left live only h =
-    let of : List Order → Matched = λ xs. matched (incoming_of_replacing a) (open_shares a) xs in
+    let of : List Order → Matched = λ xs. matched (incoming_of_replacement a) (open_shares a) xs in
     let e : lives (without a.old.key.0 orders) ≡ others a.member a.replace.existing_token m.live =
     others_lives a.member a.replace.existing_token a.old.key.0 orders only.only only.differ ∙ ap (λ (xs : List Order). others a.member a.replace.existing_token xs) (sym live) in
     (h.done ∙ ap (λ (xs : List Order). (of xs).fills) e, h.remains ∙ ap (λ (xs : List Order). (of xs).left) e)
 
-pub members_replaced : (m : Market) (a : Replacing) (orders : List Live) (fills : List Fill) (left : ℕ) → m.live ≡ lives orders → IsOnly orders a.member a.replace.existing_token a.old → AreFills (incoming_of_replacing a) (without a.old.key.0 orders) fills left
-    → arrival_members a.member (is_immediate a.replace.time_in_force) orders fills left ≡ map who (replaced_by_act m a).told.replies
+pub members_replaced : (m : Market) (a : Replacement) (orders : List Live) (fills : List Fill) (left : ℕ) → m.live ≡ lives orders → IsOnly orders a.member a.replace.existing_token a.old → AreFills (incoming_of_replacement a) (without a.old.key.0 orders) fills left
+    → arrival_members a.member (is_immediate a.replace.time_in_force) orders fills left ≡ map who (replaced_by_effect m a).told.replies
 members_replaced m a orders fills left live only h =
     let shown : Bool = is_shown a.replace.display a.replace.time_in_force in
-    let k : Matched = matched (incoming_of_replacing a) (open_shares a) (others a.member a.replace.existing_token m.live) in
-    let x : Order = order_by_replacing (next_reference m.numbers a.member shown) a in
+    let k : Matched = matched (incoming_of_replacement a) (open_shares a) (others a.member a.replace.existing_token m.live) in
+    let x : Order = replacement_order (next_reference m.numbers a.member shown) a in
     let e = others_matched m a orders fills left live only h in
     let own : a.old.order.member ≡ a.member = (same-name a.old.order.member a.member a.old.order.token a.replace.existing_token only.called).0 in
     let told : ℕ → List Reply = λ n. replies_of_executions a.time n a.replace.replacement_token (after_draw m.numbers a.member shown).matches k.fills ++ canceled_of a.time n a.replace.replacement_token (is_immediate a.replace.time_in_force) k.left in
@@ -229,13 +229,13 @@ length-deleted time x = at x.shown
     at true = refl
     at false = refl
 
-pub feed_replaced : (m : Market) (a : Replacing) (orders : List Live) (fills : List Fill) (left : ℕ) → m.live ≡ lives orders → IsOnly orders a.member a.replace.existing_token a.old → AreFills (incoming_of_replacing a) (without a.old.key.0 orders) fills left
-    → replaced_count a fills left ≡ length (replaced_by_act m a).told.feed
+pub feed_replaced : (m : Market) (a : Replacement) (orders : List Live) (fills : List Fill) (left : ℕ) → m.live ≡ lives orders → IsOnly orders a.member a.replace.existing_token a.old → AreFills (incoming_of_replacement a) (without a.old.key.0 orders) fills left
+    → replaced_count a fills left ≡ length (replaced_by_effect m a).told.feed
 feed_replaced m a orders fills left live only h =
     let shown : Bool = is_shown a.replace.display a.replace.time_in_force in
     let imm : Bool = is_immediate a.replace.time_in_force in
-    let k : Matched = matched (incoming_of_replacing a) (open_shares a) (others a.member a.replace.existing_token m.live) in
-    let x : Order = order_by_replacing (next_reference m.numbers a.member shown) a in
+    let k : Matched = matched (incoming_of_replacement a) (open_shares a) (others a.member a.replace.existing_token m.live) in
+    let x : Order = replacement_order (next_reference m.numbers a.member shown) a in
     let e = others_matched m a orders fills left live only h in
     let len : length fills ≡ length k.fills = sym (length-done fills (without a.old.key.0 orders) h.good) ∙ ap (λ (es : List Execution). length es) e.0 in
     let feed : List Feed = arrival_feed a.time a.stock m.numbers.matches k.fills (resting_of x imm k.left) in

@@ -2,27 +2,19 @@
 //! can't be. One committed event is one step of the market as `specs/` defines it.
 #![tactic(auto)]
 
-mod accepting;
-mod acting;
-mod admitting;
-mod amending;
-mod arriving;
-mod cancelling;
-mod carrying;
-mod ending;
-mod executing;
-mod finding;
+mod commit;
+mod decision;
+mod effect;
+mod event_counts;
 mod known;
-mod listing;
+mod live_orders;
 mod market;
-mod planning;
-mod prepared;
-mod recorded;
-mod replacing;
-mod settling;
-mod telling;
+mod messages;
+mod order_by_token;
+mod prepare;
+mod refuse;
 
 pub use hx_laws as laws;
 pub use hx_rules::{Bytes, Event, Output, PrepareError, decode_operator};
 pub use market::Market;
-pub use prepared::Prepared;
+pub use prepare::Prepared;

@@ -2,18 +2,18 @@
 ghost use Rattle.std.specs.Prelude.{◌≡◌, ◌<◌, ◌^◌, [], Some, None, IfOk, OnOk, OnErr, IfErr, length, map};
 ghost use Rattle.std.specs.List.{AllByRecursion};
 ghost use Rattle.hx_itch.specs.Message.{feed_time};
-ghost use Rattle.hx_rules.specs.Admitting.{refusal, or_no_memory};
+ghost use Rattle.hx_rules.specs.Refusals.{refusal, or_no_memory};
 ghost use Rattle.hx_rules.specs.Markets.{opening, opening_hours};
 ghost use Rattle.hx_rules.specs.Steps.{step};
-ghost use Rattle.hx_market.specs.Acts.{hours_after};
-ghost use Rattle.hx_market.specs.Ready.{chain_facts};
+ghost use Rattle.hx_market.specs.Effects.{hours_after};
+ghost use Rattle.hx_market.specs.MarketModel.{chain_facts};
 
-use crate::acting::Act;
-use crate::carrying::carry_out;
+use crate::commit::commit_effect;
+use crate::effect::Effect;
+use crate::event_counts::EventCounts;
 use crate::known::Known;
-use crate::listing::list_orders;
-use crate::prepared::{Prepared, make};
-use crate::recorded::Recorded;
+use crate::live_orders::list_orders;
+use crate::prepare::{Prepared, make};
 use hx_levels::{Book, Order};
 use hx_members::{ChainFacts, Setup, Tokens};
 use hx_refs::Refs;
@@ -30,7 +30,7 @@ pub struct Market<B: Book> {
     refs: Refs,
     // How many of the hours codes are past.
     hours: u8,
-    recorded: Recorded,
+    recorded: EventCounts,
     // What the last `prepare` gave, known to contracts alone.
     ready: Known<Prepared>,
     alloc: Global,
@@ -54,8 +54,10 @@ impl<B: Book + Drop> Drop for Market<B> {
 
 impl<B: Book> Model for Market<B> {
     ghost use Rattle.std.specs.Prelude.{◌≡◌, Some};
-    ghost use Rattle.hx_market.specs.Keeping.{IsSound, AreKeyed};
-    ghost use Rattle.hx_market.specs.Ready.{Planned, Seen, IsPlanned, market_of};
+    ghost use Rattle.hx_market.specs.OrderKeys.{AreKeyed};
+    ghost use Rattle.hx_market.specs.Bounds.{IsSound};
+    ghost use Rattle.hx_market.specs.MarketModel.{Planned, Seen, market_of};
+    ghost use Rattle.hx_market.specs.Prepared.{IsPlanned};
 
     ghost Value = { Seen };
 
@@ -81,18 +83,18 @@ fn opening_hours(setup: &Setup) -> u8
     if setup.start_open() { 2 } else { 0 }
 }
 
-// How many of the hours codes are past after an act.
-fn hours_after(act: &Act, hours: u8) -> u8
-    ensures { result ≡ hours_after act.now hours }
+// How many of the hours codes are past after an effect.
+fn hours_after(effect: &Effect, hours: u8) -> u8
+    ensures { result ≡ hours_after effect.now hours }
 {
-    match act {
-        Act::Nothing
-        | Act::Reject(_)
-        | Act::Accept(_)
-        | Act::Fail(_)
-        | Act::Replace(_)
-        | Act::Cancel(_) => hours,
-        Act::End(ending) => ending.hours,
+    match effect {
+        Effect::Nothing
+        | Effect::Reject(_)
+        | Effect::Accept(_)
+        | Effect::Fail(_)
+        | Effect::Replace(_)
+        | Effect::Cancel(_) => hours,
+        Effect::End(ending) => ending.hours,
     }
 }
 
@@ -111,7 +113,7 @@ impl<B: Book + Drop> Market<B> {
             tokens: Tokens::new(alloc),
             refs: Refs::new(alloc)?,
             hours,
-            recorded: Recorded::new(alloc)?,
+            recorded: EventCounts::new(alloc)?,
             ready: Known::none(alloc),
             alloc,
         })
@@ -168,20 +170,20 @@ impl<B: Book + Drop> Market<B> {
         self.ready = Known::none(self.alloc);
         let Prepared {
             number,
-            act,
+            effect,
             fills,
             left,
             mut out,
             ..
         } = prepared;
         self.recorded.raise(number);
-        self.hours = hours_after(&act, self.hours);
-        carry_out(
+        self.hours = hours_after(&effect, self.hours);
+        commit_effect(
             &mut self.book,
             &mut self.tokens,
             &mut self.refs,
             &mut out,
-            act,
+            effect,
             &fills,
             left,
         );

@@ -7,8 +7,8 @@ use Rattle.hx_refs.specs.Numbers.{raised}
 use Rattle.hx_rules.specs.declared.event.Event.{Event}
 use Rattle.hx_market.specs.Outputs.{Reply, Told}
 use Rattle.hx_market.specs.Steps.{told}
-use Rattle.hx_market.specs.Striking.{Line, reply_lines, lines_of_all, all_but, seen, strike_one}
-use Rattle.hx_market.specs.Striking.Line.{ToFeed, ToMember}
+use Rattle.hx_market.specs.QuietChains.{Line, reply_lines, lines_of_all, all_but, seen, strike_one}
+use Rattle.hx_market.specs.QuietChains.Line.{ToFeed, ToMember}
 use Rattle.hx_laws.proofs.Quiet.StruckChoices.{one_member}
 use Rattle.hx_replay.specs.Text.{Entry}
 use Rattle.hx_replay.specs.Output.{feed_lines, counts_after, told_lines}

@@ -11,11 +11,11 @@ use Rattle.hx_rules.specs.declared.event.Event.TheVariants.{Message, Tick, Hours
 use Rattle.hx_rules.specs.declared.fault.PrepareError.{PrepareError}
 use Rattle.hx_rules.specs.declared.fault.PrepareError.TheVariants as refused
 use Rattle.hx_market.specs.Markets.{Market}
-use Rattle.hx_market.specs.Admitting.{refusal}
-use Rattle.hx_market.specs.Ending.{hours_codes}
-use Rattle.hx_market.specs.Operating.{operator_event}
+use Rattle.hx_market.specs.Refusals.{refusal}
+use Rattle.hx_market.specs.Hours.{hours_codes}
+use Rattle.hx_market.specs.OperatorMessages.{operator_event}
 use Rattle.hx_market.specs.Steps.{run}
-use Rattle.hx_market.specs.Striking.{Choice, bears, strike, strike_one, quiet_of_one}
+use Rattle.hx_market.specs.QuietChains.{Choice, bears, strike, strike_one, quiet_of_one}
 use Rattle.hx_audit.specs.Recording.{AreAccepted, AreRecorded, IsRefusedAt}
 use Rattle.hx_replay.specs.declared.fault.Kind.{Kind}
 use Rattle.hx_replay.specs.declared.fault.Kind.TheVariants as kind

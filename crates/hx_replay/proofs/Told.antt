@@ -24,14 +24,14 @@ use Rattle.hx_market.specs.Markets.{Market}
 use Rattle.hx_market.specs.Orders.{is_immediate, is_shown, is_called}
 use Rattle.hx_members.specs.declared.stock.Stock.{Stock}
 use Rattle.hx_market.specs.Outputs.{Reply, Told, Outcome, silent}
-use Rattle.hx_market.specs.Ending.{all_deleted, end_orders, directory, to_all, told_by_code, is_over, ends_by_code, hours_by, is_next}
+use Rattle.hx_market.specs.Hours.{all_deleted, end_orders, directory, to_all, told_by_code, is_over, ends_by_code, hours_by, is_next}
 use Rattle.hx_market.specs.Executions.{feed_of_executions, replies_of_executions, published, shown_of, resting_of, canceled_of, incoming_of, Arrival, arrive, arrival_feed}
-use Rattle.hx_market.specs.Leaving.{others, lessened, deleted, taken_off, canceled}
-use Rattle.hx_market.specs.Replacing.{executed_of, replace_fails, handed_over, is_one_display, replacing_order, replace_feed, replace_order, replaced_by}
-use Rattle.hx_market.specs.Cancelling.{cancelled_shares, cancelled_if, cancelled_by}
-use Rattle.hx_market.specs.Entering.{entered_by, rejection, accept_order, drawn, consumed, entered_order, next_reference}
-use Rattle.hx_market.specs.Steps.{act, step, with_record}
-use Rattle.hx_market.proofs.Sound.{ended}
+use Rattle.hx_market.specs.Removal.{others, lessened, deleted, taken_off, canceled}
+use Rattle.hx_market.specs.Replace.{executed_of, replace_fails, handed_over, is_one_display, replacing_order, replace_feed, replace_order, replaced_by}
+use Rattle.hx_market.specs.Cancel.{cancelled_shares, cancelled_if, cancelled_by}
+use Rattle.hx_market.specs.Enter.{entered_by, rejection, accept_order, drawn, consumed, entered_order, next_reference}
+use Rattle.hx_market.specs.Steps.{receive, step, with_record}
+use Rattle.hx_market.proofs.Bounds.Counts.{ended}
 
 -- all messages of an event but few end a live order, or are a code's to all
 pub record TellsFew (live : List Order) (o : Outcome) : Type 0 where
@@ -195,7 +195,7 @@ cancelled_few market member time c (Some x) = at (cancelled_shares (executed_of 
         let told = length-off time by x in
         record { feed = omega (arith, less, told); replies = omega (arith, less) }
 
-act_few : (setup : Setup) (market : Market) (member time : ℕ) (o : Option Inbound) → TellsFew market.live (act setup market member time o)
+act_few : (setup : Setup) (market : Market) (member time : ℕ) (o : Option Inbound) → TellsFew market.live (receive setup market member time o)
 act_few setup market member time None = record { feed = omega arith; replies = omega arith }
 act_few setup market member time (Some (inbound.Enter e)) = entered_few setup market member time e (is_used market.tokens member e.token) (rejection setup market.hours e)
 act_few setup market member time (Some (inbound.Replace r)) =

@@ -10,8 +10,8 @@ use Rattle.hx_rules.specs.declared.fault.PrepareError.{PrepareError}
 use Rattle.hx_rules.specs.declared.fault.PrepareError.TheVariants as refused
 use Rattle.hx_market.specs.Markets.{Market, opening}
 use Rattle.hx_market.specs.Outputs.{Outcome}
-use Rattle.hx_market.specs.Admitting.{refusal}
-use Rattle.hx_market.specs.Operating.{operator_event}
+use Rattle.hx_market.specs.Refusals.{refusal}
+use Rattle.hx_market.specs.OperatorMessages.{operator_event}
 use Rattle.hx_market.specs.Steps.{step}
 use Rattle.hx_replay.specs.declared.fault.Kind.{Kind}
 use Rattle.hx_replay.specs.declared.fault.Kind.TheVariants as kind

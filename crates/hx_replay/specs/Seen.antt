@@ -7,8 +7,8 @@ use Rattle.hx_members.specs.Setups.{Setup}
 use Rattle.hx_refs.specs.Numbers.{raised}
 use Rattle.hx_rules.specs.declared.event.Event.{Event}
 use Rattle.hx_market.specs.Steps.{told}
-use Rattle.hx_market.specs.Striking.{Line, lines_of_all, strike_one}
-use Rattle.hx_market.specs.Striking.Line.{ToFeed, ToMember}
+use Rattle.hx_market.specs.QuietChains.{Line, lines_of_all, strike_one}
+use Rattle.hx_market.specs.QuietChains.Line.{ToFeed, ToMember}
 use Rattle.hx_replay.specs.Text.{Entry}
 use Rattle.hx_replay.specs.Output.{feed_line, reply_line}
 use Rattle.hx_replay.specs.Run.{start, event_of, output_all}

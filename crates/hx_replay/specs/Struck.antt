@@ -7,7 +7,7 @@ use Rattle.hx_rules.specs.declared.event.Event.{Event}
 use Rattle.hx_rules.specs.declared.event.Event.TheVariants.{Message, Tick, Hours}
 use Rattle.hx_market.specs.Markets.{Market}
 use Rattle.hx_market.specs.Steps.{run}
-use Rattle.hx_market.specs.Striking.{bears, quiet_of_one}
+use Rattle.hx_market.specs.QuietChains.{bears, quiet_of_one}
 use Rattle.hx_replay.specs.declared.fault.Kind.{Kind}
 use Rattle.hx_replay.specs.declared.fault.TapeError.{TapeError}
 use Rattle.hx_replay.specs.declared.fault.TapeError.TheVariants as fault

@@ -3,7 +3,7 @@ ghost use Rattle.std.specs.Prelude.{◌≡◌, ◌≢◌, ◌≤◌, ◌<◌, �
 ghost use Rattle.std.specs.List.{AllByRecursion};
 ghost use Rattle.hx_itch.specs.Message.{feed_time};
 ghost use Rattle.hx_market.specs.Steps.{step};
-ghost use Rattle.hx_market.specs.Admitting.{refusal, or_no_memory};
+ghost use Rattle.hx_market.specs.Refusals.{refusal, or_no_memory};
 ghost use Rattle.hx_replay.specs.Text.{Entry, entry_of, line};
 ghost use Rattle.hx_replay.specs.Output.{feed_line, reply_line, feed_lines, reply_lines, counts_after};
 ghost use Rattle.hx_replay.specs.Run.{event_of, is_unknown, fault_of, counts_of, start, with_market, Plays, Faults, IsFew};

@@ -11,21 +11,21 @@ use Rattle.hx_rules.specs.declared.event.Event.TheVariants.{Message, Tick, Hours
 use Rattle.hx_rules.specs.Markets.{Market, opening}
 use Rattle.hx_refs.specs.Numbers.{raised}
 use Rattle.hx_rules.specs.Outputs.{Reply, Told, Outcome, nothing}
-use Rattle.hx_rules.specs.Entering.{enter}
-use Rattle.hx_rules.specs.Replacing.{replace}
-use Rattle.hx_rules.specs.Cancelling.{cancel}
-use Rattle.hx_rules.specs.Ending.{tick, next_hours}
+use Rattle.hx_rules.specs.Enter.{enter}
+use Rattle.hx_rules.specs.Replace.{replace}
+use Rattle.hx_rules.specs.Cancel.{cancel}
+use Rattle.hx_rules.specs.Hours.{tick, next_hours}
 
 -- what a member's message does (OUCH 4.2, Inbound Messages). One that is not readable has no effect
-abbrev pub act : Setup → Market → (member time : ℕ) → Option Inbound → Outcome
-act setup market member time None = nothing market
-act setup market member time (Some (Enter e)) = enter setup market member time e
-act setup market member time (Some (Replace r)) = replace setup market member time r
-act setup market member time (Some (Cancel c)) = cancel market member time c
+abbrev pub receive : Setup → Market → (member time : ℕ) → Option Inbound → Outcome
+receive setup market member time None = nothing market
+receive setup market member time (Some (Enter e)) = enter setup market member time e
+receive setup market member time (Some (Replace r)) = replace setup market member time r
+receive setup market member time (Some (Cancel c)) = cancel market member time c
 
 -- what an event does, but for its record
 abbrev pub happens : Setup → Market → Event → Outcome
-happens setup market (Message member time bytes) = act setup market member time (inbound_of bytes)
+happens setup market (Message member time bytes) = receive setup market member time (inbound_of bytes)
 happens setup market (Tick time) = tick market time
 happens setup market (Hours time code) = next_hours setup market time code
 

@@ -3,12 +3,12 @@
 
 mod event;
 mod fault;
-mod operating;
+mod operator;
 mod output;
 mod rules;
 
 pub use event::{Bytes, Event};
 pub use fault::PrepareError;
-pub use operating::decode_operator;
+pub use operator::decode_operator;
 pub use output::Output;
 pub use rules::{is_shown, life_of, published_side, rejection, replace_fails, side_of};

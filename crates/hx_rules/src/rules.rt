@@ -2,8 +2,8 @@
 ghost use Rattle.std.specs.Prelude.{◌≡◌, ◌<◌, ◌≤◌, ◌^◌, IfNone};
 ghost use Rattle.hx_rules.specs.Orders.{is_side, side_of, is_visible, is_display, is_shown, life_of, published_side};
 ghost use Rattle.hx_rules.specs.Markets.{is_open};
-ghost use Rattle.hx_rules.specs.Entering.{rejection, is_bad_shares, is_bad_price, is_late};
-ghost use Rattle.hx_rules.specs.Replacing.{replace_fails};
+ghost use Rattle.hx_rules.specs.Enter.{rejection, is_bad_shares, is_bad_price, is_late};
+ghost use Rattle.hx_rules.specs.Replace.{replace_fails};
 
 use hx_levels::Life;
 use hx_members::Setup;

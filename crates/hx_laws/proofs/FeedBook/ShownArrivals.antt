@@ -17,8 +17,8 @@ use Rattle.hx_rules.specs.Orders.{Order, Token, is_called}
 use Rattle.hx_rules.specs.Markets.{Market}
 use Rattle.hx_rules.specs.Outputs.{Outcome, nothing}
 use Rattle.hx_rules.specs.Executions.{incoming_of, arrive, arrival_feed}
-use Rattle.hx_rules.specs.Entering.{next_reference, after_draw}
-use Rattle.hx_laws.specs.ShownBooks.{book_from}
+use Rattle.hx_rules.specs.Enter.{next_reference, after_draw}
+use Rattle.hx_laws.specs.FeedBook.{book_from}
 use Rattle.hx_laws.proofs.History.CoherentMarkets.{IsOfAnyShares, matched_of}
 use Rattle.hx_laws.proofs.Quiet.QuietBefore.{not_both}
 use Rattle.hx_laws.proofs.FeedBook.ShownShares.{HasShares, HaveShares, some_rest, clear_of}

@@ -5,8 +5,8 @@ use Rattle.hx_levels.proofs.Lists.{all_weaker, all_filtered}
 use Rattle.hx_members.specs.Setups.{Setup}
 use Rattle.hx_itch.specs.declared.message.Feed.TheVariants.{OrderDelete}
 use Rattle.hx_rules.specs.Orders.{Order}
-use Rattle.hx_rules.specs.Ending.{all_deleted}
-use Rattle.hx_laws.specs.ShownBooks.{ShownOrder, without, book_from, shown_as}
+use Rattle.hx_rules.specs.Hours.{all_deleted}
+use Rattle.hx_laws.specs.FeedBook.{ShownOrder, without, book_from, shown_as}
 use Rattle.hx_laws.proofs.FeedBook.ShownExecutions.{shows, IsApart, AreApart}
 use Rattle.hx_laws.proofs.FeedBook.ShownLeaving.{shows-cons}
 

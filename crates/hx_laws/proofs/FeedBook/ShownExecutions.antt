@@ -14,8 +14,8 @@ use Rattle.hx_itch.specs.declared.message.Feed.{Feed}
 use Rattle.hx_itch.specs.declared.message.Feed.TheVariants.{OrderExecuted, Trade}
 use Rattle.hx_rules.specs.Orders.{Order, is_called}
 use Rattle.hx_rules.specs.Executions.{incoming_of, feed_of_execution, feed_of_executions, published, shown_of, resting_of, arrival_feed}
-use Rattle.hx_rules.specs.Leaving.{less}
-use Rattle.hx_laws.specs.ShownBooks.{ShownOrder, taken_from, book_after, book_from, shown_as, shown_orders}
+use Rattle.hx_rules.specs.Removal.{less}
+use Rattle.hx_laws.specs.FeedBook.{ShownOrder, taken_from, book_after, book_from, shown_as, shown_orders}
 use Rattle.hx_laws.proofs.History.CoherentMarkets.{IsOfAnyShares}
 
 -- the shown orders of a list, by recursion

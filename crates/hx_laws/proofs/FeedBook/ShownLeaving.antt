@@ -5,8 +5,8 @@ use Rattle.hx_members.specs.Setups.{Setup}
 use Rattle.hx_members.proofs.ChainLaws.{is_same-parts}
 use Rattle.hx_itch.specs.declared.message.Feed.TheVariants.{OrderCancel, OrderDelete, OrderReplace}
 use Rattle.hx_rules.specs.Orders.{Order, Token, is_called}
-use Rattle.hx_rules.specs.Leaving.{less, lessened, others, deleted, taken_off}
-use Rattle.hx_laws.specs.ShownBooks.{ShownOrder, taken_from, without, renewed, book_from, shown_as}
+use Rattle.hx_rules.specs.Removal.{less, lessened, others, deleted, taken_off}
+use Rattle.hx_laws.specs.FeedBook.{ShownOrder, taken_from, without, renewed, book_from, shown_as}
 use Rattle.hx_laws.proofs.History.CoherentSteps.{found_of}
 use Rattle.hx_laws.proofs.FeedBook.ShownExecutions.{shows, shows-less, IsApart, AreApart}
 

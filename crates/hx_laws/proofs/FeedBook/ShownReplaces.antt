@@ -13,10 +13,10 @@ use Rattle.hx_ouch.specs.declared.inbound.Replace.{Replace as Change}
 use Rattle.hx_rules.specs.Orders.{Order, Token, is_called, is_immediate}
 use Rattle.hx_rules.specs.Markets.{Market}
 use Rattle.hx_rules.specs.Executions.{Arrival, incoming_of, resting_of, arrive, arrival_feed}
-use Rattle.hx_rules.specs.Entering.{drawn}
-use Rattle.hx_rules.specs.Leaving.{others, deleted}
-use Rattle.hx_rules.specs.Replacing.{handed_over, executed_of, replace_fails, replace_feed, is_one_display, succeed}
-use Rattle.hx_laws.specs.ShownBooks.{ShownOrder, book_from, shown_as}
+use Rattle.hx_rules.specs.Enter.{drawn}
+use Rattle.hx_rules.specs.Removal.{others, deleted}
+use Rattle.hx_rules.specs.Replace.{handed_over, executed_of, replace_fails, replace_feed, is_one_display, succeed}
+use Rattle.hx_laws.specs.FeedBook.{ShownOrder, book_from, shown_as}
 use Rattle.hx_laws.proofs.History.CoherentSteps.{used_last, joining}
 use Rattle.hx_laws.proofs.History.EventMoves.{replacement_of}
 use Rattle.hx_laws.proofs.History.NoExecutions.{nothing_matched, no_executions}

@@ -12,7 +12,7 @@ use Rattle.hx_rules.specs.Orders.{Order}
 use Rattle.hx_rules.specs.Markets.{Market, opening}
 use Rattle.hx_rules.specs.Executions.{incoming_of}
 use Rattle.hx_rules.specs.Steps.{with_record, step, market_after, told_from, run, told, feed, feed_of}
-use Rattle.hx_laws.specs.ShownBooks.{ShownOrder, book_from, shown_book, shown_as, DoNotCross, IsUncrossed}
+use Rattle.hx_laws.specs.FeedBook.{ShownOrder, book_from, shown_book, shown_as, DoNotCross, IsUncrossed}
 use Rattle.hx_laws.specs.Laws.{FeedIsBook, FeedIsUncrossed}
 use Rattle.hx_laws.proofs.History.CoherentSteps.{Coherent, record_moves}
 use Rattle.hx_laws.proofs.History.EventMoves.{step_moves, coherent_opening}

@@ -8,7 +8,7 @@ use Rattle.hx_match.specs.Matching.{Place, terms, matched_by, matched_entries, m
 use Rattle.hx_match.specs.Rules.{IsRightChoice}
 use Rattle.hx_match.proofs.First.{first_is_right}
 use Rattle.hx_rules.specs.Orders.{Token, Order, is_called}
-use Rattle.hx_rules.specs.Leaving.{less, lessened}
+use Rattle.hx_rules.specs.Removal.{less, lessened}
 
 abbrev pub HasShares : Order → Type 0
 HasShares y = ltb 0 y.shares ≡ true

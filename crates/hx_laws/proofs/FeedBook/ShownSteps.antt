@@ -17,13 +17,13 @@ use Rattle.hx_rules.specs.declared.event.Event.TheVariants.{Message, Tick, Hours
 use Rattle.hx_rules.specs.Orders.{Order, Token, is_called, is_shown, is_immediate}
 use Rattle.hx_rules.specs.Markets.{Market}
 use Rattle.hx_rules.specs.Outputs.{Told, silent}
-use Rattle.hx_rules.specs.Entering.{consumed, drawn, next_reference, rejection, reject, accept_order, entered_order, entered_by, enter}
-use Rattle.hx_rules.specs.Leaving.{less, lessened}
-use Rattle.hx_rules.specs.Replacing.{executed_of, replace_fails, fail_replace, replaced_by, replace}
-use Rattle.hx_rules.specs.Cancelling.{take_off, cancelled_if, cancelled_by, cancel}
-use Rattle.hx_rules.specs.Ending.{end_orders, is_over, all_deleted, ends_by_code, directory, told_by_code, hours_by, next_hours}
-use Rattle.hx_rules.specs.Steps.{act, happens}
-use Rattle.hx_laws.specs.ShownBooks.{ShownOrder, book_from}
+use Rattle.hx_rules.specs.Enter.{consumed, drawn, next_reference, rejection, reject, accept_order, entered_order, entered_by, enter}
+use Rattle.hx_rules.specs.Removal.{less, lessened}
+use Rattle.hx_rules.specs.Replace.{executed_of, replace_fails, fail_replace, replaced_by, replace}
+use Rattle.hx_rules.specs.Cancel.{take_off, cancelled_if, cancelled_by, cancel}
+use Rattle.hx_rules.specs.Hours.{end_orders, is_over, all_deleted, ends_by_code, directory, told_by_code, hours_by, next_hours}
+use Rattle.hx_rules.specs.Steps.{receive, happens}
+use Rattle.hx_laws.specs.FeedBook.{ShownOrder, book_from}
 use Rattle.hx_laws.proofs.History.CoherentMarkets.{IsKnown}
 use Rattle.hx_laws.proofs.History.CoherentSteps.{Coherent, used_last, all_lessened, joining, found_of}
 use Rattle.hx_laws.proofs.History.Rejections.{accepted_minimum, accepted_stock}
@@ -173,7 +173,7 @@ hours_keeps setup a time code g = choose _
         let k = end_keeps setup (ends_by_code code) time (record a { hours = a.hours + 1 }) (told_by_code setup time code) turned (code_book setup time code) in
         record { book = k.book; good = k.good }
 
-act_keeps : (setup : Setup) (a : Market) (m time : ℕ) (x : Option Inbound) → Coherent a → IsBooked a → KeepsBook setup a (act setup a m time x)
+act_keeps : (setup : Setup) (a : Market) (m time : ℕ) (x : Option Inbound) → Coherent a → IsBooked a → KeepsBook setup a (receive setup a m time x)
 act_keeps setup a m time None s g = idle_keeps setup a g
 act_keeps setup a m time (Some (Enter e)) s g = enter_keeps setup a m time e g
 act_keeps setup a m time (Some (Replace r)) s g = replace_keeps setup a m time r s g

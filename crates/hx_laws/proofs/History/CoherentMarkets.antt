@@ -9,7 +9,7 @@ use Rattle.hx_match.specs.Matching.{itself, with_shares, terms, Place, Execution
 use Rattle.hx_match.proofs.First.{all_append}
 use Rattle.hx_members.specs.Chains.{Used, Chain, is_used, entered_of, has_chain, is_loud}
 use Rattle.hx_rules.specs.Orders.{Order, Token}
-use Rattle.hx_rules.specs.Leaving.{less}
+use Rattle.hx_rules.specs.Removal.{less}
 use Rattle.hx_laws.proofs.History.ChainsGrow.{Grows}
 
 -- the order's token is used, and if it is shown, its chain was displayed

@@ -13,10 +13,10 @@ use Rattle.hx_rules.specs.Orders.{Order, Token, is_called}
 use Rattle.hx_rules.specs.Markets.{Market}
 use Rattle.hx_rules.specs.Outputs.{Told}
 use Rattle.hx_rules.specs.Executions.{incoming_of, resting_of, displays, chains_after, arrive}
-use Rattle.hx_rules.specs.Entering.{consumed, drawn}
-use Rattle.hx_rules.specs.Leaving.{less, lessened}
-use Rattle.hx_rules.specs.Replacing.{handed_over}
-use Rattle.hx_rules.specs.Ending.{end_orders}
+use Rattle.hx_rules.specs.Enter.{consumed, drawn}
+use Rattle.hx_rules.specs.Removal.{less, lessened}
+use Rattle.hx_rules.specs.Replace.{handed_over}
+use Rattle.hx_rules.specs.Hours.{end_orders}
 use Rattle.hx_rules.specs.Steps.{with_record}
 use Rattle.hx_laws.proofs.History.ChainsGrow.{Grows, Grows_refl, Grows_trans, Grows_token, Grows_chain, Grows_note, Grows_executions, note_makes_loud}
 use Rattle.hx_laws.proofs.History.CoherentMarkets.{IsKnown, IsCoherent, IsOfAnyShares, known_grows, known_shares, all_less, matched_of}

@@ -14,12 +14,12 @@ use Rattle.hx_rules.specs.declared.event.Event.{Event}
 use Rattle.hx_rules.specs.declared.event.Event.TheVariants.{Message, Tick, Hours}
 use Rattle.hx_rules.specs.Orders.{Order, Token, is_called, is_immediate, is_shown}
 use Rattle.hx_rules.specs.Markets.{Market, opening}
-use Rattle.hx_rules.specs.Entering.{consumed, drawn, rejection, accept_order, next_reference, entered_by, enter}
-use Rattle.hx_rules.specs.Replacing.{handed_over, executed_of, replace_fails, replacing_order, replace_order, replaced_by, replace}
-use Rattle.hx_rules.specs.Cancelling.{cancelled_if, cancelled_by, cancel}
+use Rattle.hx_rules.specs.Enter.{consumed, drawn, rejection, accept_order, next_reference, entered_by, enter}
+use Rattle.hx_rules.specs.Replace.{handed_over, executed_of, replace_fails, replacing_order, replace_order, replaced_by, replace}
+use Rattle.hx_rules.specs.Cancel.{cancelled_if, cancelled_by, cancel}
 use Rattle.hx_rules.specs.Outputs.{silent}
-use Rattle.hx_rules.specs.Ending.{is_over, ends_by_code, told_by_code, hours_by, next_hours}
-use Rattle.hx_rules.specs.Steps.{act, happens, with_record, step, market_after, run}
+use Rattle.hx_rules.specs.Hours.{is_over, ends_by_code, told_by_code, hours_by, next_hours}
+use Rattle.hx_rules.specs.Steps.{receive, happens, with_record, step, market_after, run}
 use Rattle.hx_laws.proofs.History.ChainsGrow.{Grows_refl}
 use Rattle.hx_laws.proofs.History.CoherentMarkets.{IsKnown}
 use Rattle.hx_laws.proofs.History.CoherentSteps.{Coherent, Moves, Moves_refl, Moves_trans, used_last, consumed_moves, joining, handed_over_moves, drawn_moves, record_moves, end_moves, lessened_moves, arrive_moves, found_of}
@@ -91,7 +91,7 @@ hours_moves setup a time code = choose _
     choose false = Moves_refl a
     choose true = Moves_trans _ _ _ turned (end_moves (ends_by_code code) time (record a { hours = a.hours + 1 }) (told_by_code setup time code))
 
-act_moves : (setup : Setup) (a : Market) (m time : ℕ) (message : Option Inbound) → Coherent a → Moves a (act setup a m time message).market
+act_moves : (setup : Setup) (a : Market) (m time : ℕ) (message : Option Inbound) → Coherent a → Moves a (receive setup a m time message).market
 act_moves setup a m time None s = Moves_refl a
 act_moves setup a m time (Some (Enter e)) s = enter_moves setup a m time e
 act_moves setup a m time (Some (Replace r)) s = replace_moves setup a m time r s

@@ -13,8 +13,8 @@ use Rattle.hx_members.specs.declared.stock.Stock.{Stock}
 use Rattle.hx_ouch.specs.declared.inbound.Enter.{Enter}
 use Rattle.hx_ouch.specs.declared.inbound.Replace.{Replace}
 use Rattle.hx_rules.specs.Orders.{is_display, is_immediate, is_shown, is_visible}
-use Rattle.hx_rules.specs.Entering.{Reason, first_reason, reasons, rejection, is_bad_shares, is_bad_price, is_late}
-use Rattle.hx_rules.specs.Replacing.{replace_fails}
+use Rattle.hx_rules.specs.Enter.{Reason, first_reason, reasons, rejection, is_bad_shares, is_bad_price, is_late}
+use Rattle.hx_rules.specs.Replace.{replace_fails}
 use Rattle.hx_laws.proofs.Quiet.QuietBefore.{not_true}
 
 pub shown_not_immediate : (d t : ℕ) → is_shown d t ≡ true → is_immediate t ≡ false

@@ -7,10 +7,10 @@ use Rattle.hx_members.specs.Chains.{is_used, entered_of}
 use Rattle.hx_refs.specs.Numbers.{raised}
 use Rattle.hx_rules.specs.Orders.{Order, Token, is_called}
 use Rattle.hx_rules.specs.Markets.{Market}
-use Rattle.hx_rules.specs.Entering.{consumed, drawn}
-use Rattle.hx_rules.specs.Leaving.{lessened}
-use Rattle.hx_rules.specs.Replacing.{handed_over, executed_of}
-use Rattle.hx_laws.specs.Striking.{Choice}
+use Rattle.hx_rules.specs.Enter.{consumed, drawn}
+use Rattle.hx_rules.specs.Removal.{lessened}
+use Rattle.hx_rules.specs.Replace.{handed_over, executed_of}
+use Rattle.hx_laws.specs.QuietChains.{Choice}
 use Rattle.hx_laws.proofs.Quiet.QuietBefore.{not_both}
 use Rattle.hx_laws.proofs.Quiet.KeptViews.{none, blank, kept, kept_tokens, kept_chains, Spares}
 use Rattle.hx_laws.proofs.Quiet.KeptWords.{kept_tokens-append, kept_chains-append, used_kept, entered_kept, executed_kept, filter_kept, others_chosen, lessened_chosen, lessened_kept}

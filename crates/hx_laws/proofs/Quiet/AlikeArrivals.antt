@@ -7,7 +7,7 @@ use Rattle.hx_members.specs.Chains.{Used, Chain, entered_of, note}
 use Rattle.hx_rules.specs.Orders.{Order, Token}
 use Rattle.hx_rules.specs.Markets.{Market}
 use Rattle.hx_rules.specs.Executions.{incoming_of, chains_after, replies_of_executions, canceled_of, resting_of, displays, Arrival, settled, arrive}
-use Rattle.hx_laws.specs.Striking.{Choice}
+use Rattle.hx_laws.specs.QuietChains.{Choice}
 use Rattle.hx_laws.specs.Laws.{AreSpared}
 use Rattle.hx_laws.proofs.Quiet.KeptViews.{none, blank, kept, kept_chains, kept_matched, blank_executions}
 use Rattle.hx_laws.proofs.Quiet.KeptChoices.{kept-append, matched-kept}

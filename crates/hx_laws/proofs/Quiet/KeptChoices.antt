@@ -6,8 +6,8 @@ use Rattle.hx_match.specs.declared.fills.Incoming.{Incoming}
 use Rattle.hx_match.specs.Matching.{Place, Execution, Matched, itself, with_shares, behind, first_of_entries, first_by_rank, passes, after_fill, matched_by, matched_entries, matched}
 use Rattle.hx_match.proofs.First.{turns, skips}
 use Rattle.hx_rules.specs.Orders.{Order}
-use Rattle.hx_rules.specs.Leaving.{less}
-use Rattle.hx_laws.specs.Striking.{Choice}
+use Rattle.hx_rules.specs.Removal.{less}
+use Rattle.hx_laws.specs.QuietChains.{Choice}
 use Rattle.hx_laws.specs.Laws.{AreSpared, unchosen, NotChosen}
 use Rattle.hx_laws.proofs.Quiet.KeptViews.{blank, kept, kept_place, kept_matched, blank_executions}
 

@@ -3,7 +3,7 @@ use Rattle.std.specs.Prelude.{◌≡◌, ℕ, Bool, false, cond, if◌then◌els
 use Rattle.hx_match.specs.Matching.{Place, Execution, Matched}
 use Rattle.hx_members.specs.Chains.{Used, Chain}
 use Rattle.hx_rules.specs.Orders.{Order, Token}
-use Rattle.hx_laws.specs.Striking.{Choice}
+use Rattle.hx_laws.specs.QuietChains.{Choice}
 
 -- an order; or, blanked, without its chain's place and without a private reference
 abbrev pub blank : Bool → Order → Order

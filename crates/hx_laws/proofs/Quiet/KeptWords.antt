@@ -10,8 +10,8 @@ use Rattle.hx_itch.specs.declared.message.Feed.{Feed}
 use Rattle.hx_itch.specs.declared.message.Feed.TheVariants.{OrderExecuted, Trade}
 use Rattle.hx_rules.specs.Orders.{Token, Order, is_called}
 use Rattle.hx_rules.specs.Executions.{chains_after, feed_of_execution, feed_of_executions, replies_of_executions}
-use Rattle.hx_rules.specs.Leaving.{less, lessened, others}
-use Rattle.hx_laws.specs.Striking.{Choice}
+use Rattle.hx_rules.specs.Removal.{less, lessened, others}
+use Rattle.hx_laws.specs.QuietChains.{Choice}
 use Rattle.hx_laws.specs.Laws.{AreSpared}
 use Rattle.hx_laws.proofs.Quiet.QuietBefore.{not_both}
 use Rattle.hx_laws.proofs.Quiet.KeptViews.{blank, kept, kept_tokens, kept_chains, blank_execution, blank_executions}

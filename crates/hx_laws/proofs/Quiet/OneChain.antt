@@ -15,11 +15,11 @@ use Rattle.hx_rules.specs.declared.event.Event.TheVariants.{Message, Tick, Hours
 use Rattle.hx_rules.specs.Orders.{Order, Token, is_called}
 use Rattle.hx_rules.specs.Markets.{Market}
 use Rattle.hx_rules.specs.Outputs.{Outcome, nothing}
-use Rattle.hx_rules.specs.Entering.{consumed, rejection, reject, accept, entered_by}
-use Rattle.hx_rules.specs.Replacing.{handed_over, executed_of, replace_fails, fail_replace, succeed, replaced_by}
-use Rattle.hx_rules.specs.Cancelling.{cancelled_by}
-use Rattle.hx_rules.specs.Steps.{act, with_record, step, run}
-use Rattle.hx_laws.specs.Striking.{message_bears}
+use Rattle.hx_rules.specs.Enter.{consumed, rejection, reject, accept, entered_by}
+use Rattle.hx_rules.specs.Replace.{handed_over, executed_of, replace_fails, fail_replace, succeed, replaced_by}
+use Rattle.hx_rules.specs.Cancel.{cancelled_by}
+use Rattle.hx_rules.specs.Steps.{receive, with_record, step, run}
+use Rattle.hx_laws.specs.QuietChains.{message_bears}
 use Rattle.hx_laws.specs.Laws.{only, AreOneChain, OneChain}
 use Rattle.hx_laws.proofs.History.CoherentMarkets.{IsKnown}
 use Rattle.hx_laws.proofs.History.CoherentSteps.{Coherent, Moves, Moves_refl, record_moves, used_last, joining, found_of}
@@ -64,7 +64,7 @@ of_both a m q o c = record { root = λ _. (entered_of o.market.tokens m q.existi
         choose (inl h) = (rw (← only_same m t q.existing_token h) c.first, rw (← only_same m t q.existing_token h) refl)
         choose (inr h) = (rw (← only_same m t q.replacement_token h) c.second, rw (← only_same m t q.replacement_token h) (sym c.same))
 
-act_of : (setup : Setup) (a : Market) → Coherent a → (m time : ℕ) (x : Option Inbound) → IsOfOne a m x (act setup a m time x)
+act_of : (setup : Setup) (a : Market) → Coherent a → (m time : ℕ) (x : Option Inbound) → IsOfOne a m x (receive setup a m time x)
 act_of setup a coherent m time None = idle a m None
 act_of setup a coherent m time (Some (Enter e)) = choose (is_used a.tokens m e.token) (rejection setup a.hours e)
   where

@@ -10,7 +10,7 @@ use Rattle.hx_members.proofs.ChainLaws.{has_chain-note}
 use Rattle.hx_rules.specs.Orders.{Order, Token}
 use Rattle.hx_rules.specs.Markets.{Market}
 use Rattle.hx_rules.specs.Executions.{incoming_of, chains_after, resting_of, displays, arrive}
-use Rattle.hx_laws.specs.Striking.{Choice}
+use Rattle.hx_laws.specs.QuietChains.{Choice}
 use Rattle.hx_laws.specs.Laws.{AreSpared, AreQuietChains}
 use Rattle.hx_laws.proofs.Quiet.QuietBefore.{not_both}
 use Rattle.hx_laws.proofs.History.NoExecutions.{nothing_matched}

@@ -7,7 +7,7 @@ use Rattle.hx_rules.specs.declared.event.Event.{Event}
 use Rattle.hx_rules.specs.Orders.{Token}
 use Rattle.hx_rules.specs.Markets.{Market, opening}
 use Rattle.hx_rules.specs.Steps.{step, market_after, run}
-use Rattle.hx_laws.specs.Striking.{is_quiet}
+use Rattle.hx_laws.specs.QuietChains.{is_quiet}
 use Rattle.hx_laws.specs.Laws.{QuietBefore}
 use Rattle.hx_laws.proofs.History.CoherentSteps.{Moves}
 use Rattle.hx_laws.proofs.History.EventMoves.{run_moves, coherent_run}

@@ -11,9 +11,9 @@ use Rattle.hx_rules.specs.Orders.{Order, is_shown, is_immediate}
 use Rattle.hx_rules.specs.Markets.{Market}
 use Rattle.hx_rules.specs.Outputs.{Told, Outcome}
 use Rattle.hx_rules.specs.Executions.{Arrival, arrive, arrival_feed}
-use Rattle.hx_rules.specs.Entering.{consumed, next_reference, drawn, entered_order, accepted_of, accept}
-use Rattle.hx_rules.specs.Replacing.{handed_over, executed_of, replacing_order, replaced_of, replace_feed, succeed}
-use Rattle.hx_laws.specs.Striking.{Choice, reply_lines, lines_of}
+use Rattle.hx_rules.specs.Enter.{consumed, next_reference, drawn, entered_order, accepted_of, accept}
+use Rattle.hx_rules.specs.Replace.{handed_over, executed_of, replacing_order, replaced_of, replace_feed, succeed}
+use Rattle.hx_laws.specs.QuietChains.{Choice, reply_lines, lines_of}
 use Rattle.hx_laws.specs.Laws.{AreQuietChains, IsUnknownTo}
 use Rattle.hx_laws.proofs.History.CoherentSteps.{Coherent, Moves, Moves_trans, consumed_moves, handed_over_moves, drawn_moves}
 use Rattle.hx_laws.proofs.History.EventMoves.{replacement_of}

@@ -17,13 +17,13 @@ use Rattle.hx_rules.specs.declared.event.Event.TheVariants.{Message, Tick, Hours
 use Rattle.hx_rules.specs.Orders.{Order, Token, is_called}
 use Rattle.hx_rules.specs.Markets.{Market}
 use Rattle.hx_rules.specs.Outputs.{Told, silent}
-use Rattle.hx_rules.specs.Entering.{rejection, entered_by, enter}
-use Rattle.hx_rules.specs.Leaving.{deleted, canceled, taken_off}
-use Rattle.hx_rules.specs.Replacing.{executed_of, replace_fails, fail_replace, replaced_by, replace}
-use Rattle.hx_rules.specs.Cancelling.{cancelled_shares, take_off, cancelled_if, cancelled_by, cancel}
-use Rattle.hx_rules.specs.Ending.{end_orders, is_over, all_deleted, hours_codes, ends_by_code, told_by_code, hours_by, next_hours}
-use Rattle.hx_rules.specs.Steps.{act, happens}
-use Rattle.hx_laws.specs.Striking.{Choice, message_bears, bears, reply_lines}
+use Rattle.hx_rules.specs.Enter.{rejection, entered_by, enter}
+use Rattle.hx_rules.specs.Removal.{deleted, canceled, taken_off}
+use Rattle.hx_rules.specs.Replace.{executed_of, replace_fails, fail_replace, replaced_by, replace}
+use Rattle.hx_rules.specs.Cancel.{cancelled_shares, take_off, cancelled_if, cancelled_by, cancel}
+use Rattle.hx_rules.specs.Hours.{end_orders, is_over, all_deleted, hours_codes, ends_by_code, told_by_code, hours_by, next_hours}
+use Rattle.hx_rules.specs.Steps.{receive, happens}
+use Rattle.hx_laws.specs.QuietChains.{Choice, message_bears, bears, reply_lines}
 use Rattle.hx_laws.specs.Laws.{AreQuietChains, IsUnknownTo}
 use Rattle.hx_laws.proofs.Quiet.QuietBefore.{not_both}
 use Rattle.hx_laws.proofs.History.CoherentMarkets.{IsKnown}
@@ -178,7 +178,7 @@ same_hours s see blind setup a b coherent r quiet time code =
 -- Every event.
 
 same_act : (s : Choice) (see : ℕ → Bool) → IsUnknownTo see s → (setup : Setup) (a b : Market) → Coherent a → IsAlike s a b → (m time : ℕ) (x : Option Inbound) → message_bears s m x ≡ false
-    → AreQuietChains s (act setup a m time x).market → IsSame s see (act setup a m time x) (act setup b m time x)
+    → AreQuietChains s (receive setup a m time x).market → IsSame s see (receive setup a m time x) (receive setup b m time x)
 same_act s see blind setup a b coherent r m time None h q = record { market = r; seen = refl }
 same_act s see blind setup a b coherent r m time (Some (Enter e)) h q = same_enter s see blind setup a b coherent r m time e h q
 same_act s see blind setup a b coherent r m time (Some (Replace p)) h q = let hs = or_parts _ _ h in same_replace s see blind setup a b coherent r m time p hs.0 hs.1 q

@@ -10,11 +10,11 @@ use Rattle.hx_ouch.specs.declared.outbound.Outbound.{Outbound}
 use Rattle.hx_rules.specs.Orders.{Order}
 use Rattle.hx_rules.specs.Outputs.{Reply}
 use Rattle.hx_rules.specs.Executions.{published, shown_of, arrival_feed}
-use Rattle.hx_rules.specs.Leaving.{deleted, taken_off, canceled}
-use Rattle.hx_rules.specs.Replacing.{replace_feed}
-use Rattle.hx_rules.specs.Ending.{all_deleted}
-use Rattle.hx_laws.specs.Striking.{Choice, reply_lines}
-use Rattle.hx_laws.specs.Striking.Line.{ToMember}
+use Rattle.hx_rules.specs.Removal.{deleted, taken_off, canceled}
+use Rattle.hx_rules.specs.Replace.{replace_feed}
+use Rattle.hx_rules.specs.Hours.{all_deleted}
+use Rattle.hx_laws.specs.QuietChains.{Choice, reply_lines}
+use Rattle.hx_laws.specs.QuietChains.Line.{ToMember}
 use Rattle.hx_laws.specs.Laws.{IsUnknownTo}
 use Rattle.hx_laws.proofs.Quiet.QuietBefore.{not_both}
 use Rattle.hx_laws.proofs.Quiet.KeptViews.{none, blank, kept, blank_executions}

@@ -12,7 +12,7 @@ use Rattle.hx_rules.specs.declared.event.Event.{Event}
 use Rattle.hx_rules.specs.Orders.{Token}
 use Rattle.hx_rules.specs.Markets.{Market}
 use Rattle.hx_rules.specs.Steps.{run}
-use Rattle.hx_laws.specs.Striking.{Choice, is_quiet, quiet_of_one, strike, strike_one, all_but, seen}
+use Rattle.hx_laws.specs.QuietChains.{Choice, is_quiet, quiet_of_one, strike, strike_one, all_but, seen}
 use Rattle.hx_laws.specs.Laws.{AreQuietChains, IsUnknownTo, OneMember, listed, AreWholeQuietChains, ListedIsChoice, QuietIsChoice, AnyPart, chained_with, ChainsOfAny}
 use Rattle.hx_laws.proofs.Quiet.QuietBefore.{not_true, quiet_loud}
 use Rattle.hx_laws.proofs.History.CoherentSteps.{Coherent}

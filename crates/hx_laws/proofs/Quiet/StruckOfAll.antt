@@ -9,8 +9,8 @@ use Rattle.hx_rules.specs.declared.event.Event.{Event}
 use Rattle.hx_rules.specs.Orders.{Token}
 use Rattle.hx_rules.specs.Outputs.{Reply, Told}
 use Rattle.hx_rules.specs.Steps.{run, told, feed_of, replies_among, replies_of, feed, replies}
-use Rattle.hx_laws.specs.Striking.{Choice, is_quiet, quiet_but_one, strike, strike_all, strike_but, Line, reply_lines, lines_of_all}
-use Rattle.hx_laws.specs.Striking.Line.{ToFeed, ToMember}
+use Rattle.hx_laws.specs.QuietChains.{Choice, is_quiet, quiet_but_one, strike, strike_all, strike_but, Line, reply_lines, lines_of_all}
+use Rattle.hx_laws.specs.QuietChains.Line.{ToFeed, ToMember}
 use Rattle.hx_laws.specs.Laws.{FeedOfAnyChoice, RepliesOfAnyChoice, AllMembers, AllButOne}
 use Rattle.hx_laws.proofs.Quiet.QuietBefore.{not_both}
 use Rattle.hx_laws.proofs.History.EventMoves.{coherent_run}

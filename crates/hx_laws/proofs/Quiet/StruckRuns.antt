@@ -4,7 +4,7 @@ use Rattle.hx_members.specs.Setups.{Setup}
 use Rattle.hx_rules.specs.declared.event.Event.{Event}
 use Rattle.hx_rules.specs.Markets.{Market, opening}
 use Rattle.hx_rules.specs.Steps.{happens, with_record, step, market_after, told_from, run, told}
-use Rattle.hx_laws.specs.Striking.{Choice, bears, strike, lines_of_all}
+use Rattle.hx_laws.specs.QuietChains.{Choice, bears, strike, lines_of_all}
 use Rattle.hx_laws.specs.Laws.{AreQuietChains, IsUnknownTo, QuietChains}
 use Rattle.hx_laws.proofs.History.CoherentSteps.{Coherent, Moves, record_moves}
 use Rattle.hx_laws.proofs.History.EventMoves.{happens_moves, step_moves, run_moves, coherent_opening}

@@ -19,12 +19,12 @@ use Rattle.hx_rules.specs.Orders.{Order, Token, is_called, is_shown, is_immediat
 use Rattle.hx_rules.specs.Markets.{Market}
 use Rattle.hx_rules.specs.Outputs.{Told, Outcome}
 use Rattle.hx_rules.specs.Executions.{incoming_of, published, shown_of, arrive, arrival_feed}
-use Rattle.hx_rules.specs.Entering.{consumed, next_reference, drawn, entered_order, accept, reject, rejection, entered_by, enter}
-use Rattle.hx_rules.specs.Leaving.{taken_off}
-use Rattle.hx_rules.specs.Replacing.{handed_over, executed_of, replace_fails, fail_replace, succeed, replaced_by, replace}
-use Rattle.hx_rules.specs.Cancelling.{take_off, cancelled_if, cancelled_by, cancel}
-use Rattle.hx_rules.specs.Steps.{act, happens}
-use Rattle.hx_laws.specs.Striking.{Choice, message_bears, bears, reply_lines, lines_of}
+use Rattle.hx_rules.specs.Enter.{consumed, next_reference, drawn, entered_order, accept, reject, rejection, entered_by, enter}
+use Rattle.hx_rules.specs.Removal.{taken_off}
+use Rattle.hx_rules.specs.Replace.{handed_over, executed_of, replace_fails, fail_replace, succeed, replaced_by, replace}
+use Rattle.hx_rules.specs.Cancel.{take_off, cancelled_if, cancelled_by, cancel}
+use Rattle.hx_rules.specs.Steps.{receive, happens}
+use Rattle.hx_laws.specs.QuietChains.{Choice, message_bears, bears, reply_lines, lines_of}
 use Rattle.hx_laws.specs.Laws.{AreOneChain, AreQuietChains, IsUnknownTo}
 use Rattle.hx_laws.proofs.Quiet.QuietBefore.{not_both}
 use Rattle.hx_laws.proofs.Quiet.OneChain.{joined_one}
@@ -253,7 +253,7 @@ unseen_cancel s see blind a b coherent r m time c struck quiet = choose (find (i
 -- Every event.
 
 unseen_act : (s : Choice) (see : ℕ → Bool) → IsUnknownTo see s → (setup : Setup) (a b : Market) → Coherent a → IsAlike s a b → (m time : ℕ) (x : Option Inbound) → message_bears s m x ≡ true
-    → AreQuietChains s (act setup a m time x).market → IsUnseen s see (act setup a m time x) b
+    → AreQuietChains s (receive setup a m time x).market → IsUnseen s see (receive setup a m time x) b
 unseen_act s see blind setup a b coherent r m time None h q = absurd (let z : false ≡ true = h in cc)
 unseen_act s see blind setup a b coherent r m time (Some (Enter e)) h q = unseen_enter s see blind setup a b coherent r m time e h q
 unseen_act s see blind setup a b coherent r m time (Some (Replace p)) h q = unseen_replace s see blind setup a b coherent r m time p h q

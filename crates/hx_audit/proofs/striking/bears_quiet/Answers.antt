@@ -1,6 +1,6 @@
 use Rattle.std.proofs.Common.{◌≡◌, ap, sym, ◌∙◌}
 use Rattle.hx_ouch.specs.Inbound.{inbound_of}
-use Rattle.hx_market.specs.Striking.{is_quiet, message_bears}
+use Rattle.hx_market.specs.QuietChains.{is_quiet, message_bears}
 use Rattle.hx_audit.proofs.Bearing.{of_another, of_member}
 use Rattle.hx_audit.proofs.striking.bears_quiet.Goals as goal
 

@@ -1,6 +1,6 @@
 use Rattle.std.proofs.Common.{[], ◌∷◌, ◌++◌, ap, sym, ◌∙◌}
 use Rattle.hx_rules.specs.declared.event.Event.{Event}
-use Rattle.hx_market.specs.Striking.{quiet_of_one}
+use Rattle.hx_market.specs.QuietChains.{quiet_of_one}
 use Rattle.hx_audit.proofs.Bearing.{kept_more, left_out, all_kept}
 use Rattle.hx_audit.proofs.striking.keep.Goals as goal
 use Rattle.hx_audit.proofs.striking.keep.Goals.{then-not-bears_quiet+in_ok-copy+in_ok-push, else-not-bears_quiet}

@@ -1,5 +1,5 @@
 use Rattle.std.proofs.Common.{◌≡◌, ◌++◌, drop}
-use Rattle.hx_market.specs.Striking.{quiet_of_one, strike}
+use Rattle.hx_market.specs.QuietChains.{quiet_of_one, strike}
 use Rattle.hx_audit.proofs.striking.keep.Given as goal
 
 -- what is kept, and what will be kept of the rest

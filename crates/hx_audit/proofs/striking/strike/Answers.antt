@@ -1,7 +1,7 @@
 use Rattle.std.proofs.Common.{ap, ◌∙◌}
 use Rattle.std.proofs.lemmas.Result.{err_from_is_err_and}
 use Rattle.hx_market.specs.Markets.{Market}
-use Rattle.hx_market.specs.Striking.{quiet_of_one, strike, strike_one}
+use Rattle.hx_market.specs.QuietChains.{quiet_of_one, strike, strike_one}
 use Rattle.hx_audit.proofs.Led.{facts_tell}
 use Rattle.hx_audit.proofs.Goes.{led_run}
 use Rattle.hx_audit.proofs.Strangers.{nothing_struck}

@@ -8,15 +8,16 @@ use Rattle.hx_itch.specs.declared.message.Feed.{Feed}
 use Rattle.hx_rules.specs.Markets.{Market}
 use Rattle.hx_rules.specs.Outputs.{Outcome, Told}
 use Rattle.hx_rules.specs.Steps.{step, with_record}
-use Rattle.hx_market.specs.Keeping.{IsSound}
-use Rattle.hx_market.specs.Acts.{outcome_of, hours_after}
-use Rattle.hx_market.specs.Ready.{Planned, Seen, IsPlanned, HasPlaces, market_of}
-use Rattle.hx_market.proofs.Next.{recording}
-use Rattle.hx_market.proofs.Drafts.{step_is}
-use Rattle.hx_market.proofs.Timed.{fits_feed}
+use Rattle.hx_market.specs.Bounds.{IsSound}
+use Rattle.hx_market.specs.Effects.{outcome_of, hours_after}
+use Rattle.hx_market.specs.MarketModel.{Planned, Seen, market_of}
+use Rattle.hx_market.specs.Prepared.{IsPlanned, HasPlaces}
+use Rattle.hx_market.proofs.Bounds.AfterEnter.{recording}
+use Rattle.hx_market.proofs.PreparedCounts.{step_is}
+use Rattle.hx_market.proofs.FeedTimes.{fits_feed}
 use Rattle.hx_itch.specs.Message.{feed_time}
 use Rattle.std.specs.List.{AllByRecursion}
-use Rattle.hx_market.proofs.Outcomes.{bare, parts, told_same, in_range, fits_act, sound_outcome}
+use Rattle.hx_market.proofs.Bounds.AfterEffect.{bare, parts, told_same, in_range, fits_effect, sound_outcome}
 use Rattle.hx_market.proofs.market.Market.commit.Goals as goal
 
 -- the market by its parts
@@ -34,133 +35,133 @@ pub raise-requires : goal.raise-requires
 raise-requires g c =
     let s = c.self.inside in
     let q = c.prepared.inside in
-    let p : Planned = record { event = q.event.value; feed_count = q.feed_count; reply_members = q.reply_members.items; number = q.number; act = q.act; fills = q.fills.items; left = q.left } in
+    let p : Planned = record { event = q.event.value; feed_count = q.feed_count; reply_members = q.reply_members.items; number = q.number; effect = q.effect; fills = q.fills.items; left = q.left } in
     let m : Market = market_of (g.B.Book.orders s.book) s.tokens s.refs s.hours s.recorded in
     let i : IsPlanned s.setup m (g.B.Book.orders s.book) (g.B.Book.place s.book) s.tokens.place p =
     c.self.invariant.2 p (ap (λ (v : Seen). v.ready) c.self.view_is ∙ c.requires.ready ∙ ap (λ (z : Planned). Some z) (sym c.prepared.view_is)) in
     i.may_record
 
-pub carry_out-requires-clause-range : goal.carry_out-requires-clause-range
-carry_out-requires-clause-range g c =
+pub commit_effect-requires-clause-range : goal.commit_effect-requires-clause-range
+commit_effect-requires-clause-range g c =
     let s = c.self.inside in
     let q = c.prepared.inside in
-    let p : Planned = record { event = q.event.value; feed_count = q.feed_count; reply_members = q.reply_members.items; number = q.number; act = q.act; fills = q.fills.items; left = q.left } in
+    let p : Planned = record { event = q.event.value; feed_count = q.feed_count; reply_members = q.reply_members.items; number = q.number; effect = q.effect; fills = q.fills.items; left = q.left } in
     let m : Market = market_of (g.B.Book.orders s.book) s.tokens s.refs s.hours s.recorded in
     let i : IsPlanned s.setup m (g.B.Book.orders s.book) (g.B.Book.place s.book) s.tokens.place p =
     c.self.invariant.2 p (ap (λ (v : Seen). v.ready) c.self.view_is ∙ c.requires.ready ∙ ap (λ (z : Planned). Some z) (sym c.prepared.view_is)) in
-    in_range s.setup q.act i.is_act
+    in_range s.setup q.effect i.is_effect
 
-pub carry_out-requires-clause-suits : goal.carry_out-requires-clause-suits
-carry_out-requires-clause-suits g c =
+pub commit_effect-requires-clause-suits : goal.commit_effect-requires-clause-suits
+commit_effect-requires-clause-suits g c =
     let s = c.self.inside in
     let q = c.prepared.inside in
-    let p : Planned = record { event = q.event.value; feed_count = q.feed_count; reply_members = q.reply_members.items; number = q.number; act = q.act; fills = q.fills.items; left = q.left } in
+    let p : Planned = record { event = q.event.value; feed_count = q.feed_count; reply_members = q.reply_members.items; number = q.number; effect = q.effect; fills = q.fills.items; left = q.left } in
     let m : Market = market_of (g.B.Book.orders s.book) s.tokens s.refs s.hours s.recorded in
     let i : IsPlanned s.setup m (g.B.Book.orders s.book) (g.B.Book.place s.book) s.tokens.place p =
     c.self.invariant.2 p (ap (λ (v : Seen). v.ready) c.self.view_is ∙ c.requires.ready ∙ ap (λ (z : Planned). Some z) (sym c.prepared.view_is)) in
     i.suits
 
-pub carry_out-requires-clause-about : goal.carry_out-requires-clause-about
-carry_out-requires-clause-about g c =
+pub commit_effect-requires-clause-about : goal.commit_effect-requires-clause-about
+commit_effect-requires-clause-about g c =
     let s = c.self.inside in
     let q = c.prepared.inside in
-    let p : Planned = record { event = q.event.value; feed_count = q.feed_count; reply_members = q.reply_members.items; number = q.number; act = q.act; fills = q.fills.items; left = q.left } in
+    let p : Planned = record { event = q.event.value; feed_count = q.feed_count; reply_members = q.reply_members.items; number = q.number; effect = q.effect; fills = q.fills.items; left = q.left } in
     let m : Market = market_of (g.B.Book.orders s.book) s.tokens s.refs s.hours s.recorded in
     let i : IsPlanned s.setup m (g.B.Book.orders s.book) (g.B.Book.place s.book) s.tokens.place p =
     c.self.invariant.2 p (ap (λ (v : Seen). v.ready) c.self.view_is ∙ c.requires.ready ∙ ap (λ (z : Planned). Some z) (sym c.prepared.view_is)) in
     i.about
 
-pub carry_out-requires-clause-keyed : goal.carry_out-requires-clause-keyed
-carry_out-requires-clause-keyed g c = c.self.invariant.1
+pub commit_effect-requires-clause-keyed : goal.commit_effect-requires-clause-keyed
+commit_effect-requires-clause-keyed g c = c.self.invariant.1
 
-pub carry_out-requires-clause-places : goal.carry_out-requires-clause-places
-carry_out-requires-clause-places g c =
+pub commit_effect-requires-clause-places : goal.commit_effect-requires-clause-places
+commit_effect-requires-clause-places g c =
     let s = c.self.inside in
     let q = c.prepared.inside in
-    let p : Planned = record { event = q.event.value; feed_count = q.feed_count; reply_members = q.reply_members.items; number = q.number; act = q.act; fills = q.fills.items; left = q.left } in
+    let p : Planned = record { event = q.event.value; feed_count = q.feed_count; reply_members = q.reply_members.items; number = q.number; effect = q.effect; fills = q.fills.items; left = q.left } in
     let m : Market = market_of (g.B.Book.orders s.book) s.tokens s.refs s.hours s.recorded in
     let i : IsPlanned s.setup m (g.B.Book.orders s.book) (g.B.Book.place s.book) s.tokens.place p =
     c.self.invariant.2 p (ap (λ (v : Seen). v.ready) c.self.view_is ∙ c.requires.ready ∙ ap (λ (z : Planned). Some z) (sym c.prepared.view_is)) in
-    subst (λ (fs : List Fill). HasPlaces (g.B.Book.orders s.book) (g.B.Book.place s.book) s.tokens.place fs q.left q.act) (sym c.deref.ensures.value) i.places
+    subst (λ (fs : List Fill). HasPlaces (g.B.Book.orders s.book) (g.B.Book.place s.book) s.tokens.place fs q.left q.effect) (sym c.deref.ensures.value) i.places
 
-pub carry_out-requires-clause-fits : goal.carry_out-requires-clause-fits
-carry_out-requires-clause-fits g c =
+pub commit_effect-requires-clause-fits : goal.commit_effect-requires-clause-fits
+commit_effect-requires-clause-fits g c =
     let s = c.self.inside in
     let q = c.prepared.inside in
-    let p : Planned = record { event = q.event.value; feed_count = q.feed_count; reply_members = q.reply_members.items; number = q.number; act = q.act; fills = q.fills.items; left = q.left } in
+    let p : Planned = record { event = q.event.value; feed_count = q.feed_count; reply_members = q.reply_members.items; number = q.number; effect = q.effect; fills = q.fills.items; left = q.left } in
     let m : Market = market_of (g.B.Book.orders s.book) s.tokens s.refs s.hours s.recorded in
     let i : IsPlanned s.setup m (g.B.Book.orders s.book) (g.B.Book.place s.book) s.tokens.place p =
     c.self.invariant.2 p (ap (λ (v : Seen). v.ready) c.self.view_is ∙ c.requires.ready ∙ ap (λ (z : Planned). Some z) (sym c.prepared.view_is)) in
-    fits_act s.setup m q.number q.act (g.B.Book.orders s.book) refl c.self.invariant.0 i.may_record i.is_act i.suits i.about i.sender
+    fits_effect s.setup m q.number q.effect (g.B.Book.orders s.book) refl c.self.invariant.0 i.may_record i.is_effect i.suits i.about i.sender
 
 pub invariant_of-self : goal.invariant_of-self
 invariant_of-self g c =
     let s = c.self.inside in
     let q = c.prepared.inside in
-    let p : Planned = record { event = q.event.value; feed_count = q.feed_count; reply_members = q.reply_members.items; number = q.number; act = q.act; fills = q.fills.items; left = q.left } in
+    let p : Planned = record { event = q.event.value; feed_count = q.feed_count; reply_members = q.reply_members.items; number = q.number; effect = q.effect; fills = q.fills.items; left = q.left } in
     let m : Market = market_of (g.B.Book.orders s.book) s.tokens s.refs s.hours s.recorded in
     let i : IsPlanned s.setup m (g.B.Book.orders s.book) (g.B.Book.place s.book) s.tokens.place p =
     c.self.invariant.2 p (ap (λ (v : Seen). v.ready) c.self.view_is ∙ c.requires.ready ∙ ap (λ (z : Planned). Some z) (sym c.prepared.view_is)) in
-    let k : Market = (outcome_of (bare m) q.act).market in
-    let n : Market = market_of (g.B.Book.orders c.carry_out.new.book) c.carry_out.new.tokens c.carry_out.new.refs c.hours_after-self-inside.result c.raise.new.self in
-    let is : n ≡ (outcome_of (recording m q.number) q.act).market =
-    whole (lives (g.B.Book.orders c.carry_out.new.book)) k.live c.carry_out.new.tokens.tokens k.tokens c.carry_out.new.tokens.chains k.chains c.carry_out.new.refs k.numbers c.hours_after-self-inside.result (hours_after q.act s.hours) c.raise.new.self (raised s.recorded q.number)
-    c.carry_out.ensures.live c.carry_out.ensures.tokens c.carry_out.ensures.chains c.carry_out.ensures.numbers c.hours_after-self-inside.ensures c.raise.ensures
-    ∙ sym (parts (recording m q.number) q.act) in
-    (subst IsSound (sym is) (sound_outcome s.setup m q.number q.act (g.B.Book.orders s.book) refl c.self.invariant.0 i.may_record i.is_act i.suits i.about i.sender), c.carry_out.ensures.keyed, λ p h. cc)
+    let k : Market = (outcome_of (bare m) q.effect).market in
+    let n : Market = market_of (g.B.Book.orders c.commit_effect.new.book) c.commit_effect.new.tokens c.commit_effect.new.refs c.hours_after-self-inside.result c.raise.new.self in
+    let is : n ≡ (outcome_of (recording m q.number) q.effect).market =
+    whole (lives (g.B.Book.orders c.commit_effect.new.book)) k.live c.commit_effect.new.tokens.tokens k.tokens c.commit_effect.new.tokens.chains k.chains c.commit_effect.new.refs k.numbers c.hours_after-self-inside.result (hours_after q.effect s.hours) c.raise.new.self (raised s.recorded q.number)
+    c.commit_effect.ensures.live c.commit_effect.ensures.tokens c.commit_effect.ensures.chains c.commit_effect.ensures.numbers c.hours_after-self-inside.ensures c.raise.ensures
+    ∙ sym (parts (recording m q.number) q.effect) in
+    (subst IsSound (sym is) (sound_outcome s.setup m q.number q.effect (g.B.Book.orders s.book) refl c.self.invariant.0 i.may_record i.is_effect i.suits i.about i.sender), c.commit_effect.ensures.keyed, λ p h. cc)
 
 pub returns-clause-market : goal.returns-clause-market
 returns-clause-market g c =
     let s = c.self.inside in
     let q = c.prepared.inside in
-    let p : Planned = record { event = q.event.value; feed_count = q.feed_count; reply_members = q.reply_members.items; number = q.number; act = q.act; fills = q.fills.items; left = q.left } in
+    let p : Planned = record { event = q.event.value; feed_count = q.feed_count; reply_members = q.reply_members.items; number = q.number; effect = q.effect; fills = q.fills.items; left = q.left } in
     let m : Market = market_of (g.B.Book.orders s.book) s.tokens s.refs s.hours s.recorded in
     let i : IsPlanned s.setup m (g.B.Book.orders s.book) (g.B.Book.place s.book) s.tokens.place p =
     c.self.invariant.2 p (ap (λ (v : Seen). v.ready) c.self.view_is ∙ c.requires.ready ∙ ap (λ (z : Planned). Some z) (sym c.prepared.view_is)) in
-    let k : Market = (outcome_of (bare m) q.act).market in
-    let n : Market = market_of (g.B.Book.orders c.carry_out.new.book) c.carry_out.new.tokens c.carry_out.new.refs c.hours_after-self-inside.result c.raise.new.self in
-    let is : n ≡ (outcome_of (recording m q.number) q.act).market =
-    whole (lives (g.B.Book.orders c.carry_out.new.book)) k.live c.carry_out.new.tokens.tokens k.tokens c.carry_out.new.tokens.chains k.chains c.carry_out.new.refs k.numbers c.hours_after-self-inside.result (hours_after q.act s.hours) c.raise.new.self (raised s.recorded q.number)
-    c.carry_out.ensures.live c.carry_out.ensures.tokens c.carry_out.ensures.chains c.carry_out.ensures.numbers c.hours_after-self-inside.ensures c.raise.ensures
-    ∙ sym (parts (recording m q.number) q.act) in
-    let one : outcome_of (with_record p.event m) q.act ≡ step c.args.self.now.setup c.args.self.now.market c.args.prepared.event =
-    step_is s.setup c.args.self.now.setup m c.args.self.now.market p.event c.args.prepared.event (outcome_of (with_record p.event m) q.act) i.does (ap (λ (v : Seen). v.setup) c.self.view_is) (ap (λ (v : Seen). v.market) c.self.view_is) (ap (λ (v : Planned). v.event) c.prepared.view_is) in
-    is ∙ ap (λ z. (outcome_of (recording m z) q.act).market) i.number ∙ ap (λ (o : Outcome). o.market) one
+    let k : Market = (outcome_of (bare m) q.effect).market in
+    let n : Market = market_of (g.B.Book.orders c.commit_effect.new.book) c.commit_effect.new.tokens c.commit_effect.new.refs c.hours_after-self-inside.result c.raise.new.self in
+    let is : n ≡ (outcome_of (recording m q.number) q.effect).market =
+    whole (lives (g.B.Book.orders c.commit_effect.new.book)) k.live c.commit_effect.new.tokens.tokens k.tokens c.commit_effect.new.tokens.chains k.chains c.commit_effect.new.refs k.numbers c.hours_after-self-inside.result (hours_after q.effect s.hours) c.raise.new.self (raised s.recorded q.number)
+    c.commit_effect.ensures.live c.commit_effect.ensures.tokens c.commit_effect.ensures.chains c.commit_effect.ensures.numbers c.hours_after-self-inside.ensures c.raise.ensures
+    ∙ sym (parts (recording m q.number) q.effect) in
+    let one : outcome_of (with_record p.event m) q.effect ≡ step c.args.self.now.setup c.args.self.now.market c.args.prepared.event =
+    step_is s.setup c.args.self.now.setup m c.args.self.now.market p.event c.args.prepared.event (outcome_of (with_record p.event m) q.effect) i.does (ap (λ (v : Seen). v.setup) c.self.view_is) (ap (λ (v : Seen). v.market) c.self.view_is) (ap (λ (v : Planned). v.event) c.prepared.view_is) in
+    is ∙ ap (λ z. (outcome_of (recording m z) q.effect).market) i.number ∙ ap (λ (o : Outcome). o.market) one
 
 pub returns-clause-feed : goal.returns-clause-feed
 returns-clause-feed g c =
     let s = c.self.inside in
     let q = c.prepared.inside in
-    let p : Planned = record { event = q.event.value; feed_count = q.feed_count; reply_members = q.reply_members.items; number = q.number; act = q.act; fills = q.fills.items; left = q.left } in
+    let p : Planned = record { event = q.event.value; feed_count = q.feed_count; reply_members = q.reply_members.items; number = q.number; effect = q.effect; fills = q.fills.items; left = q.left } in
     let m : Market = market_of (g.B.Book.orders s.book) s.tokens s.refs s.hours s.recorded in
     let i : IsPlanned s.setup m (g.B.Book.orders s.book) (g.B.Book.place s.book) s.tokens.place p =
     c.self.invariant.2 p (ap (λ (v : Seen). v.ready) c.self.view_is ∙ c.requires.ready ∙ ap (λ (z : Planned). Some z) (sym c.prepared.view_is)) in
-    let one : outcome_of (with_record p.event m) q.act ≡ step c.args.self.now.setup c.args.self.now.market c.args.prepared.event =
-    step_is s.setup c.args.self.now.setup m c.args.self.now.market p.event c.args.prepared.event (outcome_of (with_record p.event m) q.act) i.does (ap (λ (v : Seen). v.setup) c.self.view_is) (ap (λ (v : Seen). v.market) c.self.view_is) (ap (λ (v : Planned). v.event) c.prepared.view_is) in
-    let told : (outcome_of (bare m) q.act).told ≡ (step c.args.self.now.setup c.args.self.now.market c.args.prepared.event).told =
-    sym (told_same (with_record p.event m) q.act) ∙ ap (λ (o : Outcome). o.told) one in
-    c.carry_out.ensures.feed ∙ ap (λ (t : Told). t.feed) told
+    let one : outcome_of (with_record p.event m) q.effect ≡ step c.args.self.now.setup c.args.self.now.market c.args.prepared.event =
+    step_is s.setup c.args.self.now.setup m c.args.self.now.market p.event c.args.prepared.event (outcome_of (with_record p.event m) q.effect) i.does (ap (λ (v : Seen). v.setup) c.self.view_is) (ap (λ (v : Seen). v.market) c.self.view_is) (ap (λ (v : Planned). v.event) c.prepared.view_is) in
+    let told : (outcome_of (bare m) q.effect).told ≡ (step c.args.self.now.setup c.args.self.now.market c.args.prepared.event).told =
+    sym (told_same (with_record p.event m) q.effect) ∙ ap (λ (o : Outcome). o.told) one in
+    c.commit_effect.ensures.feed ∙ ap (λ (t : Told). t.feed) told
 
 pub returns-clause-replies : goal.returns-clause-replies
 returns-clause-replies g c =
     let s = c.self.inside in
     let q = c.prepared.inside in
-    let p : Planned = record { event = q.event.value; feed_count = q.feed_count; reply_members = q.reply_members.items; number = q.number; act = q.act; fills = q.fills.items; left = q.left } in
+    let p : Planned = record { event = q.event.value; feed_count = q.feed_count; reply_members = q.reply_members.items; number = q.number; effect = q.effect; fills = q.fills.items; left = q.left } in
     let m : Market = market_of (g.B.Book.orders s.book) s.tokens s.refs s.hours s.recorded in
     let i : IsPlanned s.setup m (g.B.Book.orders s.book) (g.B.Book.place s.book) s.tokens.place p =
     c.self.invariant.2 p (ap (λ (v : Seen). v.ready) c.self.view_is ∙ c.requires.ready ∙ ap (λ (z : Planned). Some z) (sym c.prepared.view_is)) in
-    let one : outcome_of (with_record p.event m) q.act ≡ step c.args.self.now.setup c.args.self.now.market c.args.prepared.event =
-    step_is s.setup c.args.self.now.setup m c.args.self.now.market p.event c.args.prepared.event (outcome_of (with_record p.event m) q.act) i.does (ap (λ (v : Seen). v.setup) c.self.view_is) (ap (λ (v : Seen). v.market) c.self.view_is) (ap (λ (v : Planned). v.event) c.prepared.view_is) in
-    let told : (outcome_of (bare m) q.act).told ≡ (step c.args.self.now.setup c.args.self.now.market c.args.prepared.event).told =
-    sym (told_same (with_record p.event m) q.act) ∙ ap (λ (o : Outcome). o.told) one in
-    c.carry_out.ensures.replies ∙ ap (λ (t : Told). t.replies) told
+    let one : outcome_of (with_record p.event m) q.effect ≡ step c.args.self.now.setup c.args.self.now.market c.args.prepared.event =
+    step_is s.setup c.args.self.now.setup m c.args.self.now.market p.event c.args.prepared.event (outcome_of (with_record p.event m) q.effect) i.does (ap (λ (v : Seen). v.setup) c.self.view_is) (ap (λ (v : Seen). v.market) c.self.view_is) (ap (λ (v : Planned). v.event) c.prepared.view_is) in
+    let told : (outcome_of (bare m) q.effect).told ≡ (step c.args.self.now.setup c.args.self.now.market c.args.prepared.event).told =
+    sym (told_same (with_record p.event m) q.effect) ∙ ap (λ (o : Outcome). o.told) one in
+    c.commit_effect.ensures.replies ∙ ap (λ (t : Told). t.replies) told
 
 pub returns-clause-times : goal.returns-clause-times
 returns-clause-times g c =
     let s = c.self.inside in
     let q = c.prepared.inside in
-    let p : Planned = record { event = q.event.value; feed_count = q.feed_count; reply_members = q.reply_members.items; number = q.number; act = q.act; fills = q.fills.items; left = q.left } in
+    let p : Planned = record { event = q.event.value; feed_count = q.feed_count; reply_members = q.reply_members.items; number = q.number; effect = q.effect; fills = q.fills.items; left = q.left } in
     let m : Market = market_of (g.B.Book.orders s.book) s.tokens s.refs s.hours s.recorded in
     let i : IsPlanned s.setup m (g.B.Book.orders s.book) (g.B.Book.place s.book) s.tokens.place p =
     c.self.invariant.2 p (ap (λ (v : Seen). v.ready) c.self.view_is ∙ c.requires.ready ∙ ap (λ (z : Planned). Some z) (sym c.prepared.view_is)) in
-    subst (λ (fs : List Feed). AllByRecursion (λ f. feed_time f < 2 ^ 48) fs) (sym c.carry_out.ensures.feed) (fits_feed (bare m) q.act (in_range s.setup q.act i.is_act))
+    subst (λ (fs : List Feed). AllByRecursion (λ f. feed_time f < 2 ^ 48) fs) (sym c.commit_effect.ensures.feed) (fits_feed (bare m) q.effect (in_range s.setup q.effect i.is_effect))

@@ -5,8 +5,9 @@ use Rattle.hx_members.specs.Chains.{Used, Chain}
 use Rattle.hx_refs.specs.Numbers.{Numbers, opening_numbers}
 use Rattle.hx_members.specs.Setups.{Setup}
 use Rattle.hx_rules.specs.Markets.{Market, opening, opening_hours, no_counts}
-use Rattle.hx_market.specs.Keeping.{IsSound, AreKeyed}
-use Rattle.hx_market.proofs.Next.{sound_opening}
+use Rattle.hx_market.specs.OrderKeys.{AreKeyed}
+use Rattle.hx_market.specs.Bounds.{IsSound}
+use Rattle.hx_market.proofs.Bounds.AfterEnter.{sound_opening}
 use Rattle.hx_market.proofs.market.Market.new.Goals as goal
 
 -- the parts of the opening market

@@ -6,9 +6,9 @@ use Rattle.hx_refs.specs.Numbers.{Numbers}
 use Rattle.hx_rules.specs.Markets.{Market}
 use Rattle.hx_rules.specs.Outputs.{Outcome}
 use Rattle.hx_rules.specs.Steps.{with_record}
-use Rattle.hx_market.specs.Acts.{outcome_of}
-use Rattle.hx_market.specs.Ready.{Seen, market_of}
-use Rattle.hx_market.proofs.Drafts.{step_is}
+use Rattle.hx_market.specs.Effects.{outcome_of}
+use Rattle.hx_market.specs.MarketModel.{Seen, market_of}
+use Rattle.hx_market.proofs.PreparedCounts.{step_is}
 use Rattle.hx_market.proofs.market.Market.prepare.Goals as goal
 
 -- the market stays where its parts do
@@ -32,7 +32,7 @@ returns-clause-feed_count g c =
     ∙ ap (λ (v : Seen). v.market) c.self.view_is in
     i.feed_count
     ∙ ap (λ (o : Outcome). length o.told.feed)
-    (step_is s.setup c.args.self.now.setup m c.args.self.now.market p.event c.args.event.now (outcome_of (with_record p.event m) p.act) i.does (ap (λ (v : Seen). v.setup) c.self.view_is) same c.in_ok-prepared.ensures.event)
+    (step_is s.setup c.args.self.now.setup m c.args.self.now.market p.event c.args.event.now (outcome_of (with_record p.event m) p.effect) i.does (ap (λ (v : Seen). v.setup) c.self.view_is) same c.in_ok-prepared.ensures.event)
 
 pub returns-clause-reply_members : goal.returns-clause-reply_members
 returns-clause-reply_members g c =
@@ -46,4 +46,4 @@ returns-clause-reply_members g c =
     ∙ ap (λ (v : Seen). v.market) c.self.view_is in
     i.reply_members
     ∙ ap (λ (o : Outcome). map (λ r. r.0) o.told.replies)
-    (step_is s.setup c.args.self.now.setup m c.args.self.now.market p.event c.args.event.now (outcome_of (with_record p.event m) p.act) i.does (ap (λ (v : Seen). v.setup) c.self.view_is) same c.in_ok-prepared.ensures.event)
+    (step_is s.setup c.args.self.now.setup m c.args.self.now.market p.event c.args.event.now (outcome_of (with_record p.event m) p.effect) i.does (ap (λ (v : Seen). v.setup) c.self.view_is) same c.in_ok-prepared.ensures.event)

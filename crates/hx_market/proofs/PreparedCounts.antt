@@ -1,0 +1,36 @@
+-- What is prepared of an effect tells what the effect tells.
+use Rattle.std.proofs.Common.{◌≡◌, ℕ, List, map, length, Option, refl, sym, ap, ◌∙◌}
+use Rattle.hx_members.specs.Setups.{Setup}
+use Rattle.hx_rules.specs.declared.event.Event.{Event}
+use Rattle.hx_rules.specs.Outputs.{Outcome}
+use Rattle.hx_rules.specs.Steps.{step, happens, with_record}
+use Rattle.hx_levels.specs.declared.order.Live.{Live}
+use Rattle.hx_levels.specs.declared.order.Terms.{Terms}
+use Rattle.hx_levels.specs.Book.{lives}
+use Rattle.hx_match.specs.declared.fills.Fill.{Fill}
+use Rattle.hx_members.specs.declared.name.Name.{Name}
+use Rattle.hx_market.specs.declared.effect.Effect.{Effect}
+use Rattle.hx_market.specs.declared.effect.Effect.TheVariants.{Nothing, Reject, Accept, Fail, Replace, Cancel, End}
+use Rattle.hx_rules.specs.Markets.{Market}
+use Rattle.hx_market.specs.Effects.{outcome_of, IsAbout}
+use Rattle.hx_market.specs.Prepared.{HasPlaces, effect_feed_count, effect_members}
+use Rattle.hx_market.proofs.Plans.{feed_accepted, members_accepted, feed_replaced, members_replaced, length-deleted, length-off}
+
+pub tells : (m : Market) (effect : Effect) (orders : List Live) (place : Option Terms) (name : Option Name) (fills : List Fill) (left : ℕ) → m.live ≡ lives orders → IsAbout orders effect → HasPlaces orders place name fills left effect
+    → (effect_feed_count effect fills left ≡ length (outcome_of m effect).told.feed) × (effect_members effect orders fills left ≡ map (λ r. r.0) (outcome_of m effect).told.replies)
+tells m Nothing orders place name fills left live about h = (refl, refl)
+tells m (Reject r) orders place name fills left live about h = (refl, refl)
+tells m (Accept a) orders place name fills left live about h = (feed_accepted m a orders fills left live h.2, members_accepted m a orders fills left live h.3 h.2)
+tells m (Fail a) orders place name fills left live about h = (length-deleted a.time a.old.order, refl)
+tells m (Replace a) orders place name fills left live about h = (feed_replaced m a orders fills left live about h.2, members_replaced m a orders fills left live about h.2)
+tells m (Cancel a) orders place name fills left live about h = (length-off a.time a.by a.old.order, refl)
+tells m (End e) orders place name fills left live about h = (refl, refl)
+
+-- what an event does, as one step
+pub step_is : (s t : Setup) (m k : Market) (e f : Event) (o : Outcome) → happens s (with_record e m) e ≡ o → s ≡ t → m ≡ k → e ≡ f → o ≡ step t k f
+unfolding step
+step_is s t m k e f o h se me ee =
+    sym h
+    ∙ ap (λ (z : Setup). happens z (with_record e m) e) se
+    ∙ ap (λ (z : Market). happens t (with_record e z) e) me
+    ∙ ap (λ (z : Event). happens t (with_record z k) z) ee

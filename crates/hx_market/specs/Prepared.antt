@@ -1,0 +1,178 @@
+-- What stands between prepare and commit: counts, places, and room for an effect.
+use Rattle.std.specs.Prelude.{◌≡◌, ℕ, ◌+◌, ◌*◌, ◌<◌, ◌≤◌, Bool, List, [], ◌∷◌, ◌++◌, length, map, Option, Some, None, slice_index, nat_lt, ◌&&◌, if◌then◌else◌, ⊤}
+use Rattle.std.specs.Option.{option_map_or}
+use Rattle.std.specs.Vec.{vec_len, vec_capacity}
+use Rattle.hx_units.specs.Limits.{member_numbers}
+use Rattle.hx_rules.specs.Limits.{operator_limit}
+use Rattle.hx_units.specs.declared.names.Token.{Token}
+use Rattle.hx_levels.specs.declared.order.Live.{Live}
+use Rattle.hx_levels.specs.declared.order.Terms.{Terms}
+use Rattle.hx_levels.specs.Book.{lives, order_of, without, KeysDiffer}
+use Rattle.hx_match.specs.declared.fills.Fill.{Fill}
+use Rattle.hx_match.specs.Matching.{matched}
+use Rattle.hx_match.specs.Rules.{AreFills}
+use Rattle.hx_members.specs.Setups.{Setup}
+use Rattle.hx_members.specs.Chains.{Used, Chain, is_used, entered_of, entered_used, entered_chain, replacing_used, IsEnteredAt}
+use Rattle.hx_members.specs.Tokens.{TokenList, facts_of}
+use Rattle.hx_members.specs.declared.name.ChainFacts.{ChainFacts}
+use Rattle.hx_members.specs.declared.name.Name.{Name}
+use Rattle.hx_refs.specs.Numbers.{Numbers}
+use Rattle.hx_market.specs.Bounds.{CanAccept}
+use Rattle.hx_market.specs.MarketModel.{Planned, name_of, market_of}
+use Rattle.hx_rules.specs.declared.event.Event.{Event}
+use Rattle.hx_rules.specs.declared.output.Output.{Output}
+use Rattle.hx_market.specs.declared.effect.Effect.{Effect}
+use Rattle.hx_market.specs.declared.effect.Effect.TheVariants.{Nothing, Reject, Accept, Fail, Replace, Cancel, End}
+use Rattle.hx_market.specs.declared.effect.AcceptedEnter.{AcceptedEnter}
+use Rattle.hx_market.specs.declared.effect.Replacement.{Replacement}
+use Rattle.hx_rules.specs.Orders.{Order, is_immediate, is_shown}
+use Rattle.hx_rules.specs.Markets.{Market}
+use Rattle.hx_rules.specs.Outputs.{Outcome}
+use Rattle.hx_rules.specs.Removal.{others}
+use Rattle.hx_rules.specs.Replace.{is_one_display}
+use Rattle.hx_rules.specs.Steps.{happens, sender, with_record}
+use Rattle.hx_market.specs.Effects.{IsEffect, IsOf, SuitsTokens, IsAbout, incoming_of_enter, terms_of_enter, open_shares, incoming_of_replacement, terms_of_replacement, replacement_order, outcome_of}
+
+-- what an effect does over a book, its tokens and its numbers: hours and counts are not read
+abbrev pub outcome_over : List Live → TokenList → Numbers → Effect → Outcome
+outcome_over orders tokens numbers effect = outcome_of (market_of orders tokens numbers 0 []) effect
+
+-- the numbers and the chains have room for the order that is accepted
+abbrev pub HasRoomFor : Market → AcceptedEnter → Type 0
+HasRoomFor market a =
+    CanAccept (market.tokens ++ entered_used a.member a.enter.token
+    ∷ []) (market.chains ++ entered_chain a.member a.enter.token ∷ [])
+    market.numbers a.member a.enter.token (length market.tokens)
+    (matched (incoming_of_enter a) a.enter.shares market.live).fills
+
+-- the same for the order that replaces another
+abbrev pub HasRoomToReplace : Market → Replacement → Type 0
+HasRoomToReplace market a =
+    CanAccept (market.tokens
+    ++ replacing_used a.member a.replace.replacement_token
+    (entered_of market.tokens a.member a.replace.existing_token) ∷ []) market.chains
+    market.numbers a.member a.replace.replacement_token a.old.order.chain
+    (matched (incoming_of_replacement a) (open_shares a)
+    (others a.member a.replace.existing_token market.live)).fills
+
+-- the chain of the member's used token has this number
+abbrev pub IsChainOf : List Used → ℕ → Token → ℕ → Type 0
+IsChainOf tokens member token chain =
+    IsEnteredAt tokens member (entered_of tokens member token) chain
+
+-- an event of this number may be recorded
+pub record MayRecord (recorded : List ℕ) (number : ℕ) : Type 0 where
+  pub in_range : number < member_numbers
+  pub limit : slice_index recorded number < operator_limit
+
+-- The members of the replies of an order that arrives, as the fills' keys tell them.
+
+-- the member of the order under a fill's key, or the given one where there is none
+abbrev pub maker_of : ℕ → List Live → Fill → ℕ
+maker_of member orders fill = option_map_or (λ x. x.member) (order_of fill.key.0 orders) member
+
+abbrev pub makers_and : ℕ → List Live → List Fill → List ℕ
+makers_and member orders [] = []
+makers_and member orders (fill ∷ fills) =
+    maker_of member orders fill ∷ member ∷ makers_and member orders fills
+
+-- an order of the member arrives, immediate or not
+abbrev pub arrival_members : ℕ → Bool → List Live → List Fill → ℕ → List ℕ
+arrival_members member immediate orders fills left =
+    (member ∷ makers_and member orders fills)
+    ++ (if nat_lt 0 left && immediate then member ∷ [] else [])
+
+-- How many messages of the feed an order gives that arrives, shown or not.
+
+abbrev pub arrival_count : (shown : Bool) → List Fill → (left : ℕ) → ℕ
+arrival_count shown fills left = length fills + (if nat_lt 0 left && shown then 1 else 0)
+
+abbrev pub one_if : Bool → ℕ
+one_if b = if b then 1 else 0
+
+-- how many an order gives that replaces another
+abbrev pub replaced_count : Replacement → List Fill → (left : ℕ) → ℕ
+replaced_count a fills left =
+    let shown = is_shown a.replace.display a.replace.time_in_force in
+    if is_one_display a.old.order (replacement_order 0 a) && nat_lt (length fills) 1 then 1
+    else one_if a.old.order.shown + arrival_count shown fills left
+
+-- how many messages of the feed an effect gives, and the members of its replies, over the orders of the book
+abbrev pub effect_feed_count : Effect → List Fill → (left : ℕ) → ℕ
+effect_feed_count Nothing fills left = 0
+effect_feed_count (Reject r) fills left = 0
+effect_feed_count (Accept a) fills left =
+    arrival_count (is_shown a.enter.display a.enter.time_in_force) fills left
+effect_feed_count (Fail a) fills left = one_if a.old.order.shown
+effect_feed_count (Replace a) fills left = replaced_count a fills left
+effect_feed_count (Cancel a) fills left = one_if a.old.order.shown
+effect_feed_count (End e) fills left = length e.told.feed.items
+
+abbrev pub effect_members : Effect → List Live → List Fill → ℕ → List ℕ
+effect_members Nothing orders fills left = []
+effect_members (Reject r) orders fills left = r.member ∷ []
+effect_members (Accept a) orders fills left =
+    arrival_members a.member (is_immediate a.enter.time_in_force) orders fills left
+effect_members (Fail a) orders fills left = a.member ∷ []
+effect_members (Replace a) orders fills left =
+    arrival_members a.member (is_immediate a.replace.time_in_force) orders fills left
+effect_members (Cancel a) orders fills left = a.member ∷ []
+effect_members (End e) orders fills left = map (λ r. r.0) e.told.replies.items
+
+-- the places and the plan that an effect needs: a place for the token that it uses, one for the order that may rest, and the executions
+abbrev pub HasPlaces : List Live → Option Terms → Option Name → List Fill → ℕ → Effect → Type 0
+HasPlaces orders book_place name_place fills left Nothing = ⊤
+HasPlaces orders book_place name_place fills left (Reject r) =
+    name_place ≡ Some (name_of r.member r.token)
+HasPlaces orders book_place name_place fills left (Accept a) =
+    (name_place ≡ Some (name_of a.member a.enter.token))
+    × (book_place ≡ Some (terms_of_enter a))
+    × AreFills (incoming_of_enter a) orders fills left × KeysDiffer orders
+HasPlaces orders book_place name_place fills left (Fail a) =
+    name_place ≡ Some (name_of a.member a.replacement)
+HasPlaces orders book_place name_place fills left (Replace a) =
+    (name_place ≡ Some (name_of a.member a.replace.replacement_token))
+    × (book_place ≡ Some (terms_of_replacement a))
+    × AreFills (incoming_of_replacement a) (without a.old.key.0 orders) fills left
+HasPlaces orders book_place name_place fills left (Cancel a) = ⊤
+HasPlaces orders book_place name_place fills left (End e) = ⊤
+
+-- the numbers and the chains have room for an effect
+abbrev pub FitsEffect : Market → Effect → Type 0
+FitsEffect market Nothing = ⊤
+FitsEffect market (Reject r) = ⊤
+FitsEffect market (Accept a) = HasRoomFor market a
+FitsEffect market (Fail a) = IsChainOf market.tokens a.member a.existing a.old.order.chain
+FitsEffect market (Replace a) =
+    HasRoomToReplace market a
+    × IsChainOf market.tokens a.member a.replace.existing_token a.old.order.chain
+FitsEffect market (Cancel a) = ⊤
+FitsEffect market (End e) = ⊤
+
+-- it was made for this event, over this market: it does what the event does, and its growths are made
+pub record IsPlanned (setup : Setup) (market : Market) (orders : List Live)
+    (book_place : Option Terms) (name_place : Option Name) (p : Planned) : Type 0 where
+  pub number : p.number ≡ sender p.event
+  pub may_record : MayRecord market.recorded p.number
+  pub does :
+      happens setup (with_record p.event market) p.event
+      ≡ outcome_of (with_record p.event market) p.effect
+  pub is_effect : IsEffect setup p.effect
+  pub suits : SuitsTokens market.tokens market.chains p.effect
+  pub about : IsAbout orders p.effect
+  pub sender : IsOf p.number p.effect
+  pub places : HasPlaces orders book_place name_place p.fills p.left p.effect
+  pub feed_count :
+      p.feed_count ≡ length (outcome_of (with_record p.event market) p.effect).told.feed
+  pub reply_members :
+      p.reply_members
+      ≡ map (λ r. r.0) (outcome_of (with_record p.event market) p.effect).told.replies
+
+-- room for all that so many fills tell, and for what else an event tells
+pub record HasRoom (fills : ℕ) (out : Output) : Type 0 where
+  pub feed : out.feed.items ≡ []
+  pub replies : out.replies.items ≡ []
+  pub feed_len : vec_len out.feed ≡ 0
+  pub replies_len : vec_len out.replies ≡ 0
+  pub feed_room : fills + 2 ≤ vec_capacity out.feed
+  pub replies_room : 2 * fills + 2 ≤ vec_capacity out.replies

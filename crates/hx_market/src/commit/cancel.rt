@@ -1,0 +1,79 @@
+//! A Cancel, done.
+ghost use Rattle.std.specs.Prelude.{◌≡◌, ◌<◌, ◌++◌, [], ◌∷◌};
+ghost use Rattle.std.specs.Vec.{vec_len, vec_capacity};
+ghost use Rattle.hx_rules.specs.Letters.{by_user};
+ghost use Rattle.hx_levels.specs.Book.{lives};
+ghost use Rattle.hx_members.specs.Tokens.{TokenList};
+ghost use Rattle.hx_rules.specs.Removal.{lessened, taken_off, canceled};
+ghost use Rattle.hx_market.specs.OrderKeys.{AreKeyed};
+ghost use Rattle.hx_market.specs.Effects.{IsOnly, IsReduction};
+
+use crate::effect::Reduction;
+use crate::messages::{delete, tell_canceled};
+use hx_itch::{Feed, OrderCancel};
+use hx_levels::Book;
+use hx_rules::Output;
+
+// Takes the shares off, or the order out.
+fn take_off<B: Book>(book: &mut B, effect: &Reduction)
+    requires only { IsOnly (B.orders book.old) effect.now.member effect.now.token effect.now.old }
+    requires shares { IsReduction effect.now }
+    ensures live { lives (B.orders book.new)
+        ≡ lessened effect.now.member effect.now.token effect.now.by (lives (B.orders book.old)) }
+    ensures keyed { (t : TokenList) → AreKeyed t.tokens t.keys (B.orders book.old)
+        → AreKeyed t.tokens t.keys (B.orders book.new) }
+{
+    if effect.by < effect.old.order.shares {
+        book.reduce(effect.old.key, effect.by);
+    } else {
+        book.remove(effect.old.key);
+    }
+}
+
+// In the feed: so many shares are off, or the order is gone.
+fn tell_feed(out: &mut Output, effect: &Reduction)
+    requires { vec_len out.old.feed < vec_capacity out.old.feed }
+    ensures feed { out.new.feed.items
+        ≡ out.old.feed.items ++ taken_off effect.now.time effect.now.by effect.now.old.order }
+    ensures replies { out.new.replies ≡ out.old.replies }
+{
+    let order = &effect.old.order;
+    if effect.by >= order.shares {
+        delete(out, effect.time, order);
+    } else if order.shown {
+        out.feed.push_reserved(Feed::OrderCancel(OrderCancel {
+            locate: order.locate,
+            time: effect.time,
+            reference: order.reference,
+            shares: effect.by,
+        }));
+    }
+}
+
+/// A Cancel takes shares off an order, or the order out.
+pub fn cancel<B: Book>(book: &mut B, out: &mut Output, effect: &Reduction)
+    requires only { IsOnly (B.orders book.old) effect.now.member effect.now.token effect.now.old }
+    requires shares { IsReduction effect.now }
+    requires feed_room { vec_len out.old.feed < vec_capacity out.old.feed }
+    requires replies_room { vec_len out.old.replies < vec_capacity out.old.replies }
+    ensures live { lives (B.orders book.new)
+        ≡ lessened effect.now.member effect.now.token effect.now.by (lives (B.orders book.old)) }
+    ensures keyed { (t : TokenList) → AreKeyed t.tokens t.keys (B.orders book.old)
+        → AreKeyed t.tokens t.keys (B.orders book.new) }
+    ensures feed { out.new.feed.items
+        ≡ out.old.feed.items ++ taken_off effect.now.time effect.now.by effect.now.old.order }
+    ensures replies { out.new.replies.items
+        ≡ out.old.replies.items
+        ++ canceled effect.now.time effect.now.member effect.now.token effect.now.by by_user ∷ [] }
+{
+    take_off(book, effect);
+    tell_feed(out, effect);
+    tell_canceled(
+        out,
+        effect.time,
+        effect.member,
+        effect.token,
+        effect.by,
+        b'U',
+    );
+}

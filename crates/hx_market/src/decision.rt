@@ -1,0 +1,101 @@
+//! Which effect an event has.
+ghost use Rattle.std.specs.Prelude.{◌≡◌, ◌<◌, ℕ, List, Some, None, IsSome, IfOk, false};
+ghost use Rattle.hx_units.specs.Limits.{day};
+ghost use Rattle.hx_ouch.specs.Inbound.{inbound_of};
+ghost use Rattle.hx_members.specs.Setups.{member_of};
+ghost use Rattle.hx_members.specs.Chains.{Used, Chain, is_used};
+ghost use Rattle.hx_rules.specs.Enter.{entered_by, enter, rejection, resolved_firm};
+ghost use Rattle.hx_levels.specs.declared.order.Live.{Live as LiveOrder};
+ghost use Rattle.hx_refs.specs.Numbers.{Numbers};
+ghost use Rattle.hx_market.specs.OrderKeys.{AreKeyed};
+ghost use Rattle.hx_market.specs.MarketModel.{market_of};
+ghost use Rattle.hx_rules.specs.Markets.{Market};
+ghost use Rattle.hx_rules.specs.Steps.{receive, happens, sender, time_of};
+ghost use Rattle.hx_rules.specs.Refusals.{is_from_stranger};
+ghost use Rattle.hx_market.specs.Effects.{outcome_of, IsEffect, IsAcceptedEnter, IsOf, SuitsTokens, IsAbout};
+
+mod cancel;
+mod enter;
+mod expiry;
+mod hours;
+mod replace;
+
+use crate::decision::cancel::cancel_effect;
+use crate::decision::enter::enter_effect;
+use crate::decision::expiry::tick_effect;
+use crate::decision::hours::hours_effect;
+use crate::decision::replace::replace_effect;
+use crate::effect::Effect;
+use hx_levels::{Book, Live};
+use hx_members::{Setup, Tokens};
+use hx_ouch::{Enter, Inbound, Replace, decode_in};
+use hx_rules::{Event, Output, rejection, side_of};
+use hx_units::{Firm, MemberNo, NoMemory, Price, Side, Symbol, Token};
+use std::alloc::Global;
+
+// What a member's message does, at so many hours codes past.
+fn message_effect<B: Book>(
+    setup: &Setup,
+    hours: u8,
+    tokens: &Tokens,
+    book: &B,
+    member: MemberNo,
+    time: u64,
+    bytes: &[u8],
+) -> Effect
+    requires member { IsSome (member_of setup.now member) }
+    requires time { time < day }
+    requires keyed { AreKeyed tokens.now.tokens tokens.now.keys (B.orders book.now) }
+    ensures does { (n : Numbers) (counts : List ℕ)
+        → receive setup.now (market_of (B.orders book.now) tokens.now n hours counts) member time
+        (inbound_of bytes.now)
+        ≡ outcome_of (market_of (B.orders book.now) tokens.now n hours counts) result }
+    ensures is_effect { IsEffect setup.now result }
+    ensures sender { IsOf member result }
+    ensures suits { SuitsTokens tokens.now.tokens tokens.now.chains result }
+    ensures about { IsAbout (B.orders book.now) result }
+{
+    match decode_in(bytes) {
+        Some(Inbound::Enter(enter)) => enter_effect(setup, hours, tokens, member, time, enter),
+        Some(Inbound::Replace(replace)) => {
+            replace_effect(setup, hours, tokens, book, member, time, replace)
+        }
+        Some(Inbound::Cancel(cancel)) => cancel_effect(tokens, book, member, time, cancel),
+        None => Effect::Nothing,
+    }
+}
+
+/// What an event does that is not refused, at so many hours codes past. `NoMemory` where the orders that end, and
+/// what they tell, find no room.
+pub fn effect_of<B: Book>(
+    alloc: Global,
+    setup: &Setup,
+    hours: u8,
+    tokens: &Tokens,
+    book: &B,
+    event: &Event,
+) -> Result<Effect, NoMemory>
+    requires known { is_from_stranger setup.now event.now ≡ false }
+    requires time { time_of event.now < day }
+    requires keyed { AreKeyed tokens.now.tokens tokens.now.keys (B.orders book.now) }
+    ensures does { IfOk result (λ a. (n : Numbers) (counts : List ℕ)
+        → happens setup.now (market_of (B.orders book.now) tokens.now n hours counts) event.now
+        ≡ outcome_of (market_of (B.orders book.now) tokens.now n hours counts) a) }
+    ensures is_effect { IfOk result (λ a. IsEffect setup.now a) }
+    ensures sender { IfOk result (λ a. IsOf (sender event.now) a) }
+    ensures suits { IfOk result (λ a. SuitsTokens tokens.now.tokens tokens.now.chains a) }
+    ensures about { IfOk result (λ a. IsAbout (B.orders book.now) a) }
+{
+    match event {
+        Event::Message {
+            member,
+            time,
+            bytes,
+        } => {
+            let member = MemberNo::of(*member).unwrap();
+            Ok(message_effect(setup, hours, tokens, book, member, *time, bytes.as_slice()))
+        }
+        Event::Tick { time } => tick_effect(alloc, hours, book, *time),
+        Event::Hours { time, code } => hours_effect(alloc, setup, hours, book, *time, *code),
+    }
+}

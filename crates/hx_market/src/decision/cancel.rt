@@ -1,0 +1,64 @@
+//! Which effect a Cancel has.
+ghost use Rattle.std.specs.Prelude.{◌≡◌, ◌<◌, ◌≤◌, ℕ, List, Some, None, IsSome, false};
+ghost use Rattle.hx_units.specs.Limits.{day};
+ghost use Rattle.hx_members.specs.Setups.{Setup as SetupOf, symbol_of};
+ghost use Rattle.hx_members.specs.Chains.{Used, Chain, is_used, entered_of, executed_by};
+ghost use Rattle.hx_levels.specs.declared.order.Live.{Live as LiveOrder};
+ghost use Rattle.hx_rules.specs.Markets.{Market};
+ghost use Rattle.hx_refs.specs.Numbers.{Numbers};
+ghost use Rattle.hx_rules.specs.Replace.{replace, replace_fails, replaced_if, executed_of};
+ghost use Rattle.hx_rules.specs.Cancel.{cancel, cancelled_shares};
+ghost use Rattle.hx_market.specs.OrderKeys.{AreKeyed};
+ghost use Rattle.hx_market.specs.Effects.{IsEffect, IsOf, SuitsTokens, IsAbout, IsOnly, outcome_of};
+ghost use Rattle.hx_market.specs.MarketModel.{market_of};
+
+use crate::effect::{Effect, Reduction};
+use crate::order_by_token::{Found, find_order};
+use hx_levels::Book;
+use hx_members::{Setup, Tokens};
+use hx_ouch::{Cancel, Replace};
+use hx_rules::replace_fails;
+use hx_units::{MemberNo, Price, Symbol};
+
+// How many open shares a Cancel takes off.
+fn cancelled_shares(found: &Found, cancel: &Cancel) -> u32
+    ensures { result ≡ cancelled_shares found.now.executed cancel.now found.now.live.order }
+{
+    let open = found.live.order.shares;
+    let wanted = cancel.shares.saturating_sub(found.executed);
+    open - open.min(wanted)
+}
+
+/// What a Cancel does.
+pub fn cancel_effect<B: Book>(
+    tokens: &Tokens,
+    book: &B,
+    member: MemberNo,
+    time: u64,
+    message: Cancel,
+) -> Effect
+    requires keyed { AreKeyed tokens.now.tokens tokens.now.keys (B.orders book.now) }
+    requires time { time < day }
+    ensures does { (n : Numbers) (hours : ℕ) (counts : List ℕ)
+        → cancel (market_of (B.orders book.now) tokens.now n hours counts) member time message
+        ≡ outcome_of (market_of (B.orders book.now) tokens.now n hours counts) result }
+    ensures is_effect { (setup : SetupOf) → IsEffect setup result }
+    ensures sender { IsOf member result }
+    ensures suits { SuitsTokens tokens.now.tokens tokens.now.chains result }
+    ensures about { IsAbout (B.orders book.now) result }
+{
+    let Some(found) = find_order(book, tokens, member, &message.token) else {
+        return Effect::Nothing;
+    };
+    let by = cancelled_shares(&found, &message);
+    if by == 0 {
+        return Effect::Nothing;
+    }
+    Effect::Cancel(Reduction {
+        member,
+        time,
+        token: message.token,
+        by,
+        old: found.live,
+    })
+}

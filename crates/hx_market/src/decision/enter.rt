@@ -1,0 +1,114 @@
+//! Which effect an Enter has.
+ghost use Rattle.std.specs.Prelude.{◌≡◌, ◌<◌, ℕ, List, Some, None, IsSome, IfOk, false};
+ghost use Rattle.hx_units.specs.Limits.{day};
+ghost use Rattle.hx_ouch.specs.Inbound.{inbound_of};
+ghost use Rattle.hx_members.specs.Setups.{member_of};
+ghost use Rattle.hx_members.specs.Chains.{Used, Chain, is_used};
+ghost use Rattle.hx_rules.specs.Enter.{entered_by, enter, rejection, resolved_firm};
+ghost use Rattle.hx_levels.specs.declared.order.Live.{Live as LiveOrder};
+ghost use Rattle.hx_refs.specs.Numbers.{Numbers};
+ghost use Rattle.hx_market.specs.OrderKeys.{AreKeyed};
+ghost use Rattle.hx_market.specs.MarketModel.{market_of};
+ghost use Rattle.hx_rules.specs.Markets.{Market};
+ghost use Rattle.hx_rules.specs.Steps.{receive, happens, sender, time_of};
+ghost use Rattle.hx_rules.specs.Refusals.{is_from_stranger};
+ghost use Rattle.hx_market.specs.Effects.{outcome_of, IsEffect, IsAcceptedEnter, IsOf, SuitsTokens, IsAbout};
+
+use crate::effect::{AcceptedEnter, Effect, RejectedEnter};
+use hx_levels::{Book, Live};
+use hx_members::{Setup, Tokens};
+use hx_ouch::{Enter, Inbound, Replace, decode_in};
+use hx_rules::{Event, Output, rejection, side_of};
+use hx_units::{Firm, MemberNo, NoMemory, Price, Side, Symbol, Token};
+use std::alloc::Global;
+
+// The firm that a message is for: a blank one means the member's.
+fn resolved_firm(setup: &Setup, member: MemberNo, firm: Firm) -> Firm
+    requires { IsSome (member_of setup.now member) }
+    ensures { result ≡ resolved_firm setup.now member firm }
+{
+    if firm == (Firm([b' '; 4])) {
+        setup.member(member).unwrap().firm
+    } else {
+        firm
+    }
+}
+
+// An Enter that nothing rejects.
+fn accepted_enter(
+    setup: &Setup,
+    hours: u8,
+    member: MemberNo,
+    time: u64,
+    enter: Enter,
+) -> AcceptedEnter
+    requires member { IsSome (member_of setup.now member) }
+    requires time { time < day }
+    requires passes { rejection setup.now hours enter ≡ None }
+    ensures message { (result.member ≡ member) × (result.time ≡ time) × (result.enter ≡ enter) }
+    ensures is_accepted_enter { IsAcceptedEnter setup.now result }
+{
+    AcceptedEnter {
+        member,
+        time,
+        enter,
+        locate: setup.locate(enter.stock).unwrap(),
+        side: side_of(enter.side),
+        price: Price::of(enter.price).unwrap(),
+        firm: resolved_firm(setup, member, enter.firm),
+    }
+}
+
+// What an Enter does whose token is not used.
+fn unused_enter_effect(
+    setup: &Setup,
+    hours: u8,
+    member: MemberNo,
+    time: u64,
+    enter: Enter,
+) -> Effect
+    requires member { IsSome (member_of setup.now member) }
+    requires time { time < day }
+    ensures does { (m : Market)
+        → entered_by setup.now m member time enter false (rejection setup.now hours enter)
+        ≡ outcome_of m result }
+    ensures is_effect { IsEffect setup.now result }
+    ensures sender { IsOf member result }
+    ensures suits { (tokens : List Used) (chains : List Chain)
+        → is_used tokens member enter.token ≡ false → SuitsTokens tokens chains result }
+    ensures about { (orders : List LiveOrder) → IsAbout orders result }
+{
+    if let Some(letter) = rejection(setup, hours, &enter) {
+        return Effect::Reject(RejectedEnter {
+            member,
+            time,
+            token: enter.token,
+            letter,
+        });
+    }
+    Effect::Accept(accepted_enter(setup, hours, member, time, enter))
+}
+
+/// What an Enter does, at so many hours codes past.
+pub fn enter_effect(
+    setup: &Setup,
+    hours: u8,
+    tokens: &Tokens,
+    member: MemberNo,
+    time: u64,
+    message: Enter,
+) -> Effect
+    requires member { IsSome (member_of setup.now member) }
+    requires time { time < day }
+    ensures does { (m : Market) → m.tokens ≡ tokens.now.tokens → m.hours ≡ hours
+        → enter setup.now m member time message ≡ outcome_of m result }
+    ensures is_effect { IsEffect setup.now result }
+    ensures sender { IsOf member result }
+    ensures suits { SuitsTokens tokens.now.tokens tokens.now.chains result }
+    ensures about { (orders : List LiveOrder) → IsAbout orders result }
+{
+    if tokens.state(member, &message.token).is_some() {
+        return Effect::Nothing;
+    }
+    unused_enter_effect(setup, hours, member, time, message)
+}

@@ -1,0 +1,119 @@
+//! Which effect an hours code has (ITCH 5.0, System Event Message).
+ghost use Rattle.std.specs.Prelude.{◌≡◌, ℕ, List, ◌+◌, ◌<◌, ◌≤◌, ◌^◌, ◌++◌, ◌∷◌, [], IfOk, OnOk, map, not, length};
+ghost use Rattle.std.specs.List.{AllByRecursion, filter};
+ghost use Rattle.hx_units.specs.Limits.{day};
+ghost use Rattle.hx_rules.specs.Letters.{timeout};
+ghost use Rattle.hx_itch.specs.Message.{feed_time};
+ghost use Rattle.hx_levels.specs.Book.{lives, KeysDiffer};
+ghost use Rattle.hx_members.specs.Chains.{Used, Chain};
+ghost use Rattle.hx_members.specs.Tokens.{TokenList};
+ghost use Rattle.hx_members.specs.Setups.{Setup as SetupOf};
+ghost use Rattle.hx_refs.specs.Numbers.{Numbers};
+ghost use Rattle.hx_market.specs.OrderKeys.{AreKeyed};
+ghost use Rattle.hx_rules.specs.Removal.{deleted, canceled};
+ghost use Rattle.hx_rules.specs.Hours.{is_over, is_to_market, tick, next_hours, is_next, directory, to_all, told_by_code, all_deleted, end_orders};
+ghost use Rattle.hx_market.specs.Effects.{IsEffect, IsOf, SuitsTokens, IsAbout, IsExpiry, is_due, outcome_of};
+ghost use Rattle.hx_market.specs.MarketModel.{market_of};
+
+use crate::decision::expiry::end_orders;
+use crate::effect::{Due, Effect};
+use hx_itch::{Feed, StockDirectory, SystemEvent};
+use hx_levels::{Book, Life, Live, Order};
+use hx_members::{Member, Setup, Stock};
+use hx_ouch::Outbound;
+use hx_rules::Output;
+use hx_units::{MemberNo, NoMemory};
+use std::alloc::Global;
+
+// Tells of the stocks (ITCH 5.0, Stock Directory).
+fn tell_stocks(feed: &mut Vec<Feed>, time: u64, stocks: &[Stock]) -> Result<(), NoMemory>
+    requires { length stocks.now ≤ 1000 }
+    ensures { OnOk result (feed.new.items ≡ feed.old.items ++ directory time 1 stocks.now) }
+{
+    let mut locate = 0;
+    for stock in stocks {
+        locate += 1;
+        feed.push(Feed::StockDirectory(StockDirectory {
+            locate,
+            time,
+            stock: stock.symbol,
+            tail: stock.tail,
+        }))?;
+    }
+    Ok(())
+}
+
+// Tells each member of an hours code (OUCH 4.2, System Event Message).
+fn tell_members(
+    replies: &mut Vec<(MemberNo, Outbound)>,
+    time: u64,
+    code: u8,
+    members: &[Member],
+) -> Result<(), NoMemory>
+    ensures { OnOk result (replies.new.items ≡ replies.old.items ++ to_all members.now time code) }
+{
+    for member in members {
+        let event = hx_ouch::SystemEvent {
+            time,
+            event_code: code,
+        };
+        replies.push((member.number, Outbound::SystemEvent(event)))?;
+    }
+    Ok(())
+}
+
+// What an hours code itself tells.
+fn told_by_code(alloc: Global, setup: &Setup, time: u64, code: u8) -> Result<Output, NoMemory>
+    ensures feed { IfOk result (λ out. out.feed.items ≡ (told_by_code setup.now time code).feed) }
+    ensures replies { IfOk result (λ out. out.replies.items
+        ≡ (told_by_code setup.now time code).replies) }
+{
+    let event = Feed::SystemEvent(SystemEvent {
+        locate: 0,
+        time,
+        event_code: code,
+    });
+    let mut feed = vec![in alloc; event]?;
+    let mut replies = Vec::new(alloc);
+    if code == b'O' {
+        tell_stocks(&mut feed, time, setup.stocks())?;
+    }
+    if code == b'S' || code == b'E' {
+        tell_members(&mut replies, time, code, setup.members())?;
+    }
+    Ok(Output { feed, replies })
+}
+
+const CODES: [u8; 6] = *b"OSQMEC";
+
+// Whether the code is the next one, so many being past.
+fn is_next(hours: u8, code: u8) -> bool
+    ensures { result ≡ is_next hours code }
+{
+    hours < 6 && CODES[hours as usize] == code
+}
+
+/// What an hours code does, at so many past. `NoMemory` as for a tick.
+pub fn hours_effect<B: Book>(
+    alloc: Global,
+    setup: &Setup,
+    hours: u8,
+    book: &B,
+    time: u64,
+    code: u8,
+) -> Result<Effect, NoMemory>
+    requires { time < day }
+    ensures does { IfOk result (λ a. (t : TokenList) (n : Numbers) (counts : List ℕ)
+        → next_hours setup.now (market_of (B.orders book.now) t n hours counts) time code
+        ≡ outcome_of (market_of (B.orders book.now) t n hours counts) a) }
+    ensures is_effect { IfOk result (λ a. IsEffect setup.now a) }
+    ensures sender { IfOk result (λ a. (i : ℕ) → IsOf i a) }
+    ensures suits { IfOk result (λ a. (ts : List Used) (cs : List Chain) → SuitsTokens ts cs a) }
+    ensures about { IfOk result (λ a. IsAbout (B.orders book.now) a) }
+{
+    if !is_next(hours, code) {
+        return Ok(Effect::Nothing);
+    }
+    let first = told_by_code(alloc, setup, time, code)?;
+    end_orders(alloc, book, Due::ByCode(code), time, hours + 1, first)
+}

@@ -1,0 +1,104 @@
+//! Which effect a Replace has.
+ghost use Rattle.std.specs.Prelude.{◌≡◌, ◌<◌, ◌≤◌, ℕ, List, Some, None, IsSome, false};
+ghost use Rattle.hx_units.specs.Limits.{day};
+ghost use Rattle.hx_members.specs.Setups.{Setup as SetupOf, symbol_of};
+ghost use Rattle.hx_members.specs.Chains.{Used, Chain, is_used, entered_of, executed_by};
+ghost use Rattle.hx_levels.specs.declared.order.Live.{Live as LiveOrder};
+ghost use Rattle.hx_rules.specs.Markets.{Market};
+ghost use Rattle.hx_refs.specs.Numbers.{Numbers};
+ghost use Rattle.hx_rules.specs.Replace.{replace, replace_fails, replaced_if, executed_of};
+ghost use Rattle.hx_rules.specs.Cancel.{cancel, cancelled_shares};
+ghost use Rattle.hx_market.specs.OrderKeys.{AreKeyed};
+ghost use Rattle.hx_market.specs.Effects.{IsEffect, IsOf, SuitsTokens, IsAbout, IsOnly, outcome_of};
+ghost use Rattle.hx_market.specs.MarketModel.{market_of};
+
+use crate::effect::{Effect, FailedReplace, Replacement};
+use crate::order_by_token::{Found, find_order};
+use hx_levels::Book;
+use hx_members::{Setup, Tokens};
+use hx_ouch::{Cancel, Replace};
+use hx_rules::replace_fails;
+use hx_units::{MemberNo, Price, Symbol};
+
+// The name of the stock with this number.
+fn symbol_of(setup: &Setup, locate: u16) -> Symbol
+    ensures { result ≡ symbol_of setup.now locate }
+{
+    match setup.stock(locate) {
+        Some(stock) => stock.symbol,
+        None => Symbol([b' '; 8]),
+    }
+}
+
+// What a Replace of a live order does whose replacement token is not used.
+fn replace_or_fail(
+    setup: &Setup,
+    hours: u8,
+    member: MemberNo,
+    time: u64,
+    replace: Replace,
+    found: Found,
+) -> Effect
+    requires time { time < day }
+    ensures does { (m : Market) → executed_of m member replace.existing_token ≡ found.executed
+        → replaced_if setup.now m member time replace found.live.order false
+        (replace_fails hours found.executed replace) ≡ outcome_of m result }
+    ensures is_effect { IsEffect setup.now result }
+    ensures sender { IsOf member result }
+    ensures suits { (tokens : List Used) (chains : List Chain)
+        → is_used tokens member replace.replacement_token ≡ false
+        → found.executed
+        ≡ executed_by chains member (entered_of tokens member replace.existing_token)
+        → SuitsTokens tokens chains result }
+    ensures about { (orders : List LiveOrder)
+        → IsOnly orders member replace.existing_token found.live → IsAbout orders result }
+{
+    if replace_fails(hours, found.executed, &replace) {
+        return Effect::Fail(FailedReplace {
+            member,
+            time,
+            existing: replace.existing_token,
+            replacement: replace.replacement_token,
+            old: found.live,
+        });
+    }
+    Effect::Replace(Replacement {
+        member,
+        time,
+        replace,
+        price: Price::of(replace.price).unwrap(),
+        stock: symbol_of(setup, found.live.order.locate),
+        executed: found.executed,
+        old: found.live,
+    })
+}
+
+/// What a Replace does, at so many hours codes past.
+pub fn replace_effect<B: Book>(
+    setup: &Setup,
+    hours: u8,
+    tokens: &Tokens,
+    book: &B,
+    member: MemberNo,
+    time: u64,
+    message: Replace,
+) -> Effect
+    requires keyed { AreKeyed tokens.now.tokens tokens.now.keys (B.orders book.now) }
+    requires time { time < day }
+    ensures does { (n : Numbers) (counts : List ℕ)
+        → replace setup.now
+        (market_of (B.orders book.now) tokens.now n hours counts) member time message
+        ≡ outcome_of (market_of (B.orders book.now) tokens.now n hours counts) result }
+    ensures is_effect { IsEffect setup.now result }
+    ensures sender { IsOf member result }
+    ensures suits { SuitsTokens tokens.now.tokens tokens.now.chains result }
+    ensures about { IsAbout (B.orders book.now) result }
+{
+    let Some(found) = find_order(book, tokens, member, &message.existing_token) else {
+        return Effect::Nothing;
+    };
+    if tokens.state(member, &message.replacement_token).is_some() {
+        return Effect::Nothing;
+    }
+    replace_or_fail(setup, hours, member, time, message, found)
+}

@@ -1,0 +1,97 @@
+//! What an event tells, message by message.
+ghost use Rattle.std.specs.Prelude.{◌≡◌, ◌+◌, ◌<◌, ◌≤◌, ◌++◌, [], ◌∷◌, map};
+ghost use Rattle.std.specs.Vec.{vec_len, vec_capacity};
+ghost use Rattle.hx_rules.specs.Executions.{published, shown_of};
+ghost use Rattle.hx_rules.specs.Removal.{deleted, canceled};
+ghost use Rattle.hx_market.specs.MarketModel.{listed};
+
+use hx_itch::{AddOrder, AddOrderWithAttribution, Feed, OrderDelete};
+use hx_levels::Order;
+use hx_ouch::{Canceled, Outbound};
+use hx_rules::{Output, published_side};
+use hx_units::{MemberNo, Symbol, Token};
+
+// In the feed: an order that rests.
+fn published(time: u64, stock: Symbol, order: &Order) -> Feed
+    ensures { result ≡ published time stock order.now }
+{
+    let side = published_side(order.side);
+    let price = order.price.get();
+    if order.display == b'A' {
+        return Feed::AddOrderWithAttribution(AddOrderWithAttribution {
+            locate: order.locate,
+            time,
+            reference: order.reference,
+            side,
+            shares: order.shares,
+            stock,
+            price,
+            attribution: order.firm,
+        });
+    }
+    Feed::AddOrder(AddOrder {
+        locate: order.locate,
+        time,
+        reference: order.reference,
+        side,
+        shares: order.shares,
+        stock,
+        price,
+    })
+}
+
+/// Tells the feed of an order that rests, if it is shown.
+pub fn publish(out: &mut Output, time: u64, stock: Symbol, resting: Option<Order>)
+    requires { vec_len out.old.feed < vec_capacity out.old.feed }
+    ensures feed { out.new.feed.items
+        ≡ out.old.feed.items ++ map (published time stock) (shown_of (listed resting)) }
+    ensures replies { out.new.replies.items ≡ out.old.replies.items }
+{
+    if let Some(order) = resting {
+        if order.shown {
+            out.feed.push_reserved(published(time, stock, &order));
+        }
+    }
+}
+
+/// Tells the feed that an order is gone, if it was shown.
+pub fn delete(out: &mut Output, time: u64, order: &Order)
+    requires { vec_len out.old.feed < vec_capacity out.old.feed }
+    ensures feed { out.new.feed.items ≡ out.old.feed.items ++ deleted time order.now }
+    ensures room { (vec_len out.new.feed ≤ vec_len out.old.feed + 1)
+        × (vec_capacity out.new.feed ≡ vec_capacity out.old.feed) }
+    ensures replies { out.new.replies ≡ out.old.replies }
+{
+    if order.shown {
+        out.feed.push_reserved(Feed::OrderDelete(OrderDelete {
+            locate: order.locate,
+            time,
+            reference: order.reference,
+        }));
+    }
+}
+
+/// Tells a member that so many shares of his order are off, for a reason.
+pub fn tell_canceled(
+    out: &mut Output,
+    time: u64,
+    member: MemberNo,
+    token: Token,
+    shares: u32,
+    reason: u8,
+)
+    requires { vec_len out.old.replies < vec_capacity out.old.replies }
+    ensures feed { out.new.feed ≡ out.old.feed }
+    ensures replies { out.new.replies.items
+        ≡ out.old.replies.items ++ canceled time member token shares reason ∷ [] }
+{
+    out.replies.push_reserved((
+        member,
+        Outbound::Canceled(Canceled {
+            time,
+            token,
+            shares,
+            reason,
+        }),
+    ));
+}

@@ -1,0 +1,60 @@
+//! A member's live order, found by its token.
+ghost use Rattle.std.specs.Prelude.{◌≡◌, Some, None, IfSome};
+ghost use Rattle.std.specs.Option.{option_map};
+ghost use Rattle.std.specs.List.{find};
+ghost use Rattle.hx_levels.specs.Book.{lives, order_of, KeysDiffer};
+ghost use Rattle.hx_members.specs.Chains.{entered_of, executed_by};
+ghost use Rattle.hx_rules.specs.Orders.{is_called};
+ghost use Rattle.hx_market.specs.OrderKeys.{AreKeyed};
+ghost use Rattle.hx_market.specs.Effects.{IsOnly, confirmed};
+
+use hx_levels::{Book, Key, Live};
+use hx_members::Tokens;
+use hx_units::{MemberNo, Token};
+
+/// A live order, and what its chain has executed.
+#[derive(Clone, Copy, Debug)]
+pub struct Found {
+    /// The order, under its key.
+    pub live: Live,
+    /// The executed shares of its chain.
+    pub executed: u32,
+}
+
+// The order under a key, if it is the one that the member calls by this token.
+fn confirm<B: Book>(book: &B, key: Key, member: MemberNo, token: &Token) -> Option<Live>
+    ensures confirmed { option_map (λ live. live.order) result
+        ≡ confirmed member token.now (order_of key.0 (B.orders book.now)) }
+    ensures key { IfSome result (λ live. live.key ≡ key) }
+    ensures keys { KeysDiffer (B.orders book.now) }
+{
+    let order = *book.get(key)?;
+    if order.member == member && order.token == *token {
+        Some(Live { key, order })
+    } else {
+        None
+    }
+}
+
+/// The live order that a member calls by a token. A token keeps the key of the last order under it: whether that one
+/// still lives is asked of the book.
+pub fn find_order<B: Book>(
+    book: &B,
+    tokens: &Tokens,
+    member: MemberNo,
+    token: &Token,
+) -> Option<Found>
+    requires { AreKeyed tokens.now.tokens tokens.now.keys (B.orders book.now) }
+    ensures found { option_map (λ f. f.live.order) result
+        ≡ find (is_called member token.now) (lives (B.orders book.now)) }
+    ensures only { IfSome result (λ f. IsOnly (B.orders book.now) member token.now f.live) }
+    ensures executed { IfSome result (λ f. f.executed
+        ≡ executed_by tokens.now.chains member (entered_of tokens.now.tokens member token.now)) }
+{
+    let state = tokens.state(member, token)?;
+    let live = confirm(book, Key(state.key?), member, token)?;
+    Some(Found {
+        live,
+        executed: state.facts.executed,
+    })
+}

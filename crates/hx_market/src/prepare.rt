@@ -1,0 +1,115 @@
+//! What the market prepares for an event.
+ghost use Rattle.std.specs.Prelude.{◌≡◌, ◌+◌, ◌<◌, ◌≤◌, ◌^◌, Some, None, IfOk, OnOk, OnErr, IfErr, length, []};
+ghost use Rattle.hx_refs.specs.Numbers.{Numbers};
+ghost use Rattle.hx_rules.specs.Refusals.{refusal, or_no_memory};
+ghost use Rattle.hx_market.specs.OrderKeys.{AreKeyed};
+ghost use Rattle.hx_market.specs.MarketModel.{market_of};
+ghost use Rattle.hx_market.specs.Prepared.{HasRoom, IsPlanned};
+
+mod draft;
+
+use crate::decision::effect_of;
+use crate::effect::Effect;
+use crate::event_counts::EventCounts;
+use crate::prepare::draft::{draft_effect, room_for};
+use crate::refuse::admit;
+use hx_levels::Book;
+use hx_match::Fill;
+use hx_members::{Setup, Tokens};
+use hx_rules::{Event, Output, PrepareError};
+use hx_units::MemberNo;
+use std::alloc::Global;
+use std::marker::Model;
+use std::snapshot::Snapshot;
+
+/// What the market prepared for an event: what it will do, and room for what it tells.
+#[derive(Drop)]
+pub struct Prepared {
+    // The event, known to contracts alone.
+    pub(crate) event: Snapshot<Event>,
+    // The number under which it is recorded.
+    pub(crate) number: u16,
+    pub(crate) effect: Effect,
+    // The plan of an order that arrives.
+    pub(crate) fills: Vec<Fill>,
+    pub(crate) left: u32,
+    pub(crate) feed_count: u64,
+    pub(crate) reply_members: Vec<MemberNo>,
+    pub(crate) out: Output,
+}
+
+impl Model for Prepared {
+    ghost use Rattle.std.specs.Prelude.{length};
+    ghost use Rattle.hx_market.specs.MarketModel.{Planned};
+    ghost use Rattle.hx_market.specs.Prepared.{HasRoom};
+
+    ghost Value = { Planned };
+
+    ghost view = { λ p. record {
+      event = p.event.value;
+      feed_count = p.feed_count;
+      reply_members = p.reply_members.items;
+      number = p.number;
+      effect = p.effect;
+      fills = p.fills.items;
+      left = p.left;
+    } };
+
+    ghost invariant = { λ p. HasRoom (length p.fills.items) p.out };
+}
+
+impl Prepared {
+    /// How many messages of the feed the event's commit gives.
+    pub fn feed_count(&self) -> u64
+        ensures { result ≡ self.now.feed_count }
+    {
+        self.feed_count
+    }
+
+    /// The member of each of that commit's replies, in order.
+    pub fn reply_members(&self) -> &[MemberNo]
+        ensures { result.now ≡ self.now.reply_members }
+    {
+        &self.reply_members
+    }
+}
+
+/// What is prepared for an event, with all growths that its commit needs. What contracts see of book and tokens
+/// stays, but for their reserved places.
+pub fn make<B: Book>(
+    alloc: Global,
+    setup: &Setup,
+    hours: u8,
+    recorded: &EventCounts,
+    book: &mut B,
+    tokens: &mut Tokens,
+    event: &Event,
+) -> Result<Prepared, PrepareError>
+    requires keyed { AreKeyed tokens.old.tokens tokens.old.keys (B.orders book.old) }
+    ensures orders { B.orders book.new ≡ B.orders book.old }
+    ensures tokens { tokens.new.tokens ≡ tokens.old.tokens }
+    ensures keys { tokens.new.keys ≡ tokens.old.keys }
+    ensures chains { tokens.new.chains ≡ tokens.old.chains }
+    ensures event { IfOk result (λ p. p.event ≡ event.now) }
+    ensures planned { IfOk result (λ p. (n : Numbers)
+        → IsPlanned setup.now (market_of (B.orders book.new) tokens.new n hours recorded.now)
+        (B.orders book.new) (B.place book.new) tokens.new.place p) }
+    ensures passes { OnOk result (refusal setup.now recorded.now event.now ≡ None) }
+    ensures refused { IfErr result (λ e. e
+        ≡ or_no_memory (refusal setup.now recorded.now event.now)) }
+{
+    let number = admit(setup, recorded, event)?;
+    let effect = effect_of(alloc, setup, hours, tokens, book, event)?;
+    let draft = draft_effect(alloc, book, tokens, &effect)?;
+    let out = room_for(alloc, draft.fills.len())?;
+    Ok(Prepared {
+        event: Snapshot::of(event),
+        number,
+        effect,
+        fills: draft.fills,
+        left: draft.left,
+        feed_count: draft.feed_count,
+        reply_members: draft.reply_members,
+        out,
+    })
+}

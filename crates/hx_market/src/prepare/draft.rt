@@ -1,0 +1,284 @@
+//! The plan of an effect: its executions, how many messages it gives, and all growths.
+ghost use Rattle.std.specs.Prelude.{◌≡◌, ℕ, ◌+◌, ◌*◌, ◌<◌, ◌≤◌, ◌^◌, [], Some, IfOk, OnOk, length, map};
+ghost use Rattle.hx_levels.specs.Book.{order_of, without, KeysDiffer};
+ghost use Rattle.hx_match.specs.Matching.{terms, matched_live};
+ghost use Rattle.hx_match.specs.Executing.{fills_of};
+ghost use Rattle.hx_match.specs.Rules.{AreFills};
+ghost use Rattle.hx_rules.specs.Orders.{is_immediate, is_shown};
+ghost use Rattle.hx_market.specs.Effects.{IsReplacement, IsInRange, IsAbout, incoming_of_enter, terms_of_enter, incoming_of_replacement, terms_of_replacement};
+ghost use Rattle.hx_market.specs.Prepared.{HasRoom, HasPlaces, effect_feed_count, effect_members, makers_and, arrival_members, arrival_count, one_if, replaced_count};
+
+use crate::effect::{AcceptedEnter, Effect, Replacement, is_one_display};
+use hx_levels::Book;
+use hx_match::{Fill, Incoming, Plan, plan};
+use hx_members::Tokens;
+use hx_ouch::Outbound;
+use hx_rules::{Output, is_shown};
+use hx_units::{MemberNo, NoMemory};
+use std::alloc::Global;
+
+fn incoming_of(effect: &AcceptedEnter) -> Incoming
+    ensures { result ≡ incoming_of_enter effect.now }
+{
+    Incoming {
+        locate: effect.locate,
+        side: effect.side,
+        price: effect.price,
+        shares: effect.enter.shares,
+        minimum: effect.enter.minimum_quantity,
+    }
+}
+
+fn incoming_by(effect: &Replacement) -> Incoming
+    requires { IsReplacement effect.now }
+    ensures { result ≡ incoming_of_replacement effect.now }
+{
+    let open = effect.replace.shares - effect.executed;
+    Incoming {
+        locate: effect.old.order.locate,
+        side: effect.old.order.side,
+        price: effect.price,
+        shares: open,
+        minimum: effect.replace.minimum_quantity.min(open),
+    }
+}
+
+// The plan of an order, and a place for what rests of it.
+fn plan_order<B: Book>(alloc: Global, book: &mut B, incoming: &Incoming) -> Result<Plan, NoMemory>
+    ensures orders { B.orders book.new ≡ B.orders book.old }
+    ensures place { OnOk result (B.place book.new ≡ Some (terms incoming.now)) }
+    ensures fills { IfOk result (λ plan. plan.fills.items
+        ≡ fills_of incoming.now (B.orders book.new)) }
+    ensures left { IfOk result (λ plan. plan.left
+        ≡ (matched_live incoming.now (B.orders book.new)).left) }
+    ensures executions { IfOk result
+        (λ plan. AreFills incoming.now (B.orders book.new) plan.fills.items plan.left) }
+    ensures keys { OnOk result (KeysDiffer (B.orders book.new)) }
+{
+    book.reserve(incoming.locate, incoming.side, incoming.price)?;
+    plan(alloc, book, incoming)
+}
+
+/// Room for what so many fills tell, and for what else an event tells.
+pub fn room_for(alloc: Global, fills: usize) -> Result<Output, NoMemory>
+    requires { fills < 2 ^ 60 }
+    ensures { IfOk result (HasRoom fills) }
+{
+    Ok(Output {
+        feed: Vec::with_capacity(alloc, fills + 2)?,
+        replies: Vec::with_capacity(alloc, 2 * fills + 2)?,
+    })
+}
+
+// The members of the replies of an order that arrives, in order.
+fn members_of<B: Book>(
+    alloc: Global,
+    book: &B,
+    member: MemberNo,
+    immediate: bool,
+    plan: &Plan,
+) -> Result<Vec<MemberNo>, NoMemory>
+    requires { length plan.now.fills.items < 2 ^ 60 }
+    ensures { IfOk result (λ members. members.items
+        ≡ arrival_members member immediate
+        (B.orders book.now) plan.now.fills.items plan.now.left) }
+{
+    let mut members = Vec::with_capacity(alloc, 2 * plan.fills.len() + 2)?;
+    members.push_reserved(member);
+    for fill in &plan.fills {
+        let maker = match book.get(fill.key) {
+            Some(order) => order.member,
+            None => member,
+        };
+        members.push_reserved(maker);
+        members.push_reserved(member);
+    }
+    if plan.left > 0 && immediate {
+        members.push_reserved(member);
+    }
+    Ok(members)
+}
+
+// How many messages of the feed an order gives that arrives.
+fn arrival_count(shown: bool, plan: &Plan) -> u64
+    requires { length plan.now.fills.items < 2 ^ 60 }
+    ensures { result ≡ arrival_count shown plan.now.fills.items plan.now.left }
+{
+    let fills = plan.fills.len() as u64;
+    if plan.left > 0 && shown {
+        fills + 1
+    } else {
+        fills
+    }
+}
+
+// How many an order gives that replaces another.
+fn replaced_count(effect: &Replacement, plan: &Plan) -> u64
+    requires { length plan.now.fills.items < 2 ^ 60 }
+    ensures { result ≡ replaced_count effect.now plan.now.fills.items plan.now.left }
+{
+    if is_one_display(effect) && plan.fills.is_empty() {
+        return 1;
+    }
+    let shown = is_shown(effect.replace.display, effect.replace.time_in_force);
+    one_if(effect.old.order.shown) + arrival_count(shown, plan)
+}
+
+fn one_if(told: bool) -> u64
+    ensures { result ≡ one_if told }
+{
+    if told { 1 } else { 0 }
+}
+
+/// What is prepared of an effect: its executions, and what it will tell.
+#[derive(Drop)]
+pub struct Draft {
+    /// The executions of an order that arrives.
+    pub fills: Vec<Fill>,
+    /// The shares that they leave.
+    pub left: u32,
+    /// How many messages of the feed it gives.
+    pub feed_count: u64,
+    /// The member of each reply.
+    pub reply_members: Vec<MemberNo>,
+}
+
+// Of an order that is accepted.
+fn draft_order<B: Book>(
+    alloc: Global,
+    book: &mut B,
+    effect: &AcceptedEnter,
+) -> Result<Draft, NoMemory>
+    ensures orders { B.orders book.new ≡ B.orders book.old }
+    ensures place { OnOk result (B.place book.new ≡ Some (terms_of_enter effect.now)) }
+    ensures executions { IfOk result
+        (λ d. AreFills (incoming_of_enter effect.now) (B.orders book.new) d.fills.items d.left) }
+    ensures keys { OnOk result (KeysDiffer (B.orders book.new)) }
+    ensures feed_count { IfOk result (λ d. d.feed_count
+        ≡ arrival_count
+        (is_shown effect.now.enter.display effect.now.enter.time_in_force) d.fills.items d.left) }
+    ensures members { IfOk result (λ d. d.reply_members.items
+        ≡ arrival_members effect.now.member (is_immediate effect.now.enter.time_in_force)
+        (B.orders book.new) d.fills.items d.left) }
+{
+    let plan = plan_order(alloc, book, &incoming_of(effect))?;
+    let immediate = effect.enter.time_in_force == 0;
+    let reply_members = members_of(alloc, book, effect.member, immediate, &plan)?;
+    let shown = is_shown(effect.enter.display, effect.enter.time_in_force);
+    let feed_count = arrival_count(shown, &plan);
+    Ok(Draft {
+        fills: plan.fills,
+        left: plan.left,
+        feed_count,
+        reply_members,
+    })
+}
+
+// Of an order that replaces another, which it does not meet.
+fn draft_replacement<B: Book>(
+    alloc: Global,
+    book: &mut B,
+    effect: &Replacement,
+) -> Result<Draft, NoMemory>
+    requires is_replacement { IsReplacement effect.now }
+    requires old { order_of effect.now.old.key.0 (B.orders book.old) ≡ Some effect.now.old.order }
+    ensures orders { B.orders book.new ≡ B.orders book.old }
+    ensures place { OnOk result (B.place book.new ≡ Some (terms_of_replacement effect.now)) }
+    ensures executions { IfOk result
+        (λ d. AreFills (incoming_of_replacement effect.now)
+        (without effect.now.old.key.0 (B.orders book.new)) d.fills.items d.left) }
+    ensures keys { OnOk result (KeysDiffer (B.orders book.new)) }
+    ensures feed_count { IfOk result (λ d. d.feed_count
+        ≡ replaced_count effect.now d.fills.items d.left) }
+    ensures members { IfOk result (λ d. d.reply_members.items
+        ≡ arrival_members effect.now.member (is_immediate effect.now.replace.time_in_force)
+        (B.orders book.new) d.fills.items d.left) }
+{
+    let plan = plan_order(alloc, book, &incoming_by(effect))?;
+    let immediate = effect.replace.time_in_force == 0;
+    let reply_members = members_of(alloc, book, effect.member, immediate, &plan)?;
+    let feed_count = replaced_count(effect, &plan);
+    Ok(Draft {
+        fills: plan.fills,
+        left: plan.left,
+        feed_count,
+        reply_members,
+    })
+}
+
+// Of an effect without an order that arrives: so many messages of the feed, and replies to these members.
+fn draft_told(alloc: Global, feed_count: u64, reply_members: Vec<MemberNo>) -> Draft
+    ensures fills { result.fills.items ≡ [] }
+    ensures left { result.left ≡ 0 }
+    ensures feed_count { result.feed_count ≡ feed_count }
+    ensures members { result.reply_members.items ≡ reply_members.items }
+{
+    Draft {
+        fills: Vec::new(alloc),
+        left: 0,
+        feed_count,
+        reply_members,
+    }
+}
+
+// The members of replies, in order.
+fn told_members(alloc: Global, replies: &[(MemberNo, Outbound)]) -> Result<Vec<MemberNo>, NoMemory>
+    ensures { IfOk result (λ members. members.items ≡ map (λ r. r.0) replies.now) }
+{
+    let mut members = Vec::with_capacity(alloc, replies.len())?;
+    for (member, _) in replies {
+        members.push(*member)?;
+    }
+    Ok(members)
+}
+
+/// What is prepared of an effect, with a place for the token that it uses and one for the order that may rest.
+pub fn draft_effect<B: Book>(
+    alloc: Global,
+    book: &mut B,
+    tokens: &mut Tokens,
+    effect: &Effect,
+) -> Result<Draft, NoMemory>
+    requires range { IsInRange effect.now }
+    requires about { IsAbout (B.orders book.old) effect.now }
+    ensures orders { B.orders book.new ≡ B.orders book.old }
+    ensures tokens { tokens.new.tokens ≡ tokens.old.tokens }
+    ensures chains { tokens.new.chains ≡ tokens.old.chains }
+    ensures token_keys { tokens.new.keys ≡ tokens.old.keys }
+    ensures places { IfOk result
+        (λ d. HasPlaces (B.orders book.new)
+        (B.place book.new) tokens.new.place d.fills.items d.left effect.now) }
+    ensures feed_count { IfOk result (λ d. d.feed_count
+        ≡ effect_feed_count effect.now d.fills.items d.left) }
+    ensures members { IfOk result (λ d. d.reply_members.items
+        ≡ effect_members effect.now (B.orders book.new) d.fills.items d.left) }
+{
+    match effect {
+        Effect::Nothing => Ok(draft_told(alloc, 0, Vec::new(alloc))),
+        Effect::Reject(effect) => {
+            tokens.reserve(effect.member, &effect.token)?;
+            Ok(draft_told(alloc, 0, vec![in alloc; effect.member]?))
+        }
+        Effect::Accept(effect) => {
+            tokens.reserve(effect.member, &effect.enter.token)?;
+            draft_order(alloc, book, effect)
+        }
+        Effect::Fail(effect) => {
+            tokens.reserve(effect.member, &effect.replacement)?;
+            let told = one_if(effect.old.order.shown);
+            Ok(draft_told(alloc, told, vec![in alloc; effect.member]?))
+        }
+        Effect::Replace(effect) => {
+            tokens.reserve(effect.member, &effect.replace.replacement_token)?;
+            draft_replacement(alloc, book, effect)
+        }
+        Effect::Cancel(effect) => {
+            let told = one_if(effect.old.order.shown);
+            Ok(draft_told(alloc, told, vec![in alloc; effect.member]?))
+        }
+        Effect::End(effect) => {
+            let members = told_members(alloc, &effect.told.replies)?;
+            Ok(draft_told(alloc, effect.told.feed.len() as u64, members))
+        }
+    }
+}
