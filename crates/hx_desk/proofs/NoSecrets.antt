@@ -9,7 +9,7 @@ use Rattle.hx_members.specs.Setups.{Setup}
 use Rattle.hx_rules.specs.declared.event.Event.{Event}
 use Rattle.hx_market.specs.Orders.{Token}
 use Rattle.hx_market.specs.Steps.{run, feed, replies}
-use Rattle.hx_market.specs.Striking.{Choice, is_quiet, quiet_of_one, strike, strike_one}
+use Rattle.hx_market.specs.QuietChains.{Choice, is_quiet, quiet_of_one, strike, strike_one}
 use Rattle.hx_market.specs.Laws.{AreQuietChains, listed}
 use Rattle.hx_laws.proofs.Quiet.StruckChoices.{listed_is_choice, quiet_is_choice}
 use Rattle.hx_laws.proofs.Quiet.StruckOfAll.{feed_alone, replies_alone, all_members, all_but_one}

@@ -9,8 +9,8 @@ use Rattle.hx_rules.specs.declared.fault.PrepareError.{PrepareError}
 use Rattle.hx_rules.specs.declared.fault.PrepareError.TheVariants as market
 use Rattle.hx_market.specs.Markets.{Market, opening}
 use Rattle.hx_market.specs.Outputs.{Outcome}
-use Rattle.hx_market.specs.Admitting.{refusal}
-use Rattle.hx_market.specs.Ready.{Seen}
+use Rattle.hx_market.specs.Refusals.{refusal}
+use Rattle.hx_market.specs.MarketModel.{Seen}
 use Rattle.hx_market.specs.Steps.{step, run, replies}
 use Rattle.hx_desk.specs.declared.entry.Entry.{Entry}
 use Rattle.hx_desk.specs.declared.entry.Done.{Done}

@@ -4,7 +4,7 @@ use Rattle.hx_members.specs.Setups.{Setup}
 use Rattle.hx_rules.specs.declared.event.Event.{Event}
 use Rattle.hx_market.specs.Orders.{Token}
 use Rattle.hx_market.specs.Steps.{run, feed, replies}
-use Rattle.hx_market.specs.Striking.{Choice, strike, strike_one, strike_all, strike_but}
+use Rattle.hx_market.specs.QuietChains.{Choice, strike, strike_one, strike_all, strike_but}
 use Rattle.hx_market.specs.Laws.{AreQuietChains, listed, AreWholeQuietChains}
 use Rattle.hx_desk.specs.Rows.{Part, replies_spelled}
 use Rattle.hx_desk.specs.Entries.{feed_spelled}

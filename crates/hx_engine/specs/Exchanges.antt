@@ -6,7 +6,7 @@ use Rattle.hx_blog.specs.Feed.{Entries, feed}
 use Rattle.hx_blog.specs.Ends.{ReaderState}
 use Rattle.hx_members.specs.Setups.{Setup}
 use Rattle.hx_rules.specs.declared.event.Event.{Event}
-use Rattle.hx_market.specs.Admitting.{is_from_stranger}
+use Rattle.hx_market.specs.Refusals.{is_from_stranger}
 use Rattle.hx_market.specs.Steps.{step, run, time_of}
 use Rattle.hx_desk.specs.declared.entry.Entry.{Entry}
 use Rattle.hx_desk.specs.declared.entry.Done.{Done}

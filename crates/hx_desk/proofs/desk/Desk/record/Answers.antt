@@ -1,7 +1,7 @@
 use Rattle.std.proofs.Common.{◌≡◌, ◌∙◌, ◌++◌, List, [], ◌∷◌, ap, length}
 use Rattle.hx_members.specs.Setups.{Setup}
 use Rattle.hx_market.specs.Markets.{Market}
-use Rattle.hx_market.specs.Ready.{Seen}
+use Rattle.hx_market.specs.MarketModel.{Seen}
 use Rattle.hx_market.specs.Steps.{step}
 use Rattle.hx_desk.specs.declared.entry.Entry.{Entry}
 use Rattle.hx_desk.specs.Rows.{RowList, with_replies}
