@@ -7,6 +7,7 @@ use Rattle.hx_itch.specs.declared.message.Feed.{Feed}
 use Rattle.hx_itch.specs.declared.message.Feed.TheVariants.{AddOrder, AddOrderWithAttribution, OrderExecuted, OrderCancel, OrderDelete, OrderReplace, Trade, SystemEvent, StockDirectory}
 use Rattle.hx_ouch.specs.declared.outbound.Outbound.TheVariants.{Accepted, Canceled, Executed, Rejected, Replaced, SystemEvent as SystemReply}
 use Rattle.hx_ouch.specs.Inbound.{enter_bytes, replace_bytes, cancel_bytes}
+use Rattle.hx_units.specs.Letters.{letter, space}
 use Rattle.hx_units.specs.declared.names.Symbol.{Symbol}
 use Rattle.hx_rules.specs.declared.event.Event.{Event}
 use Rattle.hx_rules.specs.declared.event.Event.TheVariants.{Message, Tick, Hours}
@@ -16,10 +17,10 @@ use Rattle.hx_market.specs.Outputs.{Reply, Told}
 
 -- Buy/Sell Indicator (OUCH 4.2, ITCH 5.0)
 abbrev pub buy : ℕ
-buy = 66
+buy = letter "B"
 
 abbrev pub sell : ℕ
-sell = 83
+sell = letter "S"
 
 -- Time in Force (OUCH 4.2): immediate or cancel, the market hours, the system hours
 abbrev pub immediate : ℕ
@@ -33,68 +34,68 @@ day = 99999
 
 -- Display (OUCH 4.2): `Y`, `A`, `N`
 abbrev pub shown : ℕ
-shown = 89
+shown = letter "Y"
 
 abbrev pub attributed : ℕ
-attributed = 65
+attributed = letter "A"
 
 abbrev pub hidden : ℕ
-hidden = 78
+hidden = letter "N"
 
 -- Liquidity Flag (OUCH 4.2): `A` added, `J` added by an order that is not displayed, `R` removed
 abbrev pub added_liquidity : ℕ
-added_liquidity = 65
+added_liquidity = letter "A"
 
 abbrev pub hidden_liquidity : ℕ
-hidden_liquidity = 74
+hidden_liquidity = letter "J"
 
 abbrev pub removed_liquidity : ℕ
-removed_liquidity = 82
+removed_liquidity = letter "R"
 
 -- Canceled, Reason (OUCH 4.2): `U`, `I`, `T`
 abbrev pub by_user : ℕ
-by_user = 85
+by_user = letter "U"
 
 abbrev pub as_immediate : ℕ
-as_immediate = 73
+as_immediate = letter "I"
 
 abbrev pub by_timeout : ℕ
-by_timeout = 84
+by_timeout = letter "T"
 
 -- Rejected, Reason (OUCH 4.2): `C`, `Z`, `X`, `N`, `D`
 abbrev pub for_the_hours : ℕ
-for_the_hours = 67
+for_the_hours = letter "C"
 
 abbrev pub for_its_shares : ℕ
-for_its_shares = 90
+for_its_shares = letter "Z"
 
 abbrev pub for_its_price : ℕ
-for_its_price = 88
+for_its_price = letter "X"
 
 abbrev pub for_its_minimum : ℕ
-for_its_minimum = 78
+for_its_minimum = letter "N"
 
 abbrev pub for_its_display : ℕ
-for_its_display = 68
+for_its_display = letter "D"
 
 -- System Event, Event Code (ITCH 5.0): `O`, `S`, `Q`, `M`, `E`, `C`
 abbrev pub start_of_messages : ℕ
-start_of_messages = 79
+start_of_messages = letter "O"
 
 abbrev pub start_of_system_hours : ℕ
-start_of_system_hours = 83
+start_of_system_hours = letter "S"
 
 abbrev pub start_of_market_hours : ℕ
-start_of_market_hours = 81
+start_of_market_hours = letter "Q"
 
 abbrev pub end_of_market_hours : ℕ
-end_of_market_hours = 77
+end_of_market_hours = letter "M"
 
 abbrev pub end_of_system_hours : ℕ
-end_of_system_hours = 69
+end_of_system_hours = letter "E"
 
 abbrev pub end_of_messages : ℕ
-end_of_messages = 67
+end_of_messages = letter "C"
 
 -- Order tokens
 abbrev pub a1 : List ℕ
@@ -199,11 +200,11 @@ enter_order time member token side shares price time_in_force display minimum =
       time_in_force = time_in_force;
       firm = record { 0 = codes "    " };
       display = display;
-      capacity = 79;
-      intermarket_sweep = 78;
+      capacity = letter "O";
+      intermarket_sweep = letter "N";
       minimum_quantity = minimum;
-      cross_type = 78;
-      customer_type = 82;
+      cross_type = letter "N";
+      customer_type = letter "R";
     }))
 
 abbrev pub accepted :
@@ -222,12 +223,12 @@ accepted member time token side shares price time_in_force display reference min
     firm = record { 0 = firm_number member };
     display = display;
     reference = reference;
-    capacity = 79;
-    intermarket_sweep = 78;
+    capacity = letter "O";
+    intermarket_sweep = letter "N";
     minimum_quantity = minimum;
-    cross_type = 78;
-    order_state = 76;
-    bbo_weight = 32;
+    cross_type = letter "N";
+    order_state = letter "L";
+    bbo_weight = space;
   }),
 )
 
@@ -268,7 +269,7 @@ replace_order time member existing replacement shares price time_in_force displa
       price = price;
       time_in_force = time_in_force;
       display = display;
-      intermarket_sweep = 78;
+      intermarket_sweep = letter "N";
       minimum_quantity = minimum;
     }))
 
@@ -292,13 +293,13 @@ replaced member time token side shares price time_in_force display reference min
     firm = record { 0 = firm_number member };
     display = display;
     reference = reference;
-    capacity = 79;
-    intermarket_sweep = 78;
+    capacity = letter "O";
+    intermarket_sweep = letter "N";
     minimum_quantity = minimum;
-    cross_type = 78;
-    order_state = 76;
+    cross_type = letter "N";
+    order_state = letter "L";
     previous_token = record { 0 = previous };
-    bbo_weight = 32;
+    bbo_weight = space;
   }),
 )
 
@@ -535,7 +536,7 @@ limits_of_fields =
     enter_order 50 1 a5 buy 100 9999 day shown 0 ∷
     enter_order 60 1 a6 buy 100 100000 day shown 1 ∷
     enter_order 70 1 a7 buy 100 100000 day hidden 101 ∷
-    enter_order 80 1 a8 buy 100 100000 day 80 0 ∷
+    enter_order 80 1 a8 buy 100 100000 day (letter "P") 0 ∷
     enter_order 90 1 a2 buy 100 100000 day shown 0 ∷ []
 
 abbrev pub limits_of_fields_tells : List Told
