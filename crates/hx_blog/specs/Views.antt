@@ -15,8 +15,8 @@ SeatState E = Me (Unit {0}) (View E)
 
 module _ {E : Type 0} where
   -- the writer's view
-  abbrev pub writing : (room : ℕ) → (known : Entries E) → (staged : List (List ℕ)) → (begun : List ℕ)
-      → View E
+  abbrev pub writing : (room : ℕ) → (known : Entries E) → (staged : List (List ℕ))
+      → (begun : List ℕ) → View E
   writing room known staged begun =
       record {
         gone = false;

@@ -80,7 +80,8 @@ impl<E> Writer<E> {
 
     fn stage_as<N: NamesMessage>(&mut self, log: &Log<E>, message: &ArrayVec<u8, 44>)
         requires log { self.old.log ≡ log.now }
-        requires room { length (feed self.old.published) + length self.old.staged < room_of log.now }
+        requires room { length (feed self.old.published) + length self.old.staged
+            < room_of log.now }
         requires named { N.message ≡ message.now.items }
         ensures { self.new ≡ record self.old { staged = self.old.staged ++ N.message ∷ [] } }
     {
