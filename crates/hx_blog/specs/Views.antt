@@ -15,28 +15,49 @@ SeatState E = Me (Unit {0}) (View E)
 
 module _ {E : Type 0} where
   -- the writer's view
-  abbrev pub writing : (room : ℕ) → (known : Entries E) → (staged : List (List ℕ)) → (begun : List ℕ)
-      → View E
+  abbrev pub writing : (room : ℕ) → (known : Entries E) → (staged : List (List ℕ))
+      → (begun : List ℕ) → View E
   writing room known staged begun =
       record {
-        gone = false; writes = true; room = room; known = known; told = [];
-        staged = staged; begun = begun; read = 0; loads = 0;
+        gone = false;
+        writes = true;
+        room = room;
+        known = known;
+        told = [];
+        staged = staged;
+        begun = begun;
+        read = 0;
+        loads = 0;
       }
 
   -- the view of a reader, or of a receipt, which has read nothing and loaded nothing
   abbrev pub reading : (room : ℕ) → (known : Entries E) → (read loads : ℕ) → View E
   reading room known read loads =
       record {
-        gone = false; writes = false; room = room; known = known; told = [];
-        staged = []; begun = []; read = read; loads = loads;
+        gone = false;
+        writes = false;
+        room = room;
+        known = known;
+        told = [];
+        staged = [];
+        begun = [];
+        read = read;
+        loads = loads;
       }
 
   -- the view of a seat that was joined into another
   abbrev pub spent : View E
   spent =
       record {
-        gone = true; writes = false; room = 0; known = []; told = [];
-        staged = []; begun = []; read = 0; loads = 0;
+        gone = true;
+        writes = false;
+        room = 0;
+        known = [];
+        told = [];
+        staged = [];
+        begun = [];
+        read = 0;
+        loads = 0;
       }
 
   -- the writer's seat between two calls: no message is begun

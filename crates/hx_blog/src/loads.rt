@@ -36,15 +36,18 @@ impl<E> Play<(), View<E>> for LoadLastWord {
     ghost then = { LoadsLastWord };
 }
 
-/// Loads the count.
+/// Loads the count of published messages, which the seat knows from then on.
 pub(crate) fn load_count<E>(table: &LogTable<E>, seat: &mut LogSeat<E>) -> u64
     requires log { seat.old.table_id ≡ table.now.shared.table_id }
     requires sized { table.now.shared.table_id.words ≡ 6 * table.now.shared.key + 1 }
     requires reading { IsReading seat.old.me }
     ensures log { seat.new.table_id ≡ seat.old.table_id }
     ensures loaded { seat.new.me
-        ≡ (reading seat.old.me.0.room seat.new.me.0.known seat.old.me.0.read
-        (seat.old.me.0.loads + 1), []) }
+        ≡ (
+          reading seat.old.me.0.room seat.new.me.0.known seat.old.me.0.read
+              (seat.old.me.0.loads + 1),
+          [],
+        ) }
     ensures known { IsPrefix seat.old.me.0.known seat.new.me.0.known }
     ensures count { result ≡ length (feed seat.new.me.0.known) }
     ensures within { result ≤ seat.old.me.0.room }
@@ -104,8 +107,11 @@ pub(crate) fn load_next_message<E>(
     requires known { read < length (feed seat.old.me.0.known) }
     requires room { (read < seat.old.me.0.room) × (seat.old.me.0.room ≤ most_room) }
     ensures log { seat.new.table_id ≡ seat.old.table_id }
-    ensures read { seat.new.me ≡ (reading seat.old.me.0.room seat.old.me.0.known
-        (read + 1) seat.old.me.0.loads, []) }
+    ensures read { seat.new.me ≡ (
+      reading seat.old.me.0.room seat.old.me.0.known
+          (read + 1) seat.old.me.0.loads,
+      [],
+    ) }
     ensures message { slice_get (feed seat.old.me.0.known) read ≡ Some result.items }
 {
     let mut words = load_front(table, seat, read);

@@ -72,10 +72,18 @@ fn opened<E>(
     requires log { seat.table_id ≡ table.shared.table_id }
     requires writing { seat.me ≡ (writing capacity [] [] [], []) }
     ensures log { result.0 ≡ table.shared.table_id }
-    ensures writer { result.1 ≡ record { log = table.shared.table_id; published = [];
-        staged = [] } }
-    ensures reader { result.2 ≡ record { log = table.shared.table_id; known = []; seen = 0;
-        read = 0; loads = 0 } }
+    ensures writer { result.1 ≡ record {
+      log = table.shared.table_id;
+      published = [];
+      staged = [];
+    } }
+    ensures reader { result.2 ≡ record {
+      log = table.shared.table_id;
+      known = [];
+      seen = 0;
+      read = 0;
+      loads = 0;
+    } }
 {
     let first = split_off(&table, &mut seat);
     (

@@ -28,8 +28,13 @@ impl<E> Model for Reader<E> {
 
     ghost Value = { ReaderState E };
 
-    ghost view = { λ r. record { log = r.seat.table_id; known = r.seat.me.0.known; seen = r.seen;
-        read = r.read; loads = r.seat.me.0.loads } };
+    ghost view = { λ r. record {
+      log = r.seat.table_id;
+      known = r.seat.me.0.known;
+      seen = r.seen;
+      read = r.read;
+      loads = r.seat.me.0.loads;
+    } };
 
     ghost invariant = { λ r. KeepsReading r.seat.table_id r.seat.me r.seen r.read };
 }
@@ -157,8 +162,13 @@ impl<E> Reader<E> {
         requires writer { writer.old.log ≡ log.now }
         ensures writer { writer.new ≡ writer.old }
         ensures begins { IsPrefix self.old.known writer.old.published }
-        ensures reader { self.new ≡ record { log = self.old.log; known = writer.old.published;
-            seen = self.new.seen; read = self.old.read; loads = self.old.loads + 1 } }
+        ensures reader { self.new ≡ record {
+          log = self.old.log;
+          known = writer.old.published;
+          seen = self.new.seen;
+          read = self.old.read;
+          loads = self.old.loads + 1;
+        } }
         ensures count { self.new.seen ≡ length (feed writer.old.published) }
         ensures got { got self.new ≡ got self.old }
     {

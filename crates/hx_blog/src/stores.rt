@@ -81,8 +81,11 @@ pub(crate) fn store_message<E, N: NamesMessage>(
     requires words { words.now ≡ packed N.message }
     requires message { IsMessage N.message }
     ensures log { seat.new.table_id ≡ seat.old.table_id }
-    ensures staged { seat.new.me ≡ (writing seat.old.me.0.room seat.old.me.0.known
-        (seat.old.me.0.staged ++ N.message ∷ []) [], []) }
+    ensures staged { seat.new.me ≡ (
+      writing seat.old.me.0.room seat.old.me.0.known
+          (seat.old.me.0.staged ++ N.message ∷ []) [],
+      [],
+    ) }
 {
     for k in 0..5 {
         table.shared.store::<StoreWord>(seat, first + k, words[k]);
@@ -104,8 +107,11 @@ pub(crate) fn store_count<E, N: NamesEntry<E>>(
     requires count { count ≡ length (feed seat.old.me.0.known) + length seat.old.me.0.staged }
     requires entry { feed N.entry ≡ seat.old.me.0.staged }
     ensures log { seat.new.table_id ≡ seat.old.table_id }
-    ensures published { seat.new.me ≡ (writing seat.old.me.0.room
-        (seat.old.me.0.known ++ N.entry) [] [], []) }
+    ensures published { seat.new.me ≡ (
+      writing seat.old.me.0.room
+          (seat.old.me.0.known ++ N.entry) [] [],
+      [],
+    ) }
 {
     table.shared.store::<StoreCount<N>>(seat, 0, count);
 }

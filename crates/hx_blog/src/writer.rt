@@ -34,8 +34,11 @@ impl<E> Model for Writer<E> {
 
     ghost Value = { WriterState E };
 
-    ghost view = { λ w. record { log = w.seat.table_id; published = w.seat.me.0.known;
-        staged = w.seat.me.0.staged } };
+    ghost view = { λ w. record {
+      log = w.seat.table_id;
+      published = w.seat.me.0.known;
+      staged = w.seat.me.0.staged;
+    } };
 
     ghost invariant = { λ w. KeepsWriting w.seat.table_id w.seat.me w.count w.staged };
 }
@@ -77,8 +80,8 @@ impl<E> Writer<E> {
 
     fn stage_as<N: NamesMessage>(&mut self, log: &Log<E>, message: &ArrayVec<u8, 44>)
         requires log { self.old.log ≡ log.now }
-        requires room {
-            length (feed self.old.published) + length self.old.staged < room_of log.now }
+        requires room { length (feed self.old.published) + length self.old.staged
+            < room_of log.now }
         requires named { N.message ≡ message.now.items }
         ensures { self.new ≡ record self.old { staged = self.old.staged ++ N.message ∷ [] } }
     {
@@ -92,8 +95,11 @@ impl<E> Writer<E> {
     /// count, also where it stays. Contracts know the event; the log does not keep it.
     pub fn publish(&mut self, log: &Log<E>, event: &E)
         requires { self.old.log ≡ log.now }
-        ensures { self.new ≡ record { log = self.old.log;
-            published = self.old.published ++ (event.now, self.old.staged) ∷ []; staged = [] } }
+        ensures { self.new ≡ record {
+          log = self.old.log;
+          published = self.old.published ++ (event.now, self.old.staged) ∷ [];
+          staged = [];
+        } }
     {
         self.publish_as::<Brand>(log, event);
     }
@@ -101,8 +107,11 @@ impl<E> Writer<E> {
     fn publish_as<N: NamesEntry<E>>(&mut self, log: &Log<E>, event: &E)
         requires log { self.old.log ≡ log.now }
         requires named { N.entry ≡ (event.now, self.old.staged) ∷ [] }
-        ensures { self.new ≡ record { log = self.old.log; published = self.old.published ++ N.entry;
-            staged = [] } }
+        ensures { self.new ≡ record {
+          log = self.old.log;
+          published = self.old.published ++ N.entry;
+          staged = [];
+        } }
     {
         store_count::<E, N>(&log.table, &mut self.seat, self.count + self.staged);
         self.count += self.staged;

@@ -7,4 +7,5 @@ mod packets;
 mod retransmit;
 mod sessions;
 mod soup;
+mod texts;
 mod units;

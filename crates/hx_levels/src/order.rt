@@ -16,7 +16,7 @@ pub enum Life {
     Until(u64),
 }
 
-/// A live order.
+/// A live order, as a book keeps it.
 #[derive(Clone, Copy, Debug)]
 pub struct Order {
     /// Whose order it is.
@@ -31,7 +31,7 @@ pub struct Order {
     pub side: Side,
     /// The limit, in units of 1/10,000 dollar.
     pub price: Price,
-    /// The open shares.
+    /// The open shares: those asked for, less those executed and cancelled.
     pub shares: u32,
     /// The least number of shares that an execution may have (OUCH 4.2: Minimum Quantity).
     pub minimum: u32,
@@ -52,18 +52,18 @@ pub struct Order {
 /// An order under its key.
 #[derive(Clone, Copy, Debug)]
 pub struct Live {
-    /// The key.
+    /// Its name in the book, while it lives.
     pub key: Key,
-    /// The order.
+    /// The order as it stands.
     pub order: Order,
 }
 
-/// The stock, side letter and limit price of an order.
+/// The stock, the side and the limit of an order: what says whom it meets.
 #[derive(Clone, Copy, Debug)]
 pub struct Terms {
-    /// The number of the stock.
+    /// The number of the stock (ITCH 5.0: Stock Locate).
     pub locate: u16,
-    /// The side.
+    /// Whether it buys or sells, short or not.
     pub side: Side,
     /// The limit, in units of 1/10,000 dollar.
     pub price: Price,

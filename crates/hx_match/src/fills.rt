@@ -1,4 +1,5 @@
 //! What a plan is made of.
+
 use hx_levels::Key;
 use hx_units::{Price, Side};
 
@@ -7,11 +8,11 @@ use hx_units::{Price, Side};
 pub struct Incoming {
     /// The number of its stock (ITCH 5.0: Stock Locate).
     pub locate: u16,
-    /// Its side.
+    /// Whether it buys or sells, short or not.
     pub side: Side,
     /// Its limit, in units of 1/10,000 dollar.
     pub price: Price,
-    /// The open shares.
+    /// The open shares that are to be executed.
     pub shares: u32,
     /// The least number of shares that each execution must have (OUCH 4.2: Minimum Quantity).
     pub minimum: u32,

@@ -69,7 +69,8 @@ noted shares displayed c =
     }
 
 -- the chains after a member's chain did so much more
-abbrev pub note : (member : ℕ) → (entered : Token) → (shares : ℕ) → (displayed : Bool) → List Chain → List Chain
+abbrev pub note : (member : ℕ) → (entered : Token) → (shares : ℕ) → (displayed : Bool)
+    → List Chain → List Chain
 note member entered shares displayed [] = []
 note member entered shares displayed (c ∷ chains) =
     (if is_chain member entered c then noted shares displayed c else c)
@@ -108,7 +109,8 @@ executed_at tokens chains place =
     option_map_or (λ u. executed_by chains u.member u.entered) (slice_get tokens place) 0
 
 -- the chains after the one at a place did so much more
-abbrev pub noted_at : List Used → (place shares : ℕ) → (displayed : Bool) → List Chain → List Chain
+abbrev pub noted_at : List Used → (place shares : ℕ) → (displayed : Bool)
+    → List Chain → List Chain
 noted_at tokens place shares displayed chains =
     option_map_or (λ u. note u.member u.entered shares displayed chains) (slice_get tokens place)
     chains

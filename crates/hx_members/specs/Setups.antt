@@ -82,7 +82,8 @@ login_of setup user password =
 -- whether a byte is a digit or a capital letter
 abbrev pub is_capital_or_digit : ℕ → Bool
 is_capital_or_digit b =
-    (nat_le (letter "0") b && nat_le b (letter "9")) || (nat_le (letter "A") b && nat_le b (letter "Z"))
+    (nat_le (letter "0") b && nat_le b (letter "9"))
+    || (nat_le (letter "A") b && nat_le b (letter "Z"))
 
 -- whether a byte is a character that is seen
 abbrev pub is_visible : ℕ → Bool

@@ -60,7 +60,7 @@ impl Model for Rows {
 }
 
 impl Rows {
-    /// No rows.
+    /// No rows, and no reserved place. It takes no memory.
     pub(crate) fn new(alloc: Global) -> Self
         ensures rows { result.rows ≡ [] }
         ensures place { result.place ≡ None }

@@ -62,7 +62,8 @@ accepted_of bytes = record {
 -- its bytes: field after field
 abbrev pub accepted_bytes : Accepted → List ℕ
 accepted_bytes m = (accepted ∷ []) ++ spelled 8 m.time ++ m.token.0 ++ (m.side ∷ [])
-    ++ spelled 4 m.shares ++ m.stock.0 ++ spelled 4 m.price ++ spelled 4 m.time_in_force ++ m.firm.0 ++ (m.display ∷ [])
+    ++ spelled 4 m.shares ++ m.stock.0 ++ spelled 4 m.price ++ spelled 4 m.time_in_force
+    ++ m.firm.0 ++ (m.display ∷ [])
     ++ spelled 8 m.reference ++ (m.capacity ∷ []) ++ (m.intermarket_sweep ∷ [])
     ++ spelled 4 m.minimum_quantity ++ (m.cross_type ∷ []) ++ (m.order_state ∷ [])
     ++ (m.bbo_weight ∷ [])

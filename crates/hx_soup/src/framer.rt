@@ -16,7 +16,7 @@ use std::marker::Model;
 pub enum FramerError {
     /// A length above 1,024. The framer has failed.
     TooLong {
-        /// The length.
+        /// The length that the packet would have.
         length: u16,
         /// The packets of the piece that came before it.
         before: Vec<SoupPacket>,

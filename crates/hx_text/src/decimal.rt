@@ -21,7 +21,8 @@ pub fn read_number(digits: &[u8]) -> Option<u64>
 // The number that up to 14 digits write, with noughts in front or without.
 fn value_of(digits: &[u8]) -> Option<u64>
     requires { length digits.now ≤ 14 }
-    ensures some { IfSome result (λ n. (n < 10 ^ 14) × (n ≡ digits_value 10 digits.now) × AllDigits 10 digits.now) }
+    ensures some { IfSome result (λ n.
+        (n < 10 ^ 14) × (n ≡ digits_value 10 digits.now) × AllDigits 10 digits.now) }
     ensures none { IfNone result (AllDigits 10 digits.now → digits.now ≡ []) }
 {
     let mut number = 0u64;

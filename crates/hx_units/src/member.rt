@@ -1,4 +1,4 @@
-//! Members.
+//! The numbers of members.
 ghost use Rattle.std.specs.Prelude.{◌≡◌, ◌↔◌, ℕ, IsSome, IfSome};
 ghost use Rattle.hx_units.specs.Ranges.{IsMember};
 
@@ -21,7 +21,7 @@ impl Model for MemberNo {
 }
 
 impl MemberNo {
-    /// The greatest number.
+    /// The greatest number that a member may have.
     pub const MAX: u16 = 4095;
 
     /// The member of this number, or none where no member may have it.
@@ -35,7 +35,7 @@ impl MemberNo {
         Some(MemberNo { number })
     }
 
-    /// The number.
+    /// The number, from 1 to `MAX`.
     pub fn get(self) -> u16
         ensures value { result ≡ self }
         ensures range { IsMember self }

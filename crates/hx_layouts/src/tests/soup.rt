@@ -1,4 +1,5 @@
 //! Packets and logins byte for byte (SoupBinTCP 3.00).
+use hx_members::Setup;
 use hx_soup::{
     Framer, FramerError, LoginRequest, NOT_AUTHORIZED, SESSION_NOT_AVAILABLE, accepted,
     decode_login, frame, rejected, trimmed,
@@ -134,4 +135,25 @@ fn answers_to_a_login(rt: HostRuntime) {
         b"\0\x02JS".as_slice()
     );
     assert_eq!(rt; trimmed(b"  a b "), b"a b".as_slice());
+}
+
+// What a login or a member is printed as for debugging has no password.
+#[test]
+fn no_password_is_printed(rt: HostRuntime) -> Result<(), Fail> {
+    let login = LoginRequest {
+        user: *b"alpha ",
+        password: *b"pwalpha   ",
+        session: *b"          ",
+        sequence: 3,
+    };
+    let text = format!(in rt.alloc(); "{login:?}")?;
+    assert!(rt; text.starts_with("LoginRequest {"));
+    assert!(rt; !text.contains("password"));
+    let setup = Setup::standard(rt.alloc())?;
+    for member in setup.members() {
+        let text = format!(in rt.alloc(); "{member:?}")?;
+        assert!(rt; text.starts_with("Member {"));
+        assert!(rt; !text.contains("password"));
+    }
+    Ok(())
 }

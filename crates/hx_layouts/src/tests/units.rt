@@ -1,5 +1,5 @@
 //! The ends of each range, as the public standards and the rules of the exchange give them.
-use hx_units::{MemberNo, Nanos, NoMemory, Price, Shares, Side, fields};
+use hx_units::{MemberNo, Nanos, NoMemory, Price, Shares, Side, fields, is_heartbeat_due};
 use std::alloc::AllocError;
 use std::test::Fail;
 
@@ -36,8 +36,16 @@ fn times_and_members(rt: HostRuntime) {
 fn sides(rt: HostRuntime) {
     for letter in *b"BSTE" {
         assert_eq!(rt; Side::of(letter).map(Side::get), Some(letter));
+        assert_eq!(rt; Side::of(letter).map(Side::is_buy), Some(letter == b'B'));
     }
     assert_eq!(rt; Side::of(b'b'), None);
+}
+
+#[test]
+fn heartbeats_after_a_second(rt: HostRuntime) {
+    assert!(rt; !is_heartbeat_due(5, 1_000_000_004));
+    assert!(rt; is_heartbeat_due(5, 1_000_000_005));
+    assert!(rt; is_heartbeat_due(5, 4));
 }
 
 #[test]
