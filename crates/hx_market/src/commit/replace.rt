@@ -1,5 +1,5 @@
 //! A Replace, done.
-ghost use Rattle.std.specs.Prelude.{◌≡◌, ◌+◌, ◌*◌, ◌<◌, ◌≤◌, ◌^◌, ◌++◌, ◌==◌, ◌&&◌, nat_lt, [], ◌∷◌, length, map, if◌then◌else◌, true, false, Some};
+ghost use Rattle.std.specs.Prelude.{◌≡◌, ◌+◌, ◌<◌, ◌≤◌, ◌++◌, ◌&&◌, nat_lt, [], ◌∷◌, length, map, if◌then◌else◌, true, false, Some};
 ghost use Rattle.std.specs.Vec.{vec_len, vec_capacity};
 ghost use Rattle.hx_rules.specs.Letters.{by_user};
 ghost use Rattle.hx_levels.specs.Book.{lives, has_key, without};
@@ -7,7 +7,7 @@ ghost use Rattle.hx_match.specs.Rules.{AreFills};
 ghost use Rattle.hx_members.specs.Chains.{is_used, entered_of, entered_at, place_of, replacing_used, IsEnteredAt};
 ghost use Rattle.hx_units.specs.declared.names.Token.{Token as EnteredToken};
 ghost use Rattle.hx_itch.specs.declared.message.Feed.TheVariants.{OrderReplace as ToReplace};
-ghost use Rattle.hx_market.specs.declared.effect.Effect.TheVariants.{Fail, Replace as ToReplaceBy};
+ghost use Rattle.hx_market.specs.declared.effect.Effect.TheVariants.{Replace as ToReplaceBy};
 ghost use Rattle.hx_rules.specs.Executions.{published, shown_of};
 ghost use Rattle.hx_rules.specs.Removal.{others, deleted, canceled};
 ghost use Rattle.hx_rules.specs.Replace.{replaced_of, is_one_display};
