@@ -75,7 +75,13 @@ fn order_of(chain: u64, reference: u64, effect: &AcceptedEnter) -> Order
 }
 
 fn taker_of(chain: u64, effect: &AcceptedEnter) -> Taker
-    ensures { result ≡ record { member = effect.now.member; token = effect.now.enter.token; chain = chain; time = effect.now.time; stock = effect.now.enter.stock } }
+    ensures { result ≡ record {
+      member = effect.now.member;
+      token = effect.now.enter.token;
+      chain = chain;
+      time = effect.now.time;
+      stock = effect.now.enter.stock;
+    } }
 {
     Taker {
         member: effect.member,
