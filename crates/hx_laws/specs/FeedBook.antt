@@ -1,4 +1,5 @@
--- The book that a reader of the feed builds (TotalView-ITCH 5.0, Add Order Messages and Modify Order Messages).
+-- The book that a reader of the feed builds (TotalView-ITCH 5.0, Add Order Messages and Modify
+-- Order Messages).
 use Rattle.std.specs.Prelude.{◌≡◌, ℕ, ◌-◌, ◌<◌, ◌==◌, nat_lt, if◌then◌else◌, List, [], ◌∷◌, ◌++◌, map, Option, Some, None}
 use Rattle.std.specs.List.{AllByRecursion}
 use Rattle.hx_units.specs.declared.names.Symbol.{Symbol}
@@ -24,7 +25,8 @@ pub record ShownOrder : Type 0 where
   -- the firm, where it is told
   pub attribution : Option Firm
 
--- shares are taken off the order of this reference, which leaves where none are left (Order Executed, Order Cancel)
+-- shares are taken off the order of this reference, which leaves where none are left (Order
+-- Executed, Order Cancel)
 abbrev pub taken_from : (reference shares : ℕ) → List ShownOrder → List ShownOrder
 taken_from reference shares [] = []
 taken_from reference shares (x ∷ book) =
@@ -90,7 +92,8 @@ book_from book (message ∷ feed) = book_from (book_after book message) feed
 unfoldable pub shown_book : List Feed → List ShownOrder
 shown_book feed = book_from [] feed
 
--- a live order as the feed publishes it: each kind of sale as `S`, and its firm at display `A` alone
+-- a live order as the feed publishes it: each kind of sale as `S`, and its firm at display `A`
+-- alone
 abbrev pub shown_as : Setup → Order → ShownOrder
 shown_as setup x =
     record {

@@ -16,7 +16,8 @@ use Rattle.hx_laws.specs.QuietChains.{Choice, is_quiet, quiet_of_one, bears, str
 
 -- Three laws that carry the headline.
 
--- a token that was used after the beginning of a history, and whose chain is quiet after the whole, was quiet after the beginning
+-- a token that was used after the beginning of a history, and whose chain is quiet after the whole,
+-- was quiet after the beginning
 abbrev pub QuietBefore : Type 0
 QuietBefore =
     (setup : Setup) (beginning rest : List Event) (member : ℕ) (token : Token)
@@ -82,7 +83,8 @@ abbrev pub IsUnknownTo : (ℕ → Bool) → Choice → Type 0
 IsUnknownTo may_look chosen =
     (member : ℕ) → may_look member ≡ true → (token : Token) → chosen member token ≡ false
 
--- the general form: striking whole chains that are quiet in the end leaves the feed, and all replies to those who may look, line by line
+-- the general form: striking whole chains that are quiet in the end leaves the feed, and all
+-- replies to those who may look, line by line
 abbrev pub QuietChains : Type 0
 QuietChains =
     (setup : Setup) (events : List Event) (chosen : Choice) (may_look : ℕ → Bool)

@@ -1,18 +1,16 @@
 -- What holds of every market that a run reaches: its numbers, and the shares of each chain, fit.
-use Rattle.std.specs.Prelude.{◌≡◌, ℕ, ◌+◌, ◌*◌, ◌-◌, ◌<◌, ◌≤◌, ◌^◌, Bool, true, false, if◌then◌else◌, ◌==◌, ◌&&◌, List, [], ◌∷◌, length, slice_index, Option, Some}
+use Rattle.std.specs.Prelude.{◌≡◌, ℕ, ◌+◌, ◌*◌, ◌-◌, ◌<◌, ◌≤◌, ◌^◌, Bool, true, false, if◌then◌else◌, ◌==◌, ◌&&◌, List, [], ◌∷◌, length, slice_index}
 use Rattle.std.specs.List.{AllByRecursion, list_any}
 use Rattle.hx_units.specs.Limits.{member_numbers, most_shares}
 use Rattle.hx_rules.specs.Limits.{operator_limit}
 use Rattle.hx_units.specs.Names.{is_token}
 use Rattle.hx_units.specs.declared.names.Token.{Token}
 use Rattle.hx_levels.specs.declared.order.Order.{Order}
-use Rattle.hx_levels.specs.declared.order.Live.{Live}
 use Rattle.hx_match.specs.Matching.{Execution}
 use Rattle.hx_rules.specs.Markets.{Market}
 use Rattle.hx_rules.specs.Executions.{chains_after}
 use Rattle.hx_refs.specs.Numbers.{Numbers}
-use Rattle.hx_members.specs.Tokens.{key_at}
-use Rattle.hx_members.specs.Chains.{Used, Chain, is_used, place_of, entered_of, executed_by, executed_at, IsEnteredAt, IsChainAt, noted_at}
+use Rattle.hx_members.specs.Chains.{Used, Chain, is_used, entered_of, executed_by, executed_at, IsEnteredAt, IsChainAt, noted_at}
 
 -- The chains as a plan's executions change them, each order's chain by its number.
 
@@ -80,7 +78,8 @@ abbrev pub total : (counts : List ℕ) → ℕ
 total [] = 0
 total (n ∷ counts) = n + total counts
 
--- What holds of every market that a run reaches: no count can overflow, and orders and chains are those of used tokens.
+-- What holds of every market that a run reaches: no count can overflow, and orders and chains are
+-- those of used tokens.
 pub record IsSound (m : Market) : Type 0 where
   -- each event draws one reference at most
   pub public : m.numbers.public ≤ total m.recorded
@@ -97,8 +96,9 @@ pub record IsSound (m : Market) : Type 0 where
   pub numbered : length m.recorded ≡ member_numbers
   pub limited : (i : ℕ) → slice_index m.recorded i ≤ operator_limit
 
--- the numbers have room for an order of the member with these executions, and so have the chains, of which its own has this number; by
--- their numbers the executions change the chains that the definition changes by name
+-- the numbers have room for an order of the member with these executions, and so have the chains,
+-- of which its own has this number; by their numbers the executions change the chains that the
+-- definition changes by name
 pub record CanAccept (tokens : List Used) (chains : List Chain) (numbers : Numbers) (member : ℕ)
     (token : Token) (place : ℕ) (executions : List Execution) : Type 0 where
   pub public : numbers.public < 2 ^ 62

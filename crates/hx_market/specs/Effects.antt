@@ -17,18 +17,19 @@ use Rattle.hx_market.specs.declared.effect.Expiry.{Expiry}
 use Rattle.hx_market.specs.declared.effect.AcceptedEnter.{AcceptedEnter}
 use Rattle.hx_market.specs.declared.effect.Replacement.{Replacement}
 use Rattle.hx_market.specs.declared.effect.Reduction.{Reduction}
-use Rattle.hx_rules.specs.Orders.{Order, side_of, is_shown, life_of, is_called}
+use Rattle.hx_rules.specs.Orders.{Order, side_of, is_shown, is_called}
 use Rattle.hx_rules.specs.Markets.{Market}
 use Rattle.hx_itch.specs.Message.{feed_time}
 use Rattle.hx_rules.specs.Outputs.{Outcome, nothing}
-use Rattle.hx_rules.specs.Enter.{accept_order, reject, resolved_firm, next_reference}
+use Rattle.hx_rules.specs.Enter.{accept_order, order_from, reject, resolved_firm, next_reference}
 use Rattle.hx_rules.specs.Replace.{fail_replace, replacing_order, replace_order}
 use Rattle.hx_rules.specs.Cancel.{take_off}
 use Rattle.hx_rules.specs.Hours.{is_over, ends_by_code}
 
 -- An Enter that is accepted.
 
--- the stock, side, price and firm are those of the message, by the setup; its shares and time are within their limits
+-- the stock, side, price and firm are those of the message, by the setup; its shares and time are
+-- within their limits
 pub record IsAcceptedEnter (setup : Setup) (a : AcceptedEnter) : Type 0 where
   pub locate : locate_of setup a.enter.stock ≡ Some a.locate
   pub side : a.side ≡ side_of a.enter.side
@@ -53,22 +54,7 @@ terms_of_enter a = record { locate = a.locate; side = a.side; price = a.price }
 -- the order, with its chain's number and its reference
 abbrev pub order_of_enter : (chain reference : ℕ) → AcceptedEnter → Order
 order_of_enter chain reference a =
-    record {
-      member = a.member;
-      token = a.enter.token;
-      chain = chain;
-      locate = a.locate;
-      side = a.side;
-      price = a.price;
-      shares = a.enter.shares;
-      minimum = a.enter.minimum_quantity;
-      display = a.enter.display;
-      shown = is_shown a.enter.display a.enter.time_in_force;
-      firm = a.firm;
-      capacity = a.enter.capacity;
-      reference = reference;
-      life = life_of a.time a.enter.time_in_force;
-    }
+    order_from chain reference a.member a.time a.locate a.side a.price a.firm a.enter
 
 -- the number of its chain is the next place of the used tokens, and its reference the next one
 abbrev pub accepted_by : Market → AcceptedEnter → Outcome
@@ -79,7 +65,8 @@ accepted_by market a =
 
 -- A Replace that replaces, and a Cancel.
 
--- the price is that of the message; its shares are more than the chain has executed, and its shares and time are within their limits
+-- the price is that of the message; its shares are more than the chain has executed, and its shares
+-- and time are within their limits
 pub record IsReplacement (a : Replacement) : Type 0 where
   pub price : a.price ≡ a.replace.price
   pub more : a.executed < a.replace.shares
@@ -160,14 +147,21 @@ ended_by market e =
 
 -- Any effect.
 
+-- its numbers are within their limits
+abbrev pub IsInRange : Effect → Type 0
+IsInRange Nothing = ⊤
+IsInRange (Reject r) = ⊤
+IsInRange (Accept a) = a.time < day
+IsInRange (Fail a) = a.time < day
+IsInRange (Replace a) = IsReplacement a
+IsInRange (Cancel a) = IsReduction a
+IsInRange (End e) = AllByRecursion (λ f. feed_time f < 2 ^ 48) e.told.feed.items
+
+-- it is one of this setup: its numbers are within their limits, and an accepted Enter is of a stock
+-- and a firm of the setup
 abbrev pub IsEffect : Setup → Effect → Type 0
-IsEffect setup Nothing = ⊤
-IsEffect setup (Reject r) = ⊤
 IsEffect setup (Accept a) = IsAcceptedEnter setup a
-IsEffect setup (Fail a) = a.time < day
-IsEffect setup (Replace a) = IsReplacement a
-IsEffect setup (Cancel a) = IsReduction a
-IsEffect setup (End e) = AllByRecursion (λ f. feed_time f < 2 ^ 48) e.told.feed.items
+IsEffect setup other = IsInRange other
 
 -- the member of an effect, where it has one
 abbrev pub IsOf : ℕ → Effect → Type 0
@@ -183,7 +177,8 @@ IsOf member (End e) = ⊤
 abbrev pub IsUnused : List Used → ℕ → Token → Type 0
 IsUnused tokens member token = is_used tokens member token ≡ false
 
--- the replacement token is not used before, and so many shares are executed of the chain of the existing one
+-- the replacement token is not used before, and so many shares are executed of the chain of the
+-- existing one
 pub record SuitsReplacement (tokens : List Used) (chains : List Chain)
     (a : Replacement) : Type 0 where
   pub unused : IsUnused tokens a.member a.replace.replacement_token
@@ -209,16 +204,6 @@ IsAbout orders (Fail a) = IsOnly orders a.member a.existing a.old
 IsAbout orders (Replace a) = IsOnly orders a.member a.replace.existing_token a.old
 IsAbout orders (Cancel a) = IsOnly orders a.member a.token a.old
 IsAbout orders (End e) = IsExpiry orders e
-
--- its numbers are within their limits
-abbrev pub IsInRange : Effect → Type 0
-IsInRange Nothing = ⊤
-IsInRange (Reject r) = ⊤
-IsInRange (Accept a) = a.time < day
-IsInRange (Fail a) = a.time < day
-IsInRange (Replace a) = IsReplacement a
-IsInRange (Cancel a) = IsReduction a
-IsInRange (End e) = AllByRecursion (λ f. feed_time f < 2 ^ 48) e.told.feed.items
 
 -- what an effect does
 abbrev pub outcome_of : Market → Effect → Outcome

@@ -1,18 +1,9 @@
 -- Where the keys of the live orders stand: at their tokens.
-use Rattle.std.specs.Prelude.{◌≡◌, ℕ, ◌+◌, ◌*◌, ◌-◌, ◌<◌, ◌≤◌, ◌^◌, Bool, true, false, if◌then◌else◌, ◌==◌, ◌&&◌, List, [], ◌∷◌, length, slice_index, Option, Some}
-use Rattle.std.specs.List.{AllByRecursion, list_any}
-use Rattle.hx_units.specs.Limits.{member_numbers, most_shares}
-use Rattle.hx_rules.specs.Limits.{operator_limit}
-use Rattle.hx_units.specs.Names.{is_token}
-use Rattle.hx_units.specs.declared.names.Token.{Token}
-use Rattle.hx_levels.specs.declared.order.Order.{Order}
+use Rattle.std.specs.Prelude.{◌≡◌, ℕ, ◌<◌, List, length, Option, Some}
+use Rattle.std.specs.List.{AllByRecursion}
 use Rattle.hx_levels.specs.declared.order.Live.{Live}
-use Rattle.hx_match.specs.Matching.{Execution}
-use Rattle.hx_rules.specs.Markets.{Market}
-use Rattle.hx_rules.specs.Executions.{chains_after}
-use Rattle.hx_refs.specs.Numbers.{Numbers}
 use Rattle.hx_members.specs.Tokens.{key_at}
-use Rattle.hx_members.specs.Chains.{Used, Chain, is_used, place_of, entered_of, executed_by, executed_at, IsEnteredAt, IsChainAt, noted_at}
+use Rattle.hx_members.specs.Chains.{Used, place_of}
 
 -- the key of each live order stands at its token
 pub record AreKeyed (tokens : List Used) (keys : List (Option ℕ))

@@ -1,5 +1,5 @@
 -- What stands between prepare and commit: counts, places, and room for an effect.
-use Rattle.std.specs.Prelude.{◌≡◌, ℕ, ◌+◌, ◌*◌, ◌<◌, ◌≤◌, Bool, List, [], ◌∷◌, ◌++◌, length, map, Option, Some, None, slice_index, nat_lt, ◌&&◌, if◌then◌else◌, ⊤}
+use Rattle.std.specs.Prelude.{◌≡◌, ℕ, ◌+◌, ◌*◌, ◌<◌, ◌≤◌, Bool, List, [], ◌∷◌, ◌++◌, length, map, Option, Some, slice_index, nat_lt, ◌&&◌, if◌then◌else◌, ⊤}
 use Rattle.std.specs.Option.{option_map_or}
 use Rattle.std.specs.Vec.{vec_len, vec_capacity}
 use Rattle.hx_units.specs.Limits.{member_numbers}
@@ -7,25 +7,23 @@ use Rattle.hx_rules.specs.Limits.{operator_limit}
 use Rattle.hx_units.specs.declared.names.Token.{Token}
 use Rattle.hx_levels.specs.declared.order.Live.{Live}
 use Rattle.hx_levels.specs.declared.order.Terms.{Terms}
-use Rattle.hx_levels.specs.Book.{lives, order_of, without, KeysDiffer}
+use Rattle.hx_levels.specs.Book.{order_of, without, KeysDiffer}
 use Rattle.hx_match.specs.declared.fills.Fill.{Fill}
 use Rattle.hx_match.specs.Matching.{matched}
 use Rattle.hx_match.specs.Rules.{AreFills}
 use Rattle.hx_members.specs.Setups.{Setup}
-use Rattle.hx_members.specs.Chains.{Used, Chain, is_used, entered_of, entered_used, entered_chain, replacing_used, IsEnteredAt}
-use Rattle.hx_members.specs.Tokens.{TokenList, facts_of}
-use Rattle.hx_members.specs.declared.name.ChainFacts.{ChainFacts}
+use Rattle.hx_members.specs.Chains.{Used, entered_of, entered_used, entered_chain, replacing_used, IsEnteredAt}
+use Rattle.hx_members.specs.Tokens.{TokenList}
 use Rattle.hx_members.specs.declared.name.Name.{Name}
 use Rattle.hx_refs.specs.Numbers.{Numbers}
 use Rattle.hx_market.specs.Bounds.{CanAccept}
 use Rattle.hx_market.specs.MarketModel.{Planned, name_of, market_of}
-use Rattle.hx_rules.specs.declared.event.Event.{Event}
 use Rattle.hx_rules.specs.declared.output.Output.{Output}
 use Rattle.hx_market.specs.declared.effect.Effect.{Effect}
 use Rattle.hx_market.specs.declared.effect.Effect.TheVariants.{Nothing, Reject, Accept, Fail, Replace, Cancel, End}
 use Rattle.hx_market.specs.declared.effect.AcceptedEnter.{AcceptedEnter}
 use Rattle.hx_market.specs.declared.effect.Replacement.{Replacement}
-use Rattle.hx_rules.specs.Orders.{Order, is_immediate, is_shown}
+use Rattle.hx_rules.specs.Orders.{is_immediate, is_shown}
 use Rattle.hx_rules.specs.Markets.{Market}
 use Rattle.hx_rules.specs.Outputs.{Outcome}
 use Rattle.hx_rules.specs.Removal.{others}
@@ -97,7 +95,8 @@ replaced_count a fills left =
     if is_one_display a.old.order (replacement_order 0 a) && nat_lt (length fills) 1 then 1
     else one_if a.old.order.shown + arrival_count shown fills left
 
--- how many messages of the feed an effect gives, and the members of its replies, over the orders of the book
+-- how many messages of the feed an effect gives, and the members of its replies, over the orders of
+-- the book
 abbrev pub effect_feed_count : Effect → List Fill → (left : ℕ) → ℕ
 effect_feed_count Nothing fills left = 0
 effect_feed_count (Reject r) fills left = 0
@@ -119,7 +118,8 @@ effect_members (Replace a) orders fills left =
 effect_members (Cancel a) orders fills left = a.member ∷ []
 effect_members (End e) orders fills left = map (λ r. r.0) e.told.replies.items
 
--- the places and the plan that an effect needs: a place for the token that it uses, one for the order that may rest, and the executions
+-- the places and the plan that an effect needs: a place for the token that it uses, one for the
+-- order that may rest, and the executions
 abbrev pub HasPlaces : List Live → Option Terms → Option Name → List Fill → ℕ → Effect → Type 0
 HasPlaces orders book_place name_place fills left Nothing = ⊤
 HasPlaces orders book_place name_place fills left (Reject r) =
@@ -149,7 +149,8 @@ FitsEffect market (Replace a) =
 FitsEffect market (Cancel a) = ⊤
 FitsEffect market (End e) = ⊤
 
--- it was made for this event, over this market: it does what the event does, and its growths are made
+-- it was made for this event, over this market: it does what the event does, and its growths are
+-- made
 pub record IsPlanned (setup : Setup) (market : Market) (orders : List Live)
     (book_place : Option Terms) (name_place : Option Name) (p : Planned) : Type 0 where
   pub number : p.number ≡ sender p.event

@@ -1,18 +1,14 @@
 //! Which effect an event has.
-ghost use Rattle.std.specs.Prelude.{◌≡◌, ◌<◌, ℕ, List, Some, None, IsSome, IfOk, false};
+ghost use Rattle.std.specs.Prelude.{◌≡◌, ◌<◌, ℕ, List, IsSome, IfOk, false};
 ghost use Rattle.hx_units.specs.Limits.{day};
 ghost use Rattle.hx_ouch.specs.Inbound.{inbound_of};
 ghost use Rattle.hx_members.specs.Setups.{member_of};
-ghost use Rattle.hx_members.specs.Chains.{Used, Chain, is_used};
-ghost use Rattle.hx_rules.specs.Enter.{entered_by, enter, rejection, resolved_firm};
-ghost use Rattle.hx_levels.specs.declared.order.Live.{Live as LiveOrder};
 ghost use Rattle.hx_refs.specs.Numbers.{Numbers};
 ghost use Rattle.hx_market.specs.OrderKeys.{AreKeyed};
 ghost use Rattle.hx_market.specs.MarketModel.{market_of};
-ghost use Rattle.hx_rules.specs.Markets.{Market};
 ghost use Rattle.hx_rules.specs.Steps.{receive, happens, sender, time_of};
 ghost use Rattle.hx_rules.specs.Refusals.{is_from_stranger};
-ghost use Rattle.hx_market.specs.Effects.{outcome_of, IsEffect, IsAcceptedEnter, IsOf, SuitsTokens, IsAbout};
+ghost use Rattle.hx_market.specs.Effects.{outcome_of, IsEffect, IsOf, SuitsTokens, IsAbout};
 
 mod cancel;
 mod enter;
@@ -26,11 +22,11 @@ use crate::decision::expiry::tick_effect;
 use crate::decision::hours::hours_effect;
 use crate::decision::replace::replace_effect;
 use crate::effect::Effect;
-use hx_levels::{Book, Live};
+use hx_levels::Book;
 use hx_members::{Setup, Tokens};
-use hx_ouch::{Enter, Inbound, Replace, decode_in};
-use hx_rules::{Event, Output, rejection, side_of};
-use hx_units::{Firm, MemberNo, NoMemory, Price, Side, Symbol, Token};
+use hx_ouch::{Inbound, decode_in};
+use hx_rules::Event;
+use hx_units::{MemberNo, NoMemory};
 use std::alloc::Global;
 
 // What a member's message does, at so many hours codes past.

@@ -1,67 +1,40 @@
 //! The effects that an event can have, once it is committed.
-ghost use Rattle.std.specs.Prelude.{◌≡◌, ◌<◌, ℕ, List, Some, None, IsSome, IfOk, false, ◌+◌, ◌*◌, ◌≤◌, ◌^◌, ◌++◌, ◌==◌, ◌&&◌, nat_lt, [], ◌∷◌, length, map, if◌then◌else◌, true};
-ghost use Rattle.hx_units.specs.Limits.{day};
-ghost use Rattle.hx_ouch.specs.Inbound.{inbound_of};
-ghost use Rattle.hx_members.specs.Setups.{member_of};
-ghost use Rattle.hx_members.specs.Chains.{Used, Chain, is_used, entered_of, entered_at, place_of, replacing_used, IsEnteredAt};
-ghost use Rattle.hx_rules.specs.Enter.{entered_by, enter, rejection, resolved_firm};
-ghost use Rattle.hx_levels.specs.declared.order.Live.{Live as LiveOrder};
-ghost use Rattle.hx_refs.specs.Numbers.{Numbers};
-ghost use Rattle.hx_market.specs.OrderKeys.{AreKeyed, AreBefore};
-ghost use Rattle.hx_market.specs.MarketModel.{market_of, listed, name_of};
-ghost use Rattle.hx_market.specs.Prepared.{HasRoom, HasRoomToReplace, IsChainOf, outcome_over};
-ghost use Rattle.hx_rules.specs.Markets.{Market};
-ghost use Rattle.hx_rules.specs.Steps.{receive, happens, sender, time_of};
-ghost use Rattle.hx_rules.specs.Refusals.{is_from_stranger};
-ghost use Rattle.hx_market.specs.Effects.{outcome_of, IsEffect, IsAcceptedEnter, IsOf, SuitsTokens, IsAbout, IsOnly, IsReplacement, incoming_of_replacement, terms_of_replacement, replacement_order};
-ghost use Rattle.std.specs.Vec.{vec_len, vec_capacity};
-ghost use Rattle.hx_rules.specs.Letters.{by_user};
-ghost use Rattle.hx_levels.specs.Book.{lives, has_key, without};
-ghost use Rattle.hx_match.specs.Rules.{AreFills};
-ghost use Rattle.hx_units.specs.declared.names.Token.{Token as EnteredToken};
-ghost use Rattle.hx_itch.specs.declared.message.Feed.TheVariants.{OrderReplace as ToReplace};
-ghost use Rattle.hx_market.specs.declared.effect.Effect.TheVariants.{Fail, Replace as ToReplaceBy};
-ghost use Rattle.hx_rules.specs.Executions.{published, shown_of};
-ghost use Rattle.hx_rules.specs.Removal.{others, deleted, canceled};
-ghost use Rattle.hx_rules.specs.Replace.{replaced_of, is_one_display};
+ghost use Rattle.std.specs.Prelude.{◌≡◌};
+ghost use Rattle.hx_market.specs.Effects.{replacement_order};
+ghost use Rattle.hx_rules.specs.Replace.{is_one_display};
 
-use hx_itch::{Feed, OrderReplace};
-use hx_levels::{Book, Key, Live, Order};
-use hx_match::Fill;
-use hx_members::{Setup, Tokens};
-use hx_ouch::{Enter, Inbound, Outbound, Replace, Replaced, decode_in};
-use hx_refs::Refs;
-use hx_rules::{Event, Output, is_shown, life_of, rejection, side_of};
-use hx_units::{Firm, MemberNo, NoMemory, Price, Side, Symbol, Token};
-use std::alloc::Global;
+use hx_levels::{Live, Order};
+use hx_ouch::{Enter, Replace};
+use hx_rules::{Output, is_shown};
+use hx_units::{Firm, MemberNo, Price, Side, Symbol, Token};
 
 /// An Enter that is rejected.
 #[derive(Clone, Copy, Debug)]
 pub struct RejectedEnter {
-    /// Whose it is.
+    /// The member whose message it is.
     pub member: MemberNo,
-    /// When it came.
+    /// When it came, in nanoseconds since midnight.
     pub time: u64,
-    /// The order's token.
+    /// The token of the order.
     pub token: Token,
-    /// The reason.
+    /// The reason, by its letter (OUCH 4.2, Rejected Order: Reason).
     pub letter: u8,
 }
 
 /// An Enter that is accepted.
 #[derive(Clone, Copy, Debug)]
 pub struct AcceptedEnter {
-    /// Whose it is.
+    /// The member whose message it is.
     pub member: MemberNo,
-    /// When it came.
+    /// When it came, in nanoseconds since midnight.
     pub time: u64,
     /// The message.
     pub enter: Enter,
-    /// The number of the stock.
+    /// The place of the stock in the setup, from 1.
     pub locate: u16,
     /// The side of its letter.
     pub side: Side,
-    /// Its price.
+    /// Its price, as the book has it.
     pub price: Price,
     /// The firm that it is for.
     pub firm: Firm,
@@ -70,9 +43,9 @@ pub struct AcceptedEnter {
 /// A Replace that fails.
 #[derive(Clone, Copy, Debug)]
 pub struct FailedReplace {
-    /// Whose it is.
+    /// The member whose message it is.
     pub member: MemberNo,
-    /// When it came.
+    /// When it came, in nanoseconds since midnight.
     pub time: u64,
     /// The token of the order that is cancelled.
     pub existing: Token,
@@ -85,34 +58,34 @@ pub struct FailedReplace {
 /// A Replace that replaces.
 #[derive(Clone, Copy, Debug)]
 pub struct Replacement {
-    /// Whose it is.
+    /// The member whose message it is.
     pub member: MemberNo,
-    /// When it came.
+    /// When it came, in nanoseconds since midnight.
     pub time: u64,
     /// The message.
     pub replace: Replace,
-    /// Its price.
+    /// Its price, as the book has it.
     pub price: Price,
     /// The stock of the old order.
     pub stock: Symbol,
     /// The shares that its chain has executed.
     pub executed: u32,
-    /// The old order.
+    /// The old order, under its key.
     pub old: Live,
 }
 
 /// A Cancel that takes shares off.
 #[derive(Clone, Copy, Debug)]
 pub struct Reduction {
-    /// Whose it is.
+    /// The member whose message it is.
     pub member: MemberNo,
-    /// When it came.
+    /// When it came, in nanoseconds since midnight.
     pub time: u64,
-    /// The order's token.
+    /// The token of the order.
     pub token: Token,
     /// How many open shares are taken off.
     pub by: u32,
-    /// The order.
+    /// The order as it was, under its key.
     pub old: Live,
 }
 
@@ -128,13 +101,13 @@ pub enum Due {
 /// Orders that end, and all that is told.
 #[derive(Drop)]
 pub struct Expiry {
-    /// When they end.
+    /// When they end, in nanoseconds since midnight.
     pub time: u64,
     /// Which of the live orders.
     pub due: Due,
     /// How many of the hours codes are past then.
     pub hours: u8,
-    /// They, the earlier ones first.
+    /// The orders that end, the earlier ones first.
     pub orders: Vec<Live>,
     /// What is told.
     pub told: Output,

@@ -17,12 +17,13 @@ pub struct EventCounts {
 
 impl Model for EventCounts {
     ghost use Rattle.std.specs.Prelude.{◌≡◌, ℕ, List, length};
+    ghost use Rattle.hx_units.specs.Limits.{member_numbers};
 
     ghost Value = { List ℕ };
 
     ghost view = { λ r. r.counts.items };
 
-    ghost invariant = { λ r. length r.counts.items ≡ 4096 };
+    ghost invariant = { λ r. length r.counts.items ≡ member_numbers };
 }
 
 impl EventCounts {

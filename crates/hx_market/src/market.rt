@@ -199,7 +199,8 @@ impl<B: Book + Drop> Market<B> {
 
     /// What the chain of a token has done; none where the member has not used the token.
     pub fn chain(&self, member: MemberNo, token: &Token) -> Option<ChainFacts>
-        ensures { result ≡ chain_facts self.now.market.tokens self.now.market.chains member token.now }
+        ensures { result ≡ chain_facts self.now.market.tokens self.now.market.chains member
+            token.now }
     {
         Some(self.tokens.state(member, token)?.facts)
     }

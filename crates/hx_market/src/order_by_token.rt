@@ -1,5 +1,5 @@
 //! A member's live order, found by its token.
-ghost use Rattle.std.specs.Prelude.{◌≡◌, Some, None, IfSome};
+ghost use Rattle.std.specs.Prelude.{◌≡◌, IfSome};
 ghost use Rattle.std.specs.Option.{option_map};
 ghost use Rattle.std.specs.List.{find};
 ghost use Rattle.hx_levels.specs.Book.{lives, order_of, KeysDiffer};

@@ -1,5 +1,5 @@
 //! What the market prepares for an event.
-ghost use Rattle.std.specs.Prelude.{◌≡◌, ◌+◌, ◌<◌, ◌≤◌, ◌^◌, Some, None, IfOk, OnOk, OnErr, IfErr, length, []};
+ghost use Rattle.std.specs.Prelude.{◌≡◌, None, IfOk, OnOk, IfErr, length};
 ghost use Rattle.hx_refs.specs.Numbers.{Numbers};
 ghost use Rattle.hx_rules.specs.Refusals.{refusal, or_no_memory};
 ghost use Rattle.hx_market.specs.OrderKeys.{AreKeyed};

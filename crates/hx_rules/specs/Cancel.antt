@@ -9,7 +9,8 @@ use Rattle.hx_rules.specs.Outputs.{Outcome, nothing}
 use Rattle.hx_rules.specs.Removal.{lessened, taken_off, canceled}
 use Rattle.hx_rules.specs.Replace.{executed_of}
 
--- how many open shares a Cancel takes off: the intended size counts the executed shares of the chain
+-- how many open shares a Cancel takes off: the intended size counts the executed shares of the
+-- chain
 abbrev pub cancelled_shares : (executed : ℕ) → Cancel → Order → ℕ
 cancelled_shares executed c x = x.shares - min x.shares (c.shares - executed)
 

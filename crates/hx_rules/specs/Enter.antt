@@ -10,7 +10,7 @@ use Rattle.hx_ouch.specs.declared.inbound.Enter.{Enter}
 use Rattle.hx_ouch.specs.declared.outbound.Outbound.TheVariants.{Accepted, Rejected}
 use Rattle.hx_rules.specs.Letters.{no_cross, order_live, no_weight, closed, invalid_stock, other_reason, invalid_display, invalid_shares, invalid_price, invalid_minimum}
 use Rattle.hx_rules.specs.Limits.{dollar, cent, market_hours}
-use Rattle.hx_rules.specs.Orders.{Order, Token, is_side, side_of, is_display, is_immediate, is_shown, life_of}
+use Rattle.hx_rules.specs.Orders.{Order, Token, Side, is_side, side_of, is_display, is_immediate, is_shown, life_of}
 use Rattle.hx_rules.specs.Markets.{Market, is_open, is_after_market}
 use Rattle.hx_rules.specs.Outputs.{Reply, Outcome, nothing}
 use Rattle.hx_rules.specs.Executions.{arrive, arrival_feed}
@@ -98,25 +98,33 @@ drawn market member shown = record market { numbers = after_draw market.numbers 
 abbrev pub resolved_firm : Setup → (member : ℕ) → Firm → Firm
 resolved_firm setup member firm = if is_firm firm no_firm then firm_of setup member else firm
 
--- the order of an accepted message, with its chain's number and its reference
-abbrev pub entered_order : Setup → (chain reference member time : ℕ) → Enter → Order
-entered_order setup chain reference member time e =
+-- the order of an accepted message, once its stock, side, price and firm are known
+abbrev pub order_from :
+    (chain reference member time locate : ℕ) → Side → (price : ℕ) → Firm → Enter → Order
+order_from chain reference member time locate side price firm e =
     record {
       member = member;
       token = e.token;
       chain = chain;
-      locate = unwrap_or (locate_of setup e.stock) 0;
-      side = side_of e.side;
-      price = e.price;
+      locate = locate;
+      side = side;
+      price = price;
       shares = e.shares;
       minimum = e.minimum_quantity;
       display = e.display;
       shown = is_shown e.display e.time_in_force;
-      firm = resolved_firm setup member e.firm;
+      firm = firm;
       capacity = e.capacity;
       reference = reference;
       life = life_of time e.time_in_force;
     }
+
+-- the order of an accepted message, by the setup, with its chain's number and its reference
+abbrev pub entered_order : Setup → (chain reference member time : ℕ) → Enter → Order
+entered_order setup chain reference member time e =
+    order_from chain reference member time
+    (unwrap_or (locate_of setup e.stock) 0) (side_of e.side) e.price
+    (resolved_firm setup member e.firm) e
 
 -- to its member: the order as it was accepted (Accepted Message)
 abbrev pub accepted_of : Order → (time : ℕ) → Enter → Reply
@@ -176,7 +184,8 @@ reject market member time token letter =
       };
     }
 
--- by whether its token is used, and the letter that rejects it: a used token makes it without effect
+-- by whether its token is used, and the letter that rejects it: a used token makes it without
+-- effect
 abbrev pub entered_by :
     Setup → Market → (member time : ℕ) → Enter → (used : Bool) → Option ℕ → Outcome
 entered_by setup market member time e true letter = nothing market

@@ -71,8 +71,8 @@ abbrev pub to_all : List Member → (time code : ℕ) → List Reply
 to_all members time code =
     map (λ m. (m.number, SystemReply (record { time = time; event_code = code }))) members
 
--- what the code itself tells: to the feed the code, and behind code O the stocks; to each member the
--- codes S and E
+-- what the code itself tells: to the feed the code, and behind code O the stocks; to each member
+-- the codes S and E
 abbrev pub told_by_code : Setup → (time code : ℕ) → Told
 told_by_code setup time code =
     record {

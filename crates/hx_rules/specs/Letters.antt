@@ -1,4 +1,5 @@
--- The letters of the fields, by name (OUCH 4.2 and TotalView-ITCH 5.0). Those of the sides stand with the sides.
+-- The letters of the fields, by name (OUCH 4.2 and TotalView-ITCH 5.0). Those of the sides stand
+-- with the sides.
 use Rattle.std.specs.Prelude.{ℕ}
 use Rattle.hx_units.specs.Letters.{letter, space}
 

@@ -49,7 +49,8 @@ life_of time time_in_force =
     then Until (time + time_in_force * second)
     else (if time_in_force == market_hours then Market else System)
 
--- the side as the feed has it: each kind of sale is a sale (ITCH 5.0, Add Order: Buy/Sell Indicator)
+-- the side as the feed has it: each kind of sale is a sale (ITCH 5.0, Add Order: Buy/Sell
+-- Indicator)
 abbrev pub published_side : Side → ℕ
 published_side side = if is_buy side then letter_of Buy else letter_of Sell
 

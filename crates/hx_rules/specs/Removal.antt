@@ -16,8 +16,8 @@ others member token orders = filter (λ x. not (is_called member token x)) order
 abbrev pub less : Order → (by : ℕ) → List Order
 less x by = less_of itself with_shares x by
 
--- the live orders, with so many shares less of the one that the member calls by this token: it keeps
--- its place in time, or is gone
+-- the live orders, with so many shares less of the one that the member calls by this token: it
+-- keeps its place in time, or is gone
 abbrev pub lessened : (member : ℕ) (token : Token) (by : ℕ) → List Order → List Order
 lessened member token by [] = []
 lessened member token by (x ∷ orders) =

@@ -31,9 +31,9 @@ some_applies [] = false
 some_applies (applies ∷ []) = applies
 some_applies (applies ∷ (other ∷ more)) = applies || some_applies (other ∷ more)
 
--- its shares, which are those of the chain, its price or its display would be rejected of an Enter; it
--- is for the market hours, once they are over; it has a minimum and is shown; or its shares are not
--- above what the chain has executed
+-- its shares, which are those of the chain, its price or its display would be rejected of an Enter;
+-- it is for the market hours, once they are over; it has a minimum and is shown; or its shares are
+-- not above what the chain has executed
 abbrev pub replace_failures : (hours executed : ℕ) → Replace → List Bool
 replace_failures hours executed r =
     is_bad_shares r.shares
@@ -160,20 +160,17 @@ succeed setup market member time r old =
     replace_order market member time (symbol_of setup old.locate) r old
     (replacing_order executed reference time r old)
 
--- by whether the replacement token is used, and whether the Replace fails
-abbrev pub replaced_if :
-    Setup → Market → (member time : ℕ) → Replace → Order → (used fails : Bool) → Outcome
-replaced_if setup market member time r old true fails = nothing market
-replaced_if setup market member time r old false true =
-    fail_replace market member time r.existing_token r.replacement_token old
-replaced_if setup market member time r old false false = succeed setup market member time r old
-
--- by the live order that the existing token names: where there is none, nothing
+-- by the live order that the existing token names, whether the replacement token is used, and
+-- whether the Replace fails: it is ignored where there is no such order or the replacement token is
+-- used; it cancels the order where it fails; else it replaces it
 abbrev pub replaced_by :
     Setup → Market → (member time : ℕ) → Replace → Option Order → (used fails : Bool) → Outcome
 replaced_by setup market member time r None used fails = nothing market
-replaced_by setup market member time r (Some old) used fails =
-    replaced_if setup market member time r old used fails
+replaced_by setup market member time r (Some old) true fails = nothing market
+replaced_by setup market member time r (Some old) false true =
+    fail_replace market member time r.existing_token r.replacement_token old
+replaced_by setup market member time r (Some old) false false =
+    succeed setup market member time r old
 
 -- a member's Replace
 abbrev pub replace : Setup → Market → (member time : ℕ) → Replace → Outcome

@@ -25,7 +25,8 @@ receive setup market member time (Some (Cancel c)) = cancel market member time c
 
 -- what an event does, but for its record
 abbrev pub happens : Setup → Market → Event → Outcome
-happens setup market (Message member time bytes) = receive setup market member time (inbound_of bytes)
+happens setup market (Message member time bytes) =
+    receive setup market member time (inbound_of bytes)
 happens setup market (Tick time) = tick market time
 happens setup market (Hours time code) = next_hours setup market time code
 

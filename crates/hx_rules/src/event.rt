@@ -48,23 +48,23 @@ impl Bytes {
 pub enum Event {
     /// A message of a member, an OUCH 4.2 message where it is readable.
     Message {
-        /// The member's number.
+        /// The member's number, 1 to 4,095.
         member: u16,
-        /// When it came.
+        /// When it came, in nanoseconds since midnight.
         time: u64,
-        /// The message.
+        /// The message, as its bytes came.
         bytes: Bytes,
     },
     /// The operator lets time pass: orders whose seconds are over end.
     Tick {
-        /// The time.
+        /// When it is, in nanoseconds since midnight.
         time: u64,
     },
     /// The operator ends a part of the day (ITCH 5.0, System Event Message).
     Hours {
-        /// The time.
+        /// When it is, in nanoseconds since midnight.
         time: u64,
-        /// The event code.
+        /// The event code: `O`, `S`, `Q`, `M`, `E` or `C`.
         code: u8,
     },
 }

@@ -1,5 +1,5 @@
 //! The rules of Enter and Replace (OUCH 4.2, Enter Order and Replace Order Message).
-ghost use Rattle.std.specs.Prelude.{◌≡◌, ◌<◌, ◌≤◌, ◌^◌, IfNone};
+ghost use Rattle.std.specs.Prelude.{◌≡◌, ◌<◌, ◌^◌};
 ghost use Rattle.hx_rules.specs.Orders.{is_side, side_of, is_visible, is_display, is_shown, life_of, published_side};
 ghost use Rattle.hx_rules.specs.Markets.{is_open};
 ghost use Rattle.hx_rules.specs.Enter.{rejection, is_bad_shares, is_bad_price, is_late};

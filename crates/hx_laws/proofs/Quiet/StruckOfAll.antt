@@ -2,14 +2,11 @@
 use Rattle.std.proofs.Common.{◌≡◌, ℕ, Bool, true, false, cond, refl, ap, sym, ◌∙◌, eqb-true, eq-eqb, ◌&&◌, not, List, [], ◌∷◌, ◌++◌, map}
 use Rattle.std.specs.Prelude.{◌==◌}
 use Rattle.std.proofs.lemmas.List.{append_assoc}
-use Rattle.hx_members.specs.Setups.{Setup}
 use Rattle.hx_itch.specs.declared.message.Feed.{Feed}
 use Rattle.hx_ouch.specs.declared.outbound.Outbound.{Outbound}
-use Rattle.hx_rules.specs.declared.event.Event.{Event}
-use Rattle.hx_rules.specs.Orders.{Token}
 use Rattle.hx_rules.specs.Outputs.{Reply, Told}
 use Rattle.hx_rules.specs.Steps.{run, told, feed_of, replies_among, replies_of, feed, replies}
-use Rattle.hx_laws.specs.QuietChains.{Choice, is_quiet, quiet_but_one, strike, strike_all, strike_but, Line, reply_lines, lines_of_all}
+use Rattle.hx_laws.specs.QuietChains.{is_quiet, quiet_but_one, strike, strike_all, strike_but, Line, reply_lines, lines_of_all}
 use Rattle.hx_laws.specs.QuietChains.Line.{ToFeed, ToMember}
 use Rattle.hx_laws.specs.Laws.{FeedOfAnyChoice, RepliesOfAnyChoice, AllMembers, AllButOne}
 use Rattle.hx_laws.proofs.Quiet.QuietBefore.{not_both}

@@ -1,9 +1,9 @@
 //! An Enter that is accepted, done.
-ghost use Rattle.std.specs.Prelude.{◌≡◌, ℕ, ◌+◌, ◌-◌, ◌<◌, ◌≤◌, ◌^◌, slice_index, Some, None, [], true, false, length};
+ghost use Rattle.std.specs.Prelude.{◌≡◌, ◌<◌, ◌^◌, Some, [], false, length};
 ghost use Rattle.hx_units.specs.Limits.{day};
 ghost use Rattle.hx_levels.specs.Book.{lives};
 ghost use Rattle.hx_members.specs.Chains.{is_used};
-ghost use Rattle.hx_rules.specs.Enter.{accepted_of, next_reference, after_draw};
+ghost use Rattle.hx_rules.specs.Enter.{accepted_of};
 ghost use Rattle.hx_match.specs.Rules.{AreFills};
 ghost use Rattle.hx_market.specs.Effects.{incoming_of_enter, terms_of_enter, order_of_enter};
 ghost use Rattle.hx_market.specs.declared.effect.Effect.TheVariants.{Accept};
@@ -75,7 +75,13 @@ fn order_of(chain: u64, reference: u64, effect: &AcceptedEnter) -> Order
 }
 
 fn taker_of(chain: u64, effect: &AcceptedEnter) -> Taker
-    ensures { result ≡ record { member = effect.now.member; token = effect.now.enter.token; chain = chain; time = effect.now.time; stock = effect.now.enter.stock } }
+    ensures { result ≡ record {
+      member = effect.now.member;
+      token = effect.now.enter.token;
+      chain = chain;
+      time = effect.now.time;
+      stock = effect.now.enter.stock;
+    } }
 {
     Taker {
         member: effect.member,

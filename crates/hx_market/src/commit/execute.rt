@@ -1,5 +1,5 @@
 //! The executions of a plan, done.
-ghost use Rattle.std.specs.Prelude.{◌≡◌, ◌+◌, ◌*◌, ◌<◌, ◌≤◌, ◌^◌, ◌++◌, [], ◌∷◌, length, Some, IfSome, IsSome, true, false};
+ghost use Rattle.std.specs.Prelude.{◌≡◌, ◌+◌, ◌*◌, ◌<◌, ◌≤◌, ◌^◌, ◌++◌, [], ◌∷◌, length, Some, IfSome, IsSome};
 ghost use Rattle.std.specs.Vec.{vec_len, vec_capacity};
 ghost use Rattle.hx_levels.specs.Book.{order_of};
 ghost use Rattle.hx_match.specs.Executing.{taken, done_by, left_by, AreGood};
@@ -133,7 +133,8 @@ pub fn execute<B: Book>(
         (done_by fills.now (B.orders book.old)) tokens.old.chains }
     requires numbers { refs.old.matches + length fills.now < 2 ^ 62 }
     requires feed { vec_len out.old.feed + length fills.now ≤ vec_capacity out.old.feed }
-    requires replies { vec_len out.old.replies + 2 * length fills.now ≤ vec_capacity out.old.replies }
+    requires replies { vec_len out.old.replies + 2 * length fills.now
+        ≤ vec_capacity out.old.replies }
     ensures orders { B.orders book.new ≡ left_by fills.now (B.orders book.old) }
     ensures place { B.place book.new ≡ B.place book.old }
     ensures tokens { tokens.new.tokens ≡ tokens.old.tokens }

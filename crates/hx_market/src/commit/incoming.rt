@@ -1,16 +1,11 @@
 //! An incoming order, done: it gets its reference, executes, and rests or is cancelled.
-ghost use Rattle.std.specs.Prelude.{◌≡◌, ℕ, ◌+◌, ◌-◌, ◌<◌, ◌≤◌, ◌^◌, slice_index, Some, None, [], true, false, length, ◌++◌, ◌∷◌, ◌*◌};
-ghost use Rattle.hx_units.specs.Limits.{day};
+ghost use Rattle.std.specs.Prelude.{◌≡◌, ◌+◌, ◌-◌, ◌<◌, ◌≤◌, ◌^◌, slice_index, Some, [], true, length, ◌++◌, ◌∷◌, ◌*◌};
 ghost use Rattle.hx_levels.specs.Book.{lives, terms_of};
 ghost use Rattle.hx_members.specs.Chains.{is_used, place_of};
-ghost use Rattle.hx_rules.specs.Enter.{accepted_of, next_reference, after_draw};
-ghost use Rattle.hx_match.specs.Rules.{AreFills};
-ghost use Rattle.hx_market.specs.Effects.{incoming_of_enter, terms_of_enter, order_of_enter};
-ghost use Rattle.hx_market.specs.declared.effect.Effect.TheVariants.{Accept};
+ghost use Rattle.hx_rules.specs.Enter.{next_reference, after_draw};
 ghost use Rattle.hx_market.specs.OrderKeys.{AreKeyed, AreBefore};
 ghost use Rattle.hx_market.specs.Bounds.{CanNote, noted_if, CanNoteAll, chains_by};
-ghost use Rattle.hx_market.specs.MarketModel.{name_of, market_of, listed};
-ghost use Rattle.hx_market.specs.Prepared.{HasRoom, HasRoomFor, outcome_over};
+ghost use Rattle.hx_market.specs.MarketModel.{listed};
 ghost use Rattle.std.specs.Vec.{vec_len, vec_capacity};
 ghost use Rattle.hx_match.specs.Executing.{done_by, left_by, AreGood};
 ghost use Rattle.hx_rules.specs.Executions.{feed_of_executions, replies_of_executions, resting_of, displays, canceled_of};
@@ -20,9 +15,8 @@ use crate::messages::tell_canceled;
 use hx_levels::{Book, Order};
 use hx_match::Fill;
 use hx_members::Tokens;
-use hx_ouch::{Accepted, Outbound};
 use hx_refs::Refs;
-use hx_rules::{Output, is_shown, life_of};
+use hx_rules::Output;
 use hx_units::MemberNo;
 
 /// Draws the reference of an order.

@@ -1,5 +1,5 @@
 //! A Replace, done.
-ghost use Rattle.std.specs.Prelude.{◌≡◌, ◌+◌, ◌*◌, ◌<◌, ◌≤◌, ◌^◌, ◌++◌, ◌==◌, ◌&&◌, nat_lt, [], ◌∷◌, length, map, if◌then◌else◌, true, false, Some};
+ghost use Rattle.std.specs.Prelude.{◌≡◌, ◌+◌, ◌<◌, ◌≤◌, ◌++◌, ◌&&◌, nat_lt, [], ◌∷◌, length, map, if◌then◌else◌, true, false, Some};
 ghost use Rattle.std.specs.Vec.{vec_len, vec_capacity};
 ghost use Rattle.hx_rules.specs.Letters.{by_user};
 ghost use Rattle.hx_levels.specs.Book.{lives, has_key, without};
@@ -7,7 +7,7 @@ ghost use Rattle.hx_match.specs.Rules.{AreFills};
 ghost use Rattle.hx_members.specs.Chains.{is_used, entered_of, entered_at, place_of, replacing_used, IsEnteredAt};
 ghost use Rattle.hx_units.specs.declared.names.Token.{Token as EnteredToken};
 ghost use Rattle.hx_itch.specs.declared.message.Feed.TheVariants.{OrderReplace as ToReplace};
-ghost use Rattle.hx_market.specs.declared.effect.Effect.TheVariants.{Fail, Replace as ToReplaceBy};
+ghost use Rattle.hx_market.specs.declared.effect.Effect.TheVariants.{Replace as ToReplaceBy};
 ghost use Rattle.hx_rules.specs.Executions.{published, shown_of};
 ghost use Rattle.hx_rules.specs.Removal.{others, deleted, canceled};
 ghost use Rattle.hx_rules.specs.Replace.{replaced_of, is_one_display};
@@ -64,9 +64,11 @@ pub fn fail<B: Book>(book: &mut B, tokens: &mut Tokens, out: &mut Output, effect
     requires unused { is_used tokens.old.tokens effect.now.member effect.now.replacement ≡ false }
     requires token_place { tokens.old.place
         ≡ Some (name_of effect.now.member effect.now.replacement) }
-    requires only { IsOnly (B.orders book.old) effect.now.member effect.now.existing effect.now.old }
+    requires only { IsOnly (B.orders book.old) effect.now.member effect.now.existing
+        effect.now.old }
     requires keyed { AreKeyed tokens.old.tokens tokens.old.keys (B.orders book.old) }
-    requires chain { IsChainOf tokens.old.tokens effect.now.member effect.now.existing effect.now.old.order.chain }
+    requires chain { IsChainOf tokens.old.tokens effect.now.member effect.now.existing
+        effect.now.old.order.chain }
     requires feed_room { vec_len out.old.feed < vec_capacity out.old.feed }
     requires replies_room { vec_len out.old.replies < vec_capacity out.old.replies }
     ensures live { lives (B.orders book.new)
@@ -132,7 +134,8 @@ fn order_of(reference: u64, effect: &Replacement) -> Order
 
 // The reply that an order replaces another.
 fn replaced(order: &Order, effect: &Replacement) -> (MemberNo, Outbound)
-    ensures { result ≡ replaced_of effect.now.member effect.now.time effect.now.stock effect.now.replace order.now }
+    ensures { result ≡ replaced_of effect.now.member effect.now.time effect.now.stock
+        effect.now.replace order.now }
 {
     let replace = &effect.replace;
     (
@@ -160,7 +163,13 @@ fn replaced(order: &Order, effect: &Replacement) -> (MemberNo, Outbound)
 }
 
 fn taker_of(effect: &Replacement) -> Taker
-    ensures { result ≡ record { member = effect.now.old.order.member; token = effect.now.replace.replacement_token; chain = effect.now.old.order.chain; time = effect.now.time; stock = effect.now.stock } }
+    ensures { result ≡ record {
+      member = effect.now.old.order.member;
+      token = effect.now.replace.replacement_token;
+      chain = effect.now.old.order.chain;
+      time = effect.now.time;
+      stock = effect.now.stock;
+    } }
 {
     Taker {
         member: effect.old.order.member,
@@ -235,9 +244,11 @@ pub fn replace<B: Book>(
     left: u32,
 )
     requires is_replacement { IsReplacement effect.now }
-    requires unused { is_used tokens.old.tokens effect.now.member effect.now.replace.replacement_token
+    requires unused { is_used tokens.old.tokens effect.now.member
+        effect.now.replace.replacement_token
         ≡ false }
-    requires only { IsOnly (B.orders book.old) effect.now.member effect.now.replace.existing_token effect.now.old }
+    requires only { IsOnly (B.orders book.old) effect.now.member effect.now.replace.existing_token
+        effect.now.old }
     requires token_place { tokens.old.place
         ≡ Some (name_of effect.now.member effect.now.replace.replacement_token) }
     requires place { B.place book.old ≡ Some (terms_of_replacement effect.now) }
@@ -246,7 +257,8 @@ pub fn replace<B: Book>(
     requires keyed { AreKeyed tokens.old.tokens tokens.old.keys (B.orders book.old) }
     requires fits { HasRoomToReplace
         (market_of (B.orders book.old) tokens.old refs.old 0 []) effect.now }
-    requires chain { IsChainOf tokens.old.tokens effect.now.member effect.now.replace.existing_token effect.now.old.order.chain }
+    requires chain { IsChainOf tokens.old.tokens effect.now.member
+        effect.now.replace.existing_token effect.now.old.order.chain }
     requires room { HasRoom (length fills.now) out.old }
     ensures live { lives (B.orders book.new)
         ≡ (outcome_over (B.orders book.old) tokens.old refs.old

@@ -1,24 +1,19 @@
 //! Which effect a Cancel has.
-ghost use Rattle.std.specs.Prelude.{◌≡◌, ◌<◌, ◌≤◌, ℕ, List, Some, None, IsSome, false};
+ghost use Rattle.std.specs.Prelude.{◌≡◌, ◌<◌, ℕ, List};
 ghost use Rattle.hx_units.specs.Limits.{day};
-ghost use Rattle.hx_members.specs.Setups.{Setup as SetupOf, symbol_of};
-ghost use Rattle.hx_members.specs.Chains.{Used, Chain, is_used, entered_of, executed_by};
-ghost use Rattle.hx_levels.specs.declared.order.Live.{Live as LiveOrder};
-ghost use Rattle.hx_rules.specs.Markets.{Market};
+ghost use Rattle.hx_members.specs.Setups.{Setup as SetupOf};
 ghost use Rattle.hx_refs.specs.Numbers.{Numbers};
-ghost use Rattle.hx_rules.specs.Replace.{replace, replace_fails, replaced_if, executed_of};
 ghost use Rattle.hx_rules.specs.Cancel.{cancel, cancelled_shares};
 ghost use Rattle.hx_market.specs.OrderKeys.{AreKeyed};
-ghost use Rattle.hx_market.specs.Effects.{IsEffect, IsOf, SuitsTokens, IsAbout, IsOnly, outcome_of};
+ghost use Rattle.hx_market.specs.Effects.{IsEffect, IsOf, SuitsTokens, IsAbout, outcome_of};
 ghost use Rattle.hx_market.specs.MarketModel.{market_of};
 
 use crate::effect::{Effect, Reduction};
 use crate::order_by_token::{Found, find_order};
 use hx_levels::Book;
-use hx_members::{Setup, Tokens};
-use hx_ouch::{Cancel, Replace};
-use hx_rules::replace_fails;
-use hx_units::{MemberNo, Price, Symbol};
+use hx_members::Tokens;
+use hx_ouch::Cancel;
+use hx_units::MemberNo;
 
 // How many open shares a Cancel takes off.
 fn cancelled_shares(found: &Found, cancel: &Cancel) -> u32

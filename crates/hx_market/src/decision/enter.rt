@@ -1,26 +1,18 @@
 //! Which effect an Enter has.
-ghost use Rattle.std.specs.Prelude.{◌≡◌, ◌<◌, ℕ, List, Some, None, IsSome, IfOk, false};
+ghost use Rattle.std.specs.Prelude.{◌≡◌, ◌<◌, List, None, IsSome, false};
 ghost use Rattle.hx_units.specs.Limits.{day};
-ghost use Rattle.hx_ouch.specs.Inbound.{inbound_of};
 ghost use Rattle.hx_members.specs.Setups.{member_of};
 ghost use Rattle.hx_members.specs.Chains.{Used, Chain, is_used};
 ghost use Rattle.hx_rules.specs.Enter.{entered_by, enter, rejection, resolved_firm};
 ghost use Rattle.hx_levels.specs.declared.order.Live.{Live as LiveOrder};
-ghost use Rattle.hx_refs.specs.Numbers.{Numbers};
-ghost use Rattle.hx_market.specs.OrderKeys.{AreKeyed};
-ghost use Rattle.hx_market.specs.MarketModel.{market_of};
 ghost use Rattle.hx_rules.specs.Markets.{Market};
-ghost use Rattle.hx_rules.specs.Steps.{receive, happens, sender, time_of};
-ghost use Rattle.hx_rules.specs.Refusals.{is_from_stranger};
 ghost use Rattle.hx_market.specs.Effects.{outcome_of, IsEffect, IsAcceptedEnter, IsOf, SuitsTokens, IsAbout};
 
 use crate::effect::{AcceptedEnter, Effect, RejectedEnter};
-use hx_levels::{Book, Live};
 use hx_members::{Setup, Tokens};
-use hx_ouch::{Enter, Inbound, Replace, decode_in};
-use hx_rules::{Event, Output, rejection, side_of};
-use hx_units::{Firm, MemberNo, NoMemory, Price, Side, Symbol, Token};
-use std::alloc::Global;
+use hx_ouch::Enter;
+use hx_rules::{rejection, side_of};
+use hx_units::{Firm, MemberNo, Price};
 
 // The firm that a message is for: a blank one means the member's.
 fn resolved_firm(setup: &Setup, member: MemberNo, firm: Firm) -> Firm

@@ -1,5 +1,5 @@
 //! Which orders end, and what is told of them.
-ghost use Rattle.std.specs.Prelude.{◌≡◌, ℕ, List, ◌+◌, ◌<◌, ◌≤◌, ◌^◌, ◌++◌, ◌∷◌, [], IfOk, OnOk, map, not, length};
+ghost use Rattle.std.specs.Prelude.{◌≡◌, ℕ, List, ◌+◌, ◌<◌, ◌^◌, ◌++◌, ◌∷◌, [], IfOk, OnOk, map};
 ghost use Rattle.std.specs.List.{AllByRecursion, filter};
 ghost use Rattle.hx_units.specs.Limits.{day};
 ghost use Rattle.hx_rules.specs.Letters.{timeout};
@@ -9,20 +9,16 @@ ghost use Rattle.hx_members.specs.Chains.{Used, Chain};
 ghost use Rattle.hx_members.specs.Tokens.{TokenList};
 ghost use Rattle.hx_members.specs.Setups.{Setup as SetupOf};
 ghost use Rattle.hx_refs.specs.Numbers.{Numbers};
-ghost use Rattle.hx_market.specs.OrderKeys.{AreKeyed};
 ghost use Rattle.hx_rules.specs.Removal.{deleted, canceled};
-ghost use Rattle.hx_rules.specs.Hours.{is_over, is_to_market, tick, next_hours, is_next, directory, to_all, told_by_code, all_deleted, end_orders};
-ghost use Rattle.hx_market.specs.Effects.{IsEffect, IsOf, SuitsTokens, IsAbout, IsExpiry, is_due, outcome_of};
+ghost use Rattle.hx_rules.specs.Hours.{is_over, is_to_market, tick, all_deleted, end_orders};
+ghost use Rattle.hx_market.specs.Effects.{IsEffect, IsOf, SuitsTokens, IsAbout, is_due, outcome_of};
 ghost use Rattle.hx_market.specs.MarketModel.{market_of};
 
 use crate::effect::{Due, Effect, Expiry};
 use crate::messages::{delete, tell_canceled};
-use hx_itch::{Feed, StockDirectory, SystemEvent};
 use hx_levels::{Book, Life, Live, Order};
-use hx_members::{Member, Setup, Stock};
-use hx_ouch::Outbound;
 use hx_rules::Output;
-use hx_units::{MemberNo, NoMemory};
+use hx_units::NoMemory;
 use std::alloc::Global;
 
 fn is_over(time: u64, life: Life) -> bool

@@ -1,24 +1,17 @@
 //! Which effect an hours code has (ITCH 5.0, System Event Message).
-ghost use Rattle.std.specs.Prelude.{◌≡◌, ℕ, List, ◌+◌, ◌<◌, ◌≤◌, ◌^◌, ◌++◌, ◌∷◌, [], IfOk, OnOk, map, not, length};
-ghost use Rattle.std.specs.List.{AllByRecursion, filter};
+ghost use Rattle.std.specs.Prelude.{◌≡◌, ℕ, List, ◌+◌, ◌<◌, ◌≤◌, ◌++◌, IfOk, OnOk, length};
 ghost use Rattle.hx_units.specs.Limits.{day};
-ghost use Rattle.hx_rules.specs.Letters.{timeout};
-ghost use Rattle.hx_itch.specs.Message.{feed_time};
-ghost use Rattle.hx_levels.specs.Book.{lives, KeysDiffer};
 ghost use Rattle.hx_members.specs.Chains.{Used, Chain};
 ghost use Rattle.hx_members.specs.Tokens.{TokenList};
-ghost use Rattle.hx_members.specs.Setups.{Setup as SetupOf};
 ghost use Rattle.hx_refs.specs.Numbers.{Numbers};
-ghost use Rattle.hx_market.specs.OrderKeys.{AreKeyed};
-ghost use Rattle.hx_rules.specs.Removal.{deleted, canceled};
-ghost use Rattle.hx_rules.specs.Hours.{is_over, is_to_market, tick, next_hours, is_next, directory, to_all, told_by_code, all_deleted, end_orders};
-ghost use Rattle.hx_market.specs.Effects.{IsEffect, IsOf, SuitsTokens, IsAbout, IsExpiry, is_due, outcome_of};
+ghost use Rattle.hx_rules.specs.Hours.{next_hours, is_next, directory, to_all, told_by_code};
+ghost use Rattle.hx_market.specs.Effects.{IsEffect, IsOf, SuitsTokens, IsAbout, outcome_of};
 ghost use Rattle.hx_market.specs.MarketModel.{market_of};
 
 use crate::decision::expiry::end_orders;
 use crate::effect::{Due, Effect};
 use hx_itch::{Feed, StockDirectory, SystemEvent};
-use hx_levels::{Book, Life, Live, Order};
+use hx_levels::Book;
 use hx_members::{Member, Setup, Stock};
 use hx_ouch::Outbound;
 use hx_rules::Output;

@@ -1,13 +1,12 @@
 //! Which effect a Replace has.
-ghost use Rattle.std.specs.Prelude.{◌≡◌, ◌<◌, ◌≤◌, ℕ, List, Some, None, IsSome, false};
+ghost use Rattle.std.specs.Prelude.{◌≡◌, ◌<◌, ℕ, List, Some, false};
 ghost use Rattle.hx_units.specs.Limits.{day};
-ghost use Rattle.hx_members.specs.Setups.{Setup as SetupOf, symbol_of};
+ghost use Rattle.hx_members.specs.Setups.{symbol_of};
 ghost use Rattle.hx_members.specs.Chains.{Used, Chain, is_used, entered_of, executed_by};
 ghost use Rattle.hx_levels.specs.declared.order.Live.{Live as LiveOrder};
 ghost use Rattle.hx_rules.specs.Markets.{Market};
 ghost use Rattle.hx_refs.specs.Numbers.{Numbers};
-ghost use Rattle.hx_rules.specs.Replace.{replace, replace_fails, replaced_if, executed_of};
-ghost use Rattle.hx_rules.specs.Cancel.{cancel, cancelled_shares};
+ghost use Rattle.hx_rules.specs.Replace.{replace, replace_fails, replaced_by, executed_of};
 ghost use Rattle.hx_market.specs.OrderKeys.{AreKeyed};
 ghost use Rattle.hx_market.specs.Effects.{IsEffect, IsOf, SuitsTokens, IsAbout, IsOnly, outcome_of};
 ghost use Rattle.hx_market.specs.MarketModel.{market_of};
@@ -16,7 +15,7 @@ use crate::effect::{Effect, FailedReplace, Replacement};
 use crate::order_by_token::{Found, find_order};
 use hx_levels::Book;
 use hx_members::{Setup, Tokens};
-use hx_ouch::{Cancel, Replace};
+use hx_ouch::Replace;
 use hx_rules::replace_fails;
 use hx_units::{MemberNo, Price, Symbol};
 
@@ -41,7 +40,7 @@ fn replace_or_fail(
 ) -> Effect
     requires time { time < day }
     ensures does { (m : Market) → executed_of m member replace.existing_token ≡ found.executed
-        → replaced_if setup.now m member time replace found.live.order false
+        → replaced_by setup.now m member time replace (Some found.live.order) false
         (replace_fails hours found.executed replace) ≡ outcome_of m result }
     ensures is_effect { IsEffect setup.now result }
     ensures sender { IsOf member result }

@@ -1,12 +1,12 @@
 //! The plan of an effect: its executions, how many messages it gives, and all growths.
-ghost use Rattle.std.specs.Prelude.{◌≡◌, ℕ, ◌+◌, ◌*◌, ◌<◌, ◌≤◌, ◌^◌, [], Some, IfOk, OnOk, length, map};
+ghost use Rattle.std.specs.Prelude.{◌≡◌, ◌<◌, ◌^◌, [], Some, IfOk, OnOk, length, map};
 ghost use Rattle.hx_levels.specs.Book.{order_of, without, KeysDiffer};
 ghost use Rattle.hx_match.specs.Matching.{terms, matched_live};
 ghost use Rattle.hx_match.specs.Executing.{fills_of};
 ghost use Rattle.hx_match.specs.Rules.{AreFills};
 ghost use Rattle.hx_rules.specs.Orders.{is_immediate, is_shown};
 ghost use Rattle.hx_market.specs.Effects.{IsReplacement, IsInRange, IsAbout, incoming_of_enter, terms_of_enter, incoming_of_replacement, terms_of_replacement};
-ghost use Rattle.hx_market.specs.Prepared.{HasRoom, HasPlaces, effect_feed_count, effect_members, makers_and, arrival_members, arrival_count, one_if, replaced_count};
+ghost use Rattle.hx_market.specs.Prepared.{HasRoom, HasPlaces, effect_feed_count, effect_members, arrival_members, arrival_count, one_if, replaced_count};
 
 use crate::effect::{AcceptedEnter, Effect, Replacement, is_one_display};
 use hx_levels::Book;
