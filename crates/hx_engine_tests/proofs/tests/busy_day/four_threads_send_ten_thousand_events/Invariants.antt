@@ -1,0 +1,7 @@
+use Rattle.hx_engine_tests.proofs.tests.busy_day.four_threads_send_ten_thousand_events.Given as goal
+
+abbrev pub ghosts-busy_day-V-Venue : goal.ghosts-busy_day-V-Venue
+ghosts-busy_day-V-Venue g a = record { log = a.log; setup = a.setup }
+
+abbrev pub ghosts-busy_day-V-Ledger : goal.ghosts-busy_day-V-Ledger
+ghosts-busy_day-V-Ledger g a = record { name = a.blank.name; parts = a.blank.parts }

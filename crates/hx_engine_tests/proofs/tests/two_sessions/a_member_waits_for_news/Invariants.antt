@@ -1,0 +1,7 @@
+use Rattle.hx_engine_tests.proofs.tests.two_sessions.a_member_waits_for_news.Given as goal
+
+abbrev pub ghosts-wait_for_an_execution-V-Venue : goal.ghosts-wait_for_an_execution-V-Venue
+ghosts-wait_for_an_execution-V-Venue g a = record { log = a.log; setup = a.setup }
+
+abbrev pub ghosts-wait_for_an_execution-V-Ledger : goal.ghosts-wait_for_an_execution-V-Ledger
+ghosts-wait_for_an_execution-V-Ledger g a = record { name = a.blank.name; parts = a.blank.parts }

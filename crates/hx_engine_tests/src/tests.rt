@@ -1,0 +1,9 @@
+//! Worked rows and busy days, given to a desk and to an exchange.
+
+mod busy_day;
+mod desks;
+mod exchanges;
+mod scenario;
+mod sending;
+mod shorthand;
+mod two_sessions;

@@ -1,0 +1,250 @@
+//! A desk with a log of one slot, one with few messages a member, and what its readers meet.
+ghost use Rattle.std.specs.Prelude.{◌≡◌, ◌≤◌, IfOk};
+
+use super::sending::{BUY, Order, SELL, enter, message};
+use super::shorthand::{Message, Reply, private, read_message, read_reply};
+use hx_blog::{Log, Reader};
+use hx_engine::{Desk, DeskError, Done, Entry};
+use hx_market::Event;
+use hx_members::Setup;
+use hx_units::MemberNo;
+use std::alloc::Global;
+use std::process::Abort;
+use std::test::*;
+
+// A desk at its start, with its log and a reader.
+fn opened(
+    alloc: Global,
+    setup: Setup,
+    capacity: u64,
+) -> Result<(Log<Entry>, Desk, Reader<Entry>), Fail>
+    requires { (1 ≤ capacity) × (capacity ≤ 1000000) }
+    ensures desk { IfOk result (λ r. r.1.log ≡ r.0) }
+    ensures reader { IfOk result (λ r. r.2.log ≡ r.0) }
+{
+    let (log, writer, reader) = Log::<Entry>::new(alloc, capacity)?;
+    let desk = Desk::new(alloc, setup, writer)?;
+    Ok((log, desk, reader))
+}
+
+type Answer = Result<Done, DeskError>;
+
+fn done(place: u64, first: u64, count: u64) -> Answer {
+    Ok(Done {
+        place,
+        first,
+        count,
+    })
+}
+
+fn full(free: u64, needed: u64) -> Answer {
+    Err(DeskError::Full { free, needed })
+}
+
+// The event is submitted, and answered so.
+fn expect<R: Abort>(rt: &R, desk: &mut Desk, log: &Log<Entry>, event: &Event, want: Answer)
+    requires { desk.old.log ≡ log.now }
+    ensures { desk.new.log ≡ desk.old.log }
+{
+    assert!(rt; desk.submit(log, 1, event) == want);
+}
+
+// The orders are entered one after the other, and answered so.
+fn play<R: Abort>(
+    rt: &R,
+    alloc: Global,
+    desk: &mut Desk,
+    log: &Log<Entry>,
+    orders: &[(Order, Answer)],
+) -> Result<(), Fail>
+    requires { desk.old.log ≡ log.now }
+    ensures { desk.new.log ≡ desk.old.log }
+{
+    for (order, want) in orders {
+        let event = enter(alloc, order)?;
+        assert!(rt; desk.submit(log, 1, &event) == *want);
+    }
+    Ok(())
+}
+
+// The replies to a member are these, asked for at once and one by one.
+fn expect_replies<R: Abort>(
+    rt: &R,
+    desk: &Desk,
+    member: u16,
+    wanted: &[Reply],
+) -> Result<(), Fail> {
+    let member = MemberNo::of(member).ok_or("a member")?;
+    let replies = desk.replies_from(member, 0)?;
+    assert_eq!(rt; replies.len(), wanted.len());
+    assert_eq!(rt; desk.reply_count(member), wanted.len() as u64);
+    for (reply, want) in replies.iter().zip(wanted) {
+        assert_eq!(rt; read_reply(reply.as_slice()), *want);
+    }
+    for (place, want) in wanted.iter().enumerate() {
+        let page = desk.replies_page(member, place as u64 + 1, 1)?;
+        let reply = page.first().ok_or("a reply")?;
+        assert_eq!(rt; read_reply(reply.as_slice()), *want);
+    }
+    assert_eq!(rt; desk.replies_from(member, u64::MAX)?.len(), 0);
+    Ok(())
+}
+
+// The reader reads these messages, and no more.
+fn expect_feed<R: Abort>(
+    rt: &R,
+    log: &Log<Entry>,
+    reader: &mut Reader<Entry>,
+    wanted: &[Message],
+) -> Result<(), Fail>
+    requires { reader.old.log ≡ log.now }
+    ensures { reader.new.log ≡ reader.old.log }
+{
+    for want in wanted {
+        let message = reader.next(log).ok_or("a message")?;
+        assert_eq!(rt; read_message(message.as_slice()), *want);
+    }
+    assert!(rt; reader.next(log).is_none());
+    Ok(())
+}
+
+// Two hidden orders fit; a displayed one that would trade and rest needs two slots; one that trades needs one; and then
+// the log is full.
+fn one_slot() -> [(Order, Answer); 5] {
+    let hidden = Order {
+        time: 10,
+        token: *b"H1",
+        display: b'N',
+        ..BUY
+    };
+    let sell = Order {
+        time: 20,
+        member: 2,
+        token: *b"S1",
+        shares: 150,
+        ..SELL
+    };
+    [
+        (hidden, done(1, 1, 0)),
+        (sell, full(1, 2)),
+        (
+            Order {
+                time: 30,
+                member: 3,
+                token: *b"H2",
+                shares: 50,
+                ..hidden
+            },
+            done(2, 1, 0),
+        ),
+        (
+            Order {
+                time: 40,
+                shares: 100,
+                time_in_force: 0,
+                display: b'N',
+                ..sell
+            },
+            done(3, 1, 1),
+        ),
+        (
+            Order {
+                time: 50,
+                token: *b"S2",
+                shares: 100,
+                price: 200_000,
+                ..sell
+            },
+            full(0, 1),
+        ),
+    ]
+}
+
+#[test]
+fn a_log_of_one_slot(rt: HostRuntime) -> Result<(), Fail> {
+    let alloc = rt.alloc();
+    let (log, mut desk, mut reader) = opened(alloc, Setup::standard(alloc)?, 1)?;
+    play(&rt, alloc, &mut desk, &log, &one_slot())?;
+    assert_eq!(rt; desk.history_len(), 3);
+    assert_eq!(rt; desk.feed_count(), 1);
+    assert!(rt; !desk.ended());
+    expect_feed(&rt, &log, &mut reader, &[Message::Trade(100, 100_000, 1)])?;
+    let buyer = [
+        Reply::Accepted(*b"H1", 100, private(1, 1)),
+        Reply::Executed(*b"H1", 100, 100_000, b'J', 1),
+    ];
+    expect_replies(&rt, &desk, 1, &buyer)?;
+    let seller = [
+        Reply::Accepted(*b"S1", 100, private(2, 1)),
+        Reply::Executed(*b"S1", 100, 100_000, b'R', 1),
+    ];
+    expect_replies(&rt, &desk, 2, &seller)?;
+    expect_replies(&rt, &desk, 3, &[Reply::Accepted(*b"H2", 50, private(3, 1))])
+}
+
+const FEW: &[u8] =
+    b"session HX00000003\nstart open\nstock ABCD 5120000000644e435a20502020314e000000004e\nmember 1 FMA1 ALPHA PWALPHA 2\nmember 2 FMB2 BRAVO PWBRAVO 1000\n";
+
+const LATE: u64 = 86_400_000_000_000;
+
+#[test]
+fn limits_times_and_strangers(rt: HostRuntime) -> Result<(), Fail> {
+    let alloc = rt.alloc();
+    let (log, mut desk, _) = opened(alloc, Setup::read(alloc, FEW)?, 10)?;
+    expect(
+        &rt,
+        &mut desk,
+        &log,
+        &message(alloc, 1, 10, &[0])?,
+        done(1, 1, 0),
+    );
+    let first = Order { time: 20, ..BUY };
+    play(&rt, alloc, &mut desk, &log, &[(first, done(2, 1, 1))])?;
+    refused(&rt, alloc, &mut desk, &log)?;
+    let second = Order {
+        time: 40,
+        member: 2,
+        token: *b"T2",
+        ..BUY
+    };
+    play(&rt, alloc, &mut desk, &log, &[(second, done(3, 2, 1))])?;
+    assert_eq!(rt; desk.history_len(), 3);
+    Ok(())
+}
+
+fn refused<R: Abort>(rt: &R, alloc: Global, desk: &mut Desk, log: &Log<Entry>) -> Result<(), Fail>
+    requires { desk.old.log ≡ log.now }
+    ensures { desk.new.log ≡ desk.old.log }
+{
+    let cancel = message(alloc, 1, 30, b"XT1            \0\0\0\0")?;
+    expect(rt, desk, log, &cancel, Err(DeskError::Limit { member: 1 }));
+    for (member, time, error) in [
+        (1, LATE, DeskError::BadTime),
+        (9, LATE, DeskError::BadTime),
+        (9, 35, DeskError::NoMember),
+    ] {
+        let event = message(alloc, member, time, &[0])?;
+        expect(rt, desk, log, &event, Err(error));
+    }
+    Ok(())
+}
+
+#[test]
+fn a_reader_looks_before_and_after_two_publishes(rt: HostRuntime) -> Result<(), Fail> {
+    let alloc = rt.alloc();
+    let (log, mut desk, mut reader) = opened(alloc, Setup::standard(alloc)?, 10)?;
+    assert_eq!(rt; reader.look(&log), 0);
+    let second = Order {
+        member: 2,
+        token: *b"T2",
+        ..BUY
+    };
+    let orders = [(BUY, done(1, 1, 1)), (second, done(2, 2, 1))];
+    play(&rt, alloc, &mut desk, &log, &orders)?;
+    assert_eq!(rt; reader.look(&log), 2);
+    let added = [
+        Message::Added(1, b'B', 100, 100_000),
+        Message::Added(2, b'B', 100, 100_000),
+    ];
+    expect_feed(&rt, &log, &mut reader, &added)
+}
