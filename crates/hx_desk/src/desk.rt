@@ -64,7 +64,7 @@ impl Desk {
         })
     }
 
-    /// Tells a proof what each desk keeps; it does nothing.
+    /// Tells a caller's proof what each desk keeps; it does nothing.
     pub fn stands(&self)
         ensures standing { IsStanding self.now }
         ensures secret { TellsNoSecret self.now }
@@ -174,7 +174,7 @@ impl Desk {
         self.rows.page(member, from, most)
     }
 
-    /// Whether hours code `C` is past, after which nothing more comes but refusals.
+    /// Whether hours code `C`, the last of the day, is past.
     pub fn ended(&self) -> bool
         ensures { result ≡ is_over self.now.market }
     {

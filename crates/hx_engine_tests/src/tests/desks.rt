@@ -4,7 +4,7 @@ ghost use Rattle.std.specs.Prelude.{◌≡◌, ◌≤◌, IfOk};
 use super::sending::{BUY, Order, SELL, enter, message};
 use super::shorthand::{Message, Reply, private, read_message, read_reply};
 use hx_blog::{Log, Reader};
-use hx_engine::{Desk, DeskError, Done, Entry};
+use hx_engine::{Desk, DeskError, Done, Entry, laws};
 use hx_market::Event;
 use hx_members::Setup;
 use hx_units::MemberNo;
@@ -49,6 +49,17 @@ fn expect<R: Abort>(rt: &R, desk: &mut Desk, log: &Log<Entry>, event: &Event, wa
     assert!(rt; desk.submit(log, 1, event) == want);
 }
 
+// The event is submitted, and again where there was no memory for it: nothing of the first time is left.
+fn submit_again(desk: &mut Desk, log: &Log<Entry>, event: &Event) -> Answer
+    requires { desk.old.log ≡ log.now }
+    ensures { desk.new.log ≡ desk.old.log }
+{
+    match desk.submit(log, 1, event) {
+        Err(DeskError::NoMemory) => desk.submit(log, 1, event),
+        answer => answer,
+    }
+}
+
 // The orders are entered one after the other, and answered so.
 fn play<R: Abort>(
     rt: &R,
@@ -62,7 +73,7 @@ fn play<R: Abort>(
 {
     for (order, want) in orders {
         let event = enter(alloc, order)?;
-        assert!(rt; desk.submit(log, 1, &event) == *want);
+        assert!(rt; submit_again(desk, log, &event) == *want);
     }
     Ok(())
 }
@@ -234,6 +245,7 @@ fn a_reader_looks_before_and_after_two_publishes(rt: HostRuntime) -> Result<(), 
     let alloc = rt.alloc();
     let (log, mut desk, mut reader) = opened(alloc, Setup::standard(alloc)?, 10)?;
     assert_eq!(rt; reader.look(&log), 0);
+    laws::replies_grow();
     let second = Order {
         member: 2,
         token: *b"T2",

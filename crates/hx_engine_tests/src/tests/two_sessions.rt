@@ -131,6 +131,7 @@ fn expect_client<V: Venue, R: Abort>(
     assert!(rt; outcome.reply == Some(want));
     let early = outcome.early.ok_or("another message")?;
     let late = read_all(log, &mut client.reader).ok_or("another message")?;
+    assert_eq!(rt; client.pass.sent().len(), 1);
     assert!(rt; early <= 1);
     assert!(rt; late == 1 - early);
     Ok(())
