@@ -22,7 +22,8 @@ abbrev pub AreRecorded : Setup → List Event → Type 0
 AreRecorded setup events = AreAccepted setup (opening setup) events
 
 -- those before the event at this index are recorded, and it is refused at its turn, for this reason
-pub record IsRefusedAt (setup : Setup) (events : List Event) (index : ℕ) (error : PrepareError) : Type 0 where
+pub record IsRefusedAt (setup : Setup) (events : List Event) (index : ℕ)
+    (error : PrepareError) : Type 0 where
   pub before : List Event
   pub event : Event
   pub after : List Event

@@ -46,9 +46,12 @@ fn take_and_list(
     requires listed { listing.old.uses.entries ≡ uses_of market.old.market.tokens member }
     requires grouped { listing.old.chains.entries ≡ grouped listing.old.uses.entries }
     ensures setup { market.new.setup ≡ market.old.setup }
-    ensures passes { OnOk result (refusal market.old.setup market.old.market.recorded event.now ≡ None) }
-    ensures market { OnOk result (market.new.market ≡ (step market.old.setup market.old.market event.now).market) }
-    ensures listed { OnOk result (listing.new.uses.entries ≡ uses_of market.new.market.tokens member) }
+    ensures passes { OnOk result
+        (refusal market.old.setup market.old.market.recorded event.now ≡ None) }
+    ensures market { OnOk result
+        (market.new.market ≡ (step market.old.setup market.old.market event.now).market) }
+    ensures listed { OnOk result
+        (listing.new.uses.entries ≡ uses_of market.new.market.tokens member) }
     ensures grouped { OnOk result (listing.new.chains.entries ≡ grouped listing.new.uses.entries) }
     ensures refused { IfErr result (IsErrorAt index
         (refusal market.old.setup market.old.market.recorded event.now)) }
@@ -118,8 +121,10 @@ pub fn chains(
     member: MemberNo,
 ) -> Result<Vec<Chain>, StrikeError>
     ensures recorded { OnOk result (AreRecorded setup.now events.now) }
-    ensures chains { IfOk result (λ chains. chains.items ≡ chains_of (run setup.now events.now) member) }
-    ensures stranger { IfOk result (λ chains. member_of setup.now member ≡ None → chains.items ≡ []) }
+    ensures chains { IfOk result (λ chains.
+        chains.items ≡ chains_of (run setup.now events.now) member) }
+    ensures stranger { IfOk result (λ chains.
+        member_of setup.now member ≡ None → chains.items ≡ []) }
     ensures refused { IfErr result (Explains setup.now events.now) }
 {
     let mut market = open(alloc, setup)?;

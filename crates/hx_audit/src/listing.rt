@@ -115,7 +115,8 @@ impl Listing {
     pub(crate) fn add(&mut self, token: Token, entered: Token) -> Result<(), NoMemory>
         requires unlisted { lookup (is_token token) self.old.uses.entries ≡ None }
         requires grouped { self.old.chains.entries ≡ grouped self.old.uses.entries }
-        ensures uses { OnOk result (self.new.uses.entries ≡ self.old.uses.entries ++ use_of token entered ∷ []) }
+        ensures uses { OnOk result
+            (self.new.uses.entries ≡ self.old.uses.entries ++ use_of token entered ∷ []) }
         ensures grouped { OnOk result (self.new.chains.entries ≡ grouped self.new.uses.entries) }
     {
         self.uses.insert(token, entered)?;

@@ -37,8 +37,10 @@ pub(crate) fn take_event(
     event: &Event,
 ) -> Result<(), StrikeError>
     ensures setup { market.new.setup ≡ market.old.setup }
-    ensures passes { OnOk result (refusal market.old.setup market.old.market.recorded event.now ≡ None) }
-    ensures market { OnOk result (market.new.market ≡ (step market.old.setup market.old.market event.now).market) }
+    ensures passes { OnOk result
+        (refusal market.old.setup market.old.market.recorded event.now ≡ None) }
+    ensures market { OnOk result
+        (market.new.market ≡ (step market.old.setup market.old.market event.now).market) }
     ensures refused { IfErr result (λ e.
         e ≡ error_at index (or_no_memory
         (refusal market.old.setup market.old.market.recorded event.now))) }

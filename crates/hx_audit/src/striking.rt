@@ -70,7 +70,8 @@ fn keep(
     events: &[Event],
 ) -> Result<Vec<Event>, NoMemory>
     requires { FactsTell market.now.market.chains }
-    ensures { IfOk result (λ kept. kept.items ≡ strike (quiet_of_one member market.now.market) events.now) }
+    ensures { IfOk result (λ kept.
+        kept.items ≡ strike (quiet_of_one member market.now.market) events.now) }
 {
     let mut kept = Vec::new(alloc);
     for event in events {
@@ -94,7 +95,8 @@ pub fn strike(
 ) -> Result<Vec<Event>, StrikeError>
     ensures recorded { OnOk result (AreRecorded setup.now events.now) }
     ensures struck { IfOk result (λ kept. kept.items ≡ strike_one setup.now member events.now) }
-    ensures stranger { IfOk result (λ kept. member_of setup.now member ≡ None → kept.items ≡ events.now) }
+    ensures stranger { IfOk result (λ kept.
+        member_of setup.now member ≡ None → kept.items ≡ events.now) }
     ensures refused { IfErr result (Explains setup.now events.now) }
 {
     let market = replay(alloc, setup, events)?;

@@ -20,7 +20,10 @@ fn stage_all(writer: &mut Writer<Entry>, log: &Log<Entry>, messages: &[Feed])
     requires log { writer.old.log ≡ log.now }
     requires room { messages_in writer.old + length messages.now ≤ room_of log.now }
     requires times { AllByRecursion (λ f. feed_time f < 2 ^ 48) messages.now }
-    ensures { writer.new ≡ record writer.old { staged = writer.old.staged ++ feed_spelled messages.now } }
+    ensures { writer.new ≡ record writer.old {
+      staged = writer.old.staged
+          ++ feed_spelled messages.now;
+    } }
 {
     for message in messages {
         if writer.stage(log, &encode(message)).is_err() {
@@ -44,14 +47,18 @@ pub(crate) fn commit_entry(
     requires event { prepared.event ≡ entry.event }
     requires log { writer.old.log ≡ log.now }
     requires staged { writer.old.staged ≡ [] }
-    requires slots { messages_in writer.old + length (outcome_at market.old entry.event).told.feed ≤ room_of log.now }
+    requires slots { messages_in writer.old + length
+        (outcome_at market.old entry.event).told.feed ≤ room_of log.now }
     requires place { vec_len history.old < vec_capacity history.old }
-    requires rows { HasRoomFor rows.old.spare (members_of (outcome_at market.old entry.event).told.replies) }
+    requires rows { HasRoomFor rows.old.spare
+        (members_of (outcome_at market.old entry.event).told.replies) }
     ensures market { market.new.market ≡ (outcome_at market.old entry.event).market }
     ensures setup { market.new.setup ≡ market.old.setup }
-    ensures writer { writer.new ≡ with_published writer.old entry (outcome_at market.old entry.event).told.feed }
+    ensures writer { writer.new
+        ≡ with_published writer.old entry (outcome_at market.old entry.event).told.feed }
     ensures history { history.new.items ≡ history.old.items ++ entry ∷ [] }
-    ensures rows { rows.new.rows ≡ with_replies rows.old.rows (outcome_at market.old entry.event).told.replies }
+    ensures rows { rows.new.rows
+        ≡ with_replies rows.old.rows (outcome_at market.old entry.event).told.replies }
 {
     let output = market.commit(prepared);
     stage_all(writer, log, &output.feed);

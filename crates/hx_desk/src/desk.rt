@@ -153,7 +153,8 @@ impl Desk {
         member: MemberNo,
         from: u64,
     ) -> Result<Vec<ArrayVec<u8, 80>>, NoMemory>
-        ensures replies { IfOk result (λ rows. AreRepliesAt self.now member (from_number from) (texts rows.items)) }
+        ensures replies { IfOk result (λ rows.
+            AreRepliesAt self.now member (from_number from) (texts rows.items)) }
         ensures few { length (row_of self.now.rows member) < 2 ^ 63 }
         ensures range { member < 4096 }
     {
@@ -167,7 +168,8 @@ impl Desk {
         from: u64,
         most: u64,
     ) -> Result<Vec<ArrayVec<u8, 80>>, NoMemory>
-        ensures replies { IfOk result (λ rows. AreRepliesAt self.now member (page from most) (texts rows.items)) }
+        ensures replies { IfOk result (λ rows.
+            AreRepliesAt self.now member (page from most) (texts rows.items)) }
         ensures few { length (row_of self.now.rows member) < 2 ^ 63 }
         ensures range { member < 4096 }
     {

@@ -71,7 +71,8 @@ fn add_all(rows: &mut Vec<Row>, replies: &[(MemberNo, Outbound)])
     requires sized { length rows.old.items ≡ row_count }
     requires room { HasRoomFor (map row_spare rows.old.items) (members_of replies.now) }
     ensures sized { length rows.new.items ≡ row_count }
-    ensures rows { map row_texts rows.new.items ≡ with_replies (map row_texts rows.old.items) replies.now }
+    ensures rows { map row_texts rows.new.items
+        ≡ with_replies (map row_texts rows.old.items) replies.now }
 {
     for (member, reply) in replies {
         let row = &mut rows[member.get() as usize];
@@ -130,7 +131,8 @@ impl Rows {
 
     /// The replies to a member from this number on, which count from 1; 0 is read as 1.
     pub fn from(&self, member: MemberNo, from: u64) -> Result<Vec<ArrayVec<u8, 80>>, NoMemory>
-        ensures replies { IfOk result (λ rows. texts rows.items ≡ from_number from (row_of self.now.rows member)) }
+        ensures replies { IfOk result (λ rows.
+            texts rows.items ≡ from_number from (row_of self.now.rows member)) }
         ensures few { length (row_of self.now.rows member) < 2 ^ 63 }
         ensures range { member < 4096 }
     {
@@ -148,7 +150,8 @@ impl Rows {
         from: u64,
         most: u64,
     ) -> Result<Vec<ArrayVec<u8, 80>>, NoMemory>
-        ensures replies { IfOk result (λ rows. texts rows.items ≡ page from most (row_of self.now.rows member)) }
+        ensures replies { IfOk result (λ rows.
+            texts rows.items ≡ page from most (row_of self.now.rows member)) }
         ensures few { length (row_of self.now.rows member) < 2 ^ 63 }
         ensures range { member < 4096 }
     {

@@ -153,7 +153,8 @@ impl<V: Venue> Exchange<V> {
         pass: &mut Pass<V>,
     ) -> Result<Audit, NoMemory>
         requires { reader.old.log ≡ V.log }
-        ensures ok { IfOk result (λ audit. IsAudit V.setup audit.history.items reader.new pass.new) }
+        ensures ok { IfOk result (λ audit.
+            IsAudit V.setup audit.history.items reader.new pass.new) }
         ensures reader { CatchesUp reader.old reader.new }
         ensures pass { LearnsMore pass.old pass.new }
     {

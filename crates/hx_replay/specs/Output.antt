@@ -2,6 +2,7 @@
 use Rattle.std.specs.Prelude.{ℕ, ◌+◌, List, [], ◌∷◌, ◌++◌, length, slice_index, codes}
 use Rattle.std.specs.Fmt.{decimal}
 use Rattle.hex.specs.Hex.{encode_lower}
+use Rattle.hx_units.specs.Letters.{space, line_feed}
 use Rattle.hx_itch.specs.declared.message.Feed.{Feed}
 use Rattle.hx_itch.specs.Message.{feed_bytes}
 use Rattle.hx_ouch.specs.declared.outbound.Outbound.{Outbound}
@@ -12,13 +13,13 @@ use Rattle.hx_market.specs.Outputs.{Reply, Told}
 -- message n of the feed
 abbrev pub feed_line : ℕ → Feed → List ℕ
 feed_line n message =
-    codes "F " ++ (decimal n ++ (32 ∷ (encode_lower (feed_bytes message) ++ 10 ∷ [])))
+    codes "F " ++ (decimal n ++ (space ∷ (encode_lower (feed_bytes message) ++ line_feed ∷ [])))
 
 -- reply n to a member
-abbrev pub reply_line : ℕ → ℕ → Outbound → List ℕ
+abbrev pub reply_line : (member n : ℕ) → Outbound → List ℕ
 reply_line member n reply =
     codes "M " ++ (decimal member
-    ++ (32 ∷ (decimal n ++ (32 ∷ (encode_lower (outbound_bytes reply) ++ 10 ∷ [])))))
+    ++ (space ∷ (decimal n ++ (space ∷ (encode_lower (outbound_bytes reply) ++ line_feed ∷ [])))))
 
 -- messages of the feed, after n others
 abbrev pub feed_lines : ℕ → List Feed → List ℕ

@@ -3,6 +3,8 @@ use Rattle.std.specs.Prelude.{◌≡◌, ◌≢◌, ◌⊎◌, ℕ, ◌+◌, ◌
 use Rattle.std.specs.List.{flat_map}
 use Rattle.std.specs.Option.{option_map_or}
 use Rattle.std.specs.Io.KnownBytes.{Appends}
+use Rattle.hx_units.specs.Limits.{member_numbers}
+use Rattle.hx_units.specs.Letters.{line_feed}
 use Rattle.hx_members.specs.Setups.{Setup}
 use Rattle.hx_rules.specs.declared.event.Event.{Event}
 use Rattle.hx_rules.specs.declared.event.Event.TheVariants as event
@@ -19,7 +21,7 @@ use Rattle.hx_replay.specs.declared.fault.TapeError.{TapeError}
 use Rattle.hx_replay.specs.declared.fault.TapeError.TheVariants as fault
 use Rattle.hx_replay.specs.declared.run.Counts.{Counts}
 use Rattle.hx_text.specs.Cuts.{Lacks}
-use Rattle.hx_replay.specs.Text.{Entry, IsEntry, line}
+use Rattle.hx_replay.specs.Text.{Entry, IsEntry, line, longest_line}
 use Rattle.hx_replay.specs.Output.{feed_lines, reply_lines, counts_after}
 
 -- ---- one event
@@ -45,7 +47,7 @@ start setup =
       events = 0;
       feed = 0;
       replies = 0;
-      counts = replicate 4096 0;
+      counts = replicate member_numbers 0;
     }
 
 -- the operator has number 0
@@ -144,7 +146,7 @@ Faults p text fault.Turns = ⊥
 
 -- the text of events
 abbrev pub tape : List Entry → List ℕ
-tape events = flat_map (λ e. line e ++ 10 ∷ []) events
+tape events = flat_map (λ e. line e ++ line_feed ∷ []) events
 
 abbrev pub after_all : Progress → List Entry → Progress
 after_all p [] = p
@@ -170,7 +172,8 @@ pub record Writes (old new : Option (List ℕ)) (bytes rest : List ℕ) : Type 0
   pub wrote : Appends old new front
 
 -- the text is that of events and a rest, and the output text of the events was written
-pub record Replays (old new : Progress) (text : List ℕ) (w v : Option (List ℕ)) (rest : List ℕ) : Type 0 where
+pub record Replays (old new : Progress) (text : List ℕ) (w v : Option (List ℕ))
+    (rest : List ℕ) : Type 0 where
   pub events : List Entry
   pub are_events : AreEvents old events
   pub text_is : text ≡ tape events ++ rest
@@ -181,9 +184,10 @@ pub record Replays (old new : Progress) (text : List ℕ) (w v : Option (List �
 -- line feed, or where nothing follows the last bytes without one.
 abbrev pub BeginsBadly : Type 0 → Progress → Kind → List ℕ → Type 0
 BeginsBadly End p k rest =
-    ((bad : List ℕ) × (more : List ℕ) × (rest ≡ bad ++ 10 ∷ more) × Lacks 10 bad
+    ((bad : List ℕ) × (more : List ℕ) × (rest ≡ bad ++ line_feed ∷ more) × Lacks line_feed bad
     × FailsAs p k bad)
-    ⊎ ((k ≡ kind.Bad) × Lacks 10 rest × ((2066 < length rest) ⊎ ((0 < length rest) × End)))
+    ⊎ ((k ≡ kind.Bad) × Lacks line_feed rest
+    × ((longest_line < length rest) ⊎ ((0 < length rest) × End)))
 
 -- where and why a replay ended: after these events, with these bytes read behind them and these written
 abbrev pub EndsBy : Type 0 → Progress → List Entry → List ℕ → List ℕ → TapeError → Type 0
@@ -192,10 +196,12 @@ EndsBy End p events rest written (fault.Line n k) =
     × BeginsBadly End (after_all p events) k rest
 EndsBy End p events rest written fault.NoMemory = IsFront written (output_all p events)
 EndsBy End p events rest written fault.Write = IsFront written (output_all p events)
-EndsBy End p events rest written fault.Read = (written ≡ output_all p events) × Lacks 10 rest
-EndsBy End p events rest written fault.Turns = (written ≡ output_all p events) × Lacks 10 rest
+EndsBy End p events rest written fault.Read = (written ≡ output_all p events) × Lacks line_feed rest
+EndsBy End p events rest written fault.Turns = (written ≡ output_all p events)
+    × Lacks line_feed rest
 
-pub record Stops (End : Type 0) (p : Progress) (text : List ℕ) (w v : Option (List ℕ)) (e : TapeError) : Type 0 where
+pub record Stops (End : Type 0) (p : Progress) (text : List ℕ) (w v : Option (List ℕ))
+    (e : TapeError) : Type 0 where
   pub events : List Entry
   pub are_events : AreEvents p events
   pub rest : List ℕ
@@ -217,5 +223,5 @@ pub record IsFew (p : Progress) : Type 0 where
   pub members : length p.setup.members ≤ 4095
   pub feed : p.feed + length p.market.live ≤ 1004 * p.events
   pub replies : p.replies + 2 * length p.market.live ≤ 4101 * p.events
-  pub numbered : length p.counts ≡ 4096
+  pub numbered : length p.counts ≡ member_numbers
   pub each : (member : ℕ) → slice_index p.counts member ≤ p.replies

@@ -1,6 +1,7 @@
 -- The lines of output, and those that do not go to a member.
 use Rattle.std.specs.Prelude.{◌≡◌, ℕ, ◌+◌, ◌==◌, Bool, true, false, not, List, [], ◌∷◌, ◌++◌, map, replicate, slice_index}
 use Rattle.std.specs.List.{filter}
+use Rattle.hx_units.specs.Limits.{member_numbers}
 use Rattle.hx_itch.specs.declared.message.Feed.{Feed}
 use Rattle.hx_ouch.specs.declared.outbound.Outbound.{Outbound}
 use Rattle.hx_members.specs.Setups.{Setup}
@@ -37,7 +38,7 @@ numbered n counts (ToMember member reply ∷ lines) =
 -- all output lines of a history
 unfoldable pub output_lines : Setup → List Event → List Numbered
 output_lines setup events =
-    numbered 0 (replicate 4096 0) (lines_of_all (λ member. true) (told setup events))
+    numbered 0 (replicate member_numbers 0) (lines_of_all (λ member. true) (told setup events))
 
 -- a reply to the member
 abbrev pub is_to : ℕ → Numbered → Bool

@@ -2,6 +2,7 @@
 use Rattle.std.specs.Prelude.{◌≡◌, ◌≢◌, ◌⊎◌, ℕ, ◌+◌, ◌<◌, Bool, true, false, not, List, [], ◌∷◌, ◌++◌, map, length, Option}
 use Rattle.std.specs.List.{AllByRecursion, filter}
 use Rattle.std.specs.Io.KnownBytes.{Consumes, Appends, IsAtEnd}
+use Rattle.hx_units.specs.Letters.{line_feed}
 use Rattle.hx_members.specs.Setups.{Setup}
 use Rattle.hx_rules.specs.declared.event.Event.{Event}
 use Rattle.hx_rules.specs.declared.event.Event.TheVariants.{Message, Tick, Hours}
@@ -51,8 +52,9 @@ IsNoLine text =
 -- it begins with a line of no event, or it is the beginning of a line
 abbrev pub BreaksOff : List ℕ → Type 0
 BreaksOff rest =
-    ((bad : List ℕ) × (more : List ℕ) × (rest ≡ bad ++ 10 ∷ more) × Lacks 10 bad × IsNoLine bad)
-    ⊎ (Lacks 10 rest × (0 < length rest))
+    ((bad : List ℕ) × (more : List ℕ) × (rest ≡ bad ++ line_feed ∷ more) × Lacks line_feed bad
+    × IsNoLine bad)
+    ⊎ (Lacks line_feed rest × (0 < length rest))
 
 -- the text is the lines of these events, and a rest
 pub record Collects (text : List ℕ) (events : List Event) (rest : List ℕ) : Type 0 where
@@ -106,7 +108,8 @@ abbrev pub counts_of_lines : ℕ → Counts
 counts_of_lines lines = record { events = lines; feed = 0; replies = 0 }
 
 -- all that was read is a tape, and its lines that stay were written as they were read
-pub record StrikesAll (setup : Setup) (m : ℕ) (counts : Counts) (r s w v : Option (List ℕ)) : Type 0 where
+pub record StrikesAll (setup : Setup) (m : ℕ) (counts : Counts)
+    (r s w v : Option (List ℕ)) : Type 0 where
   pub events : List Entry
   pub are_events : AreEvents (start setup) events
   pub read : Consumes r s (tape events)

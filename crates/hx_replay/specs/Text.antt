@@ -2,6 +2,7 @@
 use Rattle.std.specs.Prelude.{◌≡◌, ℕ, ◌^◌, ◌<◌, ◌≤◌, List, ◌∷◌, ◌++◌, length}
 use Rattle.std.specs.Fmt.{decimal}
 use Rattle.hex.specs.Hex.{encode_lower, IsBytes}
+use Rattle.hx_units.specs.Letters.{space}
 use Rattle.hx_replay.specs.declared.line.Fields.{Fields}
 
 -- what a line says: the time, the member's number and the bytes of his message
@@ -23,12 +24,16 @@ pub record IsEntry (e : Entry) : Type 0 where
 
 -- its one line, without the line feed
 abbrev pub line : Entry → List ℕ
-line e = decimal e.time ++ 32 ∷ (decimal e.member ++ 32 ∷ encode_lower e.bytes)
+line e = decimal e.time ++ space ∷ (decimal e.member ++ space ∷ encode_lower e.bytes)
 
 -- the text is a time, a member's number, and up to 2,046 digits
 pub record HasParts (text : List ℕ) (t m : ℕ) (digits : List ℕ) : Type 0 where
-  pub text_is : text ≡ decimal t ++ 32 ∷ (decimal m ++ 32 ∷ digits)
+  pub text_is : text ≡ decimal t ++ space ∷ (decimal m ++ space ∷ digits)
   pub time : t < 10 ^ 14
   pub member : m < 10 ^ 4
   pub some : 0 < length digits
   pub few : length digits ≤ 2046
+
+-- the bytes of the longest line: 14 digits, 4, and those of 1,023 bytes, with a space behind each number
+abbrev pub longest_line : ℕ
+longest_line = 2066

@@ -20,7 +20,8 @@ pub fn write_bytes(text: &mut Vec<u8>, bytes: &[u8]) -> Result<(), AllocError>
 
 /// The bytes of a text of such digits.
 pub fn read_bytes(alloc: Global, text: &[u8]) -> Result<Option<Vec<u8>>, AllocError>
-    ensures some { IfOk result (λ o. IfSome o (λ v. (text.now ≡ encode_lower v.items) × IsBytes v.items)) }
+    ensures some { IfOk result (λ o. IfSome o (λ v.
+        (text.now ≡ encode_lower v.items) × IsBytes v.items)) }
     ensures none { IfOk result (λ o.
         IfNone o ((bytes : List ℕ) → IsBytes bytes → text.now ≢ encode_lower bytes)) }
 {
@@ -38,7 +39,8 @@ pub fn read_bytes(alloc: Global, text: &[u8]) -> Result<Option<Vec<u8>>, AllocEr
 fn read_into(text: &[u8], bytes: &mut [u8]) -> bool
     requires { length text.now ≡ 2 * length bytes.old }
     ensures all { result ≡ true → text.now ≡ encode_lower bytes.new }
-    ensures none { result ≡ false → (others : List ℕ) → IsBytes others → text.now ≢ encode_lower others }
+    ensures none { result ≡ false → (others : List ℕ) → IsBytes others
+        → text.now ≢ encode_lower others }
     ensures are_bytes { IsBytes bytes.new }
 {
     for i in 0..bytes.len() {

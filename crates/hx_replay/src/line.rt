@@ -25,7 +25,8 @@ struct Parts<'a> {
 
 /// The event of a line, where it is the event's one line.
 pub fn read(alloc: Global, text: &[u8]) -> Result<Option<Fields>, AllocError>
-    ensures found { IfOk result (λ o. IfSome o (λ e. (text.now ≡ line (entry_of e)) × IsEntry (entry_of e))) }
+    ensures found { IfOk result (λ o. IfSome o (λ e.
+        (text.now ≡ line (entry_of e)) × IsEntry (entry_of e))) }
     ensures only { IfOk result (λ o. IfNone o ((e : Entry) → IsEntry e → text.now ≢ line e)) }
 {
     let Some(parts) = parts_of(text) else {

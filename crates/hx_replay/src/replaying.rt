@@ -49,9 +49,11 @@ fn play_lines<'a, B: Book + Drop, W: Write>(
 ) -> Result<&'a [u8], TapeError>
     requires events { run.old.events + length text.now < 2 ^ 48 }
     requires few { IsFew run.old }
-    ensures ok { IfOk result (λ rest. Replays run.old run.new text.now (W.contents writer.old) (W.contents writer.new) rest.now
+    ensures ok { IfOk result (λ rest.
+        Replays run.old run.new text.now (W.contents writer.old) (W.contents writer.new) rest.now
         × Lacks 10 rest.now) }
-    ensures err { IfErr result (Stops ⊥ run.old text.now (W.contents writer.old) (W.contents writer.new)) }
+    ensures err { IfErr result
+        (Stops ⊥ run.old text.now (W.contents writer.old) (W.contents writer.new)) }
 {
     let mut output = Vec::new(alloc);
     let mut rest = text;
@@ -129,9 +131,11 @@ fn play_piece<B: Book + Drop, W: Write>(
 ) -> Result<(), TapeError>
     requires events { run.old.events + length (pending.old.items ++ piece.now) < 2 ^ 48 }
     requires few { IsFew run.old }
-    ensures ok { OnOk result (Replays run.old run.new (pending.old.items ++ piece.now) (W.contents writer.old) (W.contents writer.new)
+    ensures ok { OnOk result (Replays run.old run.new (pending.old.items ++ piece.now)
+        (W.contents writer.old) (W.contents writer.new)
         pending.new.items × Lacks 10 pending.new.items × (length pending.new.items ≤ 2066)) }
-    ensures err { IfErr result (Stops ⊥ run.old (pending.old.items ++ piece.now) (W.contents writer.old)
+    ensures err { IfErr result
+        (Stops ⊥ run.old (pending.old.items ++ piece.now) (W.contents writer.old)
         (W.contents writer.new)) }
 {
     pending.extend_from_slice(piece)?;

@@ -58,7 +58,14 @@ impl<B: Book> Model for Run<B> {
 
     ghost Value = { Progress };
 
-    ghost view = { λ r. record { setup = r.market.setup; market = r.market.market; events = r.counts.events; feed = r.counts.feed; replies = r.counts.replies; counts = r.replies.items } };
+    ghost view = { λ r. record {
+      setup = r.market.setup;
+      market = r.market.market;
+      events = r.counts.events;
+      feed = r.counts.feed;
+      replies = r.counts.replies;
+      counts = r.replies.items;
+    } };
 }
 
 // Appends the line of message n of the feed.
@@ -115,7 +122,8 @@ fn write_replies(
 ) -> Result<(), AllocError>
     requires numbered { length counts.old ≡ 4096 }
     requires room { (member : ℕ) → slice_index counts.old member + length replies.now < 2 ^ 64 }
-    ensures lines { OnOk result (text.new.items ≡ text.old.items ++ reply_lines counts.old replies.now) }
+    ensures lines { OnOk result
+        (text.new.items ≡ text.old.items ++ reply_lines counts.old replies.now) }
     ensures counts { OnOk result (counts.new ≡ counts_after counts.old replies.now) }
 {
     for (member, reply) in replies {
@@ -212,7 +220,8 @@ impl<B: Book + Drop> Run<B> {
     // One step of the market.
     fn step(&mut self, event: Event) -> Result<Output, TapeError>
         requires { self.old.events < 2 ^ 48 }
-        ensures passes { OnOk result (refusal self.old.setup self.old.market.recorded event ≡ None) }
+        ensures passes { OnOk result
+            (refusal self.old.setup self.old.market.recorded event ≡ None) }
         ensures run { OnOk result (
             self.new ≡ with_market self.old (step self.old.setup self.old.market event).market) }
         ensures feed { IfOk result (λ output.
@@ -233,7 +242,8 @@ impl<B: Book + Drop> Run<B> {
 
     // Counts what a step gave, and leaves its output lines in `lines`.
     fn tell(&mut self, output: &Output, lines: &mut Vec<u8>) -> Result<(), AllocError>
-        requires times { AllByRecursion (λ message. feed_time message < 2 ^ 48) output.now.feed.items }
+        requires times { AllByRecursion (λ message.
+            feed_time message < 2 ^ 48) output.now.feed.items }
         requires events { self.old.events < 2 ^ 48 }
         requires feed { self.old.feed + length output.now.feed.items < 2 ^ 64 }
         requires replies { self.old.replies + length output.now.replies.items < 2 ^ 64 }

@@ -21,7 +21,8 @@ use std::io::{ErrorKind, Read, Write};
 
 // All that the reader gives, to its end.
 fn read_all<R: Read>(alloc: Global, reader: &mut R) -> Result<Vec<u8>, TapeError>
-    ensures read { IfOk result (λ text. Consumes (R.remaining reader.old) (R.remaining reader.new) text.items) }
+    ensures read { IfOk result (λ text.
+        Consumes (R.remaining reader.old) (R.remaining reader.new) text.items) }
     ensures at_end { OnOk result (IsAtEnd (R.remaining reader.new)) }
     ensures fault { IfErr result IsOfReading }
     ensures some { OnErr result (ReadsSome (R.remaining reader.old) (R.remaining reader.new)) }

@@ -124,7 +124,7 @@ fn expect_day<R: AllocGlobal + Abort>(rt: &R, day: &Day) -> Result<(), Fail> {
     expect_output(rt, day, replayed_on_list(rt.alloc(), &day.tape))
 }
 
-// The setup of a day that begins closed.
+// A day that begins closed.
 const CLOSED: &[u8] = b"session HX00000002
 start closed
 stock ABCD 5120000000644e435a20502020314e000000004e
@@ -132,18 +132,26 @@ member 1 FMA1 ALPHA PWALPHA 1000
 member 2 FMB2 BRAVO PWBRAVO 1000
 ";
 
-// That setup, of which callers know nothing.
-fn closed(alloc: Global) -> Result<Setup, TapeError> {
-    match Setup::read(alloc, CLOSED) {
+// A member who may send two messages.
+const TWO_MESSAGES: &[u8] = b"session HX00000003
+start open
+stock ABCD 5120000000644e435a20502020314e000000004e
+member 1 FMA1 ALPHA PWALPHA 2
+member 2 FMB2 BRAVO PWBRAVO 1000
+";
+
+// The setup of a text, of which callers know nothing.
+fn setup_of(alloc: Global, text: &[u8]) -> Result<Setup, TapeError> {
+    match Setup::read(alloc, text) {
         Ok(setup) => Ok(setup),
         Err(SetupError::NoMemory) => Err(TapeError::NoMemory),
         Err(SetupError::Bad { .. }) => Err(TapeError::Read),
     }
 }
 
-// A day that begins closed, over price levels.
-fn replayed_closed(alloc: Global, text: &[u8]) -> Result<Replayed, TapeError> {
-    let setup = closed(alloc)?;
+// A day by this setup, over price levels.
+fn replayed_by(alloc: Global, setup: &[u8], text: &[u8]) -> Result<Replayed, TapeError> {
+    let setup = setup_of(alloc, setup)?;
     let mut output = Vec::new(alloc);
     let mut reader = text;
     let result = replay(alloc, &setup, &mut reader, &mut output);
@@ -151,31 +159,42 @@ fn replayed_closed(alloc: Global, text: &[u8]) -> Result<Replayed, TapeError> {
 }
 
 // The same over a plain list of orders.
-fn replayed_closed_on_list(alloc: Global, text: &[u8]) -> Result<Replayed, TapeError> {
-    let setup = closed(alloc)?;
+fn replayed_by_on_list(alloc: Global, setup: &[u8], text: &[u8]) -> Result<Replayed, TapeError> {
+    let setup = setup_of(alloc, setup)?;
     let mut output = Vec::new(alloc);
     let mut reader = text;
-    let result = replay_on(
-        alloc,
-        &setup,
-        ListBook::new(alloc),
-        &mut reader,
-        &mut output,
-    );
+    let book = ListBook::new(alloc);
+    let result = replay_on(alloc, &setup, book, &mut reader, &mut output);
     Ok((output, result))
 }
 
 // A day that begins closed, over price levels, and over a plain list of orders.
 fn expect_closed_day<R: AllocGlobal + Abort>(rt: &R, words: &str) -> Result<(), Fail> {
     let day = Day::of(rt.alloc(), words)?;
-    expect_output(rt, &day, replayed_closed(rt.alloc(), &day.tape)?)?;
-    expect_output(rt, &day, replayed_closed_on_list(rt.alloc(), &day.tape)?)
+    expect_output(rt, &day, replayed_by(rt.alloc(), CLOSED, &day.tape)?)?;
+    expect_output(
+        rt,
+        &day,
+        replayed_by_on_list(rt.alloc(), CLOSED, &day.tape)?,
+    )
 }
 
 #[test]
 fn days_that_begin_closed(rt: HostRuntime) -> Result<(), Fail> {
     for words in [worked::HOURS_OF_A_DAY, worked::AFTER_THE_MARKET_HOURS] {
         expect_closed_day(&rt, words)?;
+    }
+    Ok(())
+}
+
+#[test]
+fn the_third_message_of_two(rt: HostRuntime) -> Result<(), Fail> {
+    let day = Day::of(rt.alloc(), worked::LIMIT_OF_TWO_MESSAGES)?;
+    let (output, result) = replayed_by(rt.alloc(), TWO_MESSAGES, &day.tape)?;
+    assert_eq!(rt; output.as_slice(), day.output.as_slice());
+    match result {
+        Err(TapeError::Line { line, kind }) => assert_eq!(rt; (line, kind), (3, Kind::Limit)),
+        _ => panic!(&rt; "the member may send two messages"),
     }
     Ok(())
 }

@@ -422,3 +422,12 @@ pub const TWO_END_AT_ONE_TICK: &str = "\
   M 2 3 canceled H1 60 timeout
   M 1 2 canceled T1 70 timeout
 ";
+
+/// A member who may send two messages: an unreadable one counts, and the third is refused.
+pub const LIMIT_OF_TWO_MESSAGES: &str = "\
+10 1 bytes 00
+20 1 enter T1 buy 100 ABCD 10.0000 day shown
+  F 1 add 1 buy 100 ABCD 10.0000
+  M 1 1 accepted 1
+30 1 cancel T1 0
+";
