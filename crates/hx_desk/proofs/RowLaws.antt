@@ -8,7 +8,8 @@ use Rattle.std.proofs.lemmas.List.{map-append, map-set}
 use Rattle.arrayvec.specs.ArrayVec.{ArrayVec}
 use Rattle.hx_ouch.specs.declared.outbound.Outbound.{Outbound}
 use Rattle.hx_ouch.specs.Outbound.{outbound_bytes}
-use Rattle.hx_desk.specs.Rows.{texts, row_texts, row_spare, row_of, with_reply, times, HasRoomFor}
+use Rattle.hx_units.specs.Fields.{texts}
+use Rattle.hx_desk.specs.Rows.{row_texts, row_spare, row_of, with_reply, times, HasRoomFor}
 
 -- a list in which an element was put in another's place, as far as a function of the elements goes
 pub same_set : {A B : Type 0} (f : A → B) (xs : List A) (i : ℕ) (x y : A) → i < length xs → x ≡ get_or xs i x → f y ≡ f x → map f (set xs i y) ≡ map f xs
@@ -92,23 +93,6 @@ room_next spare ms i m in' room = at (eqb (slice_index ms i) m) refl (next_time 
         → (times m (take (i + 1) ms) ≤ slice_index spare m) ⊎ (m ≡ slice_index ms i)
     at true e next = inr (sym (eqb-true (slice_index ms i) m e))
     at false e next = inl (omega arith)
-
--- Clones of messages have their bytes.
-
-bytes_same : (xs ys : List ℕ) → AllZip (λ x y. y ≡ x) xs ys → ys ≡ xs
-bytes_same [] [] h = refl
-bytes_same [] (y ∷ ys) h = absurd h
-bytes_same (x ∷ xs) [] h = absurd h
-bytes_same (x ∷ xs) (y ∷ ys) h = ap (λ (z : ℕ). z ∷ ys) h.0 ∙ ap (λ (zs : List ℕ). x ∷ zs) (bytes_same xs ys h.1)
-
-texts_same : (xs ys : List (ArrayVec ℕ)) → AllZip (λ v w. AllZip (λ x y. y ≡ x) v.items w.items) xs ys → texts ys ≡ texts xs
-texts_same [] [] h = refl
-texts_same [] (y ∷ ys) h = absurd h
-texts_same (x ∷ xs) [] h = absurd h
-texts_same (x ∷ xs) (y ∷ ys) h = ap (λ (z : List ℕ). z ∷ texts ys) (bytes_same x.items y.items h.0) ∙ ap (λ (zs : List (List ℕ)). x.items ∷ zs) (texts_same xs ys h.1)
-
-pub texts_appended : (old new more : List (ArrayVec ℕ)) → AppendsClones (λ v w. AllZip (λ x y. y ≡ x) v.items w.items) old new more → texts new ≡ texts old ++ texts more
-texts_appended old new more h = ap texts h.1 ∙ map-append (λ m. m.items) old h.0 ∙ ap (λ (x : List (List ℕ)). texts old ++ x) (texts_same more h.0 h.2)
 
 -- what lies behind a place, where that is beyond the end
 drop_min : {A : Type 0} (xs : List A) (n k : ℕ) → k ≡ min n (length xs) → drop k xs ≡ drop n xs

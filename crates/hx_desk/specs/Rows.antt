@@ -3,13 +3,10 @@ use Rattle.std.specs.Prelude.{◌≡◌, length, ℕ, ◌+◌, ◌-◌, ◌<◌,
 use Rattle.std.specs.Global.{Vec}
 use Rattle.std.specs.Vec.{vec_len, vec_capacity}
 use Rattle.arrayvec.specs.ArrayVec.{ArrayVec}
+use Rattle.hx_units.specs.Fields.{texts}
 use Rattle.hx_ouch.specs.declared.outbound.Outbound.{Outbound}
 use Rattle.hx_ouch.specs.Outbound.{outbound_bytes}
 use Rattle.hx_market.specs.Outputs.{Reply}
-
--- messages as their bytes
-abbrev pub texts : List (ArrayVec ℕ) → List (List ℕ)
-texts messages = map (λ m. m.items) messages
 
 -- the bytes of replies (OUCH 4.2, Outbound Messages)
 abbrev pub replies_spelled : List Outbound → List (List ℕ)

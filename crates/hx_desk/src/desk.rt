@@ -2,7 +2,8 @@
 ghost use Rattle.std.specs.Prelude.{◌≡◌, ◌<◌, ◌^◌, [], length, IfOk, IfErr, OnErr};
 ghost use mathlib.Core.List.{IsPrefix};
 ghost use Rattle.hx_blog.specs.Feed.{feed};
-ghost use Rattle.hx_desk.specs.Rows.{texts, row_of, from_number, page};
+ghost use Rattle.hx_units.specs.Fields.{texts};
+ghost use Rattle.hx_desk.specs.Rows.{row_of, from_number, page};
 ghost use Rattle.hx_desk.specs.Entries.{entry_of};
 ghost use Rattle.hx_desk.specs.Desks.{AreRepliesAt, IsStanding, TellsNoSecret, Grows, Faults, start_of, is_over};
 ghost use Rattle.hx_desk.specs.Known.{CatchesUp};

@@ -1,6 +1,7 @@
 //! The replies that were sent to each member.
 ghost use Rattle.std.specs.Prelude.{◌≡◌, ℕ, ◌<◌, ◌^◌, map, length, slice_index, IfOk, OnOk};
-ghost use Rattle.hx_desk.specs.Rows.{AreZeroAt, texts, row_texts, row_spare, row_of, row_count, no_rows, members_of, with_replies, HasRoomFor, from_number, page};
+ghost use Rattle.hx_units.specs.Fields.{texts};
+ghost use Rattle.hx_desk.specs.Rows.{AreZeroAt, row_texts, row_spare, row_of, row_count, no_rows, members_of, with_replies, HasRoomFor, from_number, page};
 
 use arrayvec::ArrayVec;
 use hx_ouch::{Outbound, encode_out};

@@ -4,6 +4,7 @@ use Rattle.std.specs.List.{AllByRecursion}
 use mathlib.Core.List.{IsPrefix}
 use Rattle.hx_blog.specs.Feed.{Entries, feed}
 use Rattle.hx_blog.specs.Ends.{ReaderState}
+use Rattle.hx_units.specs.Limits.{day}
 use Rattle.hx_members.specs.Setups.{Setup}
 use Rattle.hx_rules.specs.declared.event.Event.{Event}
 use Rattle.hx_market.specs.Refusals.{is_from_stranger}
@@ -32,10 +33,6 @@ pub record Sends (setup : Setup) (old new : PassState) (event : Event) (done : D
   pub above : AllByRecursion (λ x. x.0 < done.place) old.sent
   pub first : done.first ≡ length (feed (ledger setup before)) + 1
   pub count : done.count ≡ length (step setup (run setup (events_of before)) event).told.feed
-
--- the nanoseconds of a day
-abbrev pub day : ℕ
-day = 86400000000000
 
 -- a time that is not within the day
 abbrev pub is_bad_time : Event → Bool

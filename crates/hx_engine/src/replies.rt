@@ -1,6 +1,7 @@
 //! What an exchange tells of a member's replies, and of the end of the day.
 ghost use Rattle.std.specs.Prelude.{◌≡◌, IfOk};
-ghost use Rattle.hx_desk.specs.Rows.{texts, from_number, page};
+ghost use Rattle.hx_units.specs.Fields.{texts};
+ghost use Rattle.hx_desk.specs.Rows.{from_number, page};
 ghost use Rattle.hx_desk.specs.Known.{AreFew, CatchesUp, IsWhole};
 ghost use Rattle.hx_engine.specs.Exchanges.{AreKnownReplies, IsNews};
 

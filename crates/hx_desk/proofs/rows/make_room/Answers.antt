@@ -2,7 +2,8 @@ use Rattle.std.proofs.Common.{◌≡◌, ◌+◌, ◌<◌, ◌≤◌, inl, inr, 
 use Rattle.std.proofs.lemmas.Grind.{get_or_default_zero}
 use Rattle.std.proofs.lemmas.List.{get_or_read}
 use lib.ListN.{length-set}
-use Rattle.hx_desk.specs.Rows.{times, texts, row_texts, row_spare}
+use Rattle.hx_units.specs.Fields.{texts}
+use Rattle.hx_desk.specs.Rows.{times, row_texts, row_spare}
 use Rattle.hx_desk.proofs.RowLaws.{same_set, room_set, next_time, times_at_most, raised, room_next}
 use Rattle.hx_desk.proofs.rows.make_room.Goals as goal
 

@@ -1,6 +1,7 @@
 use Rattle.std.proofs.Common.{◌∙◌, ap, subst}
 use Rattle.std.proofs.lemmas.Result.{IfOk-weaker}
-use Rattle.hx_desk.specs.Rows.{Part, texts, from_number}
+use Rattle.hx_units.specs.Fields.{texts}
+use Rattle.hx_desk.specs.Rows.{Part, from_number}
 use Rattle.hx_desk.specs.Desks.{DeskState, AreRepliesAt}
 use Rattle.hx_desk.specs.Entries.{events_of}
 use Rattle.hx_desk.proofs.NoSecrets.{replies_without_trace}

@@ -1,7 +1,9 @@
 use Rattle.std.proofs.Common.{◌≡◌, ◌-◌, ◌++◌, length, map, min, take, drop, ap, sym, ◌∙◌, arith}
 use Rattle.std.proofs.lemmas.List.{drop-map}
-use Rattle.hx_desk.specs.Rows.{texts, row_of, row_texts, RoomyRows}
-use Rattle.hx_desk.proofs.RowLaws.{texts_appended, end_from, row_at}
+use Rattle.hx_units.specs.Fields.{texts}
+use Rattle.hx_desk.specs.Rows.{row_of, row_texts, RoomyRows}
+use Rattle.hx_units.proofs.Clones.{texts_appended}
+use Rattle.hx_desk.proofs.RowLaws.{end_from, row_at}
 use Rattle.hx_desk.proofs.rows.Rows.from.Goals as goal
 
 pub returns-clause-replies : goal.returns-clause-replies

@@ -2,7 +2,8 @@ use Rattle.std.proofs.Common.{◌≡◌, ◌∙◌, ◌<◌, ◌^◌, ap, sym, s
 use Rattle.std.proofs.lemmas.Result.{IfOk-weaker}
 use Rattle.hx_members.specs.Setups.{Setup}
 use Rattle.hx_desk.specs.declared.entry.Entry.{Entry}
-use Rattle.hx_desk.specs.Rows.{texts, from_number}
+use Rattle.hx_units.specs.Fields.{texts}
+use Rattle.hx_desk.specs.Rows.{from_number}
 use Rattle.hx_desk.specs.Entries.{events_of}
 use Rattle.hx_desk.specs.Secrecy.{AreRepliesWithoutTrace}
 use Rattle.hx_desk.specs.Desks.{DeskState}

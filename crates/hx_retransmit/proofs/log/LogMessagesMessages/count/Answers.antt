@@ -15,6 +15,6 @@ returns-clause-grows g c =
     rw (sym c.self.view_is) (
       drop before.seen (feed before.known) ++ more.0,
       sym
-      (sym (append_assoc (take before.seen (feed before.known)) (drop before.seen (feed before.known)) more.0)
-      ∙ (ap (λ l. l ++ more.0) (take-append-drop before.seen (feed before.known)) ∙ (more.1 ∙ sym all))),
+          (sym (append_assoc (take before.seen (feed before.known)) (drop before.seen (feed before.known)) more.0)
+          ∙ (ap (λ l. l ++ more.0) (take-append-drop before.seen (feed before.known)) ∙ (more.1 ∙ sym all))),
     )
