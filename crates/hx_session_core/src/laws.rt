@@ -1,8 +1,8 @@
 //! What holds of all turns.
 ghost use Rattle.std.specs.Prelude.{◌≡◌, ◌-◌, ◌<◌, ◌≤◌, List, ℕ, take, drop, false};
-ghost use Rattle.hx_sessions.specs.declared.delivery.Turn.{Turn};
-ghost use Rattle.hx_sessions.specs.Deliveries.{Delivery};
-ghost use Rattle.hx_sessions.specs.Runs.{Asked, Runs, BringsAll};
+ghost use Rattle.hx_session_core.specs.declared.delivery.Turn.{Turn};
+ghost use Rattle.hx_session_core.specs.Deliveries.{Delivery};
+ghost use Rattle.hx_session_core.specs.Runs.{Asked, Runs, BringsAll};
 
 /// The packets of a delivery are the replies from its first one on, each once and in order, as sequenced data,
 /// with heartbeats between them and one end of the session at most, which goes out only when the day has ended and

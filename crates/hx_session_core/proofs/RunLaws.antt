@@ -3,10 +3,10 @@ use Rattle.std.proofs.Common.{◌≡◌, ◌⊎◌, ℕ, suc, ◌+◌, ◌-◌, 
 use Rattle.std.specs.Prelude.{MatchBool}
 use Rattle.std.proofs.lemmas.List.{drop-drop}
 use Rattle.hx_soup.specs.Kinds.{sequenced_data, server_heartbeat, end_of_session}
-use Rattle.hx_sessions.specs.declared.delivery.Turn.{Turn}
-use Rattle.hx_sessions.specs.declared.delivery.Turn.TheVariants as turn
-use Rattle.hx_sessions.specs.Deliveries.{Delivery, IsFrame, Goes}
-use Rattle.hx_sessions.specs.Runs.{Asked, Runs, Brings, BringsAll}
+use Rattle.hx_session_core.specs.declared.delivery.Turn.{Turn}
+use Rattle.hx_session_core.specs.declared.delivery.Turn.TheVariants as turn
+use Rattle.hx_session_core.specs.Deliveries.{Delivery, IsFrame, Goes}
+use Rattle.hx_session_core.specs.Runs.{Asked, Runs, Brings, BringsAll}
 
 -- ---- one turn
 

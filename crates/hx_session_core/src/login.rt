@@ -1,6 +1,6 @@
 //! The answer to a login.
 ghost use Rattle.std.specs.Prelude.{◌≡◌, ◌-◌, ◌^◌, ◌<◌};
-ghost use Rattle.hx_sessions.specs.Starts.{is_present, first_reply, start_of};
+ghost use Rattle.hx_session_core.specs.Starts.{is_present, first_reply, start_of};
 
 use crate::opening::Start;
 use hx_members::Setup;

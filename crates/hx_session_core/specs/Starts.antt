@@ -4,7 +4,7 @@ use Rattle.hx_members.specs.Setups.{Setup, login_of}
 use Rattle.hx_text.specs.Spaces.{trimmed}
 use Rattle.hx_soup.specs.declared.login.LoginRequest.{LoginRequest}
 use Rattle.hx_soup.specs.Kinds.{not_authorized, session_not_available}
-use Rattle.hx_sessions.specs.declared.opening.Start.{Start}
+use Rattle.hx_session_core.specs.declared.opening.Start.{Start}
 
 -- Whether a session that is asked for is the present one: where it is blank, or the same without the spaces on
 -- both sides.

@@ -2,9 +2,9 @@
 use Rattle.std.specs.Prelude.{ℕ, ◌≡◌, ◌⊎◌, ◌-◌, List, [], ◌∷◌, ◌++◌, drop, Bool, true, false}
 use Rattle.hx_soup.specs.Kinds.{sequenced_data, server_heartbeat, end_of_session}
 use Rattle.hx_soup.specs.Packets.{framed}
-use Rattle.hx_sessions.specs.declared.delivery.Turn.{Turn}
-use Rattle.hx_sessions.specs.declared.delivery.Turn.TheVariants as turn
-use Rattle.hx_sessions.specs.Deliveries.{Delivery, TurnGives}
+use Rattle.hx_session_core.specs.declared.delivery.Turn.{Turn}
+use Rattle.hx_session_core.specs.declared.delivery.Turn.TheVariants as turn
+use Rattle.hx_session_core.specs.Deliveries.{Delivery, TurnGives}
 
 -- what one turn is asked with: the replies from the next one on, whether the day has ended, and the time
 pub record Asked : Type 0 where

@@ -4,8 +4,8 @@ use Rattle.std.specs.Prelude.{ℕ, ◌≡◌, ◌⊎◌, ◌+◌, List, [], ◌�
 use Rattle.hx_units.specs.Heartbeats.{is_due}
 use Rattle.hx_soup.specs.Kinds.{sequenced_data, server_heartbeat, end_of_session}
 use Rattle.hx_soup.specs.Packets.{framed}
-use Rattle.hx_sessions.specs.declared.delivery.Turn.{Turn}
-use Rattle.hx_sessions.specs.declared.delivery.Turn.TheVariants as turn
+use Rattle.hx_session_core.specs.declared.delivery.Turn.{Turn}
+use Rattle.hx_session_core.specs.declared.delivery.Turn.TheVariants as turn
 
 pub record Delivery : Type 0 where
   -- the number of the next reply

@@ -1,7 +1,7 @@
 //! Packets that come in.
 ghost use Rattle.std.specs.Prelude.{◌≡◌};
-ghost use Rattle.hx_sessions.specs.declared.intake.Intake.TheVariants.{Waiting};
-ghost use Rattle.hx_sessions.specs.Intakes.{Means, FirstMeans, later_action, after};
+ghost use Rattle.hx_session_core.specs.declared.intake.Intake.TheVariants.{Waiting};
+ghost use Rattle.hx_session_core.specs.Intakes.{Means, FirstMeans, later_action, after};
 
 use hx_soup::{LoginRequest, SoupPacket, decode_login};
 

@@ -4,10 +4,10 @@ use Rattle.hx_soup.specs.Kinds.{login_request, unsequenced_data, client_heartbea
 use Rattle.hx_soup.specs.Logins.{IsLogin}
 use Rattle.hx_soup.specs.declared.packet.SoupPacket.{SoupPacket}
 use Rattle.hx_soup.specs.declared.login.LoginRequest.{LoginRequest}
-use Rattle.hx_sessions.specs.declared.intake.Intake.{Intake}
-use Rattle.hx_sessions.specs.declared.intake.Intake.TheVariants as intake
-use Rattle.hx_sessions.specs.declared.intake.Action.{Action}
-use Rattle.hx_sessions.specs.declared.intake.Action.TheVariants as action
+use Rattle.hx_session_core.specs.declared.intake.Intake.{Intake}
+use Rattle.hx_session_core.specs.declared.intake.Intake.TheVariants as intake
+use Rattle.hx_session_core.specs.declared.intake.Action.{Action}
+use Rattle.hx_session_core.specs.declared.intake.Action.TheVariants as action
 
 -- The first packet is a login that can be read, or a fault.
 abbrev pub FirstMeans : SoupPacket → Action → Type 0

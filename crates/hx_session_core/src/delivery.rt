@@ -28,7 +28,7 @@ pub struct Delivery {
 }
 
 impl Model for Delivery {
-    ghost use Rattle.hx_sessions.specs.Deliveries.{Delivery};
+    ghost use Rattle.hx_session_core.specs.Deliveries.{Delivery};
 
     ghost Value = { Delivery };
 
@@ -38,7 +38,7 @@ impl Model for Delivery {
 }
 
 impl Delivery {
-    ghost use Rattle.hx_sessions.specs.Deliveries.{TurnGives};
+    ghost use Rattle.hx_session_core.specs.Deliveries.{TurnGives};
 
     /// A delivery that begins with the reply of number `first`. The time `now` counts as that of a packet.
     pub fn new(first: u64, now: u64) -> Self
