@@ -1,16 +1,20 @@
-//! The session of a member as values: where it begins, what each packet of the client asks for, and what goes
-//! out next (SoupBinTCP 3.00).
-//!
-//! No call takes memory.
+//! Sessions of members that run (SoupBinTCP 3.00): one worker takes the client's packets in and submits their
+//! messages, another sends the member's replies, at the same time.
 #![tactic(auto)]
 
-mod delivery;
-mod intake;
-pub mod laws;
-mod login;
+mod ending;
+mod inbound;
 mod opening;
+mod outbound;
+mod part;
+mod ports;
+mod serving;
+mod session;
+mod writing;
 
-pub use delivery::{Delivery, Turn};
-pub use intake::{Action, Intake};
-pub use login::start;
-pub use opening::Start;
+pub use ending::{Ended, Fault};
+pub use hx_session_core::{Action, Delivery, Intake, Start, Turn, laws, start};
+pub use part::Part;
+pub use ports::{Clock, Gate};
+pub use serving::serve_all;
+pub use session::Session;

@@ -1,7 +1,7 @@
 //! A session from its login to its end, byte for byte (SoupBinTCP 3.00), in the standard setup.
 use arrayvec::ArrayVec;
 use hx_members::Setup;
-use hx_sessions::{Action, Delivery, Intake, Turn, start};
+use hx_session_core::{Action, Delivery, Intake, Turn, start};
 use hx_soup::{LoginRequest, SoupPacket, accepted};
 use hx_units::MemberNo;
 use std::test::Fail;

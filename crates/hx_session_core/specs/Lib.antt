@@ -1,0 +1,4 @@
+pub mod Starts
+pub mod Intakes
+pub mod Deliveries
+pub mod Runs

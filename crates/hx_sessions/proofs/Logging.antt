@@ -1,0 +1,69 @@
+-- How a session is opened.
+use Rattle.std.proofs.Common.{◌≡◌, ◌⊎◌, ℕ, zero, suc, ◌+◌, ◌-◌, ◌<◌, ◌≤◌, List, [], ◌∷◌, ◌++◌, length, drop, get_or, Bool, true, false, nat_lt, nat_le, Option, Some, None, Result, Ok, Err, refl, sym, ap, ◌∙◌, subst, inl, inr, arith, append_assoc, append-nil, length-append}
+use Rattle.std.specs.Prelude.{◌&&◌, if◌then◌else◌}
+use Rattle.std.specs.Io.KnownBytes.{Consumes}
+use Rattle.std.proofs.KnownBytes.{Consumes-trans, Consumes-nil}
+use Rattle.std.proofs.lemmas.Bool.Decides.{nat_tests}
+use Rattle.std.proofs.lemmas.List.{nil_from_length}
+use Rattle.hx_soup.specs.Kinds.{login_request}
+use Rattle.hx_soup.specs.Logins.{IsLogin}
+use Rattle.hx_soup.specs.Packets.{framed, packet_bytes, stream_of, Cuts}
+use Rattle.hx_soup.specs.declared.packet.SoupPacket.{SoupPacket}
+use Rattle.hx_soup.specs.declared.login.LoginRequest.{LoginRequest}
+use Rattle.hx_units.specs.Fields.{spelled}
+use Rattle.hx_members.specs.Setups.{Setup, login_of}
+use Rattle.hx_session_core.specs.Starts.{is_present, first_reply, started, start_of}
+use Rattle.hx_session_core.specs.declared.opening.Start.{Start}
+use Rattle.hx_blog.specs.Feed.{Entries}
+use Rattle.hx_desk.specs.declared.entry.Entry.{Entry}
+use Rattle.hx_desk.specs.Known.{known_replies}
+use Rattle.hx_sessions.specs.Logins.{LogsIn, Opens}
+
+started_ok : (o : Option ℕ) (b : Bool) (first : ℕ) (s : Start) → started o b first ≡ Ok s → (o ≡ Some s.member) × (s.first ≡ first)
+started_ok None b first s e = absurd (cc e)
+started_ok (Some m) false first s e = absurd (cc e)
+started_ok (Some m) true first s e =
+    let same : record { member = m; first = first } ≡ s = cc e in
+    (ap (λ (x : Start). Some x.member) same, sym (ap (λ (x : Start). x.first) same))
+
+bounds : (b : Bool) (asked n : ℕ) → (nat_lt 0 asked && nat_le asked (n + 1)) ≡ b → (1 ≤ (if b then asked else n + 1)) × ((if b then asked else n + 1) ≤ n + 1)
+bounds true asked n e = (grind (arith, nat_tests), grind (arith, nat_tests))
+bounds false asked n e = (omega arith, omega arith)
+
+pub first_bounds : (asked n : ℕ) → (1 ≤ first_reply asked n) × (first_reply asked n ≤ n + 1)
+first_bounds asked n = bounds (nat_lt 0 asked && nat_le asked (n + 1)) asked n refl
+
+pub opens : (setup own : Setup) (login : LoginRequest) (n m : ℕ) (known : Entries Entry) (s : Start) → start_of own login n ≡ Ok s → login_of own login.user login.password ≡ Some m → n ≡ length (known_replies setup m known) → Opens setup own login known s
+opens setup own login n m known s e is count =
+    let h = started_ok (login_of own login.user login.password) (is_present login.session own.session) (first_reply login.sequence n) s e in
+    let same : m ≡ s.member = cc (is, h.0) in
+    let size : n ≡ length (known_replies setup s.member known) = count ∙ ap (λ k. length (known_replies setup k known)) same in
+    let b = first_bounds login.sequence n in record {
+      member = h.0;
+      first = h.1 ∙ ap (first_reply login.sequence) size;
+      one = omega (arith, h.1, b.0);
+      most = omega (arith, h.1, b.1, size);
+    }
+
+pub opens_none : (setup own : Setup) (login : LoginRequest) (n : ℕ) (known : Entries Entry) (s : Start) → start_of own login n ≡ Ok s → login_of own login.user login.password ≡ None → Opens setup own login known s
+opens_none setup own login n known s e is =
+    let h = started_ok (login_of own login.user login.password) (is_present login.session own.session) (first_reply login.sequence n) s e in
+    absurd (cc (is, h.0))
+
+two_bytes : (n : ℕ) → length (spelled 2 n) ≡ 2
+unfolding spelled
+two_bytes n = refl
+
+-- a login packet of 49 bytes is all that was read
+pub logs_in : (a b c : Option (List ℕ)) (bytes piece rest : List ℕ) (p : SoupPacket) (ps : List SoupPacket) (login : LoginRequest) → Consumes a b bytes → Consumes b c piece → Cuts (bytes ++ piece) (p ∷ ps) rest → length bytes + length piece ≤ 49
+    → p.kind ≡ login_request → length p.payload.items ≡ 46 → IsLogin p.payload.items login → LogsIn a c login
+logs_in a b c bytes piece rest p ps login first next cuts most kind size is =
+    let whole : bytes ++ piece ≡ packet_bytes p ++ (stream_of ps ++ rest) = cuts.whole ∙ append_assoc (packet_bytes p) (stream_of ps) rest in
+    let two : length (spelled 2 (length p.payload.items + 1)) ≡ 2 = two_bytes (length p.payload.items + 1) in
+    let len : length (packet_bytes p) ≡ 49 = omega (arith, two, length-append (spelled 2 (length p.payload.items + 1)) (p.kind ∷ p.payload.items), size) in
+    let none : stream_of ps ++ rest ≡ [] = nil_from_length (stream_of ps ++ rest) (omega (arith, ap length whole, length-append bytes piece, length-append (packet_bytes p) (stream_of ps ++ rest), len, most)) in
+    let bytes_are : bytes ++ piece ≡ framed login_request p.payload.items = whole ∙ (ap (λ l. packet_bytes p ++ l) none ∙ (append-nil (packet_bytes p) ∙ ap (λ k. framed k p.payload.items) kind)) in record {
+      payload = p.payload.items;
+      read = subst (Consumes a c) bytes_are (Consumes-trans a b c bytes piece first next);
+      is = is;
+    }

@@ -1,0 +1,250 @@
+-- How packets are acted on.
+use Rattle.std.proofs.Common.{◌≡◌, ◌⊎◌, ℕ, zero, suc, ◌+◌, ◌-◌, ◌<◌, ◌≤◌, List, [], ◌∷◌, ◌++◌, length, get_or, take, drop, Option, Some, None, Result, Ok, Err, refl, sym, ap, ◌∙◌, subst, inl, inr, arith, append_assoc, append-nil, drop-cons, add-one}
+use Rattle.std.specs.Io.KnownBytes.{Consumes, Keeps, IsAtEnd}
+use Rattle.hx_soup.specs.Framers.{Takes as Gives, StopsAt}
+use Rattle.std.proofs.KnownBytes.{Consumes-trans, Consumes-nil, Consumes-kept}
+use Rattle.std.proofs.lemmas.Grind.{flat_map-append}
+use Rattle.std.proofs.lemmas.List.Elements.{All-append}
+use Rattle.std.proofs.lemmas.List.{drop_more, drop_all}
+use mathlib.Core.List.{IsPrefix}
+use Rattle.hx_soup.specs.declared.packet.SoupPacket.{SoupPacket}
+use Rattle.hx_soup.specs.Packets.{packet_bytes, stream_of, IsPacket, Cuts, HasFault}
+use Rattle.hx_session_core.specs.Intakes.{later_action}
+use Rattle.hx_session_core.specs.declared.intake.Action.{Action}
+use Rattle.hx_session_core.specs.declared.intake.Action.TheVariants as action
+use Rattle.hx_rules.specs.declared.event.Event.{Event}
+use Rattle.hx_rules.specs.declared.event.Event.TheVariants.{Message}
+use Rattle.hx_sessions.specs.Asked.{asked, asked_by, AreMessages, Submits, IsStream}
+use Rattle.hx_sessions.specs.declared.ending.Ended.TheVariants as ended
+use Rattle.hx_sessions.specs.declared.ending.Fault.{Fault}
+use Rattle.hx_sessions.specs.declared.ending.Fault.TheVariants as fault
+use Rattle.hx_sessions.specs.declared.ending.Stop.{Stop}
+use Rattle.hx_sessions.specs.declared.ending.Stop.TheVariants as stop
+use Rattle.hx_sessions.specs.Workers.{Acting, Closed, Cut, ActedUntil, Receiving, Received, Why, Takes, Acted}
+
+-- ---- what was sent
+
+messages-append : (member : ℕ) (xs ys : List (ℕ × Event)) (ts us : List (List ℕ)) → AreMessages member xs ts → AreMessages member ys us → AreMessages member (xs ++ ys) (ts ++ us)
+messages-append member [] ys [] us a b = b
+messages-append member [] ys (t ∷ ts) us a b = absurd a
+messages-append member (x ∷ xs) ys [] us a b = absurd a
+messages-append member (x ∷ xs) ys (t ∷ ts) us (time, is, a) b = (time, is, messages-append member xs ys ts us a b)
+
+pub submits_none : (member : ℕ) (sent : List (ℕ × Event)) → Submits member sent sent []
+submits_none member sent = record { more = []; sent = sym (append-nil sent); are = tt }
+
+pub submits_one : (member : ℕ) (old new : List (ℕ × Event)) (place time : ℕ) (text : List ℕ) → new ≡ old ++ (place, Message member time text) ∷ [] → Submits member old new (text ∷ [])
+submits_one member old new place time text is = record { more = (place, Message member time text) ∷ []; sent = is; are = (time, refl, tt) }
+
+pub submits_join : (member : ℕ) (a b c : List (ℕ × Event)) (ts us : List (List ℕ)) → Submits member a b ts → Submits member b c us → Submits member a c (ts ++ us)
+submits_join member a b c ts us s t = record {
+  more = s.more ++ t.more;
+  sent = t.sent ∙ (ap (λ l. l ++ t.more) s.sent ∙ append_assoc a s.more t.more);
+  are = messages-append member s.more t.more ts us s.are t.are;
+}
+
+-- ---- acting on packets one by one
+
+-- what was submitted for the packets before i
+pub record Upto (packets : List SoupPacket) (i : ℕ) (done : List (List ℕ)) : Type 0 where
+  pub asks : (later : List SoupPacket) → asked (packets ++ later) ≡ done ++ asked (drop i packets ++ later)
+
+pub upto_none : (packets : List SoupPacket) → Upto packets 0 []
+upto_none packets = record { asks = λ later. refl }
+
+at : (packets : List SoupPacket) (i : ℕ) (p : SoupPacket) → i < length packets → p ≡ get_or packets i p → drop i packets ≡ p ∷ drop (i + 1) packets
+at packets i p h is = drop_more packets i p h ∙ ap (λ x. x ∷ drop (i + 1) packets) (sym is)
+
+step : (packets : List SoupPacket) (i : ℕ) (done : List (List ℕ)) (p : SoupPacket) (a : Action) → Upto packets i done → i < length packets → p ≡ get_or packets i p → later_action p ≡ a
+    → (later : List SoupPacket) → asked (packets ++ later) ≡ done ++ asked_by a p.payload.items (asked (drop (i + 1) packets ++ later))
+step packets i done p a u h is acts later =
+    u.asks later ∙ ap (λ l. done ++ asked (l ++ later)) (at packets i p h is) ∙ ap (λ x. done ++ asked_by x p.payload.items (asked (drop (i + 1) packets ++ later))) acts
+
+pub upto_submit : (packets : List SoupPacket) (i : ℕ) (done : List (List ℕ)) (p : SoupPacket) → Upto packets i done → i < length packets → p ≡ get_or packets i p → later_action p ≡ action.Submit → Upto packets (i + 1) (done ++ p.payload.items ∷ [])
+upto_submit packets i done p u h is acts =
+    record { asks = λ later. step packets i done p action.Submit u h is acts later ∙ sym (append_assoc done (p.payload.items ∷ []) (asked (drop (i + 1) packets ++ later))) }
+
+pub upto_ignore : (packets : List SoupPacket) (i : ℕ) (done : List (List ℕ)) (p : SoupPacket) → Upto packets i done → i < length packets → p ≡ get_or packets i p → later_action p ≡ action.Ignore → Upto packets (i + 1) done
+upto_ignore packets i done p u h is acts = record { asks = λ later. step packets i done p action.Ignore u h is acts later }
+
+pub upto_closed : (packets : List SoupPacket) (i : ℕ) (done : List (List ℕ)) (p : SoupPacket) (a : Action) → Upto packets i done → i < length packets → p ≡ get_or packets i p → later_action p ≡ a
+    → ((text : List ℕ) (more : List (List ℕ)) → asked_by a text more ≡ []) → Closed packets done
+upto_closed packets i done p a u h is acts none = record { asks = λ later. step packets i done p a u h is acts later ∙ (ap (λ l. done ++ l) (none p.payload.items (asked (drop (i + 1) packets ++ later))) ∙ append-nil done) }
+
+pub upto_cut : (packets : List SoupPacket) (i : ℕ) (done : List (List ℕ)) → Upto packets i done → Cut packets done
+upto_cut packets i done u = record { asks = λ later. (asked (drop i packets ++ later), sym (u.asks later)) }
+
+pub upto_all : (packets : List SoupPacket) (i : ℕ) (done : List (List ℕ)) → Upto packets i done → length packets ≤ i → Acting packets done
+upto_all packets i done u h = record { asks = λ later. u.asks later ∙ ap (λ l. done ++ asked (l ++ later)) (drop_all i packets h) }
+
+-- ---- pieces of a stream
+
+whole_join : (stream x rest tail : List ℕ) (ps qs : List SoupPacket) → stream ≡ stream_of ps ++ rest → rest ++ x ≡ stream_of qs ++ tail → stream ++ x ≡ stream_of (ps ++ qs) ++ tail
+whole_join stream x rest tail ps qs first next =
+    ap (λ (s : List ℕ). s ++ x) first ∙ append_assoc (stream_of ps) rest x ∙ ap (λ (s : List ℕ). stream_of ps ++ s) next
+    ∙ sym (append_assoc (stream_of ps) (stream_of qs) tail) ∙ ap (λ (s : List ℕ). s ++ tail) (sym (flat_map-append packet_bytes ps qs))
+
+pub cuts_join : (stream x rest tail : List ℕ) (ps qs : List SoupPacket) → Cuts stream ps rest → Cuts (rest ++ x) qs tail → Cuts (stream ++ x) (ps ++ qs) tail
+cuts_join stream x rest tail ps qs c d = record {
+  whole = whole_join stream x rest tail ps qs c.whole d.whole;
+  each = All-append IsPacket ps qs c.each d.each;
+  unfinished = d.unfinished;
+}
+
+fault_join : (stream x rest : List ℕ) (ps qs : List SoupPacket) (bad : ℕ) → Cuts stream ps rest → HasFault (rest ++ x) qs bad → HasFault (stream ++ x) (ps ++ qs) bad
+fault_join stream x rest ps qs bad c f = record {
+  high = f.high;
+  low = f.low;
+  more = f.more;
+  whole = whole_join stream x rest (f.high ∷ f.low ∷ f.more) ps qs c.whole f.whole;
+  each = All-append IsPacket ps qs c.each f.each;
+  is = f.is;
+  is_bad = f.is_bad;
+}
+
+pub stream_join : (stream x rest : List ℕ) (ps qs : List SoupPacket) → Cuts stream ps rest → IsStream (rest ++ x) qs → IsStream (stream ++ x) (ps ++ qs)
+stream_join stream x rest ps qs c (inl (tail, d)) = inl (tail, cuts_join stream x rest tail ps qs c d)
+stream_join stream x rest ps qs c (inr (bad, f)) = inr (bad, fault_join stream x rest ps qs bad c f)
+
+pub acting_join : (ps qs : List SoupPacket) (ds es : List (List ℕ)) → Acting ps ds → Acting qs es → Acting (ps ++ qs) (ds ++ es)
+acting_join ps qs ds es a b = record {
+  asks = λ later.
+      ap asked (append_assoc ps qs later) ∙ (a.asks (qs ++ later) ∙ (ap (λ l. ds ++ l) (b.asks later) ∙ sym (append_assoc ds es (asked later))));
+}
+
+pub acting_all : (ps : List SoupPacket) (ds : List (List ℕ)) → Acting ps ds → ds ≡ asked ps
+acting_all ps ds a = sym (ap asked (sym (append-nil ps)) ∙ (a.asks [] ∙ append-nil ds))
+
+pub acting_cut : (ps : List SoupPacket) (ds : List (List ℕ)) → Acting ps ds → Cut ps ds
+acting_cut ps ds a = record { asks = λ later. (asked later, sym (a.asks later)) }
+
+asked_two : (ps qs : List SoupPacket) (ds : List (List ℕ)) → Acting ps ds → asked (ps ++ qs) ≡ ds ++ asked qs
+asked_two ps qs ds a = a.asks qs
+
+closed_all : (ps qs : List SoupPacket) (ds es : List (List ℕ)) → Acting ps ds → Closed qs es → ds ++ es ≡ asked (ps ++ qs)
+closed_all ps qs ds es a c = sym (a.asks qs ∙ ap (λ l. ds ++ l) (ap asked (sym (append-nil qs)) ∙ c.asks []))
+
+cut_some : (ps qs : List SoupPacket) (ds es : List (List ℕ)) → Acting ps ds → Cut qs es → IsPrefix (ds ++ es) (asked (ps ++ qs))
+cut_some ps qs ds es a c =
+    let p : IsPrefix es (asked qs) = subst (λ l. IsPrefix es (asked l)) (append-nil qs) (c.asks []) in
+    (p.0, append_assoc ds es p.0 ∙ (ap (λ l. ds ++ l) p.1 ∙ sym (a.asks qs)))
+
+pub why_join : (left : Option (List ℕ)) (ps qs : List SoupPacket) (ds es : List (List ℕ)) (s : Stop) → Acting ps ds → ActedUntil qs es s → Why left (ps ++ qs) (ds ++ es) s
+why_join left ps qs ds es stop.Told a u = absurd u
+why_join left ps qs ds es (stop.Ended ended.Logout) a (is, c) = closed_all ps qs ds es a c
+why_join left ps qs ds es (stop.Ended ended.ReaderEnd) a (is, c) = absurd (cc is)
+why_join left ps qs ds es (stop.Ended ended.DayEnd) a (is, c) = absurd (cc is)
+why_join left ps qs ds es (stop.Faulted f) a (inl (is, c)) = ([], append-nil (ds ++ es) ∙ closed_all ps qs ds es a c)
+why_join left ps qs ds es (stop.Faulted f) a (inr c) = cut_some ps qs ds es a c
+
+pub why_all : (left : Option (List ℕ)) (f : Fault) (ps : List SoupPacket) (ds : List (List ℕ)) → Acting ps ds → Why left ps ds (stop.Faulted f)
+why_all left f ps ds a = ([], append-nil ds ∙ acting_all ps ds a)
+
+-- ---- all that was received
+
+-- nothing was read yet
+pub receiving_none : (member : ℕ) (a : Option (List ℕ)) (sent : List (ℕ × Event)) → Receiving member a a (Some []) sent sent
+receiving_none member a sent = record {
+  bytes = [];
+  packets = [];
+  rest = [];
+  done = [];
+  read = Consumes-nil a;
+  kept = refl;
+  cuts = record { whole = refl; each = λ k d l. absurd (omega arith); unfinished = tt };
+  submits = submits_none member sent;
+  acting = record { asks = λ later. refl };
+}
+
+same_kept : (a b : List ℕ) → Some a ≡ Some b → a ≡ b
+same_kept a b e = cc
+
+pub receiving_more : (member : ℕ) (a b c f g : Option (List ℕ)) (piece : List ℕ) (s t u : List (ℕ × Event)) (x : Unit {0}) → Receiving member a b f s t → Consumes b c piece → Takes member f g piece t u (Ok x) → Receiving member a c g s u
+receiving_more member a b c f g piece s t u x r read (kept, rest, packets, done, was, is, cuts, submits, acting) =
+    let same : kept ≡ r.rest = same_kept kept r.rest (sym was ∙ r.kept) in record {
+      bytes = r.bytes ++ piece;
+      packets = r.packets ++ packets;
+      rest = rest;
+      done = r.done ++ done;
+      read = Consumes-trans a b c r.bytes piece r.read read;
+      kept = is;
+      cuts = cuts_join r.bytes piece r.rest rest r.packets packets r.cuts (subst (λ k. Cuts (k ++ piece) packets rest) same cuts);
+      submits = submits_join member s t u r.done done r.submits submits;
+      acting = acting_join r.packets packets r.done done r.acting acting;
+    }
+
+-- it stops before a read
+pub received_here : (member : ℕ) (a b f : Option (List ℕ)) (s t : List (ℕ × Event)) (w : Stop) → Receiving member a b f s t → ((ps : List SoupPacket) (ds : List (List ℕ)) → Acting ps ds → Why b ps ds w) → Received member a b s t w
+received_here member a b f s t w r why = record {
+  bytes = r.bytes;
+  lost = [];
+  packets = r.packets;
+  done = r.done;
+  read = subst (Consumes a b) (sym (append-nil r.bytes)) r.read;
+  none_lost = inl refl;
+  stream = inl (r.rest, r.cuts);
+  submits = r.submits;
+  why = why r.packets r.done r.acting;
+}
+
+pub received_stop : (member : ℕ) (a b c f g : Option (List ℕ)) (piece : List ℕ) (s t u : List (ℕ × Event)) (w : Stop) → Receiving member a b f s t → Consumes b c piece → Takes member f g piece t u (Err w) → Received member a c s u w
+received_stop member a b c f g piece s t u w r read (kept, was, inl (packets, done, stream, submits, until)) =
+    let same : kept ≡ r.rest = same_kept kept r.rest (sym was ∙ r.kept) in record {
+      bytes = r.bytes ++ piece;
+      lost = [];
+      packets = r.packets ++ packets;
+      done = r.done ++ done;
+      read = subst (Consumes a c) (sym (append-nil (r.bytes ++ piece))) (Consumes-trans a b c r.bytes piece r.read read);
+      none_lost = inl refl;
+      stream = stream_join r.bytes piece r.rest r.packets packets r.cuts (subst (λ k. IsStream (k ++ piece) packets) same stream);
+      submits = submits_join member s t u r.done done r.submits submits;
+      why = why_join c r.packets packets r.done done w r.acting until;
+    }
+received_stop member a b c f g piece s t u w r read (kept, was, inr (is, none)) = record {
+  bytes = r.bytes;
+  lost = piece;
+  packets = r.packets;
+  done = r.done;
+  read = Consumes-trans a b c r.bytes piece r.read read;
+  none_lost = inr is;
+  stream = inl (r.rest, r.cuts);
+  submits = subst (λ l. Submits member s l r.done) (sym none) r.submits;
+  why = subst (Why c r.packets r.done) (sym is) (why_all c fault.NoMemory r.packets r.done r.acting);
+}
+
+-- a read that failed leaves the stream
+pub receiving_kept : (member : ℕ) (a b c f : Option (List ℕ)) (s t : List (ℕ × Event)) → Receiving member a b f s t → Keeps b c → Receiving member a c f s t
+receiving_kept member a b c f s t r k = record {
+  bytes = r.bytes;
+  packets = r.packets;
+  rest = r.rest;
+  done = r.done;
+  read = Consumes-kept a b c r.bytes r.read k;
+  kept = r.kept;
+  cuts = r.cuts;
+  submits = r.submits;
+  acting = r.acting;
+}
+
+-- the input has ended
+pub received_end : (member : ℕ) (a b c f : Option (List ℕ)) (none : List ℕ) (s t : List (ℕ × Event)) → Receiving member a b f s t → none ≡ [] → Consumes b c none → IsAtEnd c → Received member a c s t (stop.Ended ended.ReaderEnd)
+received_end member a b c f none s t r e read end = record {
+  bytes = r.bytes;
+  lost = [];
+  packets = r.packets;
+  done = r.done;
+  read = subst (λ l. Consumes a c (r.bytes ++ l)) e (Consumes-trans a b c r.bytes none r.read read);
+  none_lost = inl refl;
+  stream = inl (r.rest, r.cuts);
+  submits = r.submits;
+  why = (acting_all r.packets r.done r.acting, end);
+}
+
+-- packets and what stays behind them
+pub takes_ok : (member : ℕ) (old new : Option (List ℕ)) (piece : List ℕ) (before after : List (ℕ × Event)) (packets : List SoupPacket) (r : Result (Unit {0}) Stop) → Gives old new piece packets → Acted member before after packets r → Takes member old new piece before after r
+takes_ok member old new piece before after packets (Ok u) t (done, submits, acting) = (t.kept, t.rest, packets, done, t.was, t.is, t.cuts, submits, acting)
+takes_ok member old new piece before after packets (Err s) t (done, submits, until) = (t.kept, t.was, inl (packets, done, inl (t.rest, t.cuts), submits, until))
+
+pub takes_fault : (member : ℕ) (old new : Option (List ℕ)) (piece : List ℕ) (before after : List (ℕ × Event)) (packets : List SoupPacket) (bad : ℕ) (s : Stop) (done : List (List ℕ)) → StopsAt old new piece packets bad → Submits member before after done → ActedUntil packets done s
+    → Takes member old new piece before after (Err s)
+takes_fault member old new piece before after packets bad s done f submits until = (f.kept, f.was, inl (packets, done, inr (bad, f.fault), submits, until))

@@ -1,0 +1,45 @@
+use Rattle.std.proofs.Common.{◌≡◌, ◌≤◌, ℕ, ◌+◌, ◌-◌, List, [], length, drop, false, ap, sym, ◌∙◌, subst, refl, arith}
+use mathlib.Core.List.{IsPrefix}
+use Rattle.hx_blog.proofs.Prefixes.{prefix_self, prefix_trans}
+use Rattle.hx_blog.specs.Ends.{ReaderState}
+use Rattle.hx_desk.specs.declared.entry.Entry.{Entry}
+use Rattle.hx_desk.specs.Known.{known_replies}
+use Rattle.hx_sessions.specs.Frames.{Sent}
+use Rattle.hx_sessions.proofs.Going.{sent_none, sent_join, until_join, known_grows, sent_bounds, still_there}
+use Rattle.hx_sessions.proofs.outbound.deliver.Goals as goal
+
+pub loop-init : goal.loop-init
+loop-init g c =
+    let d = c.args.outbox.delivery in record {
+      log = c.requires.log;
+      live = c.requires.live;
+      known = prefix_self c.args.outbox.reader.known;
+      sent = (_, sent_none d.next (known_replies g.V.Venue.setup c.args.member c.args.outbox.reader.known) d (g.W.Write.contents c.args.outbox.output) refl c.requires.live c.requires.next.0 c.requires.next.1);
+    }
+
+pub round-requires-clause-next : goal.round-requires-clause-next
+round-requires-clause-next g c =
+    let inv = c.loop.invariant in
+    let b = sent_bounds c.args.outbox.delivery.next (known_replies g.V.Venue.setup c.args.member c.loop.outbox.reader.known) inv.sent.0 c.loop.outbox.delivery _ _ inv.sent.1 in
+    (b.0, still_there g.V.Venue.setup c.args.member c.loop.outbox.delivery.next c.loop.outbox.reader.known c.wait_for_news-news.new.reader.known c.wait_for_news-news.ensures.reader.known b.1)
+
+pub returns-in-Err-clause-sent : goal.returns-in-Err-clause-sent
+returns-in-Err-clause-sent g c =
+    let inv = c.loop.invariant in
+    let grows = prefix_trans c.loop.outbox.reader.known c.wait_for_news-news.new.reader.known c.round.new.self.reader.known c.wait_for_news-news.ensures.reader.known c.round.ensures.known in
+    until_join g.V.Venue.setup c.args.member c.args.outbox.delivery.next c.loop.outbox.reader.known c.round.new.self.reader.known inv.sent.0 c.loop.outbox.delivery c.round.new.self.delivery _ _ _ c.in-Err.stop grows inv.sent.1 inv.live c.in-Err.ensures.err
+
+pub loop-preserved : goal.loop-preserved
+loop-preserved g c =
+    let inv = c.loop.invariant in
+    let ok = c.in-Ok.ensures.ok in
+    let grows = prefix_trans c.loop.outbox.reader.known c.wait_for_news-news.new.reader.known c.round.new.self.reader.known c.wait_for_news-news.ensures.reader.known c.round.ensures.known in record {
+      log = c.round.ensures.log;
+      live = ok.0;
+      known = prefix_trans c.args.outbox.reader.known c.loop.outbox.reader.known c.round.new.self.reader.known inv.known grows;
+      sent = (
+        ok.1,
+        sent_join c.args.outbox.delivery.next (known_replies g.V.Venue.setup c.args.member c.loop.outbox.reader.known) (known_replies g.V.Venue.setup c.args.member c.round.new.self.reader.known) inv.sent.0 ok.1 c.loop.outbox.delivery c.round.new.self.delivery _ _ _
+            (known_grows g.V.Venue.setup c.args.member c.loop.outbox.reader.known c.round.new.self.reader.known grows) inv.sent.1 inv.live ok.2,
+      );
+    }

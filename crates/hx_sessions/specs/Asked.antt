@@ -1,0 +1,39 @@
+-- What the packets of a client behind his login ask to submit, and what a pass sent for it.
+use Rattle.std.specs.Prelude.{ℕ, ◌≡◌, ◌⊎◌, List, [], ◌∷◌, ◌++◌}
+use Rattle.hx_soup.specs.declared.packet.SoupPacket.{SoupPacket}
+use Rattle.hx_soup.specs.Packets.{Cuts, HasFault}
+use Rattle.hx_session_core.specs.Intakes.{later_action}
+use Rattle.hx_session_core.specs.declared.intake.Action.{Action}
+use Rattle.hx_session_core.specs.declared.intake.Action.TheVariants as action
+use Rattle.hx_rules.specs.declared.event.Event.{Event}
+use Rattle.hx_rules.specs.declared.event.Event.TheVariants.{Message}
+
+-- one packet's message, before those of the packets behind it; a logout or a fault is the last packet that counts
+abbrev pub asked_by : Action → List ℕ → List (List ℕ) → List (List ℕ)
+asked_by (action.Login login) text more = []
+asked_by action.Submit text more = text ∷ more
+asked_by action.Ignore text more = more
+asked_by action.Logout text more = []
+asked_by action.Fault text more = []
+
+-- the messages that the packets ask to submit, in order: the payloads that are not empty, up to a logout or a fault
+abbrev pub asked : List SoupPacket → List (List ℕ)
+asked [] = []
+asked (p ∷ ps) = asked_by (later_action p) p.payload.items (asked ps)
+
+-- the packets of all bytes that were read: they are cut into these and less than a whole one, or a fault stands behind these
+abbrev pub IsStream : List ℕ → List SoupPacket → Type 0
+IsStream bytes packets = ((rest : List ℕ) × Cuts bytes packets rest) ⊎ ((bad : ℕ) × HasFault bytes packets bad)
+
+-- what was sent, with its places, is messages of the member with these texts, in order
+abbrev pub AreMessages : ℕ → List (ℕ × Event) → List (List ℕ) → Type 0
+AreMessages member [] [] = Unit {0}
+AreMessages member [] (t ∷ ts) = ⊥
+AreMessages member (x ∷ xs) [] = ⊥
+AreMessages member (x ∷ xs) (t ∷ ts) = (time : ℕ) × (x.1 ≡ Message member time t) × AreMessages member xs ts
+
+-- a pass sent messages of the member with these texts, and nothing else
+pub record Submits (member : ℕ) (old new : List (ℕ × Event)) (texts : List (List ℕ)) : Type 0 where
+  pub more : List (ℕ × Event)
+  pub sent : new ≡ old ++ more
+  pub are : AreMessages member more texts

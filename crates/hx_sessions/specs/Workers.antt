@@ -1,0 +1,93 @@
+-- What the two workers of a session leave.
+use Rattle.std.specs.Prelude.{ℕ, ◌≡◌, ◌⊎◌, ◌+◌, ◌≤◌, List, [], ◌∷◌, ◌++◌, length, Option, Some, Bool, true, false, Result, Ok, Err}
+use Rattle.std.specs.Io.KnownBytes.{Consumes, IsAtEnd}
+use mathlib.Core.List.{IsPrefix}
+use Rattle.hx_soup.specs.declared.packet.SoupPacket.{SoupPacket}
+use Rattle.hx_soup.specs.Packets.{Cuts}
+use Rattle.hx_session_core.specs.Deliveries.{Delivery}
+use Rattle.hx_rules.specs.declared.event.Event.{Event}
+use Rattle.hx_desk.specs.Known.{known_replies}
+use Rattle.hx_sessions.specs.declared.ending.Ended.{Ended}
+use Rattle.hx_sessions.specs.declared.ending.Ended.TheVariants as ended
+use Rattle.hx_sessions.specs.declared.ending.Fault.{Fault}
+use Rattle.hx_sessions.specs.declared.ending.Fault.TheVariants as fault
+use Rattle.hx_sessions.specs.declared.ending.Stop.{Stop}
+use Rattle.hx_sessions.specs.declared.ending.Stop.TheVariants as stop
+use Rattle.hx_sessions.specs.Asked.{asked, IsStream, Submits}
+use Rattle.hx_sessions.specs.Frames.{Sent, SentSome}
+
+-- ---- what goes out
+
+-- After a round that goes on: where no reply went out, none is left.
+abbrev pub SentRound : ℕ → List (List ℕ) → Delivery → Option (List ℕ) → Option (List ℕ) → Bool → Type 0
+SentRound first replies d old new moved = (d.over ≡ false) × (rest : List (List ℕ)) × Sent first replies rest d old new × (moved ≡ false → rest ≡ [])
+
+-- By why the worker stopped: some replies may be left; none at the end of the day; and where the output failed a
+-- beginning of the bytes was written.
+abbrev pub SentUntil : ℕ → List (List ℕ) → Delivery → Option (List ℕ) → Option (List ℕ) → Stop → Type 0
+SentUntil first replies d old new stop.Told = (d.over ≡ false) × (rest : List (List ℕ)) × Sent first replies rest d old new
+SentUntil first replies d old new (stop.Ended e) = (e ≡ ended.DayEnd) × Sent first replies [] d old new
+SentUntil first replies d old new (stop.Faulted f) = (rest : List (List ℕ)) × ((Sent first replies rest d old new × (d.over ≡ false)) ⊎ ((f ≡ fault.Write) × SentSome first replies rest d old new))
+
+-- ---- what comes in
+
+-- So far all packets were acted on, and the session goes on: what was submitted is what they ask, whatever follows.
+pub record Acting (packets : List SoupPacket) (done : List (List ℕ)) : Type 0 where
+  pub asks : (later : List SoupPacket) → asked (packets ++ later) ≡ done ++ asked later
+
+-- A logout or a fault among the packets: what was submitted is all that they ask, whatever follows.
+pub record Closed (packets : List SoupPacket) (done : List (List ℕ)) : Type 0 where
+  pub asks : (later : List SoupPacket) → asked (packets ++ later) ≡ done
+
+-- A submit was refused: what was submitted is a beginning of what they ask.
+pub record Cut (packets : List SoupPacket) (done : List (List ℕ)) : Type 0 where
+  pub asks : (later : List SoupPacket) → IsPrefix done (asked (packets ++ later))
+
+abbrev pub ActedUntil : List SoupPacket → List (List ℕ) → Stop → Type 0
+ActedUntil packets done stop.Told = ⊥
+ActedUntil packets done (stop.Ended e) = (e ≡ ended.Logout) × Closed packets done
+ActedUntil packets done (stop.Faulted f) = ((f ≡ fault.Framing) × Closed packets done) ⊎ Cut packets done
+
+abbrev pub Acted : ℕ → List (ℕ × Event) → List (ℕ × Event) → List SoupPacket → Result (Unit {0}) Stop → Type 0
+Acted member old new packets (Ok u) = (done : List (List ℕ)) × Submits member old new done × Acting packets done
+Acted member old new packets (Err s) = (done : List (List ℕ)) × Submits member old new done × ActedUntil packets done s
+
+-- So far: the packets of all bytes read, and what was submitted for them.
+pub record Receiving (member : ℕ) (old new : Option (List ℕ)) (framer : Option (List ℕ)) (before after : List (ℕ × Event)) : Type 0 where
+  pub bytes : List ℕ
+  pub packets : List SoupPacket
+  pub rest : List ℕ
+  pub done : List (List ℕ)
+  pub read : Consumes old new bytes
+  pub kept : framer ≡ Some rest
+  pub cuts : Cuts bytes packets rest
+  pub submits : Submits member before after done
+  pub acting : Acting packets done
+
+-- All that the packets ask was submitted; where the input has ended, all bytes were read; a refusal cuts the rest off.
+abbrev pub Why : Option (List ℕ) → List SoupPacket → List (List ℕ) → Stop → Type 0
+Why left packets done stop.Told = done ≡ asked packets
+Why left packets done (stop.Ended ended.Logout) = done ≡ asked packets
+Why left packets done (stop.Ended ended.ReaderEnd) = (done ≡ asked packets) × IsAtEnd left
+Why left packets done (stop.Ended ended.DayEnd) = ⊥
+Why left packets done (stop.Faulted f) = IsPrefix done (asked packets)
+
+-- What a worker has taken in when it stops. `lost` are bytes that were read and not taken apart for want of memory.
+pub record Received (member : ℕ) (old new : Option (List ℕ)) (before after : List (ℕ × Event)) (s : Stop) : Type 0 where
+  pub bytes : List ℕ
+  pub lost : List ℕ
+  pub packets : List SoupPacket
+  pub done : List (List ℕ)
+  pub read : Consumes old new (bytes ++ lost)
+  pub none_lost : (lost ≡ []) ⊎ (s ≡ stop.Faulted fault.NoMemory)
+  pub stream : IsStream bytes packets
+  pub submits : Submits member before after done
+  pub why : Why new packets done s
+
+-- What becomes of a piece of the stream: the packets that are whole with it are acted on.
+abbrev pub Takes : ℕ → Option (List ℕ) → Option (List ℕ) → List ℕ → List (ℕ × Event) → List (ℕ × Event) → Result (Unit {0}) Stop → Type 0
+Takes member old new piece before after (Ok u) = (kept : List ℕ) × (rest : List ℕ) × (packets : List SoupPacket) × (done : List (List ℕ))
+    × (old ≡ Some kept) × (new ≡ Some rest) × Cuts (kept ++ piece) packets rest × Submits member before after done × Acting packets done
+Takes member old new piece before after (Err s) = (kept : List ℕ) × (old ≡ Some kept)
+    × (((packets : List SoupPacket) × (done : List (List ℕ)) × IsStream (kept ++ piece) packets × Submits member before after done × ActedUntil packets done s)
+    ⊎ ((s ≡ stop.Faulted fault.NoMemory) × (after ≡ before)))

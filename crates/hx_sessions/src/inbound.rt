@@ -1,0 +1,217 @@
+//! The worker that takes messages in.
+ghost use Rattle.std.specs.Prelude.{ℕ, List, ◌≡◌, ◌⊎◌, ◌+◌, ◌++◌, [], ◌∷◌, IfErr, OnOk, Some, IsSome};
+ghost use Rattle.hx_session_core.specs.declared.intake.Intake.TheVariants as intakes;
+ghost use Rattle.hx_sessions.specs.Asked.{Submits};
+ghost use Rattle.hx_sessions.specs.Workers.{ActedUntil, Acted, Takes, Received};
+ghost use Rattle.hx_sessions.specs.declared.ending.Fault.TheVariants as faults;
+ghost use Rattle.hx_sessions.specs.declared.ending.Stop.TheVariants as stops;
+
+use crate::ending::{Ended, Fault, Stop};
+use crate::ports::{Clock, Gate};
+use hx_engine::{DeskError, Exchange, Pass, Venue};
+use hx_market::{Bytes, Event};
+use hx_session_core::{Action, Intake};
+use hx_soup::{Framer, FramerError, SoupPacket};
+use hx_units::MemberNo;
+use std::alloc::Global;
+use std::io::{Error, ErrorKind, Read};
+use std::sync::Wait;
+use std::sync::atomic::{AtomicBool, Ordering};
+
+/// What the worker has, and gives back.
+#[derive(Drop)]
+pub struct Inbox<V: Venue, R, C> {
+    pub input: R,
+    pub clock: C,
+    pub pass: Pass<V>,
+}
+
+// Submits one message of the member.
+fn submit<V: Venue, C: Clock, G: Gate, T: Wait>(
+    rt: &T,
+    alloc: Global,
+    exchange: &Exchange<V>,
+    gate: &G,
+    member: MemberNo,
+    pass: &mut Pass<V>,
+    clock: &mut C,
+    number: u64,
+    text: &[u8],
+) -> Result<(), Fault>
+    ensures number { pass.new.number ≡ pass.old.number }
+    ensures ok { OnOk result (Submits member pass.old.sent pass.new.sent (text.now ∷ [])) }
+    ensures err { IfErr result (λ e. pass.new.sent ≡ pass.old.sent) }
+{
+    let Ok(bytes) = Vec::from_slice(alloc, text) else {
+        return Err(Fault::NoMemory);
+    };
+    let event = Event::Message {
+        member: member.get(),
+        time: clock.now(),
+        bytes: Bytes::of(bytes),
+    };
+    gate.before(member, number);
+    let done = exchange.submit(rt, pass, &event);
+    gate.after(member, number);
+    match done {
+        Ok(_) => Ok(()),
+        Err(DeskError::NoMemory) => Err(Fault::NoMemory),
+        Err(error) => Err(Fault::Refused(error)),
+    }
+}
+
+// Acts on packets behind the login, up to a logout or a fault.
+fn act<V: Venue, C: Clock, G: Gate, T: Wait>(
+    rt: &T,
+    alloc: Global,
+    exchange: &Exchange<V>,
+    gate: &G,
+    member: MemberNo,
+    pass: &mut Pass<V>,
+    clock: &mut C,
+    number: &mut u64,
+    packets: &[SoupPacket],
+) -> Result<(), Stop>
+    ensures number { pass.new.number ≡ pass.old.number }
+    ensures acted { Acted member pass.old.sent pass.new.sent packets.now result }
+{
+    let mut intake = Intake::Open;
+    for packet in packets {
+        match intake.packet(packet) {
+            Action::Submit => {
+                *number = number.saturating_add(1);
+                let text = packet.payload.as_slice();
+                match submit(
+                    rt, alloc, exchange, gate, member, pass, clock, *number, text,
+                ) {
+                    Ok(()) => {}
+                    Err(fault) => return Err(Stop::Faulted(fault)),
+                }
+            }
+            Action::Ignore => {}
+            Action::Logout => return Err(Stop::Ended(Ended::Logout)),
+            Action::Login(_) | Action::Fault => return Err(Stop::Faulted(Fault::Framing)),
+        }
+    }
+    Ok(())
+}
+
+// Acts on the packets before a fault of the stream, and says why the worker stops.
+fn act_last<V: Venue, C: Clock, G: Gate, T: Wait>(
+    rt: &T,
+    alloc: Global,
+    exchange: &Exchange<V>,
+    gate: &G,
+    member: MemberNo,
+    pass: &mut Pass<V>,
+    clock: &mut C,
+    number: &mut u64,
+    packets: &[SoupPacket],
+) -> Stop
+    ensures number { pass.new.number ≡ pass.old.number }
+    ensures acted { (done : List (List ℕ)) × Submits member pass.old.sent pass.new.sent done × ActedUntil packets.now done result }
+{
+    match act(
+        rt, alloc, exchange, gate, member, pass, clock, number, packets,
+    ) {
+        Ok(()) => Stop::Faulted(Fault::Framing),
+        Err(stop) => stop,
+    }
+}
+
+// Takes a piece of the stream in, and acts on the packets that are whole with it.
+fn take<V: Venue, C: Clock, G: Gate, T: Wait>(
+    rt: &T,
+    alloc: Global,
+    exchange: &Exchange<V>,
+    gate: &G,
+    member: MemberNo,
+    pass: &mut Pass<V>,
+    clock: &mut C,
+    number: &mut u64,
+    framer: &mut Framer,
+    piece: &[u8],
+) -> Result<(), Stop>
+    requires { IsSome framer.old }
+    ensures number { pass.new.number ≡ pass.old.number }
+    ensures takes { Takes member framer.old framer.new piece.now pass.old.sent pass.new.sent result }
+{
+    match framer.feed(alloc, piece) {
+        Ok(packets) => act(
+            rt, alloc, exchange, gate, member, pass, clock, number, &packets,
+        ),
+        Err(
+            FramerError::TooLong {
+                before,
+                length: _bad,
+            },
+        ) => Err(act_last(
+            rt, alloc, exchange, gate, member, pass, clock, number, &before,
+        )),
+        Err(FramerError::Empty { before }) => Err(act_last(
+            rt, alloc, exchange, gate, member, pass, clock, number, &before,
+        )),
+        Err(FramerError::NoMemory) => Err(Stop::Faulted(Fault::NoMemory)),
+        Err(FramerError::Failed) => Err(Stop::Faulted(Fault::Framing)),
+    }
+}
+
+/// Whether a read that failed so may be tried again.
+pub fn is_passing(error: &Error) -> bool {
+    matches!(
+        error.kind(),
+        ErrorKind::Interrupted | ErrorKind::WouldBlock | ErrorKind::TimedOut
+    )
+}
+
+/// Takes the packets behind the login in and acts on them, until the client logs out, the input ends, the other
+/// worker has ended, or a fault.
+pub fn receive<V: Venue, R: Read, C: Clock, G: Gate, T: Wait>(
+    rt: &T,
+    alloc: Global,
+    exchange: &Exchange<V>,
+    gate: &G,
+    member: MemberNo,
+    mut inbox: Inbox<V, R, C>,
+    told: &AtomicBool,
+    turns: u64,
+) -> (Inbox<V, R, C>, Stop)
+    ensures number { result.0.pass.number ≡ inbox.pass.number }
+    ensures received { Received member (R.remaining inbox.input) (R.remaining result.0.input) inbox.pass.sent result.0.pass.sent result.1 }
+{
+    let mut framer = Framer::new();
+    let mut number = 0;
+    let mut buffer = [0; 4096];
+    for _ in 0..turns {
+        if told.load(Ordering::SeqCst) {
+            return (inbox, Stop::Told);
+        }
+        match inbox.input.read(&mut buffer) {
+            Ok(0) => return (inbox, Stop::Ended(Ended::ReaderEnd)),
+            Ok(count) => {
+                let piece = &buffer[..count];
+                match take(
+                    rt,
+                    alloc,
+                    exchange,
+                    gate,
+                    member,
+                    &mut inbox.pass,
+                    &mut inbox.clock,
+                    &mut number,
+                    &mut framer,
+                    piece,
+                ) {
+                    Ok(()) => {}
+                    Err(stop) => return (inbox, stop),
+                }
+            }
+            Err(error) => {
+                if !is_passing(&error) {
+                    return (inbox, Stop::Faulted(Fault::Read));
+                }
+            }
+        }
+    }
+    (inbox, Stop::Faulted(Fault::Turns))
+}

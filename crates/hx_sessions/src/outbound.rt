@@ -1,0 +1,184 @@
+//! The worker that sends replies.
+ghost use Rattle.std.specs.Prelude.{ℕ, List, ◌≡◌, ◌⊎◌, ◌+◌, ◌<◌, ◌≤◌, ◌^◌, ◌++◌, [], length, drop, true, false, IfOk, IfErr, OnErr, OnOk};
+ghost use mathlib.Core.List.{IsPrefix};
+ghost use Rattle.hx_units.specs.Fields.{texts};
+ghost use Rattle.hx_desk.specs.Known.{known_replies};
+ghost use Rattle.hx_sessions.specs.Frames.{IsNextOf, Sends, Sent, WritesAll, WritesSome};
+ghost use Rattle.hx_sessions.specs.Workers.{SentRound, SentUntil};
+
+use crate::ending::{Ended, Fault, Stop};
+use crate::ports::Clock;
+use crate::writing::{Broken, write_whole};
+use arrayvec::ArrayVec;
+use hx_blog::{Reader, Receipt};
+use hx_engine::{Entry, Exchange, Venue};
+use hx_session_core::{Delivery, Turn};
+use hx_units::MemberNo;
+use std::io::Write;
+use std::sync::Wait;
+use std::sync::atomic::{AtomicBool, Ordering};
+use std::time::{Clock as Timer, Duration};
+
+// The most replies that are taken from the exchange at once.
+const PAGE: u64 = 64;
+
+// With nothing to send, a worker looks after so many milliseconds at the latest whether the other one has ended, and
+// whether a heartbeat is due.
+const LOOK_AGAIN: u64 = 20;
+
+/// What the worker has, and gives back.
+#[derive(Drop)]
+pub struct Outbox<W, C> {
+    pub output: W,
+    pub clock: C,
+    pub reader: Reader<Entry>,
+    pub delivery: Delivery,
+}
+
+// One turn of a delivery: what it gives is written.
+fn send<W: Write>(
+    output: &mut W,
+    delivery: &mut Delivery,
+    rows: &[ArrayVec<u8, 80>],
+    ended: bool,
+    now: u64,
+) -> Result<(), Broken>
+    requires live { delivery.old.over ≡ false }
+    requires room { delivery.old.next + length rows.now < 2 ^ 64 }
+    ensures ok { OnOk result ((frames : List (List ℕ)) × Sends delivery.old delivery.new (texts rows.now) ended frames × WritesAll (W.contents output.old) (W.contents output.new) frames) }
+    ensures err { OnErr result ((frames : List (List ℕ)) × Sends delivery.old delivery.new (texts rows.now) ended frames × WritesSome (W.contents output.old) (W.contents output.new) frames) }
+{
+    match delivery.turn(rows, ended, now) {
+        Turn::Frame(frame) => {
+            let bytes = frame.as_slice();
+            match write_whole(output, bytes) {
+                Ok(()) => Ok(()),
+                Err(Broken) => Err(Broken),
+            }
+        }
+        Turn::Idle | Turn::Over => Ok(()),
+    }
+}
+
+impl<W: Write, C: Clock> Outbox<W, C> {
+    // Sends a page of the replies from the next one on, or else what a turn without replies gives. Answers whether
+    // replies went out: more may be left then.
+    fn round<V: Venue, T: Wait>(
+        &mut self,
+        rt: &T,
+        exchange: &Exchange<V>,
+        member: MemberNo,
+        ended: bool,
+        told: &AtomicBool,
+        left: &mut u64,
+    ) -> Result<bool, Stop>
+        requires log { self.old.reader.log ≡ V.log }
+        requires live { self.old.delivery.over ≡ false }
+        requires next { IsNextOf (known_replies V.setup member self.old.reader.known) self.old.delivery.next }
+        ensures log { self.new.reader.log ≡ V.log }
+        ensures known { IsPrefix self.old.reader.known self.new.reader.known }
+        ensures ok { IfOk result (λ moved. SentRound self.old.delivery.next (known_replies V.setup member self.new.reader.known) self.new.delivery (W.contents self.old.output) (W.contents self.new.output) moved) }
+        ensures err { IfErr result (SentUntil self.old.delivery.next (known_replies V.setup member self.new.reader.known) self.new.delivery (W.contents self.old.output) (W.contents self.new.output)) }
+    {
+        let from = self.delivery.next();
+        let Ok(rows) = exchange.replies_page(rt, &mut self.reader, member, from, PAGE) else {
+            return Err(Stop::Faulted(Fault::NoMemory));
+        };
+        if rows.is_empty() {
+            if *left == 0 {
+                return Err(Stop::Faulted(Fault::Turns));
+            }
+            *left -= 1;
+            let now = self.clock.now();
+            match send(&mut self.output, &mut self.delivery, &rows, ended, now) {
+                Ok(()) => {
+                    if ended {
+                        return Err(Stop::Ended(Ended::DayEnd));
+                    }
+                    return Ok(false);
+                }
+                Err(Broken) => return Err(Stop::Faulted(Fault::Write)),
+            }
+        }
+        for i in 0..rows.len() {
+            if told.load(Ordering::SeqCst) {
+                return Err(Stop::Told);
+            }
+            if *left == 0 {
+                return Err(Stop::Faulted(Fault::Turns));
+            }
+            *left -= 1;
+            let now = self.clock.now();
+            let next = &rows[i..];
+            match send(&mut self.output, &mut self.delivery, next, false, now) {
+                Ok(()) => {}
+                Err(Broken) => return Err(Stop::Faulted(Fault::Write)),
+            }
+        }
+        Ok(true)
+    }
+}
+
+/// Sends the replies to a member until the other worker has ended, the day has, or the output fails.
+pub fn deliver<V: Venue, W: Write, C: Clock, T: Wait + Timer>(
+    rt: &T,
+    exchange: &Exchange<V>,
+    member: MemberNo,
+    mut outbox: Outbox<W, C>,
+    told: &AtomicBool,
+    turns: u64,
+) -> (Outbox<W, C>, Stop)
+    requires log { outbox.reader.log ≡ V.log }
+    requires live { outbox.delivery.over ≡ false }
+    requires next { IsNextOf (known_replies V.setup member outbox.reader.known) outbox.delivery.next }
+    ensures log { result.0.reader.log ≡ V.log }
+    ensures known { IsPrefix outbox.reader.known result.0.reader.known }
+    ensures sent { SentUntil outbox.delivery.next (known_replies V.setup member result.0.reader.known) result.0.delivery (W.contents outbox.output) (W.contents result.0.output) result.1 }
+{
+    let mut left = turns;
+    let limit = Duration::from_millis(LOOK_AGAIN);
+    for _ in 0..u64::MAX {
+        if told.load(Ordering::SeqCst) {
+            return (outbox, Stop::Told);
+        }
+        let sent = outbox.delivery.next() - 1;
+        let news = exchange.wait_for_news(rt, &mut outbox.reader, member, sent, limit);
+        match outbox.round(rt, exchange, member, news.ended, told, &mut left) {
+            Ok(_) => {}
+            Err(stop) => return (outbox, stop),
+        }
+    }
+    (outbox, Stop::Faulted(Fault::Turns))
+}
+
+/// Sends the replies so far after a logout: all that the receipt knows of are among them.
+pub fn finish<V: Venue, W: Write, C: Clock, T: Wait>(
+    rt: &T,
+    exchange: &Exchange<V>,
+    member: MemberNo,
+    mut outbox: Outbox<W, C>,
+    receipt: Receipt<Entry>,
+) -> (Outbox<W, C>, Result<(), Stop>)
+    requires log { outbox.reader.log ≡ V.log }
+    requires receipt { receipt.log ≡ V.log }
+    requires live { outbox.delivery.over ≡ false }
+    requires next { IsNextOf (known_replies V.setup member outbox.reader.known) outbox.delivery.next }
+    ensures log { result.0.reader.log ≡ V.log }
+    ensures known { IsPrefix outbox.reader.known result.0.reader.known }
+    ensures told { IsPrefix receipt.known result.0.reader.known }
+    ensures ok { OnOk result.1 ((result.0.delivery.over ≡ false) × Sent outbox.delivery.next (known_replies V.setup member result.0.reader.known) [] result.0.delivery (W.contents outbox.output) (W.contents result.0.output)) }
+    ensures err { IfErr result.1 (SentUntil outbox.delivery.next (known_replies V.setup member result.0.reader.known) result.0.delivery (W.contents outbox.output) (W.contents result.0.output)) }
+{
+    outbox.reader.learn(exchange.feed_log(), receipt);
+    let never = AtomicBool::new(false);
+    let mut left = u64::MAX;
+    for _ in 0..u64::MAX {
+        let news = exchange.news(rt, &mut outbox.reader, member);
+        match outbox.round(rt, exchange, member, news.ended, &never, &mut left) {
+            Ok(true) => {}
+            Ok(false) => return (outbox, Ok(())),
+            Err(stop) => return (outbox, Err(stop)),
+        }
+    }
+    (outbox, Err(Stop::Faulted(Fault::Turns)))
+}
