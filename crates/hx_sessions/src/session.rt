@@ -52,7 +52,7 @@ impl Session {
     pub fn run<
         V: Venue + Send + Sync,
         R: Read + Send + Drop,
-        W: Write + Drop,
+        W: Write + Send + Drop,
         C: Clock + Send + Drop,
         G: Gate + Sync,
         T: Threads + Wait + Timer + Sync,
@@ -101,6 +101,7 @@ impl Session {
                 (part, result)
             }
             Ok((begun, left)) => {
+                gate.opened(begun.member);
                 let now = outbound.now();
                 let inbox = Inbox {
                     input,
@@ -143,7 +144,7 @@ impl Session {
 fn converse<
     V: Venue + Send + Sync,
     R: Read + Send + Drop,
-    W: Write + Drop,
+    W: Write + Send + Drop,
     C: Clock + Send + Drop,
     G: Gate + Sync,
     T: Threads + Wait + Timer + Sync,
@@ -190,7 +191,7 @@ fn converse<
 fn work<
     V: Venue + Send + Sync,
     R: Read + Send + Drop,
-    W: Write + Drop,
+    W: Write + Send + Drop,
     C: Clock + Send + Drop,
     G: Gate + Sync,
     T: Threads + Wait + Timer + Sync,
@@ -218,16 +219,10 @@ fn work<
     let out_ended = AtomicBool::new(false);
     let in_flag = &in_ended;
     let out_flag = &out_ended;
-    let ((inbox, inn), (outbox, out)) = join(
+    // Where no thread can be made, `join` runs its second call first: messages are taken in before replies are looked
+    // for, and none waits for the other.
+    let ((outbox, out), (inbox, inn)) = join(
         rt,
-        move || -> (Inbox<V, R, C>, Stop)
-            ensures number { result.0.pass.number ≡ inbox.pass.number }
-            ensures received { Received member (R.remaining inbox.input) (R.remaining result.0.input) inbox.pass.sent result.0.pass.sent result.1 }
-        {
-            let done = receive(rt, alloc, exchange, gate, member, inbox, out_flag, reads);
-            in_flag.store(true, Ordering::SeqCst);
-            done
-        },
         move || -> (Outbox<W, C>, Stop)
             requires { (outbox.reader.log ≡ V.log) × (outbox.delivery.over ≡ false) × IsNextOf (known_replies V.setup member outbox.reader.known) outbox.delivery.next }
             ensures log { result.0.reader.log ≡ V.log }
@@ -236,6 +231,14 @@ fn work<
         {
             let done = deliver(rt, exchange, member, outbox, in_flag, turns);
             out_flag.store(true, Ordering::SeqCst);
+            done
+        },
+        move || -> (Inbox<V, R, C>, Stop)
+            ensures number { result.0.pass.number ≡ inbox.pass.number }
+            ensures received { Received member (R.remaining inbox.input) (R.remaining result.0.input) inbox.pass.sent result.0.pass.sent result.1 }
+        {
+            let done = receive(rt, alloc, exchange, gate, member, inbox, out_flag, reads);
+            in_flag.store(true, Ordering::SeqCst);
             done
         },
     );
