@@ -249,8 +249,8 @@ pub until_join : (setup : Setup) (member first : ℕ) (known longer : Entries En
     → SentUntil d.next (known_replies setup member longer) e b c s → SentUntil first (known_replies setup member longer) e a c s
 until_join setup member first known longer rest d e a b c stop.Told p s live (is, left, t) =
     (is, left, sent_join first (known_replies setup member known) (known_replies setup member longer) rest left d e a b c (replies_grow setup member known longer p) s live t)
-until_join setup member first known longer rest d e a b c (stop.Ended x) p s live (is, t) =
-    (is, sent_join first (known_replies setup member known) (known_replies setup member longer) rest [] d e a b c (replies_grow setup member known longer p) s live t)
+until_join setup member first known longer rest d e a b c (stop.Ended x) p s live (is, over, t) =
+    (is, over, sent_join first (known_replies setup member known) (known_replies setup member longer) rest [] d e a b c (replies_grow setup member known longer p) s live t)
 until_join setup member first known longer rest d e a b c (stop.Faulted x) p s live (left, inl (t, is)) =
     (left, inl (sent_join first (known_replies setup member known) (known_replies setup member longer) rest left d e a b c (replies_grow setup member known longer p) s live t, is))
 until_join setup member first known longer rest d e a b c (stop.Faulted x) p s live (left, inr (is, t)) =

@@ -1,5 +1,5 @@
 -- How a session is opened.
-use Rattle.std.proofs.Common.{◌≡◌, ◌⊎◌, ℕ, zero, suc, ◌+◌, ◌-◌, ◌<◌, ◌≤◌, List, [], ◌∷◌, ◌++◌, length, drop, get_or, Bool, true, false, nat_lt, nat_le, Option, Some, None, Result, Ok, Err, refl, sym, ap, ◌∙◌, subst, inl, inr, arith, append_assoc, append-nil, length-append}
+use Rattle.std.proofs.Common.{◌≡◌, ◌⊎◌, ℕ, zero, suc, ◌+◌, ◌-◌, ◌<◌, ◌≤◌, List, [], ◌∷◌, ◌++◌, length, take, drop, get_or, Bool, true, false, nat_lt, nat_le, Option, Some, None, Result, Ok, Err, refl, sym, ap, ◌∙◌, subst, inl, inr, arith, append_assoc, append-nil, length-append, length-take}
 use Rattle.std.specs.Prelude.{◌&&◌, if◌then◌else◌}
 use Rattle.std.specs.Io.KnownBytes.{Consumes}
 use Rattle.std.proofs.KnownBytes.{Consumes-trans, Consumes-nil}
@@ -17,7 +17,9 @@ use Rattle.hx_session_core.specs.declared.opening.Start.{Start}
 use Rattle.hx_blog.specs.Feed.{Entries}
 use Rattle.hx_desk.specs.declared.entry.Entry.{Entry}
 use Rattle.hx_desk.specs.Known.{known_replies}
-use Rattle.hx_sessions.specs.Logins.{LogsIn, Opens}
+use Rattle.hx_sessions.specs.Logins.{LogsIn, Opens, NoLogin, GivesFirst, ReadsFirst, FailsFirst, AwaitsLogin}
+use Rattle.hx_sessions.specs.declared.ending.Stop.{Stop}
+use Rattle.hx_sessions.specs.declared.ending.Stop.TheVariants as stop
 
 started_ok : (o : Option ℕ) (b : Bool) (first : ℕ) (s : Start) → started o b first ≡ Ok s → (o ≡ Some s.member) × (s.first ≡ first)
 started_ok None b first s e = absurd (cc e)
@@ -67,3 +69,71 @@ logs_in a b c bytes piece rest p ps login first next cuts most kind size is =
       read = subst (Consumes a c) bytes_are (Consumes-trans a b c bytes piece first next);
       is = is;
     }
+
+-- ---- the first packet
+
+same_bytes : (a b : List ℕ) → Some a ≡ Some b → a ≡ b
+same_bytes a b e = cc
+
+login_size : (payload : List ℕ) (login : LoginRequest) → IsLogin payload login → length payload ≡ 46
+login_size payload login l =
+    let two = login.user ++ login.password in
+    let three = two ++ login.session in
+    let more = login.session ++ l.text in
+    let next = login.password ++ more in
+    let right : length (login.user ++ next) ≡ 46 = omega (arith, length-append login.user next, length-append login.password more, length-append login.session l.text, l.user, l.password, l.session, l.text_len) in
+    let same : three ++ l.text ≡ login.user ++ next = append_assoc two login.session l.text ∙ append_assoc login.user login.password more in
+    ap length l.whole ∙ (ap length same ∙ right)
+
+-- less than a whole packet stays as it is
+nothing_cut : (stream rest : List ℕ) → Cuts stream [] rest → stream ≡ rest
+nothing_cut stream rest c = c.whole
+
+pub awaits_none : (a : Option (List ℕ)) → AwaitsLogin a a (Some []) 0
+awaits_none a = record {
+  bytes = [];
+  read = Consumes-nil a;
+  kept = refl;
+  cuts = record { whole = refl; each = λ k d l. absurd (omega arith); unfinished = tt };
+  size = refl;
+}
+
+pub awaits_more : (a b c f g : Option (List ℕ)) (n room m : ℕ) → AwaitsLogin a b f n → ReadsFirst b c f g room None m → AwaitsLogin a c g (n + m)
+awaits_more a b c f g n room m w r = elim r.gives [
+  | inl h ↦
+      let size : length r.piece ≡ 0 = ap length h.0 in record {
+        bytes = w.bytes;
+        read = subst (Consumes a c) (ap (λ l. w.bytes ++ l) h.0 ∙ append-nil w.bytes) (Consumes-trans a b c w.bytes r.piece w.read r.read);
+        kept = h.1 ∙ w.kept;
+        cuts = w.cuts;
+        size = omega (arith, w.size, size, r.size);
+      }
+  | inr h ↦
+      let kept = h.0 in
+      let rest = h.1 in
+      let same : kept ≡ w.bytes = same_bytes kept w.bytes (sym h.2 ∙ w.kept) in
+      let cuts : Cuts (w.bytes ++ r.piece) [] rest = subst (λ k. Cuts (k ++ r.piece) [] rest) same h.4 in
+      let whole : w.bytes ++ r.piece ≡ rest = nothing_cut (w.bytes ++ r.piece) rest cuts in record {
+        bytes = w.bytes ++ r.piece;
+        read = Consumes-trans a b c w.bytes r.piece w.read r.read;
+        kept = h.3 ∙ ap Some (sym whole);
+        cuts = subst (Cuts (w.bytes ++ r.piece) []) (sym whole) cuts;
+        size = omega (arith, length-append w.bytes r.piece, w.size, r.size);
+      }
+]
+
+pub awaits_login : (a b c f g : Option (List ℕ)) (n room m : ℕ) (login : LoginRequest) → AwaitsLogin a b f n → n + room ≤ 49 → ReadsFirst b c f g room (Some login) m → LogsIn a c login
+awaits_login a b c f g n room m login w most r =
+    let h = r.gives in
+    let same : h.0 ≡ w.bytes = same_bytes h.0 w.bytes (sym h.4 ∙ w.kept) in
+    let cuts : Cuts (w.bytes ++ r.piece) (h.2 ∷ h.3) h.1 = subst (λ k. Cuts (k ++ r.piece) (h.2 ∷ h.3) h.1) same h.5 in
+    logs_in a b c w.bytes r.piece h.1 h.2 h.3 login w.read r.read cuts (omega (arith, w.size, r.size, r.fits, most)) h.6 (login_size h.2.payload.items login h.7) h.7
+
+pub awaits_stop : (a b c f : Option (List ℕ)) (n : ℕ) (s : Stop) → AwaitsLogin a b f n → FailsFirst b c s → NoLogin a c s
+awaits_stop a b c f n stop.Told w h = absurd h
+awaits_stop a b c f n (stop.Ended e) w (is, read, end) =
+    (is, end, w.bytes, subst (Consumes a c) (append-nil w.bytes) (Consumes-trans a b c w.bytes [] w.read read), w.bytes, w.cuts)
+awaits_stop a b c f n (stop.Faulted x) w (piece, read) = (w.bytes ++ piece, Consumes-trans a b c w.bytes piece w.read read)
+
+pub space_fits : (n : ℕ) (buffer : List ℕ) → n ≤ 49 → n + length (take (49 - n) (drop n buffer)) ≤ 49
+space_fits n buffer most = omega (arith, most, length-take (49 - n) (drop n buffer))

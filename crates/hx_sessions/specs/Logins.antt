@@ -1,9 +1,13 @@
 -- How a session is opened.
-use Rattle.std.specs.Prelude.{ℕ, ◌≡◌, ◌+◌, ◌≤◌, List, length, Option, Some}
-use Rattle.std.specs.Io.KnownBytes.{Consumes}
+use Rattle.std.specs.Prelude.{ℕ, ◌≡◌, ◌⊎◌, ◌+◌, ◌≤◌, List, [], ◌∷◌, ◌++◌, length, Option, Some, None}
+use Rattle.std.specs.Io.KnownBytes.{Consumes, IsAtEnd}
 use Rattle.hx_soup.specs.Kinds.{login_request}
 use Rattle.hx_soup.specs.Logins.{IsLogin}
-use Rattle.hx_soup.specs.Packets.{framed}
+use Rattle.hx_soup.specs.Packets.{framed, Cuts}
+use Rattle.hx_soup.specs.declared.packet.SoupPacket.{SoupPacket}
+use Rattle.hx_sessions.specs.declared.ending.Ended.TheVariants as ended
+use Rattle.hx_sessions.specs.declared.ending.Stop.{Stop}
+use Rattle.hx_sessions.specs.declared.ending.Stop.TheVariants as stop
 use Rattle.hx_soup.specs.declared.login.LoginRequest.{LoginRequest}
 use Rattle.hx_members.specs.Setups.{Setup, login_of}
 use Rattle.hx_session_core.specs.Starts.{is_present, first_reply}
@@ -17,6 +21,53 @@ pub record LogsIn (old new : Option (List ℕ)) (login : LoginRequest) : Type 0 
   pub payload : List ℕ
   pub read : Consumes old new (framed login_request payload)
   pub is : IsLogin payload login
+
+-- No login came whole: an end of the input within it, or a fault.
+abbrev pub NoLogin : Option (List ℕ) → Option (List ℕ) → Stop → Type 0
+NoLogin old new stop.Told = ⊥
+NoLogin old new (stop.Ended e) =
+    (e ≡ ended.ReaderEnd) × IsAtEnd new
+    × (bytes : List ℕ) × Consumes old new bytes × (rest : List ℕ) × Cuts bytes [] rest
+NoLogin old new (stop.Faulted f) = (bytes : List ℕ) × Consumes old new bytes
+
+-- What one read of the first packet gives: the login, or nothing whole so far.
+abbrev pub GivesFirst :
+    (before after : Option (List ℕ)) → (piece : List ℕ) → Option LoginRequest → Type 0
+GivesFirst before after piece None =
+    ((piece ≡ []) × (after ≡ before))
+    ⊎ ((kept : List ℕ) × (rest : List ℕ) × (before ≡ Some kept) × (after ≡ Some rest)
+    × Cuts (kept ++ piece) [] rest)
+GivesFirst before after piece (Some login) =
+    (kept : List ℕ) × (rest : List ℕ) × (p : SoupPacket) × (others : List SoupPacket)
+    × (before ≡ Some kept) × Cuts (kept ++ piece) (p ∷ others) rest
+    × (p.kind ≡ login_request) × IsLogin p.payload.items login
+
+-- One read of the first packet, of at most `room` bytes.
+pub record ReadsFirst
+    (old new : Option (List ℕ)) (before after : Option (List ℕ)) (room : ℕ)
+    (login : Option LoginRequest) (count : ℕ)
+    : Type 0 where
+  pub piece : List ℕ
+  pub read : Consumes old new piece
+  pub size : length piece ≡ count
+  pub fits : count ≤ room
+  pub gives : GivesFirst before after piece login
+
+-- how a read of the first packet ends the session
+abbrev pub FailsFirst : Option (List ℕ) → Option (List ℕ) → Stop → Type 0
+FailsFirst old new stop.Told = ⊥
+FailsFirst old new (stop.Ended e) = (e ≡ ended.ReaderEnd) × Consumes old new [] × IsAtEnd new
+FailsFirst old new (stop.Faulted f) = (bytes : List ℕ) × Consumes old new bytes
+
+-- So far less than a whole packet was read.
+pub record AwaitsLogin
+    (old new : Option (List ℕ)) (framer : Option (List ℕ)) (count : ℕ)
+    : Type 0 where
+  pub bytes : List ℕ
+  pub read : Consumes old new bytes
+  pub kept : framer ≡ Some bytes
+  pub cuts : Cuts bytes [] bytes
+  pub size : length bytes ≡ count
 
 -- the login is this member's, and the first reply is the one that he asked for, or the next one
 pub record Opens (setup own : Setup) (login : LoginRequest) (known : Entries Entry) (s : Start) : Type 0 where

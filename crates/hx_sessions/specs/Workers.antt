@@ -16,6 +16,17 @@ use Rattle.hx_sessions.specs.declared.ending.Stop.TheVariants as stop
 use Rattle.hx_sessions.specs.Asked.{asked, IsStream, Submits}
 use Rattle.hx_sessions.specs.Frames.{Sent, SentSome}
 
+-- How both ended, as one: a fault before an ending, the inbound fault first, and the end of the day before the other
+-- endings. Where neither ended by itself, no thread could be started.
+abbrev pub both_of : (inbound outbound : Stop) → Result Ended Fault
+both_of (stop.Faulted f) out = Err f
+both_of (stop.Ended e) (stop.Faulted f) = Err f
+both_of (stop.Ended e) (stop.Ended x) = Ok x
+both_of (stop.Ended e) stop.Told = Ok e
+both_of stop.Told (stop.Faulted f) = Err f
+both_of stop.Told (stop.Ended x) = Ok x
+both_of stop.Told stop.Told = Err fault.NoMemory
+
 -- ---- what goes out
 
 -- After a round that goes on: where no reply went out, none is left.
@@ -26,7 +37,7 @@ SentRound first replies d old new moved = (d.over ≡ false) × (rest : List (Li
 -- beginning of the bytes was written.
 abbrev pub SentUntil : ℕ → List (List ℕ) → Delivery → Option (List ℕ) → Option (List ℕ) → Stop → Type 0
 SentUntil first replies d old new stop.Told = (d.over ≡ false) × (rest : List (List ℕ)) × Sent first replies rest d old new
-SentUntil first replies d old new (stop.Ended e) = (e ≡ ended.DayEnd) × Sent first replies [] d old new
+SentUntil first replies d old new (stop.Ended e) = (e ≡ ended.DayEnd) × (d.over ≡ true) × Sent first replies [] d old new
 SentUntil first replies d old new (stop.Faulted f) = (rest : List (List ℕ)) × ((Sent first replies rest d old new × (d.over ≡ false)) ⊎ ((f ≡ fault.Write) × SentSome first replies rest d old new))
 
 -- ---- what comes in

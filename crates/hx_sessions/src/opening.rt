@@ -1,87 +1,148 @@
 //! The login of a session.
-ghost use Rattle.std.specs.Prelude.{ℕ, List, ◌≡◌, ◌⊎◌, ◌+◌, ◌<◌, ◌≤◌, ◌^◌, ◌++◌, [], length, IfOk, OnErr};
+ghost use Rattle.std.specs.Prelude.{ℕ, List, Result, Err, IfErr, IsSome, ◌≡◌, ◌⊎◌, ◌+◌, ◌<◌, ◌≤◌, ◌^◌, ◌++◌, [], length, IfOk, OnErr};
 ghost use mathlib.Core.List.{IsPrefix};
 ghost use Rattle.hx_session_core.specs.Starts.{start_of};
 ghost use Rattle.hx_desk.specs.Known.{known_replies};
-ghost use Rattle.hx_sessions.specs.Logins.{Opens};
+ghost use Rattle.hx_sessions.specs.Logins.{LogsIn, Opens, NoLogin, ReadsFirst, FailsFirst};
+ghost use Rattle.hx_sessions.specs.Served.{Admits, Dismisses};
 
 use crate::ending::{Ended, Fault, Stop};
 use crate::inbound::is_passing;
+use crate::writing::{Broken, write_whole};
 use hx_blog::Reader;
 use hx_engine::{Entry, Exchange, Venue};
 use hx_members::Setup;
 use hx_session_core::{Action, Intake, Start, start};
-use hx_soup::{Framer, FramerError, LoginRequest};
+use hx_soup::{Framer, FramerError, LoginRequest, accepted, rejected};
 use std::alloc::Global;
-use std::io::Read;
+use std::io::{Read, Write};
 use std::sync::Wait;
 
 // The bytes of a login packet. No byte behind them is read with it.
 const LOGIN: usize = 49;
 
-/// Reads the first packet, which must be a login. Answers the reads that are left.
+// Reads once: the login where it is whole now, and how many bytes came.
+fn read_more<R: Read>(
+    alloc: Global,
+    input: &mut R,
+    framer: &mut Framer,
+    space: &mut [u8],
+) -> Result<(Option<LoginRequest>, usize), Stop>
+    requires framer { IsSome framer.old }
+    requires space { 0 < length space.old }
+    ensures ok { IfOk result (λ r. ReadsFirst (R.remaining input.old) (R.remaining input.new) framer.old framer.new (length space.old) r.0 r.1) }
+    ensures err { IfErr result (FailsFirst (R.remaining input.old) (R.remaining input.new)) }
+{
+    match input.read(space) {
+        Ok(0) => Err(Stop::Ended(Ended::ReaderEnd)),
+        Ok(count) => {
+            let piece = &space[..count];
+            match framer.feed(alloc, piece) {
+                Ok(packets) => match packets.first() {
+                    Some(packet) => match Intake::new().packet(packet) {
+                        Action::Login(login) => Ok((Some(login), count)),
+                        _ => Err(Stop::Faulted(Fault::Framing)),
+                    },
+                    None => Ok((None, count)),
+                },
+                Err(FramerError::NoMemory) => Err(Stop::Faulted(Fault::NoMemory)),
+                Err(_) => Err(Stop::Faulted(Fault::Framing)),
+            }
+        }
+        Err(error) => {
+            if is_passing(&error) {
+                return Ok((None, 0));
+            }
+            Err(Stop::Faulted(Fault::Read))
+        }
+    }
+}
+
+/// Reads the first packet, which must be a login, and no byte behind it. Answers the reads that are left.
 pub fn read_login<R: Read>(
     alloc: Global,
     input: &mut R,
     turns: u64,
-) -> Result<(LoginRequest, u64), Stop> {
+) -> Result<(LoginRequest, u64), Stop>
+    ensures ok { IfOk result (λ r. LogsIn (R.remaining input.old) (R.remaining input.new) r.0) }
+    ensures err { IfErr result (NoLogin (R.remaining input.old) (R.remaining input.new)) }
+{
     let mut framer = Framer::new();
     let mut buffer = [0; LOGIN];
     let mut kept = 0;
-    let mut left = turns;
-    for _ in 0..turns {
+    for turn in 0..turns {
         if kept >= LOGIN {
             return Err(Stop::Faulted(Fault::Framing));
         }
-        left = left.saturating_sub(1);
-        match input.read(&mut buffer[kept..]) {
-            Ok(0) => return Err(Stop::Ended(Ended::ReaderEnd)),
-            Ok(count) => {
-                let piece = &buffer[kept..kept + count];
-                match framer.feed(alloc, piece) {
-                    Ok(packets) => {
-                        if let Some(packet) = packets.first() {
-                            let mut intake = Intake::new();
-                            match intake.packet(packet) {
-                                Action::Login(login) => return Ok((login, left)),
-                                _ => return Err(Stop::Faulted(Fault::Framing)),
-                            }
-                        }
-                    }
-                    Err(FramerError::NoMemory) => return Err(Stop::Faulted(Fault::NoMemory)),
-                    Err(_) => return Err(Stop::Faulted(Fault::Framing)),
-                }
-                kept += count;
-            }
-            Err(error) => {
-                if !is_passing(&error) {
-                    return Err(Stop::Faulted(Fault::Read));
-                }
-            }
+        let space = &mut buffer[kept..];
+        match read_more(alloc, input, &mut framer, space) {
+            Ok((Some(login), _count)) => return Ok((login, turns - turn - 1)),
+            Ok((None, count)) => kept += count,
+            Err(stop) => return Err(stop),
         }
     }
     Err(Stop::Faulted(Fault::Turns))
 }
 
-/// Where the session of a login begins. The reader knows the replies that are there.
+/// Where the session of a login begins, or the letter of its rejection. The reader knows the replies that are there.
 pub fn open<V: Venue, T: Wait>(
     rt: &T,
     exchange: &Exchange<V>,
     setup: &Setup,
     reader: &mut Reader<Entry>,
     login: &LoginRequest,
-) -> Result<Start, Fault>
+) -> Result<Start, u8>
     requires { reader.old.log ≡ V.log }
     ensures log { reader.new.log ≡ V.log }
     ensures known { IsPrefix reader.old.known reader.new.known }
     ensures ok { IfOk result (λ s. Opens V.setup setup.now login.now reader.new.known s) }
+    ensures err { IfErr result (λ reason. (replies : ℕ) × (start_of setup.now login.now replies ≡ Err reason)) }
 {
     let replies = match setup.login(&login.user, &login.password) {
         Some(member) => exchange.news(rt, reader, member).replies,
         None => 0,
     };
-    match start(setup, login, replies) {
-        Ok(start) => Ok(start),
-        Err(reason) => Err(Fault::NotAuthorized { reason }),
+    start(setup, login, replies)
+}
+
+/// Logs a client in, and answers him. Answers where his session begins and the reads that are left, or how it ends
+/// here.
+pub fn admit<V: Venue, R: Read, W: Write, T: Wait>(
+    rt: &T,
+    alloc: Global,
+    exchange: &Exchange<V>,
+    setup: &Setup,
+    input: &mut R,
+    output: &mut W,
+    reader: &mut Reader<Entry>,
+    turns: u64,
+) -> Result<(Start, u64), Result<Ended, Fault>>
+    requires log { reader.old.log ≡ V.log }
+    ensures log { reader.new.log ≡ V.log }
+    ensures known { IsPrefix reader.old.known reader.new.known }
+    ensures ok { IfOk result (λ r. Admits V.setup setup.now (R.remaining input.old) (R.remaining input.new) (W.contents output.old) (W.contents output.new) reader.new.known r.0) }
+    ensures err { IfErr result (Dismisses V.setup setup.now (R.remaining input.old) (R.remaining input.new) (W.contents output.old) (W.contents output.new) reader.new.known) }
+{
+    let (login, left) = match read_login(alloc, input, turns) {
+        Ok(read) => read,
+        Err(Stop::Ended(ended)) => return Err(Ok(ended)),
+        Err(Stop::Faulted(fault)) => return Err(Err(fault)),
+        Err(Stop::Told) => return Err(Err(Fault::Turns)),
+    };
+    match open(rt, exchange, setup, reader, &login) {
+        Ok(begun) => {
+            let frame = accepted(*setup.session(), begun.first);
+            match write_whole(output, frame.as_slice()) {
+                Ok(()) => Ok((begun, left)),
+                Err(Broken) => Err(Err(Fault::Write)),
+            }
+        }
+        Err(reason) => {
+            let frame = rejected(reason);
+            match write_whole(output, frame.as_slice()) {
+                Ok(()) => Err(Err(Fault::NotAuthorized { reason })),
+                Err(Broken) => Err(Err(Fault::Write)),
+            }
+        }
     }
 }

@@ -26,7 +26,7 @@ enum Slot<V: Venue, R, W, C> {
 fn serve<
     V: Venue + Send + Sync,
     R: Read + Send + Drop,
-    W: Write + Drop,
+    W: Write + Send + Drop,
     C: Clock + Send + Drop,
     G: Gate + Sync,
     T: Threads + Wait + Timer + Sync,

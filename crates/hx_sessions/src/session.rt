@@ -3,20 +3,19 @@ ghost use Rattle.std.specs.Prelude.{ℕ, List, ◌≡◌, ◌⊎◌, ◌+◌, �
 ghost use mathlib.Core.List.{IsPrefix};
 ghost use Rattle.hx_desk.specs.Known.{known_replies};
 ghost use Rattle.hx_sessions.specs.Frames.{IsNextOf};
-ghost use Rattle.hx_sessions.specs.Workers.{Received, SentUntil};
+ghost use Rattle.hx_sessions.specs.Workers.{Received, SentUntil, both_of};
+ghost use Rattle.hx_sessions.specs.Served.{Converses, Serves};
 
 use crate::ending::{Ended, Fault, Stop};
 use crate::inbound::{Inbox, receive};
-use crate::opening::{open, read_login};
+use crate::opening::admit;
 use crate::outbound::{Outbox, deliver, finish};
 use crate::part::Part;
 use crate::ports::{Clock, Gate};
-use crate::writing::{Broken, write_whole};
 use hx_blog::Reader;
 use hx_engine::{Entry, Exchange, Pass, Venue};
 use hx_members::Setup;
-use hx_session_core::{Delivery, Start};
-use hx_soup::{accepted, rejected};
+use hx_session_core::Delivery;
 use hx_units::MemberNo;
 use std::alloc::Global;
 use std::io::{Read, Write};
@@ -25,9 +24,11 @@ use std::sync::atomic::{AtomicBool, Ordering};
 use std::thread::{Threads, join};
 use std::time::Clock as Timer;
 
-// How both workers ended, as one: a fault before an ending, the inbound fault first, and the end of the day before
-// the other endings.
-pub fn both(inbound: Stop, outbound: Stop) -> Result<Ended, Fault> {
+/// How both workers ended, as one: a fault before an ending, the inbound fault first, and the end of the day before
+/// the other endings. Where neither ended by itself, no thread could be started.
+pub fn both(inbound: Stop, outbound: Stop) -> Result<Ended, Fault>
+    ensures { result ≡ both_of inbound outbound }
+{
     match inbound {
         Stop::Faulted(fault) => Err(fault),
         Stop::Ended(ended) => match outbound {
@@ -38,7 +39,7 @@ pub fn both(inbound: Stop, outbound: Stop) -> Result<Ended, Fault> {
         Stop::Told => match outbound {
             Stop::Faulted(fault) => Err(fault),
             Stop::Ended(other) => Ok(other),
-            Stop::Told => Ok(Ended::ReaderEnd),
+            Stop::Told => Err(Fault::NoMemory),
         },
     }
 }
@@ -51,7 +52,7 @@ impl Session {
     pub fn run<
         V: Venue + Send + Sync,
         R: Read + Send + Drop,
-        W: Write + Drop,
+        W: Write + Send + Drop,
         C: Clock + Send + Drop,
         G: Gate + Sync,
         T: Threads + Wait + Timer + Sync,
@@ -63,7 +64,12 @@ impl Session {
         part: Part<V, R, W, C>,
         gate: &G,
         turns: u64,
-    ) -> (Part<V, R, W, C>, Result<Ended, Fault>) {
+    ) -> (Part<V, R, W, C>, Result<Ended, Fault>)
+        ensures { Serves V.setup setup.now
+            (record { input = R.remaining part.input; output = W.contents part.output; pass = part.pass; reader = part.reader })
+            (record { input = R.remaining result.0.input; output = W.contents result.0.output; pass = result.0.pass; reader = result.0.reader })
+            result.1 }
+    {
         let Part {
             mut input,
             mut output,
@@ -72,130 +78,120 @@ impl Session {
             pass,
             mut reader,
         } = part;
-        let (login, left) = match read_login(alloc, &mut input, turns) {
-            Ok(read) => read,
-            Err(stop) => {
-                let result = both(stop, Stop::Told);
-                return (
-                    Part {
-                        input,
-                        output,
-                        inbound,
-                        outbound,
-                        pass,
-                        reader,
-                    },
-                    result,
-                );
-            }
-        };
-        let begun = match open(rt, exchange, setup, &mut reader, &login) {
-            Ok(begun) => begun,
-            Err(fault) => {
-                let fault = reject(&mut output, fault);
-                return (
-                    Part {
-                        input,
-                        output,
-                        inbound,
-                        outbound,
-                        pass,
-                        reader,
-                    },
-                    Err(fault),
-                );
-            }
-        };
-        let frame = accepted(*setup.session(), begun.first);
-        if write_whole(&mut output, frame.as_slice()).is_err() {
-            return (
-                Part {
+        match admit(
+            rt,
+            alloc,
+            exchange,
+            setup,
+            &mut input,
+            &mut output,
+            &mut reader,
+            turns,
+        ) {
+            Err(result) => {
+                let _ = output.flush();
+                let part = Part {
                     input,
                     output,
                     inbound,
                     outbound,
                     pass,
                     reader,
-                },
-                Err(Fault::Write),
-            );
-        }
-        let now = outbound.now();
-        let inbox = Inbox {
-            input,
-            clock: inbound,
-            pass,
-        };
-        let outbox = Outbox {
-            output,
-            clock: outbound,
-            reader,
-            delivery: Delivery::new(begun.first, now),
-        };
-        let (inbox, inn, outbox, out) = work(
-            rt,
-            alloc,
-            exchange,
-            gate,
-            begun.member,
-            inbox,
-            outbox,
-            left,
-            turns,
-        );
-        let Inbox {
-            input,
-            clock: inbound,
-            mut pass,
-        } = inbox;
-        let is_logout = matches!((&inn, &out), (Stop::Ended(Ended::Logout), Stop::Told));
-        let (outbox, out) = if is_logout {
-            let receipt = pass.receipt(exchange.feed_log());
-            let (outbox, last) = finish(rt, exchange, begun.member, outbox, receipt);
-            match last {
-                Ok(()) => (outbox, Stop::Told),
-                Err(stop) => (outbox, stop),
+                };
+                (part, result)
             }
-        } else {
-            (outbox, out)
-        };
-        let Outbox {
-            mut output,
-            clock: outbound,
-            reader,
-            delivery: _,
-        } = outbox;
-        let _ = output.flush();
-        (
-            Part {
-                input,
-                output,
-                inbound,
-                outbound,
-                pass,
-                reader,
-            },
-            both(inn, out),
-        )
+            Ok((begun, left)) => {
+                gate.opened(begun.member);
+                let now = outbound.now();
+                let inbox = Inbox {
+                    input,
+                    clock: inbound,
+                    pass,
+                };
+                let outbox = Outbox {
+                    output,
+                    clock: outbound,
+                    reader,
+                    delivery: Delivery::new(begun.first, now),
+                };
+                let (inbox, mut outbox, result) = converse(
+                    rt,
+                    alloc,
+                    exchange,
+                    gate,
+                    begun.member,
+                    inbox,
+                    outbox,
+                    left,
+                    turns,
+                );
+                let _ = outbox.output.flush();
+                let part = Part {
+                    input: inbox.input,
+                    output: outbox.output,
+                    inbound: inbox.clock,
+                    outbound: outbox.clock,
+                    pass: inbox.pass,
+                    reader: outbox.reader,
+                };
+                (part, result)
+            }
+        }
     }
 }
 
-// Answers a login that is rejected.
-fn reject<W: Write>(output: &mut W, fault: Fault) -> Fault {
-    if let Fault::NotAuthorized { reason } = &fault {
-        let frame = rejected(*reason);
-        if write_whole(output, frame.as_slice()).is_err() {
-            return Fault::Write;
+// A session behind its login: both workers at once, and after a logout the replies so far.
+fn converse<
+    V: Venue + Send + Sync,
+    R: Read + Send + Drop,
+    W: Write + Send + Drop,
+    C: Clock + Send + Drop,
+    G: Gate + Sync,
+    T: Threads + Wait + Timer + Sync,
+>(
+    rt: &T,
+    alloc: Global,
+    exchange: &Exchange<V>,
+    gate: &G,
+    member: MemberNo,
+    inbox: Inbox<V, R, C>,
+    outbox: Outbox<W, C>,
+    reads: u64,
+    turns: u64,
+) -> (Inbox<V, R, C>, Outbox<W, C>, Result<Ended, Fault>)
+    requires log { outbox.reader.log ≡ V.log }
+    requires live { outbox.delivery.over ≡ false }
+    requires next { IsNextOf (known_replies V.setup member outbox.reader.known) outbox.delivery.next }
+    ensures log { result.1.reader.log ≡ V.log }
+    ensures known { IsPrefix outbox.reader.known result.1.reader.known }
+    ensures converses { Converses V.setup member outbox.delivery.next []
+        (record { input = R.remaining inbox.input; output = W.contents outbox.output; pass = inbox.pass; reader = outbox.reader })
+        (record { input = R.remaining result.0.input; output = W.contents result.1.output; pass = result.0.pass; reader = result.1.reader })
+        result.2 }
+{
+    let (mut inbox, inn, outbox, out) = work(
+        rt, alloc, exchange, gate, member, inbox, outbox, reads, turns,
+    );
+    match both(inn, out) {
+        Ok(Ended::Logout) => {
+            let receipt = inbox.pass.receipt(exchange.feed_log());
+            let (outbox, last) = finish(rt, exchange, member, outbox, receipt);
+            match last {
+                Ok(()) => (inbox, outbox, Ok(Ended::Logout)),
+                Err(stop) => (inbox, outbox, both(Stop::Told, stop)),
+            }
         }
+        Ok(Ended::ReaderEnd) => (inbox, outbox, Ok(Ended::ReaderEnd)),
+        Ok(Ended::DayEnd) => (inbox, outbox, Ok(Ended::DayEnd)),
+        Err(fault) => (inbox, outbox, Err(fault)),
     }
-    fault
 }
 
 // Both workers at once, each of which ends at its next turn once the other has.
 fn work<
     V: Venue + Send + Sync,
     R: Read + Send + Drop,
-    W: Write + Drop,
+    W: Write + Send + Drop,
     C: Clock + Send + Drop,
     G: Gate + Sync,
     T: Threads + Wait + Timer + Sync,
@@ -223,16 +219,10 @@ fn work<
     let out_ended = AtomicBool::new(false);
     let in_flag = &in_ended;
     let out_flag = &out_ended;
-    let ((inbox, inn), (outbox, out)) = join(
+    // Where no thread can be made, `join` runs its second call first: messages are taken in before replies are looked
+    // for, and none waits for the other.
+    let ((outbox, out), (inbox, inn)) = join(
         rt,
-        move || -> (Inbox<V, R, C>, Stop)
-            ensures number { result.0.pass.number ≡ inbox.pass.number }
-            ensures received { Received member (R.remaining inbox.input) (R.remaining result.0.input) inbox.pass.sent result.0.pass.sent result.1 }
-        {
-            let done = receive(rt, alloc, exchange, gate, member, inbox, out_flag, reads);
-            in_flag.store(true, Ordering::SeqCst);
-            done
-        },
         move || -> (Outbox<W, C>, Stop)
             requires { (outbox.reader.log ≡ V.log) × (outbox.delivery.over ≡ false) × IsNextOf (known_replies V.setup member outbox.reader.known) outbox.delivery.next }
             ensures log { result.0.reader.log ≡ V.log }
@@ -241,6 +231,14 @@ fn work<
         {
             let done = deliver(rt, exchange, member, outbox, in_flag, turns);
             out_flag.store(true, Ordering::SeqCst);
+            done
+        },
+        move || -> (Inbox<V, R, C>, Stop)
+            ensures number { result.0.pass.number ≡ inbox.pass.number }
+            ensures received { Received member (R.remaining inbox.input) (R.remaining result.0.input) inbox.pass.sent result.0.pass.sent result.1 }
+        {
+            let done = receive(rt, alloc, exchange, gate, member, inbox, out_flag, reads);
+            in_flag.store(true, Ordering::SeqCst);
             done
         },
     );

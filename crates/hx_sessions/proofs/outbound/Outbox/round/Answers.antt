@@ -76,7 +76,8 @@ returns-then-ended-clause-err g c =
     let none = sent_none_of d.next replies given d out refl c.requires.live c.requires.next.0 most rows in
     let e = c.in-Ok-send.ensures.ok in
     let now = g.W.Write.contents c.send.new.output in
-    (refl, subst (λ l. Sent d.next replies l c.send.new.delivery out now) (ap (drop 1) nothing) (sent_more d.next replies given d c.send.new.delivery c.args.ended e.0 _ _ _ none c.requires.live e.1 e.2))
+    let ends : Sends d c.send.new.delivery [] true e.0 = subst (λ l. Sends d c.send.new.delivery l true e.0) nothing (subst (λ b. Sends d c.send.new.delivery given b e.0) c.if-ended.true e.1) in
+    (refl, ends.2, subst (λ l. Sent d.next replies l c.send.new.delivery out now) (ap (drop 1) nothing) (sent_more d.next replies given d c.send.new.delivery c.args.ended e.0 _ _ _ none c.requires.live e.1 e.2))
 
 pub returns-in-Err-clause-err : goal.returns-in-Err-clause-err
 returns-in-Err-clause-err g c =

@@ -1,0 +1,5 @@
+use Rattle.hx_sessions.specs.Logins.{AwaitsLogin}
+use Rattle.hx_sessions.proofs.opening.read_login.Given as goal
+
+abbrev pub invariant-loop-turn : goal.invariant-loop-turn
+invariant-loop-turn g l = AwaitsLogin (g.R.Read.remaining l.fn.input) (g.R.Read.remaining l.input) l.framer l.kept
