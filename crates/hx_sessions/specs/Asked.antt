@@ -23,14 +23,16 @@ asked (p ∷ ps) = asked_by (later_action p) p.payload.items (asked ps)
 
 -- the packets of all bytes that were read: they are cut into these and less than a whole one, or a fault stands behind these
 abbrev pub IsStream : List ℕ → List SoupPacket → Type 0
-IsStream bytes packets = ((rest : List ℕ) × Cuts bytes packets rest) ⊎ ((bad : ℕ) × HasFault bytes packets bad)
+IsStream bytes packets =
+    ((rest : List ℕ) × Cuts bytes packets rest) ⊎ ((bad : ℕ) × HasFault bytes packets bad)
 
 -- what was sent, with its places, is messages of the member with these texts, in order
 abbrev pub AreMessages : ℕ → List (ℕ × Event) → List (List ℕ) → Type 0
 AreMessages member [] [] = Unit {0}
 AreMessages member [] (t ∷ ts) = ⊥
 AreMessages member (x ∷ xs) [] = ⊥
-AreMessages member (x ∷ xs) (t ∷ ts) = (time : ℕ) × (x.1 ≡ Message member time t) × AreMessages member xs ts
+AreMessages member (x ∷ xs) (t ∷ ts) =
+    (time : ℕ) × (x.1 ≡ Message member time t) × AreMessages member xs ts
 
 -- a pass sent messages of the member with these texts, and nothing else
 pub record Submits (member : ℕ) (old new : List (ℕ × Event)) (texts : List (List ℕ)) : Type 0 where

@@ -30,7 +30,8 @@ abbrev pub AreFrames : List (List ℕ) → Bool → List (List ℕ) → Type 0
 AreFrames rows over [] = (rows ≡ []) × (over ≡ false)
 AreFrames rows over (frame ∷ frames) =
     ((frame ≡ framed server_heartbeat []) × AreFrames rows over frames)
-    ⊎ ((row : List ℕ) × (others : List (List ℕ)) × (rows ≡ row ∷ others) × (frame ≡ framed sequenced_data row) × AreFrames others over frames)
+    ⊎ ((row : List ℕ) × (others : List (List ℕ)) × (rows ≡ row ∷ others)
+    × (frame ≡ framed sequenced_data row) × AreFrames others over frames)
     ⊎ ((frame ≡ framed end_of_session []) × (rows ≡ []) × (over ≡ true) × (frames ≡ []))
 
 -- a number of one of these replies, which count from 1, or of the one that comes next
@@ -39,12 +40,17 @@ IsNextOf replies number = (1 ≤ number) × (number ≤ length replies + 1)
 
 -- what one turn sends: the next reply, the end of the session, a heartbeat or nothing
 abbrev pub Sends : Delivery → Delivery → List (List ℕ) → Bool → List (List ℕ) → Type 0
-Sends old new (row ∷ rows) ended frames = (frames ≡ framed sequenced_data row ∷ []) × (new.next ≡ old.next + 1) × (new.over ≡ false)
-Sends old new [] true frames = (frames ≡ framed end_of_session [] ∷ []) × (new.next ≡ old.next) × (new.over ≡ true)
-Sends old new [] false frames = ((frames ≡ framed server_heartbeat [] ∷ []) ⊎ (frames ≡ [])) × (new.next ≡ old.next) × (new.over ≡ false)
+Sends old new (row ∷ rows) ended frames =
+    (frames ≡ framed sequenced_data row ∷ []) × (new.next ≡ old.next + 1) × (new.over ≡ false)
+Sends old new [] true frames =
+    (frames ≡ framed end_of_session [] ∷ []) × (new.next ≡ old.next) × (new.over ≡ true)
+Sends old new [] false frames =
+    ((frames ≡ framed server_heartbeat [] ∷ []) ⊎ (frames ≡ [])) × (new.next ≡ old.next)
+    × (new.over ≡ false)
 
 -- Of these replies those from number `first` on have gone out in these frames, and the rest is left.
-pub record Delivers (first : ℕ) (replies rest : List (List ℕ)) (d : Delivery) (frames : List (List ℕ)) : Type 0 where
+pub record Delivers (first : ℕ) (replies rest : List (List ℕ)) (d : Delivery)
+    (frames : List (List ℕ)) : Type 0 where
   pub before : List (List ℕ)
   pub rows : List (List ℕ)
   pub splits : replies ≡ before ++ (rows ++ rest)
@@ -53,13 +59,15 @@ pub record Delivers (first : ℕ) (replies rest : List (List ℕ)) (d : Delivery
   pub are : AreFrames rows d.over frames
 
 -- So far the frames were written whole.
-pub record Sent (first : ℕ) (replies rest : List (List ℕ)) (d : Delivery) (old new : Option (List ℕ)) : Type 0 where
+pub record Sent (first : ℕ) (replies rest : List (List ℕ)) (d : Delivery)
+    (old new : Option (List ℕ)) : Type 0 where
   pub frames : List (List ℕ)
   pub delivers : Delivers first replies rest d frames
   pub wrote : WritesAll old new frames
 
 -- A beginning of the frames was written.
-pub record SentSome (first : ℕ) (replies rest : List (List ℕ)) (d : Delivery) (old new : Option (List ℕ)) : Type 0 where
+pub record SentSome (first : ℕ) (replies rest : List (List ℕ)) (d : Delivery)
+    (old new : Option (List ℕ)) : Type 0 where
   pub frames : List (List ℕ)
   pub delivers : Delivers first replies rest d frames
   pub wrote : WritesSome old new frames

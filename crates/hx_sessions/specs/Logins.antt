@@ -70,7 +70,8 @@ pub record AwaitsLogin
   pub size : length bytes ≡ count
 
 -- the login is this member's, and the first reply is the one that he asked for, or the next one
-pub record Opens (setup own : Setup) (login : LoginRequest) (known : Entries Entry) (s : Start) : Type 0 where
+pub record Opens (setup own : Setup) (login : LoginRequest) (known : Entries Entry)
+    (s : Start) : Type 0 where
   pub member : login_of own login.user login.password ≡ Some s.member
   pub first : s.first ≡ first_reply login.sequence (length (known_replies setup s.member known))
   pub one : 1 ≤ s.first

@@ -30,15 +30,24 @@ both_of stop.Told stop.Told = Err fault.NoMemory
 -- ---- what goes out
 
 -- After a round that goes on: where no reply went out, none is left.
-abbrev pub SentRound : ℕ → List (List ℕ) → Delivery → Option (List ℕ) → Option (List ℕ) → Bool → Type 0
-SentRound first replies d old new moved = (d.over ≡ false) × (rest : List (List ℕ)) × Sent first replies rest d old new × (moved ≡ false → rest ≡ [])
+abbrev pub SentRound :
+    ℕ → List (List ℕ) → Delivery → Option (List ℕ) → Option (List ℕ) → Bool → Type 0
+SentRound first replies d old new moved =
+    (d.over ≡ false) × (rest : List (List ℕ)) × Sent first replies rest d old new
+    × (moved ≡ false → rest ≡ [])
 
 -- By why the worker stopped: some replies may be left; none at the end of the day; and where the output failed a
 -- beginning of the bytes was written.
-abbrev pub SentUntil : ℕ → List (List ℕ) → Delivery → Option (List ℕ) → Option (List ℕ) → Stop → Type 0
-SentUntil first replies d old new stop.Told = (d.over ≡ false) × (rest : List (List ℕ)) × Sent first replies rest d old new
-SentUntil first replies d old new (stop.Ended e) = (e ≡ ended.DayEnd) × (d.over ≡ true) × Sent first replies [] d old new
-SentUntil first replies d old new (stop.Faulted f) = (rest : List (List ℕ)) × ((Sent first replies rest d old new × (d.over ≡ false)) ⊎ ((f ≡ fault.Write) × SentSome first replies rest d old new))
+abbrev pub SentUntil :
+    ℕ → List (List ℕ) → Delivery → Option (List ℕ) → Option (List ℕ) → Stop → Type 0
+SentUntil first replies d old new stop.Told =
+    (d.over ≡ false) × (rest : List (List ℕ)) × Sent first replies rest d old new
+SentUntil first replies d old new (stop.Ended e) =
+    (e ≡ ended.DayEnd) × (d.over ≡ true) × Sent first replies [] d old new
+SentUntil first replies d old new (stop.Faulted f) =
+    (rest : List (List ℕ))
+    × ((Sent first replies rest d old new × (d.over ≡ false))
+    ⊎ ((f ≡ fault.Write) × SentSome first replies rest d old new))
 
 -- ---- what comes in
 
@@ -57,14 +66,19 @@ pub record Cut (packets : List SoupPacket) (done : List (List ℕ)) : Type 0 whe
 abbrev pub ActedUntil : List SoupPacket → List (List ℕ) → Stop → Type 0
 ActedUntil packets done stop.Told = ⊥
 ActedUntil packets done (stop.Ended e) = (e ≡ ended.Logout) × Closed packets done
-ActedUntil packets done (stop.Faulted f) = ((f ≡ fault.Framing) × Closed packets done) ⊎ Cut packets done
+ActedUntil packets done (stop.Faulted f) =
+    ((f ≡ fault.Framing) × Closed packets done) ⊎ Cut packets done
 
-abbrev pub Acted : ℕ → List (ℕ × Event) → List (ℕ × Event) → List SoupPacket → Result (Unit {0}) Stop → Type 0
-Acted member old new packets (Ok u) = (done : List (List ℕ)) × Submits member old new done × Acting packets done
-Acted member old new packets (Err s) = (done : List (List ℕ)) × Submits member old new done × ActedUntil packets done s
+abbrev pub Acted :
+    ℕ → List (ℕ × Event) → List (ℕ × Event) → List SoupPacket → Result (Unit {0}) Stop → Type 0
+Acted member old new packets (Ok u) =
+    (done : List (List ℕ)) × Submits member old new done × Acting packets done
+Acted member old new packets (Err s) =
+    (done : List (List ℕ)) × Submits member old new done × ActedUntil packets done s
 
 -- So far: the packets of all bytes read, and what was submitted for them.
-pub record Receiving (member : ℕ) (old new : Option (List ℕ)) (framer : Option (List ℕ)) (before after : List (ℕ × Event)) : Type 0 where
+pub record Receiving (member : ℕ) (old new : Option (List ℕ)) (framer : Option (List ℕ))
+    (before after : List (ℕ × Event)) : Type 0 where
   pub bytes : List ℕ
   pub packets : List SoupPacket
   pub rest : List ℕ
@@ -84,7 +98,8 @@ Why left packets done (stop.Ended ended.DayEnd) = ⊥
 Why left packets done (stop.Faulted f) = IsPrefix done (asked packets)
 
 -- What a worker has taken in when it stops. `lost` are bytes that were read and not taken apart for want of memory.
-pub record Received (member : ℕ) (old new : Option (List ℕ)) (before after : List (ℕ × Event)) (s : Stop) : Type 0 where
+pub record Received (member : ℕ) (old new : Option (List ℕ)) (before after : List (ℕ × Event))
+    (s : Stop) : Type 0 where
   pub bytes : List ℕ
   pub lost : List ℕ
   pub packets : List SoupPacket
@@ -96,9 +111,14 @@ pub record Received (member : ℕ) (old new : Option (List ℕ)) (before after :
   pub why : Why new packets done s
 
 -- What becomes of a piece of the stream: the packets that are whole with it are acted on.
-abbrev pub Takes : ℕ → Option (List ℕ) → Option (List ℕ) → List ℕ → List (ℕ × Event) → List (ℕ × Event) → Result (Unit {0}) Stop → Type 0
-Takes member old new piece before after (Ok u) = (kept : List ℕ) × (rest : List ℕ) × (packets : List SoupPacket) × (done : List (List ℕ))
-    × (old ≡ Some kept) × (new ≡ Some rest) × Cuts (kept ++ piece) packets rest × Submits member before after done × Acting packets done
+abbrev pub Takes :
+    ℕ → Option (List ℕ) → Option (List ℕ) → List ℕ → List (ℕ × Event) → List (ℕ × Event)
+    → Result (Unit {0}) Stop → Type 0
+Takes member old new piece before after (Ok u) =
+    (kept : List ℕ) × (rest : List ℕ) × (packets : List SoupPacket) × (done : List (List ℕ))
+    × (old ≡ Some kept) × (new ≡ Some rest) × Cuts (kept ++ piece) packets rest
+    × Submits member before after done × Acting packets done
 Takes member old new piece before after (Err s) = (kept : List ℕ) × (old ≡ Some kept)
-    × (((packets : List SoupPacket) × (done : List (List ℕ)) × IsStream (kept ++ piece) packets × Submits member before after done × ActedUntil packets done s)
+    × (((packets : List SoupPacket) × (done : List (List ℕ)) × IsStream (kept ++ piece) packets
+    × Submits member before after done × ActedUntil packets done s)
     ⊎ ((s ≡ stop.Faulted fault.NoMemory) × (after ≡ before)))

@@ -109,7 +109,8 @@ fn act_last<V: Venue, C: Clock, G: Gate, T: Wait>(
     packets: &[SoupPacket],
 ) -> Stop
     ensures number { pass.new.number ≡ pass.old.number }
-    ensures acted { (done : List (List ℕ)) × Submits member pass.old.sent pass.new.sent done × ActedUntil packets.now done result }
+    ensures acted { (done : List (List ℕ)) × Submits member pass.old.sent pass.new.sent done
+        × ActedUntil packets.now done result }
 {
     match act(
         rt, alloc, exchange, gate, member, pass, clock, number, packets,
@@ -177,7 +178,8 @@ pub fn receive<V: Venue, R: Read, C: Clock, G: Gate, T: Wait>(
     turns: u64,
 ) -> (Inbox<V, R, C>, Stop)
     ensures number { result.0.pass.number ≡ inbox.pass.number }
-    ensures received { Received member (R.remaining inbox.input) (R.remaining result.0.input) inbox.pass.sent result.0.pass.sent result.1 }
+    ensures received { Received member (R.remaining inbox.input)
+        (R.remaining result.0.input) inbox.pass.sent result.0.pass.sent result.1 }
 {
     let mut framer = Framer::new();
     let mut number = 0;

@@ -30,7 +30,9 @@ fn read_more<R: Read>(
 ) -> Result<(Option<LoginRequest>, usize), Stop>
     requires framer { IsSome framer.old }
     requires space { 0 < length space.old }
-    ensures ok { IfOk result (λ r. ReadsFirst (R.remaining input.old) (R.remaining input.new) framer.old framer.new (length space.old) r.0 r.1) }
+    ensures ok { IfOk result (λ r.
+        ReadsFirst (R.remaining input.old) (R.remaining input.new) framer.old framer.new
+        (length space.old) r.0 r.1) }
     ensures err { IfErr result (FailsFirst (R.remaining input.old) (R.remaining input.new)) }
 {
     match input.read(space) {
@@ -96,7 +98,8 @@ pub fn open<V: Venue, T: Wait>(
     ensures log { reader.new.log ≡ V.log }
     ensures known { IsPrefix reader.old.known reader.new.known }
     ensures ok { IfOk result (λ s. Opens V.setup setup.now login.now reader.new.known s) }
-    ensures err { IfErr result (λ reason. (replies : ℕ) × (start_of setup.now login.now replies ≡ Err reason)) }
+    ensures err { IfErr result (λ reason.
+        (replies : ℕ) × (start_of setup.now login.now replies ≡ Err reason)) }
 {
     let replies = match setup.login(&login.user, &login.password) {
         Some(member) => exchange.news(rt, reader, member).replies,
@@ -120,8 +123,12 @@ pub fn admit<V: Venue, R: Read, W: Write, T: Wait>(
     requires log { reader.old.log ≡ V.log }
     ensures log { reader.new.log ≡ V.log }
     ensures known { IsPrefix reader.old.known reader.new.known }
-    ensures ok { IfOk result (λ r. Admits V.setup setup.now (R.remaining input.old) (R.remaining input.new) (W.contents output.old) (W.contents output.new) reader.new.known r.0) }
-    ensures err { IfErr result (Dismisses V.setup setup.now (R.remaining input.old) (R.remaining input.new) (W.contents output.old) (W.contents output.new) reader.new.known) }
+    ensures ok { IfOk result (λ r.
+        Admits V.setup setup.now (R.remaining input.old) (R.remaining input.new)
+        (W.contents output.old) (W.contents output.new) reader.new.known r.0) }
+    ensures err { IfErr result
+        (Dismisses V.setup setup.now (R.remaining input.old) (R.remaining input.new)
+        (W.contents output.old) (W.contents output.new) reader.new.known) }
 {
     let (login, left) = match read_login(alloc, input, turns) {
         Ok(read) => read,

@@ -45,8 +45,14 @@ fn send<W: Write>(
 ) -> Result<(), Broken>
     requires live { delivery.old.over ≡ false }
     requires room { delivery.old.next + length rows.now < 2 ^ 64 }
-    ensures ok { OnOk result ((frames : List (List ℕ)) × Sends delivery.old delivery.new (texts rows.now) ended frames × WritesAll (W.contents output.old) (W.contents output.new) frames) }
-    ensures err { OnErr result ((frames : List (List ℕ)) × Sends delivery.old delivery.new (texts rows.now) ended frames × WritesSome (W.contents output.old) (W.contents output.new) frames) }
+    ensures ok { OnOk result (
+        (frames : List (List ℕ))
+        × Sends delivery.old delivery.new (texts rows.now) ended frames
+        × WritesAll (W.contents output.old) (W.contents output.new) frames) }
+    ensures err { OnErr result (
+        (frames : List (List ℕ))
+        × Sends delivery.old delivery.new (texts rows.now) ended frames
+        × WritesSome (W.contents output.old) (W.contents output.new) frames) }
 {
     match delivery.turn(rows, ended, now) {
         Turn::Frame(frame) => {
@@ -77,8 +83,13 @@ impl<W: Write, C: Clock> Outbox<W, C> {
         requires next { IsNextOf (known_replies V.setup member self.old.reader.known) self.old.delivery.next }
         ensures log { self.new.reader.log ≡ V.log }
         ensures known { IsPrefix self.old.reader.known self.new.reader.known }
-        ensures ok { IfOk result (λ moved. SentRound self.old.delivery.next (known_replies V.setup member self.new.reader.known) self.new.delivery (W.contents self.old.output) (W.contents self.new.output) moved) }
-        ensures err { IfErr result (SentUntil self.old.delivery.next (known_replies V.setup member self.new.reader.known) self.new.delivery (W.contents self.old.output) (W.contents self.new.output)) }
+        ensures ok { IfOk result (λ moved.
+            SentRound self.old.delivery.next
+            (known_replies V.setup member self.new.reader.known) self.new.delivery
+            (W.contents self.old.output) (W.contents self.new.output) moved) }
+        ensures err { IfErr result (SentUntil self.old.delivery.next
+            (known_replies V.setup member self.new.reader.known) self.new.delivery
+            (W.contents self.old.output) (W.contents self.new.output)) }
     {
         let from = self.delivery.next();
         let Ok(rows) = exchange.replies_page(rt, &mut self.reader, member, from, PAGE) else {
@@ -133,7 +144,9 @@ pub fn deliver<V: Venue, W: Write, C: Clock, T: Wait + Timer>(
     requires next { IsNextOf (known_replies V.setup member outbox.reader.known) outbox.delivery.next }
     ensures log { result.0.reader.log ≡ V.log }
     ensures known { IsPrefix outbox.reader.known result.0.reader.known }
-    ensures sent { SentUntil outbox.delivery.next (known_replies V.setup member result.0.reader.known) result.0.delivery (W.contents outbox.output) (W.contents result.0.output) result.1 }
+    ensures sent { SentUntil outbox.delivery.next
+        (known_replies V.setup member result.0.reader.known) result.0.delivery
+        (W.contents outbox.output) (W.contents result.0.output) result.1 }
 {
     let mut left = turns;
     let limit = Duration::from_millis(LOOK_AGAIN);
@@ -166,8 +179,14 @@ pub fn finish<V: Venue, W: Write, C: Clock, T: Wait>(
     ensures log { result.0.reader.log ≡ V.log }
     ensures known { IsPrefix outbox.reader.known result.0.reader.known }
     ensures told { IsPrefix receipt.known result.0.reader.known }
-    ensures ok { OnOk result.1 ((result.0.delivery.over ≡ false) × Sent outbox.delivery.next (known_replies V.setup member result.0.reader.known) [] result.0.delivery (W.contents outbox.output) (W.contents result.0.output)) }
-    ensures err { IfErr result.1 (SentUntil outbox.delivery.next (known_replies V.setup member result.0.reader.known) result.0.delivery (W.contents outbox.output) (W.contents result.0.output)) }
+    ensures ok { OnOk result.1 (
+        (result.0.delivery.over ≡ false)
+        × Sent outbox.delivery.next
+        (known_replies V.setup member result.0.reader.known) [] result.0.delivery
+        (W.contents outbox.output) (W.contents result.0.output)) }
+    ensures err { IfErr result.1 (SentUntil outbox.delivery.next
+        (known_replies V.setup member result.0.reader.known) result.0.delivery
+        (W.contents outbox.output) (W.contents result.0.output)) }
 {
     outbox.reader.learn(exchange.feed_log(), receipt);
     let never = AtomicBool::new(false);

@@ -210,10 +210,13 @@ fn work<
     requires live { outbox.delivery.over ≡ false }
     requires next { IsNextOf (known_replies V.setup member outbox.reader.known) outbox.delivery.next }
     ensures number { result.0.pass.number ≡ inbox.pass.number }
-    ensures received { Received member (R.remaining inbox.input) (R.remaining result.0.input) inbox.pass.sent result.0.pass.sent result.1 }
+    ensures received { Received member (R.remaining inbox.input)
+        (R.remaining result.0.input) inbox.pass.sent result.0.pass.sent result.1 }
     ensures log { result.2.reader.log ≡ V.log }
     ensures known { IsPrefix outbox.reader.known result.2.reader.known }
-    ensures sent { SentUntil outbox.delivery.next (known_replies V.setup member result.2.reader.known) result.2.delivery (W.contents outbox.output) (W.contents result.2.output) result.3 }
+    ensures sent { SentUntil outbox.delivery.next
+        (known_replies V.setup member result.2.reader.known) result.2.delivery
+        (W.contents outbox.output) (W.contents result.2.output) result.3 }
 {
     let in_ended = AtomicBool::new(false);
     let out_ended = AtomicBool::new(false);
@@ -224,10 +227,13 @@ fn work<
     let ((outbox, out), (inbox, inn)) = join(
         rt,
         move || -> (Outbox<W, C>, Stop)
-            requires { (outbox.reader.log ≡ V.log) × (outbox.delivery.over ≡ false) × IsNextOf (known_replies V.setup member outbox.reader.known) outbox.delivery.next }
+            requires { (outbox.reader.log ≡ V.log) × (outbox.delivery.over ≡ false)
+                × IsNextOf (known_replies V.setup member outbox.reader.known) outbox.delivery.next }
             ensures log { result.0.reader.log ≡ V.log }
             ensures known { IsPrefix outbox.reader.known result.0.reader.known }
-            ensures sent { SentUntil outbox.delivery.next (known_replies V.setup member result.0.reader.known) result.0.delivery (W.contents outbox.output) (W.contents result.0.output) result.1 }
+            ensures sent { SentUntil outbox.delivery.next
+                (known_replies V.setup member result.0.reader.known) result.0.delivery
+                (W.contents outbox.output) (W.contents result.0.output) result.1 }
         {
             let done = deliver(rt, exchange, member, outbox, in_flag, turns);
             out_flag.store(true, Ordering::SeqCst);
@@ -235,7 +241,8 @@ fn work<
         },
         move || -> (Inbox<V, R, C>, Stop)
             ensures number { result.0.pass.number ≡ inbox.pass.number }
-            ensures received { Received member (R.remaining inbox.input) (R.remaining result.0.input) inbox.pass.sent result.0.pass.sent result.1 }
+            ensures received { Received member (R.remaining inbox.input)
+                (R.remaining result.0.input) inbox.pass.sent result.0.pass.sent result.1 }
         {
             let done = receive(rt, alloc, exchange, gate, member, inbox, out_flag, reads);
             in_flag.store(true, Ordering::SeqCst);

@@ -12,7 +12,8 @@ pub struct Broken;
 /// Writes the bytes. Where it fails, a front of them was written.
 pub fn write_whole<W: Write>(writer: &mut W, bytes: &[u8]) -> Result<(), Broken>
     ensures ok { OnOk result (Appends (W.contents writer.old) (W.contents writer.new) bytes.now) }
-    ensures err { OnErr result ((rest : List ℕ) × Writes (W.contents writer.old) (W.contents writer.new) bytes.now rest) }
+    ensures err { OnErr result (
+        (rest : List ℕ) × Writes (W.contents writer.old) (W.contents writer.new) bytes.now rest) }
 {
     let mut rest = bytes;
     for _ in 0..u64::MAX {
