@@ -28,9 +28,14 @@ impl Model for Rows {
 
     ghost Value = { RoomyRows };
 
-    ghost view = { λ r. record { rows = map row_texts r.rows.items; spare = map row_spare r.rows.items } };
+    ghost view = { λ r. record {
+      rows = map row_texts r.rows.items;
+      spare = map row_spare r.rows.items;
+    } };
 
-    ghost invariant = { λ r. (length r.rows.items ≡ row_count) × (length r.counts.items ≡ row_count) };
+    ghost invariant = { λ r.
+        (length r.rows.items ≡ row_count)
+        × (length r.counts.items ≡ row_count) };
 }
 
 // Sets the counts of these members to 0.

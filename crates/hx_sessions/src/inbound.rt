@@ -135,7 +135,8 @@ fn take<V: Venue, C: Clock, G: Gate, T: Wait>(
 ) -> Result<(), Stop>
     requires { IsSome framer.old }
     ensures number { pass.new.number ≡ pass.old.number }
-    ensures takes { Takes member framer.old framer.new piece.now pass.old.sent pass.new.sent result }
+    ensures takes { Takes member framer.old framer.new piece.now
+        pass.old.sent pass.new.sent result }
 {
     match framer.feed(alloc, piece) {
         Ok(packets) => act(

@@ -80,7 +80,8 @@ impl<W: Write, C: Clock> Outbox<W, C> {
     ) -> Result<bool, Stop>
         requires log { self.old.reader.log ≡ V.log }
         requires live { self.old.delivery.over ≡ false }
-        requires next { IsNextOf (known_replies V.setup member self.old.reader.known) self.old.delivery.next }
+        requires next { IsNextOf (known_replies V.setup member self.old.reader.known)
+            self.old.delivery.next }
         ensures log { self.new.reader.log ≡ V.log }
         ensures known { IsPrefix self.old.reader.known self.new.reader.known }
         ensures ok { IfOk result (λ moved.
@@ -141,7 +142,8 @@ pub fn deliver<V: Venue, W: Write, C: Clock, T: Wait + Timer>(
 ) -> (Outbox<W, C>, Stop)
     requires log { outbox.reader.log ≡ V.log }
     requires live { outbox.delivery.over ≡ false }
-    requires next { IsNextOf (known_replies V.setup member outbox.reader.known) outbox.delivery.next }
+    requires next { IsNextOf (known_replies V.setup member outbox.reader.known)
+        outbox.delivery.next }
     ensures log { result.0.reader.log ≡ V.log }
     ensures known { IsPrefix outbox.reader.known result.0.reader.known }
     ensures sent { SentUntil outbox.delivery.next
@@ -175,7 +177,8 @@ pub fn finish<V: Venue, W: Write, C: Clock, T: Wait>(
     requires log { outbox.reader.log ≡ V.log }
     requires receipt { receipt.log ≡ V.log }
     requires live { outbox.delivery.over ≡ false }
-    requires next { IsNextOf (known_replies V.setup member outbox.reader.known) outbox.delivery.next }
+    requires next { IsNextOf (known_replies V.setup member outbox.reader.known)
+        outbox.delivery.next }
     ensures log { result.0.reader.log ≡ V.log }
     ensures known { IsPrefix outbox.reader.known result.0.reader.known }
     ensures told { IsPrefix receipt.known result.0.reader.known }

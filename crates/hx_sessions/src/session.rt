@@ -161,7 +161,8 @@ fn converse<
 ) -> (Inbox<V, R, C>, Outbox<W, C>, Result<Ended, Fault>)
     requires log { outbox.reader.log ≡ V.log }
     requires live { outbox.delivery.over ≡ false }
-    requires next { IsNextOf (known_replies V.setup member outbox.reader.known) outbox.delivery.next }
+    requires next { IsNextOf (known_replies V.setup member outbox.reader.known)
+        outbox.delivery.next }
     ensures log { result.1.reader.log ≡ V.log }
     ensures known { IsPrefix outbox.reader.known result.1.reader.known }
     ensures converses { Converses V.setup member outbox.delivery.next []
@@ -208,7 +209,8 @@ fn work<
 ) -> (Inbox<V, R, C>, Stop, Outbox<W, C>, Stop)
     requires log { outbox.reader.log ≡ V.log }
     requires live { outbox.delivery.over ≡ false }
-    requires next { IsNextOf (known_replies V.setup member outbox.reader.known) outbox.delivery.next }
+    requires next { IsNextOf (known_replies V.setup member outbox.reader.known)
+        outbox.delivery.next }
     ensures number { result.0.pass.number ≡ inbox.pass.number }
     ensures received { Received member (R.remaining inbox.input)
         (R.remaining result.0.input) inbox.pass.sent result.0.pass.sent result.1 }
