@@ -6,3 +6,4 @@ pub mod Grouping
 pub mod Uses
 pub mod Rooted
 pub mod Strangers
+pub mod StruckRecorded

@@ -83,8 +83,8 @@ fn keep(
 }
 
 /// The history without the messages that bear a token of the member's quiet chains: those that the whole history
-/// never displayed and never traded. The others are copied, in order. A number that the setup has not has no tokens,
-/// so all events are kept.
+/// never displayed and never traded. The others are copied, in order; the market records these, too, whole. A number
+/// that the setup has not has no tokens, so all events are kept.
 ///
 /// `Refused` names the first event that the market refuses at its turn. `NoMemory` where a growth was refused.
 pub fn strike(
@@ -95,6 +95,7 @@ pub fn strike(
 ) -> Result<Vec<Event>, StrikeError>
     ensures recorded { OnOk result (AreRecorded setup.now events.now) }
     ensures struck { IfOk result (λ kept. kept.items ≡ strike_one setup.now member events.now) }
+    ensures again { IfOk result (λ kept. AreRecorded setup.now kept.items) }
     ensures stranger { IfOk result (λ kept.
         member_of setup.now member ≡ None → kept.items ≡ events.now) }
     ensures refused { IfErr result (Explains setup.now events.now) }

@@ -10,3 +10,5 @@ pub mod OneReading
 pub mod OutputIsTold
 pub mod NoTrace
 pub mod Strikes
+pub mod Texts
+pub mod StruckTapes

@@ -1,21 +1,27 @@
 -- Quiet orders leave no trace in the lines.
-use Rattle.std.proofs.Common.{◌≡◌, ℕ, zero, suc, ◌+◌, eqb, Bool, true, false, cond, not, List, [], ◌∷◌, ◌++◌, map, length, replicate, refl, sym, ap, ◌∙◌, subst, arith, slice_index, append_assoc, eq-eqb, eqb-true}
-use Rattle.std.specs.List.{filter}
+use Rattle.std.proofs.Common.{◌≡◌, ℕ, zero, suc, ◌+◌, Bool, true, false, cond, not, ◌&&◌, ◌||◌, List, [], ◌∷◌, ◌++◌, map, length, replicate, refl, sym, ap, ◌∙◌, arith, slice_index, append_assoc}
+use Rattle.std.specs.Prelude.{◌==◌}
+use Rattle.std.specs.List.{filter, list_any}
+use Rattle.hx_units.specs.Names.{is_token}
 use Rattle.hx_itch.specs.declared.message.Feed.{Feed}
 use Rattle.hx_members.specs.Setups.{Setup}
 use Rattle.hx_refs.specs.Numbers.{raised}
 use Rattle.hx_rules.specs.declared.event.Event.{Event}
 use Rattle.hx_market.specs.Outputs.{Reply, Told}
-use Rattle.hx_market.specs.Steps.{told}
-use Rattle.hx_market.specs.QuietChains.{Line, reply_lines, lines_of_all, all_but, seen, strike_one}
+use Rattle.hx_market.specs.Steps.{run, told}
+use Rattle.hx_market.specs.QuietChains.{Choice, Line, is_quiet, quiet_of_one, quiet_but_one, reply_lines, lines_of_all, all_but, strike, strike_one, strike_all, strike_but}
 use Rattle.hx_market.specs.QuietChains.Line.{ToFeed, ToMember}
-use Rattle.hx_laws.proofs.Quiet.StruckChoices.{one_member}
+use Rattle.hx_laws.specs.Laws.{AreQuietChains, IsUnknownTo, listed}
+use Rattle.hx_laws.proofs.History.EventMoves.{coherent_run}
+use Rattle.hx_laws.proofs.Quiet.StruckRuns.{quiet_chains}
+use Rattle.hx_laws.proofs.Quiet.StruckChoices.{among_quiet, listed_is_choice, quiet_is_choice}
 use Rattle.hx_replay.specs.Text.{Entry}
 use Rattle.hx_replay.specs.Output.{feed_lines, counts_after, told_lines}
 use Rattle.hx_replay.specs.Output as output
 use Rattle.hx_replay.specs.Run.{start, event_of, output_all}
 use Rattle.hx_replay.specs.Seen.Numbered.{OfFeed, OfMember}
-use Rattle.hx_replay.specs.Seen.{Numbered, texts_of, numbered, output_lines, not_to, LeavesNoTrace}
+use Rattle.hx_replay.specs.Seen.{Numbered, texts_of, numbered, output_lines, not_to, is_to, LeavesNoTrace}
+use Rattle.hx_replay.specs.Quiet.{is_of_feed, TellsNothing}
 use Rattle.hx_replay.proofs.OutputIsTold.{output_is_told}
 use Rattle.hx_replay.proofs.Few.{raised-length}
 
@@ -52,7 +58,7 @@ of_told n counts (t ∷ ts) =
     ∙ sym (of_feed n counts t.feed (replies ++ all))
     ∙ ap (λ (x : List Line). texts_of (numbered n counts x)) (sym (append_assoc (map ToFeed t.feed) replies all))
 
--- The lines that do not go to a member.
+-- The lines that those get who may look.
 
 other-raised : (xs : List ℕ) (i k : ℕ) → (i ≡ k → ⊥) → slice_index (raised xs i) k ≡ slice_index xs k
 other-raised [] i k h = refl
@@ -61,16 +67,16 @@ other-raised (x ∷ xs) zero (suc k) h = refl
 other-raised (x ∷ xs) (suc i) zero h = refl
 other-raised (x ∷ xs) (suc i) (suc k) h = other-raised xs i k (λ e. h (ap (λ n. suc n) e))
 
--- counts of as many members, the same of all but m
-record AreLike (m : ℕ) (cs ds : List ℕ) : Type 0 where
+-- counts of as many members, the same of those who may look
+record AreLike (look : ℕ → Bool) (cs ds : List ℕ) : Type 0 where
   many : length cs ≡ length ds
-  each : (k : ℕ) → (k ≡ m → ⊥) → slice_index cs k ≡ slice_index ds k
+  each : (k : ℕ) → look k ≡ true → slice_index cs k ≡ slice_index ds k
 
--- one more of m
-like_left : (m : ℕ) (cs ds : List ℕ) → AreLike m cs ds → AreLike m (raised cs m) ds
-like_left m cs ds h = record {
-  many = raised-length cs m ∙ h.many;
-  each = λ k e. other-raised cs m k (λ f. e (sym f)) ∙ h.each k e;
+-- one more of one who may not
+like_left : (look : ℕ → Bool) (i : ℕ) (cs ds : List ℕ) → look i ≡ false → AreLike look cs ds → AreLike look (raised cs i) ds
+like_left look i cs ds e h = record {
+  many = raised-length cs i ∙ h.many;
+  each = λ k f. other-raised cs i k (λ same. absurd (let z : true ≡ false = sym f ∙ ap look (sym same) ∙ e in cc)) ∙ h.each k f;
 }
 
 raised-like : (xs ys : List ℕ) (i k : ℕ) → length xs ≡ length ys → slice_index xs i ≡ slice_index ys i → slice_index xs k ≡ slice_index ys k → slice_index (raised xs i) k ≡ slice_index (raised ys i) k
@@ -82,9 +88,9 @@ raised-like (x ∷ xs) (y ∷ ys) zero (suc k) l h g = g
 raised-like (x ∷ xs) (y ∷ ys) (suc i) zero l h g = g
 raised-like (x ∷ xs) (y ∷ ys) (suc i) (suc k) l h g = raised-like xs ys i k (let z : suc (length xs) ≡ suc (length ys) = l in omega arith) h g
 
--- one more of another in both
-like_both : (m i : ℕ) (cs ds : List ℕ) → (i ≡ m → ⊥) → AreLike m cs ds → AreLike m (raised cs i) (raised ds i)
-like_both m i cs ds e h = record {
+-- one more of one who may look, in both
+like_both : (look : ℕ → Bool) (i : ℕ) (cs ds : List ℕ) → look i ≡ true → AreLike look cs ds → AreLike look (raised cs i) (raised ds i)
+like_both look i cs ds e h = record {
   many = raised-length cs i ∙ h.many ∙ sym (raised-length ds i);
   each = λ k f. raised-like cs ds i k h.many (h.each i e) (h.each k f);
 }
@@ -94,20 +100,24 @@ abbrev may_see : (ℕ → Bool) → Line → Bool
 may_see look (ToFeed message) = true
 may_see look (ToMember member reply) = look member
 
--- the others keep their numbers
-but_numbered : (m n : ℕ) (cs ds : List ℕ) (lines : List Line) → AreLike m cs ds → not_to m (numbered n cs lines) ≡ numbered n ds (filter (may_see (all_but m)) lines)
-but_numbered m n cs ds [] h = refl
-but_numbered m n cs ds (ToFeed message ∷ lines) h = ap (λ (x : List Numbered). OfFeed (n + 1) message ∷ x) (but_numbered m (n + 1) cs ds lines h)
-but_numbered m n cs ds (ToMember i reply ∷ lines) h = at (eqb i m) refl (λ es. but_numbered m n (raised cs i) es lines)
+-- the same of lines with numbers
+abbrev visible : (ℕ → Bool) → Numbered → Bool
+visible look (OfFeed number message) = true
+visible look (OfMember member number reply) = look member
+
+-- they keep their numbers
+visible_numbered : (look : ℕ → Bool) (n : ℕ) (cs ds : List ℕ) (lines : List Line) → AreLike look cs ds → filter (visible look) (numbered n cs lines) ≡ numbered n ds (filter (may_see look) lines)
+visible_numbered look n cs ds [] h = refl
+visible_numbered look n cs ds (ToFeed message ∷ lines) h = ap (λ (x : List Numbered). OfFeed (n + 1) message ∷ x) (visible_numbered look (n + 1) cs ds lines h)
+visible_numbered look n cs ds (ToMember i reply ∷ lines) h = at (look i) refl (λ es. visible_numbered look n (raised cs i) es lines)
   where
-    at : (b : Bool) → eqb i m ≡ b → ((es : List ℕ) → AreLike m (raised cs i) es → not_to m (numbered n (raised cs i) lines) ≡ numbered n es (filter (may_see (all_but m)) lines))
-        → cond (not b) (OfMember i (slice_index cs i + 1) reply ∷ not_to m (numbered n (raised cs i) lines)) (not_to m (numbered n (raised cs i) lines))
-        ≡ numbered n ds (cond (not b) (ToMember i reply ∷ filter (may_see (all_but m)) lines) (filter (may_see (all_but m)) lines))
-    at true e ih = ih ds (subst (λ k. AreLike m (raised cs k) ds) (sym (eqb-true i m e)) (like_left m cs ds h))
-    at false e ih =
-        let other : i ≡ m → ⊥ = λ f. absurd (let z : true ≡ false = sym (eq-eqb i m f) ∙ e in cc) in
-        ap (λ k. OfMember i (k + 1) reply ∷ not_to m (numbered n (raised cs i) lines)) (h.each i other)
-        ∙ ap (λ (x : List Numbered). OfMember i (slice_index ds i + 1) reply ∷ x) (ih (raised ds i) (like_both m i cs ds other h))
+    at : (b : Bool) → look i ≡ b → ((es : List ℕ) → AreLike look (raised cs i) es → filter (visible look) (numbered n (raised cs i) lines) ≡ numbered n es (filter (may_see look) lines))
+        → cond b (OfMember i (slice_index cs i + 1) reply ∷ filter (visible look) (numbered n (raised cs i) lines)) (filter (visible look) (numbered n (raised cs i) lines))
+        ≡ numbered n ds (cond b (ToMember i reply ∷ filter (may_see look) lines) (filter (may_see look) lines))
+    at false e ih = ih ds (like_left look i cs ds e h)
+    at true e ih =
+        ap (λ k. OfMember i (k + 1) reply ∷ filter (visible look) (numbered n (raised cs i) lines)) (h.each i e)
+        ∙ ap (λ (x : List Numbered). OfMember i (slice_index ds i + 1) reply ∷ x) (ih (raised ds i) (like_both look i cs ds e h))
 
 filter-append : {X : Type 0} (p : X → Bool) (xs ys : List X) → filter p (xs ++ ys) ≡ filter p xs ++ filter p ys
 filter-append p [] ys = refl
@@ -141,19 +151,76 @@ see_all look (t ∷ ts) =
     ∙ ap (λ (l : List Line). (feed ++ l) ++ filter (may_see look) (lines_of_all (λ member. true) ts)) (see_replies look t.replies)
     ∙ ap (λ (l : List Line). (feed ++ reply_lines look t.replies) ++ l) (see_all look ts)
 
--- what the others get is what they see, numbered
-but_seen : (m : ℕ) (setup : Setup) (events : List Event) → not_to m (output_lines setup events) ≡ numbered 0 (replicate 4096 0) (seen m setup events)
-unfolding output_lines seen
-but_seen m setup events =
-    but_numbered m 0 (replicate 4096 0) (replicate 4096 0) (lines_of_all (λ member. true) (told setup events)) (record { many = refl; each = λ k e. refl })
-    ∙ ap (λ (l : List Line). numbered 0 (replicate 4096 0) l) (see_all (all_but m) (told setup events))
+-- what those get who may look is what they see, numbered
+visible_seen : (look : ℕ → Bool) (setup : Setup) (events : List Event) → filter (visible look) (output_lines setup events) ≡ numbered 0 (replicate 4096 0) (lines_of_all look (told setup events))
+unfolding output_lines
+visible_seen look setup events =
+    visible_numbered look 0 (replicate 4096 0) (replicate 4096 0) (lines_of_all (λ member. true) (told setup events)) (record { many = refl; each = λ k e. refl })
+    ∙ ap (λ (l : List Line). numbered 0 (replicate 4096 0) l) (see_all look (told setup events))
 
-texts_are : (setup : Setup) (es : List Entry) → output_all (start setup) es ≡ texts_of (output_lines setup (map event_of es))
+-- striking whole quiet chains leaves what those get of whom none is struck
+any_choice : (setup : Setup) (events : List Event) (chosen : Choice) (look : ℕ → Bool) → AreQuietChains chosen (run setup events) → IsUnknownTo look chosen
+    → filter (visible look) (output_lines setup events) ≡ filter (visible look) (output_lines setup (strike chosen events))
+any_choice setup events chosen look quiet unknown =
+    visible_seen look setup events
+    ∙ ap (λ (l : List Line). numbered 0 (replicate 4096 0) l) (quiet_chains setup events chosen look quiet unknown)
+    ∙ sym (visible_seen look setup (strike chosen events))
+
+filter_same : {X : Type 0} (p q : X → Bool) → ((x : X) → p x ≡ q x) → (xs : List X) → filter p xs ≡ filter q xs
+filter_same p q same [] = refl
+filter_same p q same (x ∷ xs) = rw (same x, filter_same p q same xs) refl
+
+-- the same of lines that pass the same test
+same_lines : (setup : Setup) (events : List Event) (chosen : Choice) (look : ℕ → Bool) (test : Numbered → Bool) → ((line : Numbered) → test line ≡ visible look line)
+    → AreQuietChains chosen (run setup events) → IsUnknownTo look chosen → filter test (output_lines setup events) ≡ filter test (output_lines setup (strike chosen events))
+same_lines setup events chosen look test same quiet unknown =
+    filter_same test (visible look) same (output_lines setup events)
+    ∙ any_choice setup events chosen look quiet unknown
+    ∙ sym (filter_same test (visible look) same (output_lines setup (strike chosen events)))
+
+not_his : (m : ℕ) (line : Numbered) → not (is_to m line) ≡ visible (all_but m) line
+not_his m (OfFeed number message) = refl
+not_his m (OfMember member number reply) = refl
+
+feeds : (line : Numbered) → is_of_feed line ≡ visible (λ member. false) line
+feeds (OfFeed number message) = refl
+feeds (OfMember member number reply) = refl
+
+feeds_and_his : (p : ℕ) (line : Numbered) → (is_of_feed line || is_to p line) ≡ visible (λ member. member == p) line
+feeds_and_his p (OfFeed number message) = refl
+feeds_and_his p (OfMember member number reply) = refl
+
+-- of one member's tokens the others know none
+of_one_unknown : (m : ℕ) (s : Choice) → IsUnknownTo (all_but m) (λ member token. member == m && s member token)
+of_one_unknown m s member h token = at (member == m) h
+  where
+    at : (b : Bool) → not b ≡ true → (b && s member token) ≡ false
+    at true h = absurd (let z : false ≡ true = h in cc)
+    at false h = refl
+
+pub tells_nothing : (setup : Setup) (events : List Event) → TellsNothing setup events
+unfolding strike_all strike_but quiet_but_one
+tells_nothing setup events =
+    let a = run setup events in
+    record {
+      part = λ m tokens whole. same_lines setup events (listed m tokens) (all_but m) (λ line. not (is_to m line)) (not_his m) (listed_is_choice setup events m tokens whole) (of_one_unknown m (λ member token. list_any (is_token token) tokens));
+      all = same_lines setup events (is_quiet a) (λ member. false) is_of_feed feeds (among_quiet a (coherent_run setup events) (λ p. true)) (λ member h. absurd (let z : false ≡ true = h in cc));
+      all_but_one = λ p. same_lines setup events (quiet_but_one p a) (λ member. member == p) (λ line. is_of_feed line || is_to p line) (feeds_and_his p)
+          (among_quiet a (coherent_run setup events) (λ m. not (m == p))) (λ member h token. ap (λ b. not b && is_quiet a member token) h);
+    }
+
+pub texts_are : (setup : Setup) (es : List Entry) → output_all (start setup) es ≡ texts_of (output_lines setup (map event_of es))
 unfolding output_lines
 texts_are setup es = output_is_told setup es ∙ of_told 0 (replicate 4096 0) (told setup (map event_of es))
+
+others_see : (setup : Setup) (events : List Event) (m : ℕ) → not_to m (output_lines setup events) ≡ not_to m (output_lines setup (strike_one setup m events))
+unfolding strike_one quiet_of_one
+others_see setup events m =
+    let a = run setup events in
+    same_lines setup events (quiet_of_one m a) (all_but m) (λ line. not (is_to m line)) (not_his m) (quiet_is_choice setup events m) (of_one_unknown m (is_quiet a))
 
 pub no_trace : (setup : Setup) (es : List Entry) → LeavesNoTrace setup es
 no_trace setup es = record {
   lines = texts_are setup es;
-  same = λ m. but_seen m setup (map event_of es) ∙ ap (λ (l : List Line). numbered 0 (replicate 4096 0) l) (one_member setup m (map event_of es)) ∙ sym (but_seen m setup (strike_one setup m (map event_of es)));
+  same = λ m. others_see setup (map event_of es) m;
 }

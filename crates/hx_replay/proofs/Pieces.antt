@@ -1,5 +1,5 @@
 -- A tape that is read piece by piece.
-use Rattle.std.proofs.Common.{◌≡◌, ℕ, ◌+◌, ◌*◌, ◌≤◌, ◌<◌, List, [], ◌++◌, length, take, Option, refl, sym, ap, ◌∙◌, subst, append_assoc, inl, inr, arith}
+use Rattle.std.proofs.Common.{◌≡◌, ℕ, ◌+◌, ◌*◌, ◌≤◌, ◌<◌, List, [], ◌++◌, length, map, take, Option, refl, sym, ap, ◌∙◌, subst, append_assoc, inl, inr, arith}
 use Rattle.std.specs.Io.KnownBytes.{Appends, Keeps, Consumes, IsAtEnd}
 use Rattle.std.proofs.KnownBytes.{Appends-nil, Appends-trans, Keeps-refl, Consumes-nil, Consumes-trans, Consumes-kept}
 use Rattle.std.proofs.lemmas.List.{append-nil, length-append, nil_from_length}
@@ -10,9 +10,10 @@ use Rattle.hx_replay.specs.declared.fault.Kind.TheVariants as kinds
 use Rattle.hx_members.specs.Setups.{Setup, IsSetup}
 use Rattle.hx_text.specs.Cuts.{Lacks}
 use Rattle.hx_replay.specs.Text.{Entry}
-use Rattle.hx_replay.specs.Run.{Progress, tape, after_all, output_all, start, counts_of, FailsAs, IsFew, AreEvents, Replays, Stops, EndsBy, BeginsBadly, IsFront}
+use Rattle.hx_replay.specs.Run.{Progress, event_of, tape, after_all, output_all, start, counts_of, FailsAs, IsFew, AreEvents, Replays, Stops, EndsBy, BeginsBadly, IsFront}
 use Rattle.hx_replay.specs.Whole.{ReplaysAll, StopsAt}
-use Rattle.hx_replay.proofs.NoTrace.{no_trace}
+use Rattle.hx_replay.proofs.NoTrace.{no_trace, tells_nothing}
+use Rattle.hx_replay.proofs.StruckTapes.{texts_tell_nothing}
 use Rattle.hx_replay.proofs.Few.{few-start}
 use Rattle.hx_replay.proofs.Runs.{tape-append, after-append, output-append, events-append, events_counted, replays_none, replays_counts, stops_at_rest}
 
@@ -112,12 +113,16 @@ so_far_counts setup r s w v c pending turn h =
     (omega (arith, counted, h.short), counted.1)
 
 pub stops_in_piece : (setup : Setup) (r s s' w v u : Option (List ℕ)) (c : Progress) (pending piece : List ℕ) (turn : ℕ) (e : TapeError) → SoFar setup r s w v c pending turn → Consumes s s' piece → Stops ⊥ c (pending ++ piece) v u e → StopsAt setup e r s' w u
-stops_in_piece setup r s s' w v u c pending piece turn e h took stops = record {
-  text = h.text ++ piece;
-  read = Consumes-trans r s s' h.text piece h.read took;
-  stops = stops_then (IsAtEnd s') (start setup) c h.text pending piece w v u e h.plays stops;
-  no_trace = no_trace setup _;
-}
+stops_in_piece setup r s s' w v u c pending piece turn e h took stops =
+    let all : Stops (IsAtEnd s') (start setup) (h.text ++ piece) w u e = stops_then (IsAtEnd s') (start setup) c h.text pending piece w v u e h.plays stops in
+    record {
+      text = h.text ++ piece;
+      read = Consumes-trans r s s' h.text piece h.read took;
+      stops = all;
+      no_trace = no_trace setup all.events;
+      tells_nothing = tells_nothing setup (map event_of all.events);
+      texts = texts_tell_nothing setup all.events all.are_events;
+    }
 
 stops_between : (setup : Setup) (e : TapeError) (r s s' w v : Option (List ℕ)) (c : Progress) (pending : List ℕ) (turn : ℕ) → ((events : List Entry) → EndsBy (IsAtEnd s') (start setup) events pending (output_all (start setup) events) e) → SoFar setup r s w v c pending turn
     → Keeps s s' → StopsAt setup e r s' w v
@@ -126,6 +131,8 @@ stops_between setup e r s s' w v c pending turn why h kept = record {
   read = Consumes-kept r s s' h.text h.read kept;
   stops = record { events = h.plays.events; are_events = h.plays.are_events; rest = pending; text_is = h.plays.text_is; written = output_all (start setup) h.plays.events; wrote = h.plays.wrote; why = why h.plays.events };
   no_trace = no_trace setup h.plays.events;
+  tells_nothing = tells_nothing setup _;
+  texts = texts_tell_nothing setup h.plays.events h.plays.are_events;
 }
 
 pub stops_in_read : (setup : Setup) (r s s' w v : Option (List ℕ)) (c : Progress) (pending : List ℕ) (turn : ℕ) → SoFar setup r s w v c pending turn → Keeps s s' → StopsAt setup fault.Read r s' w v
@@ -141,6 +148,8 @@ stops_at_start setup r w = record {
   read = Consumes-nil r;
   stops = record { events = []; are_events = tt; rest = []; text_is = refl; written = []; wrote = Appends-nil w; why = ([], refl) };
   no_trace = no_trace setup [];
+  tells_nothing = tells_nothing setup _;
+  texts = texts_tell_nothing setup [] tt;
 }
 
 -- ---- the end
@@ -159,15 +168,21 @@ ends_well setup r s s' w v c pending turn h took end empty =
       counts_are = ap counts_of h.plays.after_is;
       wrote = h.plays.wrote;
       no_trace = no_trace setup h.plays.events;
+      tells_nothing = tells_nothing setup _;
+      texts = texts_tell_nothing setup h.plays.events h.plays.are_events;
     }
 
 pub ends_in_line : (setup : Setup) (r s s' w v : Option (List ℕ)) (c : Progress) (pending : List ℕ) (turn : ℕ) → SoFar setup r s w v c pending turn → Consumes s s' [] → IsAtEnd s' → 0 < length pending → StopsAt setup (fault.Line (c.events + 1) kinds.Bad) r s' w v
-ends_in_line setup r s s' w v c pending turn h took end some = record {
-  text = h.text;
-  read = read_on r s s' h.text h.read took;
-  stops = stops_at_rest (IsAtEnd s') (start setup) c h.text w v pending h.plays h.no_feed (inr (some, end));
-  no_trace = no_trace setup _;
-}
+ends_in_line setup r s s' w v c pending turn h took end some =
+    let all : Stops (IsAtEnd s') (start setup) h.text w v (fault.Line (c.events + 1) kinds.Bad) = stops_at_rest (IsAtEnd s') (start setup) c h.text w v pending h.plays h.no_feed (inr (some, end)) in
+    record {
+      text = h.text;
+      read = read_on r s s' h.text h.read took;
+      stops = all;
+      no_trace = no_trace setup all.events;
+      tells_nothing = tells_nothing setup (map event_of all.events);
+      texts = texts_tell_nothing setup all.events all.are_events;
+    }
 
 -- a read of nothing, which had room
 pub at_end_after : (s s' : Option (List ℕ)) (n : ℕ) (buf : List ℕ) → n ≡ 0 → 0 < length buf → Consumes s s' (take n buf) × (n ≡ 0 → 0 < length buf → IsAtEnd s') → Consumes s s' [] × IsAtEnd s'

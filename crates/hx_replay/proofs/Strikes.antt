@@ -58,7 +58,7 @@ entries_back (e ∷ es) h = ap (λ (x : Entry). x ∷ map entry_of_event (map ev
 
 -- The lines that stay.
 
-filter-events : (s : Choice) (es : List Entry) → filter (λ v. not (bears s v)) (map event_of es) ≡ map event_of (filter (λ e. not (bears s (event_of e))) es)
+pub filter-events : (s : Choice) (es : List Entry) → filter (λ v. not (bears s v)) (map event_of es) ≡ map event_of (filter (λ e. not (bears s (event_of e))) es)
 filter-events s [] = refl
 filter-events s (e ∷ es) = at (bears s (event_of e)) (filter-events s es)
   where
@@ -83,7 +83,7 @@ unfolding after
 accepted p [] k h = tt
 accepted p (e ∷ es) k h = (record { entry = k.0.entry; passes = checked p e k.0.known ∙ ap kind_of h.0 }, accepted (after p e) es k.1 h.1)
 
-recorded : (setup : Setup) (es : List Entry) → AllByRecursion IsKnown es → AreRecorded setup (map event_of es) → AreEvents (start setup) es
+pub recorded : (setup : Setup) (es : List Entry) → AllByRecursion IsKnown es → AreRecorded setup (map event_of es) → AreEvents (start setup) es
 unfolding start
 recorded setup es k h = accepted (start setup) es k h
 

@@ -2,5 +2,7 @@ pub mod Text
 pub mod Output
 pub mod Run
 pub mod Seen
+pub mod Grep
 pub mod Whole
 pub mod Struck
+pub mod Quiet

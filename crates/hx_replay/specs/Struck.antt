@@ -6,9 +6,8 @@ use Rattle.hx_units.specs.Letters.{line_feed}
 use Rattle.hx_members.specs.Setups.{Setup}
 use Rattle.hx_rules.specs.declared.event.Event.{Event}
 use Rattle.hx_rules.specs.declared.event.Event.TheVariants.{Message, Tick, Hours}
-use Rattle.hx_market.specs.Markets.{Market}
 use Rattle.hx_market.specs.Steps.{run}
-use Rattle.hx_market.specs.QuietChains.{bears, quiet_of_one}
+use Rattle.hx_market.specs.QuietChains.{Choice, bears, is_quiet, quiet_of_one}
 use Rattle.hx_replay.specs.declared.fault.Kind.{Kind}
 use Rattle.hx_replay.specs.declared.fault.TapeError.{TapeError}
 use Rattle.hx_replay.specs.declared.fault.TapeError.TheVariants as fault
@@ -17,11 +16,18 @@ use Rattle.hx_text.specs.Cuts.{Lacks}
 use Rattle.hx_replay.specs.Text.{Entry, IsEntry, line}
 use Rattle.hx_replay.specs.Run.{start, event_of, is_unknown, tape, after_all, AreEvents, BeginsBadly, IsFront}
 
--- the lines that stay: those whose event is no message that bears a token of the member's chains that the whole tape never displayed and never traded
+-- the lines whose event is no message that bears a chosen token
+abbrev pub unchosen : Choice → List Entry → List Entry
+unchosen chosen entries = filter (λ e. not (bears chosen (event_of e))) entries
+
+-- the lines that stay: those whose event is no message that bears a token of the member's chains that
+-- the whole tape never displayed and never traded
 unfoldable pub struck : Setup → ℕ → List Entry → List Entry
-struck setup m entries =
-    let after : Market = run setup (map event_of entries) in
-    filter (λ e. not (bears (quiet_of_one m after) (event_of e))) entries
+struck setup m entries = unchosen (quiet_of_one m (run setup (map event_of entries))) entries
+
+-- those that stay where the quiet chains of all members are struck
+unfoldable pub struck_all : Setup → List Entry → List Entry
+struck_all setup entries = unchosen (is_quiet (run setup (map event_of entries))) entries
 
 -- the entry of an event
 abbrev pub entry_of_event : Event → Entry

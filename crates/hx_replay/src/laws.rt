@@ -5,8 +5,10 @@ ghost use Rattle.hx_members.specs.Setups.{Setup};
 ghost use Rattle.hx_market.specs.Steps.{run, told};
 ghost use Rattle.hx_replay.specs.Text.{Entry, IsEntry};
 ghost use Rattle.hx_replay.specs.Output.{told_lines};
+ghost use Rattle.hx_rules.specs.declared.event.Event.{Event};
 ghost use Rattle.hx_replay.specs.Seen.{LeavesNoTrace};
-ghost use Rattle.hx_replay.specs.Run.{tape, start, event_of, output_all, after_all};
+ghost use Rattle.hx_replay.specs.Quiet.{TellsNothing, TextsTellNothing};
+ghost use Rattle.hx_replay.specs.Run.{tape, start, event_of, output_all, after_all, AreEvents};
 
 /// A text is the tape of one list of entries.
 #[tactic(auto, using(crate::proofs::OneReading::tape_same))]
@@ -29,4 +31,17 @@ pub fn output_is_told()
 /// do not go to him are, numbers included, those of the tape without the messages of his quiet chains.
 pub fn leaves_no_trace()
     ensures { (setup : Setup) (es : List Entry) → LeavesNoTrace setup es }
+{}
+
+/// Its general form: any whole quiet chains of a member tell nothing to anybody else, those of all members nothing in
+/// the feed, and those of all others a member nothing, neither in the feed nor in his replies.
+pub fn tells_nothing()
+    ensures { (setup : Setup) (events : List Event) → TellsNothing setup events }
+{}
+
+/// The headline, on texts: without a member's quiet chains a tape is still taken by `replay`, and without the lines to
+/// him both outputs are one text. The same without anybody's quiet chains, of the lines of the feed.
+pub fn texts_tell_nothing()
+    ensures { (setup : Setup) (es : List Entry) → AreEvents (start setup) es
+        → TextsTellNothing setup es }
 {}
