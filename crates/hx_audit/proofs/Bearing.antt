@@ -13,7 +13,8 @@ use Rattle.hx_rules.specs.declared.event.Event.{Event}
 use Rattle.hx_market.specs.Markets.{Market}
 use Rattle.hx_market.specs.MarketModel.{chain_facts}
 use Rattle.hx_market.specs.QuietChains.{Choice, is_quiet, quiet_of_one, message_bears, bears, strike}
-use Rattle.hx_audit.specs.Facts.{are_loud, FactsTell}
+use Rattle.hx_units.specs.Ranges.{IsMember}
+use Rattle.hx_audit.specs.Facts.{are_loud, FactsTell, AreOfMembers}
 
 -- a message of another bears none
 pub of_another : (m n : ℕ) (a : Market) (x : Option Inbound) → (n ≡ m → ⊥) → message_bears (quiet_of_one m a) n x ≡ false
@@ -27,19 +28,30 @@ of_another m n a x h = choose (eqb n m) refl x
     choose false e (Some (Replace t)) = rw e refl
     choose false e (Some (Cancel t)) = rw e refl
 
--- of a message of the member all tokens are his
-pub of_member : (m n : ℕ) (a : Market) (x : Option Inbound) → n ≡ m → message_bears (quiet_of_one m a) n x ≡ message_bears (is_quiet a) m x
+-- a member's quiet tokens are no other's
+pub quiet_of_another : (m n : ℕ) (a : Market) (t : Token) → eqb n m ≡ false → quiet_of_one m a n t ≡ false
 unfolding quiet_of_one
-of_member m n a x h = rw h (choose x)
-  where
-    itself : eqb m m ≡ true
-    itself = (Decides-eqb m m).1 refl
+quiet_of_another m n a t h = rw h refl
 
-    choose : (x : Option Inbound) → message_bears (quiet_of_one m a) m x ≡ message_bears (is_quiet a) m x
-    choose None = refl
-    choose (Some (Enter t)) = rw itself refl
-    choose (Some (Replace t)) = rw itself refl
-    choose (Some (Cancel t)) = rw itself refl
+pub quiet_of_himself : (m n : ℕ) (a : Market) (t : Token) → eqb n m ≡ true → is_quiet a m t ≡ quiet_of_one m a n t
+unfolding quiet_of_one
+quiet_of_himself m n a t h = rw (h, ap (λ k. is_quiet a k t) ((Decides-eqb n m).0 h)) refl
+
+pub differs : (n k : ℕ) → (n ≡ k → ⊥) → eqb n k ≡ false
+differs n k h = at (eqb n k) refl
+  where
+    at : (b : Bool) → eqb n k ≡ b → eqb n k ≡ false
+    at true e = absurd (h ((Decides-eqb n k).0 e))
+    at false e = e
+
+-- who is no member has no quiet tokens
+pub quiet_of_nobody : (a : Market) (n : ℕ) (t : Token) → AreOfMembers a.tokens → (IsMember n → ⊥) → false ≡ is_quiet a n t
+unfolding is_quiet
+quiet_of_nobody a n t members h = at (is_used a.tokens n t) refl
+  where
+    at : (b : Bool) → is_used a.tokens n t ≡ b → false ≡ (b && not (is_loud a.chains n (entered_of a.tokens n t)))
+    at true used = absurd (h (members n t used))
+    at false used = refl
 
 -- by what is told of its chain a token is quiet or not
 pub told_quiet : (a : Market) (m : ℕ) (t : Token) (f : ChainFacts) → FactsTell a.chains → Some f ≡ chain_facts a.tokens a.chains m t → not (are_loud f) ≡ is_quiet a m t

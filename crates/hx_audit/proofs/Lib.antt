@@ -7,3 +7,4 @@ pub mod Uses
 pub mod Rooted
 pub mod Strangers
 pub mod StruckRecorded
+pub mod Choosing

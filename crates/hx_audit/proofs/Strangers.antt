@@ -1,6 +1,9 @@
 -- A number that the setup has not sends no recorded message: it has no chains, and nothing is struck for it.
-use Rattle.std.proofs.Common.{◌≡◌, ℕ, Bool, true, false, cond, not, eqb, leb, ◌&&◌, refl, sym, ap, ◌∙◌, subst, List, [], ◌∷◌, map, Option, Some, None}
-use Rattle.std.specs.Prelude.{is_none}
+use Rattle.std.proofs.Common.{◌≡◌, ℕ, arith, Bool, true, false, cond, not, eqb, leb, ◌&&◌, refl, sym, ap, ◌∙◌, subst, List, [], ◌∷◌, map, Option, Some, None}
+use Rattle.std.specs.Prelude.{is_none, is_some}
+use Rattle.std.specs.Map.{lookup}
+use Rattle.hx_units.specs.Names.{is_token}
+use Rattle.hx_units.specs.Ranges.{IsMember}
 use Rattle.std.proofs.lemmas.Bool.Decides.{Decides-eqb}
 use Rattle.hx_members.specs.Setups.{Setup, member_of}
 use Rattle.hx_ouch.specs.Inbound.{inbound_of}
@@ -17,7 +20,8 @@ use Rattle.hx_audit.specs.Finding.{named}
 use Rattle.hx_audit.specs.Recording.{AreAccepted, AreRecorded}
 use Rattle.hx_audit.proofs.Bearing.{of_another}
 use Rattle.hx_audit.proofs.Rooted.{none_listed}
-use Rattle.hx_audit.proofs.Uses.{Lists, step_lists}
+use Rattle.hx_audit.proofs.Uses.{Lists, step_lists, has_used}
+use Rattle.hx_audit.specs.Facts.{AreOfMembers}
 
 unknown : (setup : Setup) (m : ℕ) → member_of setup m ≡ None → is_none (known_member setup m) ≡ true
 unknown setup m h = at (leb 1 m && leb m 4095)
@@ -27,7 +31,7 @@ unknown setup m h = at (leb 1 m && leb m 4095)
     at false = refl
 
 -- an accepted message is from another
-sent_by_another : (setup : Setup) (m : ℕ) → member_of setup m ≡ None → (counts : List ℕ) (k time : ℕ) (bytes : List ℕ) → refusal setup counts (Message k time bytes) ≡ None → eqb k m ≡ false
+sent_by_another : (setup : Setup) (m : ℕ) → is_none (known_member setup m) ≡ true → (counts : List ℕ) (k time : ℕ) (bytes : List ℕ) → refusal setup counts (Message k time bytes) ≡ None → eqb k m ≡ false
 sent_by_another setup m h counts k time bytes r = choose (eqb k m) refl
   where
     refused : (b c : Bool) (rest : Option PrepareError) → c ≡ true → cond b (Some BadTime) (cond c (Some NoMember) rest) ≡ None → false ≡ true
@@ -39,11 +43,11 @@ sent_by_another setup m h counts k time bytes r = choose (eqb k m) refl
     choose false e = e
     choose true e =
         let same : k ≡ m = (Decides-eqb k m).0 e in
-        absurd (let z : false ≡ true = refused (leb 86400000000000 time) (is_none (known_member setup k)) _ (subst (λ j. is_none (known_member setup j) ≡ true) (sym same) (unknown setup m h)) r in cc)
+        absurd (let z : false ≡ true = refused (leb 86400000000000 time) (is_none (known_member setup k)) _ (subst (λ j. is_none (known_member setup j) ≡ true) (sym same) h) r in cc)
 
 bears_none : (setup : Setup) (m : ℕ) → member_of setup m ≡ None → (counts : List ℕ) (a : Market) (event : Event) → refusal setup counts event ≡ None → bears (quiet_of_one m a) event ≡ false
 bears_none setup m h counts a (Message k time bytes) r =
-    let other = sent_by_another setup m h counts k time bytes r in
+    let other = sent_by_another setup m (unknown setup m h) counts k time bytes r in
     of_another m k a (inbound_of bytes) (λ e. absurd (let z : true ≡ false = sym ((Decides-eqb k m).1 e) ∙ other in cc))
 bears_none setup m h counts a (Tick time) r = refl
 bears_none setup m h counts a (Hours time code) r = refl
@@ -61,12 +65,12 @@ nothing_struck setup m events r h = all_left setup m h (run setup events) (openi
 
 -- its list stays empty
 
-names_none : (setup : Setup) (m : ℕ) → member_of setup m ≡ None → (counts : List ℕ) (event : Event) → refusal setup counts event ≡ None → named m event ≡ None
+names_none : (setup : Setup) (m : ℕ) → is_none (known_member setup m) ≡ true → (counts : List ℕ) (event : Event) → refusal setup counts event ≡ None → named m event ≡ None
 names_none setup m h counts (Message k time bytes) r = rw (sent_by_another setup m h counts k time bytes r) refl
 names_none setup m h counts (Tick time) r = refl
 names_none setup m h counts (Hours time code) r = refl
 
-uses_none : (setup : Setup) (m : ℕ) → member_of setup m ≡ None → (a : Market) (events : List Event) → AreAccepted setup a events → uses_of a.tokens m ≡ [] → uses_of (market_after setup a events).tokens m ≡ []
+uses_none : (setup : Setup) (m : ℕ) → is_none (known_member setup m) ≡ true → (a : Market) (events : List Event) → AreAccepted setup a events → uses_of a.tokens m ≡ [] → uses_of (market_after setup a events).tokens m ≡ []
 unfolding market_after
 uses_none setup m h a [] r e = e
 uses_none setup m h a (event ∷ events) r e =
@@ -77,4 +81,24 @@ uses_none setup m h a (event ∷ events) r e =
 pub no_chains : (setup : Setup) (m : ℕ) (events : List Event) → AreRecorded setup events → member_of setup m ≡ None → chains_of (run setup events) m ≡ []
 unfolding run
 no_chains setup m events r h =
-    ap (λ (us : List Use). map (told_chain (run setup events).chains m) (grouped us)) (uses_none setup m h (opening setup) events r (none_listed setup (opening setup) m refl))
+    ap (λ (us : List Use). map (told_chain (run setup events).chains m) (grouped us)) (uses_none setup m (unknown setup m h) (opening setup) events r (none_listed setup (opening setup) m refl))
+
+-- who has used a token is a member
+
+known_in_range : (setup : Setup) (m : ℕ) → is_none (known_member setup m) ≡ false → IsMember m
+known_in_range setup m h = at (leb 1 m) refl (leb m 4095) refl h
+  where
+    at : (b : Bool) → leb 1 m ≡ b → (c : Bool) → leb m 4095 ≡ c → is_none (cond (b && c) (member_of setup m) None) ≡ false → IsMember m
+    at true e true f h = (grind (arith, e), grind (arith, f))
+    at true e false f h = absurd (let z : true ≡ false = h in cc)
+    at false e c f h = absurd (let z : true ≡ false = h in cc)
+
+pub users_are_members : (setup : Setup) (events : List Event) → AreRecorded setup events → AreOfMembers (run setup events).tokens
+unfolding run
+users_are_members setup events r m t used = at (is_none (known_member setup m)) refl
+  where
+    at : (b : Bool) → is_none (known_member setup m) ≡ b → IsMember m
+    at false e = known_in_range setup m e
+    at true e =
+        let none = uses_none setup m e (opening setup) events r (none_listed setup (opening setup) m refl) in
+        absurd (let z : true ≡ false = sym used ∙ sym (has_used (run setup events).tokens m t) ∙ ap (λ (us : List Use). is_some (lookup (is_token t) us)) none in cc)

@@ -1,8 +1,9 @@
 -- What is told of a chain.
-use Rattle.std.specs.Prelude.{◌≡◌, ℕ, ◌||◌, Bool, List}
+use Rattle.std.specs.Prelude.{◌≡◌, ℕ, ◌||◌, Bool, true, List}
 use Rattle.hx_units.specs.declared.names.Token.{Token}
 use Rattle.hx_members.specs.declared.name.ChainFacts.{ChainFacts}
-use Rattle.hx_members.specs.Chains.{Chain, is_loud}
+use Rattle.hx_members.specs.Chains.{Chain, Used, is_loud, is_used}
+use Rattle.hx_units.specs.Ranges.{IsMember}
 use Rattle.hx_members.specs.Tokens.{facts_of}
 
 -- the chain was displayed or has traded
@@ -14,3 +15,8 @@ abbrev pub FactsTell : List Chain → Type 0
 FactsTell chains =
     (member : ℕ) (entered : Token)
     → is_loud chains member entered ≡ are_loud (facts_of chains member entered)
+
+-- who has used a token is a member, from 1 to 4,095
+abbrev pub AreOfMembers : List Used → Type 0
+AreOfMembers tokens =
+    (member : ℕ) (token : Token) → is_used tokens member token ≡ true → IsMember member

@@ -1,6 +1,10 @@
 -- How the chains of a member are found in a run.
-use Rattle.std.specs.Prelude.{◌≡◌, ℕ, ◌==◌, List, [], ◌∷◌, ◌++◌, Option, Some, None, if◌then◌else◌}
-use Rattle.std.specs.List.{AllByRecursion}
+use Rattle.std.specs.Prelude.{◌≡◌, ℕ, ◌==◌, List, [], ◌∷◌, ◌++◌, false, ◌&&◌, Option, Some, None, is_some, unwrap_or, if◌then◌else◌}
+use Rattle.std.specs.Map.{lookup}
+use Rattle.std.specs.Option.{option_map_or}
+use Rattle.hx_market.specs.QuietChains.{Choice}
+use Rattle.hx_audit.specs.Listing.{Use}
+use Rattle.std.specs.List.{AllByRecursion, list_any}
 use Rattle.hx_units.specs.Names.{is_token}
 use Rattle.hx_units.specs.declared.names.Token.{Token}
 use Rattle.hx_members.specs.Tokens.{facts_of}
@@ -40,3 +44,17 @@ abbrev pub AreTold : Market → ℕ → List (Token × List Token) → Type 0
 AreTold market member groups =
     AllByRecursion (λ g. chain_facts market.tokens market.chains member g.0
     ≡ Some (facts_of market.chains member g.0)) groups
+
+-- the listed uses of the owner whose entered token is among the chosen ones
+abbrev pub in_chains : (owner : ℕ) → (uses chosen : List Use) → Choice
+in_chains owner uses chosen member token =
+    member == owner
+    && option_map_or (λ entered. is_some (lookup (is_token entered) chosen))
+    (lookup (is_token token) uses) false
+
+-- the chosen entered tokens are those of the chains of these tokens
+abbrev pub AreChosen : (uses chosen : List Use) → List Token → Type 0
+AreChosen uses chosen tokens =
+    (entered : Token)
+    → is_some (lookup (is_token entered) chosen)
+    ≡ list_any (λ t. is_token entered (unwrap_or (lookup (is_token t) uses) t)) tokens

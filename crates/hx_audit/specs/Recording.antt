@@ -1,5 +1,8 @@
 -- Which histories the market records: each event is accepted at its turn, after those before it.
-use Rattle.std.specs.Prelude.{◌≡◌, ℕ, List, [], ◌∷◌, ◌++◌, length, Option, Some, None, ⊤, ◌⊎◌}
+use Rattle.std.specs.Prelude.{◌≡◌, ℕ, List, [], ◌∷◌, ◌++◌, length, true, false, Option, Some, None, ⊤, ◌⊎◌}
+use Rattle.std.specs.List.{AllByRecursion}
+use Rattle.hx_units.specs.declared.names.Token.{Token}
+use Rattle.hx_market.specs.QuietChains.{is_quiet}
 use Rattle.hx_members.specs.Setups.{Setup}
 use Rattle.hx_rules.specs.declared.event.Event.{Event}
 use Rattle.hx_rules.specs.declared.fault.PrepareError.{PrepareError}
@@ -8,7 +11,7 @@ use Rattle.hx_market.specs.Markets.{Market, opening}
 use Rattle.hx_market.specs.Refusals.{refusal, or_no_memory}
 use Rattle.hx_market.specs.Steps.{step, run}
 use Rattle.hx_audit.specs.declared.fault.StrikeError.{StrikeError}
-use Rattle.hx_audit.specs.declared.fault.StrikeError.TheVariants.{NoMemory, Refused}
+use Rattle.hx_audit.specs.declared.fault.StrikeError.TheVariants.{NoMemory, Refused, NotQuiet}
 
 -- the market accepts each of these events at its turn
 abbrev pub AreAccepted : Setup → Market → List Event → Type 0
@@ -36,6 +39,25 @@ pub record IsRefusedAt (setup : Setup) (events : List Event) (index : ℕ)
 abbrev pub Explains : Setup → List Event → StrikeError → Type 0
 Explains setup events NoMemory = ⊤
 Explains setup events (Refused index error) = IsRefusedAt setup events index error
+Explains setup events (NotQuiet token) = ⊥
+
+-- the first of these tokens that is not one of the member's quiet ones
+pub record IsFirstLoud (market : Market) (member : ℕ) (tokens : List Token) (token : Token)
+    : Type 0 where
+  pub before : List Token
+  pub after : List Token
+  pub split : tokens ≡ before ++ token ∷ after
+  pub quiet : AllByRecursion (λ t. is_quiet market member t ≡ true) before
+  pub loud : is_quiet market member token ≡ false
+
+-- what an error says of a history and a list of a member's tokens: a refusal comes before a token that
+-- is not quiet
+abbrev pub ExplainsChains : Setup → List Event → ℕ → List Token → StrikeError → Type 0
+ExplainsChains setup events member tokens NoMemory = ⊤
+ExplainsChains setup events member tokens (Refused index error) =
+    IsRefusedAt setup events index error
+ExplainsChains setup events member tokens (NotQuiet token) =
+    AreRecorded setup events × IsFirstLoud (run setup events) member tokens token
 
 -- the error of a refusal at an index
 abbrev pub error_at : ℕ → PrepareError → StrikeError

@@ -68,8 +68,8 @@ fn take_and_list(
     Ok(())
 }
 
-// The opening market takes the events, and the tokens that the member uses by them are listed.
-fn take_all(
+/// The opening market takes the events, and the tokens that the member uses by them are listed.
+pub(crate) fn take_all(
     market: &mut Market<LevelBook>,
     listing: &mut Listing,
     member: MemberNo,
@@ -83,6 +83,8 @@ fn take_all(
     ensures chains { OnOk result (
         listing.new.chains.entries
         ≡ grouped (uses_of (run market.old.setup events.now).tokens member)) }
+    ensures uses { OnOk result (
+        listing.new.uses.entries ≡ uses_of (run market.old.setup events.now).tokens member) }
     ensures refused { IfErr result (Explains market.old.setup events.now) }
 {
     for (index, event) in events.iter().enumerate() {

@@ -3,7 +3,7 @@ ghost use Rattle.std.specs.Prelude.{◌≡◌};
 ghost use Rattle.hx_audit.specs.declared.fault.StrikeError.TheVariants.{NoMemory as OutOfMemory};
 
 use hx_market::PrepareError;
-use hx_units::NoMemory;
+use hx_units::{NoMemory, Token};
 use std::alloc::{AllocError, AllocFailed};
 use thiserror::Error;
 
@@ -20,6 +20,12 @@ pub enum StrikeError {
         index: u64,
         /// Why: `BadTime`, `NoMember` or `Limit`.
         error: PrepareError,
+    },
+    /// The first listed token that is not one of the member's quiet tokens. It comes from `strike_chains` alone.
+    #[error("a listed token is not quiet")]
+    NotQuiet {
+        /// The token.
+        token: Token,
     },
 }
 

@@ -4,12 +4,15 @@
 
 mod chain;
 mod chaining;
+mod chosen;
 mod fault;
 mod listing;
 mod playing;
+mod selection;
 mod striking;
 
 pub use chain::{Chain, ChainTokens};
 pub use chaining::chains;
+pub use chosen::strike_chains;
 pub use fault::StrikeError;
-pub use striking::strike;
+pub use striking::{strike, strike_all};

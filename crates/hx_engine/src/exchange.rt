@@ -163,9 +163,8 @@ impl<V: Venue> Exchange<V> {
         held.desk.inform(&self.log, reader);
         held.desk.renew(&self.log, &mut pass.knows);
         held.desk.stands();
-        Ok(Audit {
-            history: held.desk.copy_history()?,
-        })
+        let history = held.desk.copy_history()?;
+        Ok(Audit { history })
     }
 
     /// The log of the feed, which waits for nobody.

@@ -1,17 +1,19 @@
 use Rattle.std.proofs.Common.{ap, sym, subst, List, ◌∙◌}
 use Rattle.std.proofs.lemmas.Result.{err_from_is_err_and}
+use Rattle.hx_rules.specs.declared.event.Event.{Event}
 use Rattle.hx_market.specs.Markets.{Market}
 use Rattle.hx_market.specs.QuietChains.{quiet_of_one, strike, strike_one}
+use Rattle.hx_audit.specs.Recording.{AreRecorded}
 use Rattle.hx_audit.proofs.Led.{facts_tell}
 use Rattle.hx_audit.proofs.Goes.{led_run}
 use Rattle.hx_audit.proofs.Strangers.{nothing_struck}
 use Rattle.hx_audit.proofs.StruckRecorded.{struck_recorded}
-use Rattle.hx_audit.specs.Recording.{AreRecorded}
-use Rattle.hx_rules.specs.declared.event.Event.{Event}
 use Rattle.hx_audit.proofs.striking.strike.Goals as goal
 
-pub keep-requires : goal.keep-requires
-keep-requires c = rw c.in_ok-market.ensures.market (facts_tell _ (led_run c.args.setup.now c.args.events.now))
+pub invariant_of-quiet : goal.invariant_of-quiet
+invariant_of-quiet c = record {
+  tell = rw c.in_ok-market.ensures.market (facts_tell _ (led_run c.args.setup.now c.args.events.now));
+}
 
 pub returns-in_err-keep-clause-refused : goal.returns-in_err-keep-clause-refused
 returns-in_err-keep-clause-refused c =
@@ -24,14 +26,14 @@ returns-clause-struck c =
     c.in_ok-keep.ensures
     ∙ ap (λ (a : Market). strike (quiet_of_one c.args.member a) c.args.events.now) c.in_ok-market.ensures.market
 
+pub returns-clause-again : goal.returns-clause-again
+returns-clause-again c =
+    subst (λ (kept : List Event). AreRecorded c.args.setup.now kept) (sym c.in_ok-keep.ensures)
+    (struck_recorded c.args.setup.now (quiet_of_one c.args.member c.in_ok-market.market.market) c.args.events.now c.in_ok-market.ensures.recorded)
+
 pub returns-clause-stranger : goal.returns-clause-stranger
 unfolding strike_one
 returns-clause-stranger c h =
     c.in_ok-keep.ensures
     ∙ ap (λ (a : Market). strike (quiet_of_one c.args.member a) c.args.events.now) c.in_ok-market.ensures.market
     ∙ nothing_struck c.args.setup.now c.args.member c.args.events.now c.in_ok-market.ensures.recorded h
-
-pub returns-clause-again : goal.returns-clause-again
-returns-clause-again c =
-    subst (λ (kept : List Event). AreRecorded c.args.setup.now kept) (sym c.in_ok-keep.ensures)
-    (struck_recorded c.args.setup.now (quiet_of_one c.args.member c.in_ok-market.market.market) c.args.events.now c.in_ok-market.ensures.recorded)

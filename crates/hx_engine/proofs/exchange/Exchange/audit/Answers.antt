@@ -34,8 +34,8 @@ returns-clause-ok g c =
     let desk = c.renew.new.self in
     let held = c.deref_mut-held.result.now in
     let same : desk ≡ held.desk = r.same ∙ c.inform.ensures.same in
-    audited g.V.Venue.setup desk c.in_ok-copy_history.field-0.items c.inform.new.reader _ c.stands.ensures.standing c.stands.ensures.secret (ap (λ (d : DeskState). d.setup) same ∙ held.of_setup)
-    c.in_ok-copy_history.ensures
+    audited g.V.Venue.setup desk c.in_ok-history.history.items c.inform.new.reader _ c.stands.ensures.standing c.stands.ensures.secret (ap (λ (d : DeskState). d.setup) same ∙ held.of_setup)
+    c.in_ok-history.ensures
     (c.inform.ensures.known ∙ ap (λ (d : DeskState). d.published) (sym same))
     (ap (λ t. t.known) r.receipt ∙ ap (λ (d : DeskState). d.published) (sym r.same))
     (still_sent c.pass.inside.number c.pass.inside.sent.items c.pass.inside.knows.known c.inform.new.self.published c.renew.new.receipt.known r.begins (ap (λ t. t.known) r.receipt) i.5)

@@ -1,6 +1,6 @@
 use Rattle.std.proofs.Common.{◌≡◌, Bool, true, false, ◌||◌, not, refl, ◌∙◌}
 use Rattle.hx_audit.proofs.Bearing.{told_quiet, untold_quiet}
-use Rattle.hx_audit.proofs.striking.is_quiet.Goals as goal
+use Rattle.hx_audit.proofs.selection.is_quiet.Goals as goal
 
 not_first : (d t : Bool) → not d ≡ true → not t ≡ not (d || t)
 not_first true t h = absurd (let z : false ≡ true = h in cc)

@@ -1,0 +1,25 @@
+use Rattle.std.proofs.Common.{[], ◌∷◌, ◌++◌, ap, sym, ◌∙◌}
+use Rattle.hx_rules.specs.declared.event.Event.{Event}
+use Rattle.hx_audit.proofs.Bearing.{kept_more, left_out, all_kept}
+use Rattle.hx_audit.proofs.selection.keep.Goals as goal
+use Rattle.hx_audit.proofs.selection.keep.Goals.{then-not-bears+in_ok-copy+in_ok-push, else-not-bears}
+
+pub loop-event-preserved : goal.loop-event-preserved
+loop-event-preserved g c =
+    let s = g.S.Selection.chosen c.args.selection.now in
+    let xs = c.args.events.now in
+    let i = c.loop-event.event-index in
+    let x = c.event-item.result in
+    elim c.if-not-bears.branch [
+      | then-not-bears+in_ok-copy+in_ok-push w ↦
+          let new = w.in_ok-push.ensures.items ∙ ap (λ (y : Event). c.loop-event.kept.items ++ y ∷ []) w.in_ok-copy.ensures in
+          rw (w.kept-is, new)
+          (kept_more s xs i x c.loop-event.kept.items _ c.loop-event-test.true c.event-item.is (sym c.bears.ensures ∙ w.if-not-bears.true) c.loop-event.invariant)
+      | else-not-bears w ↦
+          rw w.kept-is
+          (left_out s xs i x c.loop-event.kept.items _ c.loop-event-test.true c.event-item.is (sym c.bears.ensures ∙ w.if-not-bears.false) c.loop-event.invariant)
+    ]
+
+pub returns : goal.returns
+returns g c =
+    all_kept (g.S.Selection.chosen c.args.selection.now) c.args.events.now c.loop-event.event-index c.loop-event.kept.items _ c.loop-event-test.false c.loop-event.invariant
