@@ -15,7 +15,7 @@ use Rattle.hx_market.specs.Refusals.{refusal}
 use Rattle.hx_market.specs.Hours.{hours_codes}
 use Rattle.hx_market.specs.OperatorMessages.{operator_event}
 use Rattle.hx_market.specs.Steps.{run}
-use Rattle.hx_market.specs.QuietChains.{Choice, bears, strike, strike_one, quiet_of_one}
+use Rattle.hx_market.specs.QuietChains.{Choice, bears, strike}
 use Rattle.hx_audit.specs.Recording.{AreAccepted, AreRecorded, IsRefusedAt}
 use Rattle.hx_replay.specs.declared.fault.Kind.{Kind}
 use Rattle.hx_replay.specs.declared.fault.Kind.TheVariants as kind
@@ -24,7 +24,8 @@ use Rattle.hx_replay.specs.declared.fault.TapeError.TheVariants as fault
 use Rattle.std.proofs.KnownBytes.{Appends-nil}
 use Rattle.hx_replay.specs.Text.{Entry, line}
 use Rattle.hx_replay.specs.Run.{Progress, start, event_of, message_of, is_operator, is_unknown, kind_of, fault_of, check_of, after, after_all, tape, AreEvents, BeginsBadly}
-use Rattle.hx_replay.specs.Struck.{struck, entry_of_event, IsKnown, IsLineOf, IsNoLine, BreaksOff, Collects, CollectsAll, IsOfReading, ReadsSome, StrikeStops, FirstFault, IsStruck, IsFaultOf}
+use Rattle.hx_replay.specs.declared.striking.Whose.{Whose}
+use Rattle.hx_replay.specs.Struck.{choice_of, left_by, entry_of_event, IsKnown, IsLineOf, IsNoLine, BreaksOff, Collects, CollectsAll, IsOfReading, ReadsSome, StrikeStops, FirstFault, IsStruck, IsFaultOf}
 use Rattle.hx_replay.proofs.Playing.{checked, unknown_is_bad}
 use Rattle.hx_replay.proofs.OutputIsTold.{market_is_run}
 use Rattle.hx_replay.proofs.OneReading.{line_no_feed, tape-cons}
@@ -68,13 +69,12 @@ filter-events s (e ∷ es) = at (bears s (event_of e)) (filter-events s es)
     at true h = h
     at false h = ap (λ (l : List Event). event_of e ∷ l) h
 
-kept_is : (setup : Setup) (m : ℕ) (es : List Entry) → strike_one setup m (map event_of es) ≡ map event_of (struck setup m es)
-unfolding strike_one strike struck
-kept_is setup m es = filter-events (quiet_of_one m (run setup (map event_of es))) es
+kept_is : (setup : Setup) (whose : Whose) (es : List Entry) → strike (choice_of whose (run setup (map event_of es))) (map event_of es) ≡ map event_of (left_by setup whose es)
+unfolding strike
+kept_is setup whose es = filter-events (choice_of whose (run setup (map event_of es))) es
 
-struck_known : (setup : Setup) (m : ℕ) (es : List Entry) → AllByRecursion IsKnown es → AllByRecursion IsKnown (struck setup m es)
-unfolding struck
-struck_known setup m es h = all_filtered IsKnown (λ e. not (bears (quiet_of_one m (run setup (map event_of es))) (event_of e))) es h
+left_known : (setup : Setup) (whose : Whose) (es : List Entry) → AllByRecursion IsKnown es → AllByRecursion IsKnown (left_by setup whose es)
+left_known setup whose es h = all_filtered IsKnown (λ e. not (bears (choice_of whose (run setup (map event_of es))) (event_of e))) es h
 
 -- Recorded events are those of entries that pass the checks.
 
@@ -96,16 +96,17 @@ start_setup : (setup : Setup) (es : List Entry) → (after_all (start setup) es)
 unfolding start
 start_setup setup es = setup_stays (start setup) es
 
-pub all_kept : (setup : Setup) (m : ℕ) (text : List ℕ) (events kept : List Event) → Collects text events [] → AreRecorded setup events → kept ≡ strike_one setup m events → IsStruck setup m text kept
-all_kept setup m text events kept c r k =
+pub all_kept : (setup : Setup) (whose : Whose) (text : List ℕ) (events kept : List Event) → Collects text events [] → AreRecorded setup events → kept ≡ strike (choice_of whose (run setup events)) events
+    → IsStruck setup (left_by setup whose) text kept
+all_kept setup whose text events kept c r k =
     let es : List Entry = c.entries in
-    let kept_are : kept ≡ map event_of (struck setup m es) = k ∙ ap (λ (vs : List Event). strike_one setup m vs) c.events_are ∙ kept_is setup m es in
+    let kept_are : kept ≡ map event_of (left_by setup whose es) = k ∙ ap (λ (vs : List Event). strike (choice_of whose (run setup vs)) vs) c.events_are ∙ kept_is setup whose es in
     record {
       events = es;
       are_events = recorded setup es c.are_known (subst (AreRecorded setup) c.events_are r);
       text_is = c.text_is ∙ append-nil (tape es);
       kept_are = kept_are;
-      lines_are = ap (λ (vs : List Event). tape (map entry_of_event vs)) kept_are ∙ ap tape (entries_back (struck setup m es) (struck_known setup m es c.are_known));
+      lines_are = ap (λ (vs : List Event). tape (map entry_of_event vs)) kept_are ∙ ap tape (entries_back (left_by setup whose es) (left_known setup whose es c.are_known));
     }
 
 -- The first fault.
@@ -222,9 +223,10 @@ pub breaks_of : (setup : Setup) (text : List ℕ) (events same : List Event) (b 
 breaks_of setup text events same true n c f e r is = absurd (let z : true ≡ false = f in cc)
 breaks_of setup text events same false n c f e r is = breaks_off setup text events c.0 (n + 1) c.1 c.2 (subst (AreRecorded setup) e r) (ap (λ k. k + 1) is)
 
-pub all_of : (setup : Setup) (m : ℕ) (text : List ℕ) (events same kept : List Event) (b : Bool) → CollectsAll text events b → b ≡ true → same ≡ events → AreRecorded setup same → kept ≡ strike_one setup m same → IsStruck setup m text kept
-all_of setup m text events same kept true c f e r k = all_kept setup m text events kept c (subst (AreRecorded setup) e r) (k ∙ ap (λ (vs : List Event). strike_one setup m vs) e)
-all_of setup m text events same kept false c f e r k = absurd (let z : false ≡ true = f in cc)
+pub all_of : (setup : Setup) (whose : Whose) (text : List ℕ) (events same kept : List Event) (b : Bool) → CollectsAll text events b → b ≡ true → same ≡ events → AreRecorded setup same
+    → kept ≡ strike (choice_of whose (run setup same)) same → IsStruck setup (left_by setup whose) text kept
+all_of setup whose text events same kept true c f e r k = all_kept setup whose text events kept c (subst (AreRecorded setup) e r) (k ∙ ap (λ (vs : List Event). strike (choice_of whose (run setup vs)) vs) e)
+all_of setup whose text events same kept false c f e r k = absurd (let z : false ≡ true = f in cc)
 
 -- where all stays, it is the text
 pub left_of : (text : List ℕ) (events same kept : List Event) (b : Bool) → CollectsAll text events b → b ≡ true
@@ -235,9 +237,9 @@ left_of text events same kept true c f e k =
 left_of text events same kept false c f e k = absurd (let z : false ≡ true = f in cc)
 
 -- Nothing is written where reading fails.
-pub reading_stops : (setup : Setup) (m : ℕ) (e : TapeError) (r s w : Option (List ℕ)) → ReadsSome r s → IsOfReading e → StrikeStops setup m e r s w w
-reading_stops setup m fault.NoMemory r s w t h = (t, Appends-nil w)
-reading_stops setup m fault.Read r s w t h = (t, Appends-nil w)
-reading_stops setup m fault.Turns r s w t h = (t, Appends-nil w)
-reading_stops setup m (fault.Line n k) r s w t h = elim h [ ]
-reading_stops setup m fault.Write r s w t h = elim h [ ]
+pub reading_stops : (setup : Setup) (left : List Entry → List Entry) (e : TapeError) (r s w : Option (List ℕ)) → ReadsSome r s → IsOfReading e → StrikeStops setup left e r s w w
+reading_stops setup left fault.NoMemory r s w t h = (t, Appends-nil w)
+reading_stops setup left fault.Read r s w t h = (t, Appends-nil w)
+reading_stops setup left fault.Turns r s w t h = (t, Appends-nil w)
+reading_stops setup left (fault.Line n k) r s w t h = elim h [ ]
+reading_stops setup left fault.Write r s w t h = elim h [ ]

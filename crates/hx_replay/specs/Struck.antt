@@ -1,17 +1,20 @@
 -- A tape without the messages of a member's quiet chains.
-use Rattle.std.specs.Prelude.{◌≡◌, ◌≢◌, ◌⊎◌, ℕ, ◌+◌, ◌<◌, Bool, true, false, not, List, [], ◌∷◌, ◌++◌, map, length, Option}
+use Rattle.std.specs.Prelude.{◌≡◌, ◌≢◌, ◌⊎◌, ℕ, ◌+◌, ◌<◌, Bool, true, false, not, List, [], ◌∷◌, ◌++◌, map, length, Option, None}
 use Rattle.std.specs.List.{AllByRecursion, filter}
 use Rattle.std.specs.Io.KnownBytes.{Consumes, Appends, IsAtEnd}
 use Rattle.hx_units.specs.Letters.{line_feed}
-use Rattle.hx_members.specs.Setups.{Setup}
+use Rattle.hx_members.specs.Setups.{Setup, member_of}
 use Rattle.hx_rules.specs.declared.event.Event.{Event}
 use Rattle.hx_rules.specs.declared.event.Event.TheVariants.{Message, Tick, Hours}
+use Rattle.hx_market.specs.Markets.{Market}
 use Rattle.hx_market.specs.Steps.{run}
 use Rattle.hx_market.specs.QuietChains.{Choice, bears, is_quiet, quiet_of_one}
 use Rattle.hx_replay.specs.declared.fault.Kind.{Kind}
 use Rattle.hx_replay.specs.declared.fault.TapeError.{TapeError}
 use Rattle.hx_replay.specs.declared.fault.TapeError.TheVariants as fault
 use Rattle.hx_replay.specs.declared.run.Counts.{Counts}
+use Rattle.hx_replay.specs.declared.striking.Whose.{Whose}
+use Rattle.hx_replay.specs.declared.striking.Whose.TheVariants.{Of, OfAll}
 use Rattle.hx_text.specs.Cuts.{Lacks}
 use Rattle.hx_replay.specs.Text.{Entry, IsEntry, line}
 use Rattle.hx_replay.specs.Run.{start, event_of, is_unknown, tape, after_all, AreEvents, BeginsBadly, IsFront}
@@ -19,6 +22,20 @@ use Rattle.hx_replay.specs.Run.{start, event_of, is_unknown, tape, after_all, Ar
 -- the lines whose event is no message that bears a chosen token
 abbrev pub unchosen : Choice → List Entry → List Entry
 unchosen chosen entries = filter (λ e. not (bears chosen (event_of e))) entries
+
+-- whose quiet chains are struck: one member's, or those of all
+abbrev pub choice_of : Whose → Market → Choice
+choice_of (Of m) market = quiet_of_one m market
+choice_of OfAll market = is_quiet market
+
+-- the lines that stay then
+abbrev pub left_by : Setup → Whose → List Entry → List Entry
+left_by setup whose entries = unchosen (choice_of whose (run setup (map event_of entries))) entries
+
+-- one member, whom the setup has not
+abbrev pub IsStranger : Setup → Whose → Type 0
+IsStranger setup (Of m) = member_of setup m ≡ None
+IsStranger setup OfAll = ⊥
 
 -- the lines that stay: those whose event is no message that bears a token of the member's chains that
 -- the whole tape never displayed and never traded
@@ -94,12 +111,13 @@ pub record FirstFault (setup : Setup) (n : ℕ) (k : Kind) (text : List ℕ) : T
   pub why : BeginsBadly (Unit {0}) (after_all (start setup) events) k rest
 
 -- the text is a tape, whose lines that stay are those of these events
-pub record IsStruck (setup : Setup) (m : ℕ) (text : List ℕ) (kept : List Event) : Type 0 where
+pub record IsStruck (setup : Setup) (left : List Entry → List Entry) (text : List ℕ)
+    (kept : List Event) : Type 0 where
   pub events : List Entry
   pub are_events : AreEvents (start setup) events
   pub text_is : text ≡ tape events
-  pub kept_are : kept ≡ map event_of (struck setup m events)
-  pub lines_are : tape (map entry_of_event kept) ≡ tape (struck setup m events)
+  pub kept_are : kept ≡ map event_of (left events)
+  pub lines_are : tape (map entry_of_event kept) ≡ tape (left events)
 
 -- why a text is not struck: the first line that fails a check, or want of memory
 abbrev pub IsFaultOf : Setup → List ℕ → TapeError → Type 0
@@ -114,24 +132,25 @@ abbrev pub counts_of_lines : ℕ → Counts
 counts_of_lines lines = record { events = lines; feed = 0; replies = 0 }
 
 -- all that was read is a tape, and its lines that stay were written as they were read
-pub record StrikesAll (setup : Setup) (m : ℕ) (counts : Counts)
+pub record StrikesAll (setup : Setup) (left : List Entry → List Entry) (counts : Counts)
     (r s w v : Option (List ℕ)) : Type 0 where
   pub events : List Entry
   pub are_events : AreEvents (start setup) events
   pub read : Consumes r s (tape events)
   pub at_end : IsAtEnd s
   pub counts_are :
-      counts ≡ counts_of_lines (length (struck setup m events))
-  pub wrote : Appends w v (tape (struck setup m events))
+      counts ≡ counts_of_lines (length (left events))
+  pub wrote : Appends w v (tape (left events))
 
 -- all that was read is a tape, and the writer failed after a front of the lines that stay
-pub record StrikesSome (setup : Setup) (m : ℕ) (r s w v : Option (List ℕ)) : Type 0 where
+pub record StrikesSome (setup : Setup) (left : List Entry → List Entry)
+    (r s w v : Option (List ℕ)) : Type 0 where
   pub events : List Entry
   pub are_events : AreEvents (start setup) events
   pub read : Consumes r s (tape events)
   pub at_end : IsAtEnd s
   pub front : List ℕ
-  pub is_front : IsFront front (tape (struck setup m events))
+  pub is_front : IsFront front (tape (left events))
   pub wrote : Appends w v front
 
 -- all was read, and this line is the first that fails a check
@@ -146,12 +165,13 @@ abbrev pub ReadsSome : Option (List ℕ) → Option (List ℕ) → Type 0
 ReadsSome r s = (text : List ℕ) × Consumes r s text
 
 -- why a tape was not struck: but for a writer that failed, nothing was written
-abbrev pub StrikeStops : Setup → ℕ → TapeError → (r s w v : Option (List ℕ)) → Type 0
-StrikeStops setup m (fault.Line n k) r s w v = StopsBefore setup n k r s × Appends w v []
-StrikeStops setup m fault.NoMemory r s w v = ReadsSome r s × Appends w v []
-StrikeStops setup m fault.Read r s w v = ReadsSome r s × Appends w v []
-StrikeStops setup m fault.Turns r s w v = ReadsSome r s × Appends w v []
-StrikeStops setup m fault.Write r s w v = StrikesSome setup m r s w v
+abbrev pub StrikeStops :
+    Setup → (List Entry → List Entry) → TapeError → (r s w v : Option (List ℕ)) → Type 0
+StrikeStops setup left (fault.Line n k) r s w v = StopsBefore setup n k r s × Appends w v []
+StrikeStops setup left fault.NoMemory r s w v = ReadsSome r s × Appends w v []
+StrikeStops setup left fault.Read r s w v = ReadsSome r s × Appends w v []
+StrikeStops setup left fault.Turns r s w v = ReadsSome r s × Appends w v []
+StrikeStops setup left fault.Write r s w v = StrikesSome setup left r s w v
 
 -- all that was read was written, and nothing else
 abbrev pub Echoes : (r s w v : Option (List ℕ)) → Type 0

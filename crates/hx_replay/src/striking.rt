@@ -1,17 +1,20 @@
-//! A tape without the messages of a member's quiet chains.
+//! A tape without the messages of quiet chains.
 ghost use Rattle.std.specs.Prelude.{◌≡◌, ◌++◌, ◌∷◌, [], map, IfOk, IfErr, OnOk, OnErr, IfSome, IfNone, None};
 ghost use Rattle.std.specs.Io.KnownBytes.{Consumes, IsAtEnd};
 ghost use Rattle.hx_members.specs.Setups.{member_of};
 ghost use Rattle.hx_replay.specs.Text.{line};
 ghost use Rattle.hx_replay.specs.Run.{tape};
-ghost use Rattle.hx_replay.specs.Struck.{entry_of_event, IsOfReading, ReadsSome, IsLineOf, IsNoLine, CollectsAll, IsStruck, IsFaultOf, StrikesAll, StrikeStops, Echoes};
+ghost use Rattle.hx_market.specs.Steps.{run};
+ghost use Rattle.hx_market.specs.QuietChains.{strike};
+ghost use Rattle.hx_audit.specs.Recording.{AreRecorded, Explains};
+ghost use Rattle.hx_replay.specs.Struck.{choice_of, left_by, struck, struck_all, IsStranger, entry_of_event, IsOfReading, ReadsSome, IsLineOf, IsNoLine, CollectsAll, IsStruck, IsFaultOf, StrikesAll, StrikeStops, Echoes};
 
 use crate::decimal::write_number;
 use crate::fault::{Kind, TapeError};
 use crate::line;
 use crate::replaying::{READS, write_whole};
 use crate::run::{Counts, event_of, fault_of};
-use hx_audit::{StrikeError, strike};
+use hx_audit::{StrikeError, strike, strike_all};
 use hx_market::Event;
 use hx_members::Setup;
 use hx_text::split_once;
@@ -81,23 +84,52 @@ fn collect(alloc: Global, text: &[u8]) -> Result<Collected, AllocError>
     Ok(Collected { events, is_all })
 }
 
+// Whose quiet chains are struck.
+#[derive(Clone, Copy)]
+enum Whose {
+    // One member's.
+    Of(MemberNo),
+    // Those of all.
+    OfAll,
+}
+
+// The events that stay.
+fn strike_events(
+    alloc: Global,
+    setup: &Setup,
+    events: &[Event],
+    whose: Whose,
+) -> Result<Vec<Event>, StrikeError>
+    ensures recorded { OnOk result (AreRecorded setup.now events.now) }
+    ensures struck { IfOk result (λ kept. kept.items
+        ≡ strike (choice_of whose (run setup.now events.now)) events.now) }
+    ensures stranger { IfOk result (λ kept. IsStranger setup.now whose → kept.items ≡ events.now) }
+    ensures refused { IfErr result (Explains setup.now events.now) }
+{
+    match whose {
+        Whose::Of(member) => strike(alloc, setup, events, member),
+        Whose::OfAll => strike_all(alloc, setup, events),
+    }
+}
+
 // The events of a tape that stay.
 fn strike_text(
     alloc: Global,
     setup: &Setup,
     text: &[u8],
-    member: MemberNo,
+    whose: Whose,
 ) -> Result<Vec<Event>, TapeError>
-    ensures ok { IfOk result (λ kept. IsStruck setup.now member text.now kept.items) }
+    ensures ok { IfOk result (λ kept.
+        IsStruck setup.now (left_by setup.now whose) text.now kept.items) }
     ensures err { IfErr result (IsFaultOf setup.now text.now) }
     ensures stranger { IfOk result (λ kept.
-        member_of setup.now member ≡ None → tape (map entry_of_event kept.items) ≡ text.now) }
+        IsStranger setup.now whose → tape (map entry_of_event kept.items) ≡ text.now) }
 {
     let collected = collect(alloc, text)?;
-    let kept = match strike(alloc, setup, &collected.events, member) {
+    let kept = match strike_events(alloc, setup, &collected.events, whose) {
         Ok(kept) => kept,
-        Err(StrikeError::NoMemory) => return Err(TapeError::NoMemory),
         Err(StrikeError::Refused { index, error }) => return Err(fault_of(index + 1, error)),
+        Err(_) => return Err(TapeError::NoMemory),
     };
     if !collected.is_all {
         return Err(TapeError::Line {
@@ -157,6 +189,37 @@ fn write_events(alloc: Global, events: &[Event]) -> Result<Vec<u8>, AllocError>
     Ok(text)
 }
 
+// Reads a tape to its end, and writes the lines that stay.
+fn strike_lines<R: Read, W: Write>(
+    alloc: Global,
+    setup: &Setup,
+    reader: &mut R,
+    writer: &mut W,
+    whose: Whose,
+) -> Result<Counts, TapeError>
+    ensures ok { IfOk result (λ counts.
+        StrikesAll setup.now (left_by setup.now whose) counts
+        (R.remaining reader.old) (R.remaining reader.new)
+        (W.contents writer.old) (W.contents writer.new)) }
+    ensures err { IfErr result (λ e.
+        StrikeStops setup.now (left_by setup.now whose) e
+        (R.remaining reader.old) (R.remaining reader.new)
+        (W.contents writer.old) (W.contents writer.new)) }
+    ensures stranger { IfOk result (λ counts. IsStranger setup.now whose
+        → Echoes (R.remaining reader.old) (R.remaining reader.new)
+        (W.contents writer.old) (W.contents writer.new)) }
+{
+    let text = read_all(alloc, reader)?;
+    let kept = strike_text(alloc, setup, &text, whose)?;
+    let lines = write_events(alloc, &kept)?;
+    write_whole(writer, &lines)?;
+    Ok(Counts {
+        events: kept.len() as u64,
+        feed: 0,
+        replies: 0,
+    })
+}
+
 /// Writes a tape without the messages of a member's quiet chains: of the lines that it reads, to their end, those
 /// stay, as they were read, that bear no token of his chains that the whole tape never displayed and never traded. It
 /// writes only once all was read, and counts the lines written. A member number that the setup has not strikes
@@ -170,24 +233,40 @@ pub fn strike_tape<R: Read, W: Write>(
 ) -> Result<Counts, TapeError>
     // All was read, and the lines that stay were written.
     ensures ok { IfOk result (λ counts.
-        StrikesAll setup.now member counts (R.remaining reader.old) (R.remaining reader.new) (W.contents writer.old) (W.contents writer.new)) }
+        StrikesAll setup.now (struck setup.now member) counts
+        (R.remaining reader.old) (R.remaining reader.new)
+        (W.contents writer.old) (W.contents writer.new)) }
     // But for a failed write, nothing was written. A line is named where all was read and it is the first that fails a
     // check. Else what was read is a beginning of what there was.
     ensures err { IfErr result (λ e.
-        StrikeStops setup.now member e (R.remaining reader.old) (R.remaining reader.new) (W.contents writer.old) (W.contents writer.new)) }
+        StrikeStops setup.now (struck setup.now member) e
+        (R.remaining reader.old) (R.remaining reader.new)
+        (W.contents writer.old) (W.contents writer.new)) }
     // A number that the setup has not strikes nothing.
     ensures stranger { IfOk result (λ counts.
         member_of setup.now member ≡ None
         → Echoes (R.remaining reader.old) (R.remaining reader.new)
         (W.contents writer.old) (W.contents writer.new)) }
 {
-    let text = read_all(alloc, reader)?;
-    let kept = strike_text(alloc, setup, &text, member)?;
-    let lines = write_events(alloc, &kept)?;
-    write_whole(writer, &lines)?;
-    Ok(Counts {
-        events: kept.len() as u64,
-        feed: 0,
-        replies: 0,
-    })
+    strike_lines(alloc, setup, reader, writer, Whose::Of(member))
+}
+
+/// Writes a tape without the messages of anybody's quiet chains, as `strike_tape` writes it without one member's: each
+/// line goes that bears a token of its own member's chains that the whole tape never displayed and never traded.
+pub fn strike_all_tape<R: Read, W: Write>(
+    alloc: Global,
+    setup: &Setup,
+    reader: &mut R,
+    writer: &mut W,
+) -> Result<Counts, TapeError>
+    ensures ok { IfOk result (λ counts.
+        StrikesAll setup.now (struck_all setup.now) counts
+        (R.remaining reader.old) (R.remaining reader.new)
+        (W.contents writer.old) (W.contents writer.new)) }
+    ensures err { IfErr result (λ e.
+        StrikeStops setup.now (struck_all setup.now) e
+        (R.remaining reader.old) (R.remaining reader.new)
+        (W.contents writer.old) (W.contents writer.new)) }
+{
+    strike_lines(alloc, setup, reader, writer, Whose::OfAll)
 }

@@ -17,7 +17,7 @@ returns-then-not-collected-clause-err c =
 
 pub returns-clause-ok : goal.returns-clause-ok
 returns-clause-ok c =
-    all_of c.args.setup.now c.args.member c.args.text.now c.in_ok-collected.collected.events.items c.deref.result.now c.in-Ok.kept.items c.in_ok-collected.collected.is_all c.in_ok-collected.ensures c.if-not-collected.false c.deref.ensures.value c.in-Ok.ensures.recorded c.in-Ok.ensures.struck
+    all_of c.args.setup.now c.args.whose c.args.text.now c.in_ok-collected.collected.events.items c.deref.result.now c.in-Ok.kept.items c.in_ok-collected.collected.is_all c.in_ok-collected.ensures c.if-not-collected.false c.deref.ensures.value c.in-Ok.ensures.recorded c.in-Ok.ensures.struck
 
 pub returns-clause-stranger : goal.returns-clause-stranger
 returns-clause-stranger c h =
