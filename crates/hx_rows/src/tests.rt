@@ -1,7 +1,9 @@
 //! The worked rows, given to the calls of the market's crates.
 
+mod all_members;
 mod books;
 mod events;
+mod generated;
 mod histories;
 mod lines;
 mod market;

@@ -10,8 +10,8 @@ use hx_market::{Bytes, Event};
 use std::alloc::Global;
 use std::test::Fail;
 
-// The events of a tape.
-fn events_of(alloc: Global, tape: &[u8]) -> Result<Vec<Event>, Fail> {
+/// The events of a tape.
+pub fn events_of(alloc: Global, tape: &[u8]) -> Result<Vec<Event>, Fail> {
     let mut events = Vec::new(alloc);
     let mut rest = tape;
     for _ in 0..u64::MAX {
