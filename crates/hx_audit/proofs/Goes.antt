@@ -17,7 +17,7 @@ use Rattle.hx_market.specs.Markets.{Market, opening}
 use Rattle.hx_market.specs.Executions.{incoming_of, displays, resting_of, chains_after, arrive}
 use Rattle.hx_market.specs.Enter.{rejection, next_reference, consumed, drawn, entered_order, entered_by, enter}
 use Rattle.hx_market.specs.Replace.{executed_of, replace_fails, handed_over, replacing_order, replaced_by, replace}
-use Rattle.hx_market.specs.Cancel.{cancelled_if, cancelled_by, cancel}
+use Rattle.hx_market.specs.Cancel.{cancelled_by, cancel}
 use Rattle.hx_market.specs.Hours.{hours_by, next_hours}
 use Rattle.hx_market.specs.Steps.{receive, happens, with_record, step, market_after, run}
 use Rattle.hx_audit.proofs.Led.{AreLed, led_pushed, led_executions, led_displayed}
@@ -78,15 +78,12 @@ replace_goes setup a m time r =
         record { tokens = refl; led = λ h. led_arrival time (is_immediate r.time_in_force) x (drawn (handed_over a m r.existing_token r.replacement_token) m x.shown) h }
 
 cancel_goes : (a : Market) (m time : ℕ) (c : Less) → Goes a (cancel a m time c).market []
-cancel_goes a m time c = choose (find (is_called m c.token) a.live)
+cancel_goes a m time c = choose _ (find (is_called m c.token) a.live)
   where
-    choose_if : (x : Order) (by : ℕ) (b : Bool) → Goes a (cancelled_if a m time c.token by x b).market []
-    choose_if x by true = record { tokens = sym (append-nil a.tokens); led = λ h. h }
-    choose_if x by false = stays a
-
-    choose : (o : Option Order) → Goes a (cancelled_by a m time c o).market []
-    choose None = stays a
-    choose (Some x) = choose_if x _ _
+    choose : (idle : Bool) (o : Option Order) → Goes a (cancelled_by a m time c idle o).market []
+    choose true o = stays a
+    choose false None = stays a
+    choose false (Some x) = record { tokens = sym (append-nil a.tokens); led = λ h. h }
 
 hours_goes : (setup : Setup) (a : Market) (time code : ℕ) → Goes a (next_hours setup a time code).market []
 hours_goes setup a time code = choose _

@@ -12,9 +12,11 @@ use Rattle.hx_itch.specs.declared.message.OrderCancel.{OrderCancel}
 use Rattle.hx_itch.specs.declared.message.OrderDelete.{OrderDelete}
 use Rattle.hx_itch.specs.declared.message.OrderReplace.{OrderReplace}
 use Rattle.hx_itch.specs.declared.message.Trade.{Trade}
+use Rattle.hx_itch.specs.declared.message.StockTradingAction.{StockTradingAction}
+use Rattle.hx_itch.specs.declared.message.BrokenTrade.{BrokenTrade}
 use Rattle.hx_itch.specs.declared.message.Feed.{Feed}
 use Rattle.hx_itch.specs.declared.message.Feed.TheVariants as variant
-use Rattle.hx_itch.specs.Message.{system_event_bytes, stock_directory_bytes, add_order_bytes, add_order_with_attribution_bytes, order_executed_bytes, order_cancel_bytes, order_delete_bytes, order_replace_bytes, trade_bytes, system_event_of, stock_directory_of, add_order_of, add_order_with_attribution_of, order_executed_of, order_cancel_of, order_delete_of, order_replace_of, trade_of, IsSystemEvent, IsStockDirectory, IsAddOrder, IsAddOrderWithAttribution, IsOrderExecuted, IsOrderCancel, IsOrderDelete, IsOrderReplace, IsTrade, feed_message_of, feed_bytes, IsFeed, is_feed_message, feed_time}
+use Rattle.hx_itch.specs.Message.{system_event_bytes, stock_directory_bytes, add_order_bytes, add_order_with_attribution_bytes, order_executed_bytes, order_cancel_bytes, order_delete_bytes, order_replace_bytes, trade_bytes, stock_trading_action_bytes, broken_trade_bytes, system_event_of, stock_directory_of, add_order_of, add_order_with_attribution_of, order_executed_of, order_cancel_of, order_delete_of, order_replace_of, trade_of, stock_trading_action_of, broken_trade_of, IsSystemEvent, IsStockDirectory, IsAddOrder, IsAddOrderWithAttribution, IsOrderExecuted, IsOrderCancel, IsOrderDelete, IsOrderReplace, IsTrade, IsStockTradingAction, IsBrokenTrade, feed_message_of, feed_bytes, IsFeed, is_feed_message, feed_time}
 
 -- ---- System Event
 
@@ -93,6 +95,24 @@ trade_again m fits =
     by_cells (λ x. Back x) 8 m.stock.0 fits.stock
     (rw (number_2 m.locate fits.locate, number_6 m.time fits.time, number_4 m.shares fits.shares, number_4 m.price fits.price, number_8 m.match_number fits.match_number) refl)
 
+-- ---- Stock Trading Action
+
+stock_trading_action_again : (m : StockTradingAction) → IsStockTradingAction m → feed_message_of (stock_trading_action_bytes m) ≡ Some (variant.StockTradingAction m)
+unfolding spelled
+stock_trading_action_again m fits =
+    let made : List ℕ → List ℕ → StockTradingAction = λ t0 t1. record m { stock = record { 0 = t0 }; reason = t1 } in
+    let Back : List ℕ → List ℕ → Type 0 = λ t0 t1. feed_message_of (stock_trading_action_bytes (made t0 t1)) ≡ Some (variant.StockTradingAction (made t0 t1)) in
+    by_cells (λ x. Back x m.reason) 8 m.stock.0 fits.stock
+    (by_cells (λ x. Back (cells 8 m.stock.0) x) 4 m.reason fits.reason
+    (rw (number_2 m.locate fits.locate, number_6 m.time fits.time) refl))
+
+-- ---- Broken Trade
+
+broken_trade_again : (m : BrokenTrade) → IsBrokenTrade m → feed_message_of (broken_trade_bytes m) ≡ Some (variant.BrokenTrade m)
+unfolding spelled
+broken_trade_again m fits =
+    rw (number_2 m.locate fits.locate, number_6 m.time fits.time, number_8 m.match_number fits.match_number) refl
+
 -- ---- any message
 
 pub feed_again : (m : Feed) → IsFeed m → feed_message_of (feed_bytes m) ≡ Some m
@@ -105,6 +125,8 @@ feed_again (variant.OrderCancel m) fits = order_cancel_again m fits
 feed_again (variant.OrderDelete m) fits = order_delete_again m fits
 feed_again (variant.OrderReplace m) fits = order_replace_again m fits
 feed_again (variant.Trade m) fits = trade_again m fits
+feed_again (variant.StockTradingAction m) fits = stock_trading_action_again m fits
+feed_again (variant.BrokenTrade m) fits = broken_trade_again m fits
 
 -- ---- which bytes are a message
 
@@ -132,7 +154,9 @@ feed_readable bytes =
     ∙ some_next _ (is_message 23 88 bytes) (variant.OrderCancel (order_cancel_of bytes)) _
     ∙ some_next _ (is_message 19 68 bytes) (variant.OrderDelete (order_delete_of bytes)) _
     ∙ some_next _ (is_message 35 85 bytes) (variant.OrderReplace (order_replace_of bytes)) _
-    ∙ some_last _ (is_message 44 80 bytes) (variant.Trade (trade_of bytes)) in
+    ∙ some_next _ (is_message 44 80 bytes) (variant.Trade (trade_of bytes)) _
+    ∙ some_next _ (is_message 25 72 bytes) (variant.StockTradingAction (stock_trading_action_of bytes)) _
+    ∙ some_last _ (is_message 19 66 bytes) (variant.BrokenTrade (broken_trade_of bytes)) in
     (λ s. sym same ∙ s, λ t. same ∙ t)
 
 -- ---- a time that is read has 6 bytes
@@ -147,6 +171,10 @@ time_in_19 bytes fits len = by_cells (λ b. number_at 5 6 b < 2 ^ 48) 19 bytes l
 
 time_in_23 : (bytes : List ℕ) → AreBytes bytes → length bytes ≡ 23 → number_at 5 6 bytes < 2 ^ 48
 time_in_23 bytes fits len = by_cells (λ b. number_at 5 6 b < 2 ^ 48) 23 bytes len
+    (omega (arith, fits 5, fits 6, fits 7, fits 8, fits 9, fits 10))
+
+time_in_25 : (bytes : List ℕ) → AreBytes bytes → length bytes ≡ 25 → number_at 5 6 bytes < 2 ^ 48
+time_in_25 bytes fits len = by_cells (λ b. number_at 5 6 b < 2 ^ 48) 25 bytes len
     (omega (arith, fits 5, fits 6, fits 7, fits 8, fits 9, fits 10))
 
 time_in_31 : (bytes : List ℕ) → AreBytes bytes → length bytes ≡ 31 → number_at 5 6 bytes < 2 ^ 48
@@ -184,4 +212,6 @@ feed_time_fits bytes fits =
     (first_message Fits 23 88 bytes (variant.OrderCancel (order_cancel_of bytes)) _ (λ len first. time_in_23 bytes fits len)
     (first_message Fits 19 68 bytes (variant.OrderDelete (order_delete_of bytes)) _ (λ len first. time_in_19 bytes fits len)
     (first_message Fits 35 85 bytes (variant.OrderReplace (order_replace_of bytes)) _ (λ len first. time_in_35 bytes fits len)
-    (first_message Fits 44 80 bytes (variant.Trade (trade_of bytes)) None (λ len first. time_in_44 bytes fits len) tt))))))))
+    (first_message Fits 44 80 bytes (variant.Trade (trade_of bytes)) _ (λ len first. time_in_44 bytes fits len)
+    (first_message Fits 25 72 bytes (variant.StockTradingAction (stock_trading_action_of bytes)) _ (λ len first. time_in_25 bytes fits len)
+    (first_message Fits 19 66 bytes (variant.BrokenTrade (broken_trade_of bytes)) None (λ len first. time_in_19 bytes fits len) tt))))))))))

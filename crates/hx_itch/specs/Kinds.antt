@@ -37,3 +37,11 @@ order_replace = letter "U"
 -- Trade Message (Non-Cross): `P`
 abbrev pub trade : ℕ
 trade = letter "P"
+
+-- Stock Trading Action: `H`
+abbrev pub stock_trading_action : ℕ
+stock_trading_action = letter "H"
+
+-- Broken Trade: `B`
+abbrev pub broken_trade : ℕ
+broken_trade = letter "B"

@@ -4,7 +4,8 @@
 use Rattle.std.specs.Prelude.{ℕ, ◌^◌, ◌<◌, ◌≡◌, ◌∷◌, ◌++◌, List, [], Option, Some, None, length, Bool, ◌||◌, if◌then◌else◌}
 use Rattle.hx_units.specs.Side.{letter_of}
 use Rattle.hx_units.specs.declared.side.Side.TheVariants.{Buy}
-use Rattle.hx_itch.specs.Kinds.{system_event, stock_directory, add_order, add_order_with_attribution, order_executed, order_cancel, order_delete, order_replace, trade}
+use Rattle.hx_itch.specs.Kinds.{system_event, stock_directory, add_order, add_order_with_attribution, order_executed, order_cancel, order_delete, order_replace, trade, stock_trading_action, broken_trade}
+use Rattle.hx_units.specs.Letters.{space}
 use Rattle.hx_units.specs.Fields.{is_message, byte_at, text_at, number_at, spelled}
 use Rattle.hx_itch.specs.declared.message.SystemEvent.{SystemEvent}
 use Rattle.hx_itch.specs.declared.message.StockDirectory.{StockDirectory}
@@ -15,6 +16,8 @@ use Rattle.hx_itch.specs.declared.message.OrderCancel.{OrderCancel}
 use Rattle.hx_itch.specs.declared.message.OrderDelete.{OrderDelete}
 use Rattle.hx_itch.specs.declared.message.OrderReplace.{OrderReplace}
 use Rattle.hx_itch.specs.declared.message.Trade.{Trade}
+use Rattle.hx_itch.specs.declared.message.StockTradingAction.{StockTradingAction}
+use Rattle.hx_itch.specs.declared.message.BrokenTrade.{BrokenTrade}
 use Rattle.hx_itch.specs.declared.message.Feed.{Feed}
 use Rattle.hx_itch.specs.declared.message.Feed.TheVariants as variant
 
@@ -287,6 +290,62 @@ pub record IsTrade (m : Trade) : Type 0 where
   pub price : m.price < 2 ^ 32
   pub match_number : m.match_number < 2 ^ 64
 
+-- ---- Stock Trading Action, 25 bytes of type H (ITCH 5.0, Stock Trading Action)
+
+-- whether the bytes are one, by their length and type
+abbrev pub is_stock_trading_action : List ℕ → Bool
+is_stock_trading_action bytes = is_message 25 stock_trading_action bytes
+
+-- what its bytes say: each field at its place
+abbrev pub stock_trading_action_of : List ℕ → StockTradingAction
+stock_trading_action_of bytes = record {
+  locate = number_at 1 2 bytes;
+  time = number_at 5 6 bytes;
+  stock = record { 0 = text_at 11 8 bytes };
+  trading_state = byte_at 19 bytes;
+  reason = text_at 21 4 bytes;
+}
+
+-- what is written in the byte that the standard reserves: a space (Reserved)
+abbrev pub reserved : ℕ
+reserved = space
+
+-- its bytes: field after field
+abbrev pub stock_trading_action_bytes : StockTradingAction → List ℕ
+stock_trading_action_bytes m = with_head stock_trading_action m.locate m.time
+    (m.stock.0 ++ (m.trading_state ∷ []) ++ (reserved ∷ []) ++ m.reason)
+
+-- its numbers fit into their bytes, and its names have their lengths
+pub record IsStockTradingAction (m : StockTradingAction) : Type 0 where
+  pub locate : m.locate < 2 ^ 16
+  pub time : m.time < 2 ^ 48
+  pub stock : length m.stock.0 ≡ 8
+  pub reason : length m.reason ≡ 4
+
+-- ---- Broken Trade, 19 bytes of type B (ITCH 5.0, Broken Trade / Order Execution)
+
+-- whether the bytes are one, by their length and type
+abbrev pub is_broken_trade : List ℕ → Bool
+is_broken_trade bytes = is_message 19 broken_trade bytes
+
+-- what its bytes say: each field at its place
+abbrev pub broken_trade_of : List ℕ → BrokenTrade
+broken_trade_of bytes = record {
+  locate = number_at 1 2 bytes;
+  time = number_at 5 6 bytes;
+  match_number = number_at 11 8 bytes;
+}
+
+-- its bytes: field after field
+abbrev pub broken_trade_bytes : BrokenTrade → List ℕ
+broken_trade_bytes m = with_head broken_trade m.locate m.time (spelled 8 m.match_number)
+
+-- its numbers fit into their bytes, and its names have their lengths
+pub record IsBrokenTrade (m : BrokenTrade) : Type 0 where
+  pub locate : m.locate < 2 ^ 16
+  pub time : m.time < 2 ^ 48
+  pub match_number : m.match_number < 2 ^ 64
+
 -- ---- any message
 
 -- what the bytes say
@@ -302,6 +361,9 @@ feed_message_of bytes =
     else if is_order_delete bytes then Some (variant.OrderDelete (order_delete_of bytes))
     else if is_order_replace bytes then Some (variant.OrderReplace (order_replace_of bytes))
     else if is_trade bytes then Some (variant.Trade (trade_of bytes))
+    else if is_stock_trading_action bytes
+    then Some (variant.StockTradingAction (stock_trading_action_of bytes))
+    else if is_broken_trade bytes then Some (variant.BrokenTrade (broken_trade_of bytes))
     else None
 
 -- whether they are a message at all, by their length and type
@@ -309,6 +371,7 @@ abbrev pub is_feed_message : List ℕ → Bool
 is_feed_message bytes = is_system_event bytes || is_stock_directory bytes || is_add_order bytes
     || is_add_order_with_attribution bytes || is_order_executed bytes || is_order_cancel bytes
     || is_order_delete bytes || is_order_replace bytes || is_trade bytes
+    || is_stock_trading_action bytes || is_broken_trade bytes
 
 -- the spelling that is written
 abbrev pub feed_bytes : Feed → List ℕ
@@ -321,6 +384,8 @@ feed_bytes (variant.OrderCancel m) = order_cancel_bytes m
 feed_bytes (variant.OrderDelete m) = order_delete_bytes m
 feed_bytes (variant.OrderReplace m) = order_replace_bytes m
 feed_bytes (variant.Trade m) = trade_bytes m
+feed_bytes (variant.StockTradingAction m) = stock_trading_action_bytes m
+feed_bytes (variant.BrokenTrade m) = broken_trade_bytes m
 
 -- each number fits into its bytes, and each name has its length
 abbrev pub IsFeed : Feed → Type 0
@@ -333,6 +398,8 @@ IsFeed (variant.OrderCancel m) = IsOrderCancel m
 IsFeed (variant.OrderDelete m) = IsOrderDelete m
 IsFeed (variant.OrderReplace m) = IsOrderReplace m
 IsFeed (variant.Trade m) = IsTrade m
+IsFeed (variant.StockTradingAction m) = IsStockTradingAction m
+IsFeed (variant.BrokenTrade m) = IsBrokenTrade m
 
 -- nanoseconds since midnight
 abbrev pub feed_time : Feed → ℕ
@@ -345,3 +412,5 @@ feed_time (variant.OrderCancel m) = m.time
 feed_time (variant.OrderDelete m) = m.time
 feed_time (variant.OrderReplace m) = m.time
 feed_time (variant.Trade m) = m.time
+feed_time (variant.StockTradingAction m) = m.time
+feed_time (variant.BrokenTrade m) = m.time

@@ -6,6 +6,6 @@
 mod message;
 
 pub use message::{
-    AddOrder, AddOrderWithAttribution, Feed, OrderCancel, OrderDelete, OrderExecuted, OrderReplace,
-    StockDirectory, SystemEvent, Trade, decode, encode,
+    AddOrder, AddOrderWithAttribution, BrokenTrade, Feed, OrderCancel, OrderDelete, OrderExecuted,
+    OrderReplace, StockDirectory, StockTradingAction, SystemEvent, Trade, decode, encode,
 };

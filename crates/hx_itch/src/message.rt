@@ -154,6 +154,33 @@ pub struct Trade {
     pub match_number: u64,
 }
 
+/// Stock Trading Action: a stock is halted, or is traded again. 25 bytes (ITCH 5.0, Stock Trading
+/// Action).
+#[derive(Clone, Copy, Debug, PartialEq, Eq)]
+pub struct StockTradingAction {
+    /// The number of the stock for the day; 0 where the message is of no stock (Stock Locate).
+    pub locate: u16,
+    /// Nanoseconds since midnight, below 2^48 (Timestamp).
+    pub time: u64,
+    /// The stock (Stock).
+    pub stock: Symbol,
+    /// `H` halted, `T` trading (Trading State).
+    pub trading_state: u8,
+    /// Why (Reason).
+    pub reason: [u8; 4],
+}
+
+/// Broken Trade: an execution was broken. 19 bytes (ITCH 5.0, Broken Trade / Order Execution).
+#[derive(Clone, Copy, Debug, PartialEq, Eq)]
+pub struct BrokenTrade {
+    /// The number of the stock for the day; 0 where the message is of no stock (Stock Locate).
+    pub locate: u16,
+    /// Nanoseconds since midnight, below 2^48 (Timestamp).
+    pub time: u64,
+    /// The exchange's number of the execution (Match Number).
+    pub match_number: u64,
+}
+
 /// A message of the feed (TotalView-ITCH 5.0).
 #[derive(Clone, Copy, Debug, PartialEq, Eq)]
 pub enum Feed {
@@ -175,11 +202,15 @@ pub enum Feed {
     OrderReplace(OrderReplace),
     /// Type `P`.
     Trade(Trade),
+    /// Type `H`.
+    StockTradingAction(StockTradingAction),
+    /// Type `B`.
+    BrokenTrade(BrokenTrade),
 }
 
 /// The message that the bytes are, or none where their type and length are not those of one.
-/// Any bytes are read, in fields and in what is no field: the tracking number, and the reference
-/// and side of a Trade.
+/// Any bytes are read, in fields and in what is no field: the tracking number, the reference and
+/// side of a Trade, and the reserved byte of a Stock Trading Action.
 pub fn decode(bytes: &[u8]) -> Option<Feed>
     // Which message it is, from the places of its fields; none exactly for another type or length.
     ensures exact { result ≡ feed_message_of bytes.now }
@@ -191,7 +222,7 @@ pub fn decode(bytes: &[u8]) -> Option<Feed>
 }
 
 /// The bytes of the message: its type and fields in their order, each number most significant byte
-/// first. The tracking number is 0.
+/// first. The tracking number is 0, and the reserved byte of a Stock Trading Action is a space.
 pub fn encode(message: &Feed) -> ArrayVec<u8, 44>
     requires { feed_time message.now < 2 ^ 48 }
     ensures bytes { result.items ≡ feed_bytes message.now }

@@ -6,7 +6,7 @@ use Rattle.hx_units.specs.declared.names.Symbol.{Symbol}
 use Rattle.hx_units.specs.declared.names.Firm.{Firm}
 use Rattle.hx_members.specs.Setups.{Setup, symbol_of}
 use Rattle.hx_itch.specs.declared.message.Feed.{Feed}
-use Rattle.hx_itch.specs.declared.message.Feed.TheVariants.{AddOrder, AddOrderWithAttribution, OrderExecuted, OrderCancel, OrderDelete, OrderReplace, Trade, SystemEvent, StockDirectory}
+use Rattle.hx_itch.specs.declared.message.Feed.TheVariants.{AddOrder, AddOrderWithAttribution, OrderExecuted, OrderCancel, OrderDelete, OrderReplace, Trade, SystemEvent, StockDirectory, StockTradingAction, BrokenTrade}
 use Rattle.hx_units.specs.declared.side.Side.TheVariants.{Buy, Sell}
 use Rattle.hx_units.specs.Side.{letter_of}
 use Rattle.hx_rules.specs.Letters.{attributable}
@@ -82,6 +82,8 @@ book_after book (OrderReplace r) =
 book_after book (Trade t) = book
 book_after book (SystemEvent s) = book
 book_after book (StockDirectory d) = book
+book_after book (StockTradingAction h) = book
+book_after book (BrokenTrade b) = book
 
 -- the book after these messages, one after the other
 abbrev pub book_from : List ShownOrder → List Feed → List ShownOrder

@@ -9,9 +9,10 @@ use Rattle.hx_ouch.specs.declared.outbound.Replaced.{Replaced}
 use Rattle.hx_ouch.specs.declared.outbound.Canceled.{Canceled}
 use Rattle.hx_ouch.specs.declared.outbound.Executed.{Executed}
 use Rattle.hx_ouch.specs.declared.outbound.Rejected.{Rejected}
+use Rattle.hx_ouch.specs.declared.outbound.BrokenTrade.{BrokenTrade}
 use Rattle.hx_ouch.specs.declared.outbound.Outbound.{Outbound}
 use Rattle.hx_ouch.specs.declared.outbound.Outbound.TheVariants as variant
-use Rattle.hx_ouch.specs.Outbound.{system_event_bytes, accepted_bytes, replaced_bytes, canceled_bytes, executed_bytes, rejected_bytes, system_event_of, accepted_of, replaced_of, canceled_of, executed_of, rejected_of, IsSystemEvent, IsAccepted, IsReplaced, IsCanceled, IsExecuted, IsRejected, outbound_of, outbound_bytes, IsOutbound, is_outbound}
+use Rattle.hx_ouch.specs.Outbound.{system_event_bytes, accepted_bytes, replaced_bytes, canceled_bytes, executed_bytes, rejected_bytes, broken_trade_bytes, system_event_of, accepted_of, replaced_of, canceled_of, executed_of, rejected_of, broken_trade_of, IsSystemEvent, IsAccepted, IsReplaced, IsCanceled, IsExecuted, IsRejected, IsBrokenTrade, outbound_of, outbound_bytes, IsOutbound, is_outbound}
 
 -- ---- System Event
 
@@ -148,6 +149,27 @@ rejected_spelled bytes fits len first =
     let spells : rejected_bytes (rejected_of bytes) ≡ parts 74 bytes = rw (spelled_at_8 1 bytes (omega arith) fits) refl in
     sym (spells ∙ ap (λ (kind : ℕ). parts kind bytes) (sym first) ∙ whole)
 
+-- ---- Broken Trade
+
+broken_trade_again : (m : BrokenTrade) → IsBrokenTrade m → outbound_of (broken_trade_bytes m) ≡ Some (variant.BrokenTrade m)
+unfolding spelled
+broken_trade_again m fits =
+    let made : List ℕ → BrokenTrade = λ t0. record m { token = record { 0 = t0 } } in
+    let Back : List ℕ → Type 0 = λ t0. outbound_of (broken_trade_bytes (made t0)) ≡ Some (variant.BrokenTrade (made t0)) in
+    by_cells (λ x. Back x) 14 m.token.0 fits.token
+    (rw (number_8 m.time fits.time, number_8 m.match_number fits.match_number) refl)
+
+broken_trade_spelled : (bytes : List ℕ) → AreBytes bytes → length bytes ≡ 32 → byte_at 0 bytes ≡ 66 → bytes ≡ broken_trade_bytes (broken_trade_of bytes)
+broken_trade_spelled bytes fits len first =
+    let parts : ℕ → List ℕ → List ℕ = λ kind b. (kind ∷ []) ++ text_at 1 8 b ++ text_at 9 14 b ++ text_at 23 8 b
+    ++ (byte_at 31 b ∷ []) in
+    let whole : parts (byte_at 0 bytes) bytes ≡ bytes = by_cells (λ b. parts (byte_at 0 b) b ≡ b) 32 bytes len refl in
+    let spells : broken_trade_bytes (broken_trade_of bytes) ≡ parts 66 bytes = rw (
+      spelled_at_8 1 bytes (omega arith) fits,
+      spelled_at_8 23 bytes (omega arith) fits,
+    ) refl in
+    sym (spells ∙ ap (λ (kind : ℕ). parts kind bytes) (sym first) ∙ whole)
+
 -- ---- any message
 
 pub outbound_again : (m : Outbound) → IsOutbound m → outbound_of (outbound_bytes m) ≡ Some m
@@ -157,6 +179,7 @@ outbound_again (variant.Replaced m) fits = replaced_again m fits
 outbound_again (variant.Canceled m) fits = canceled_again m fits
 outbound_again (variant.Executed m) fits = executed_again m fits
 outbound_again (variant.Rejected m) fits = rejected_again m fits
+outbound_again (variant.BrokenTrade m) fits = broken_trade_again m fits
 
 pub outbound_spelled : (bytes : List ℕ) → AreBytes bytes → IfSome (outbound_of bytes) (λ m. bytes ≡ outbound_bytes m)
 outbound_spelled bytes fits =
@@ -166,7 +189,8 @@ outbound_spelled bytes fits =
     (first_message Spelled 80 85 bytes (variant.Replaced (replaced_of bytes)) _ (replaced_spelled bytes fits)
     (first_message Spelled 28 67 bytes (variant.Canceled (canceled_of bytes)) _ (canceled_spelled bytes fits)
     (first_message Spelled 40 69 bytes (variant.Executed (executed_of bytes)) _ (executed_spelled bytes fits)
-    (first_message Spelled 24 74 bytes (variant.Rejected (rejected_of bytes)) None (rejected_spelled bytes fits) tt)))))
+    (first_message Spelled 24 74 bytes (variant.Rejected (rejected_of bytes)) _ (rejected_spelled bytes fits)
+    (first_message Spelled 32 66 bytes (variant.BrokenTrade (broken_trade_of bytes)) None (broken_trade_spelled bytes fits) tt))))))
 
 -- ---- which bytes are a message
 
@@ -191,5 +215,6 @@ outbound_readable bytes =
     ∙ some_next _ (is_message 80 85 bytes) (variant.Replaced (replaced_of bytes)) _
     ∙ some_next _ (is_message 28 67 bytes) (variant.Canceled (canceled_of bytes)) _
     ∙ some_next _ (is_message 40 69 bytes) (variant.Executed (executed_of bytes)) _
-    ∙ some_last _ (is_message 24 74 bytes) (variant.Rejected (rejected_of bytes)) in
+    ∙ some_next _ (is_message 24 74 bytes) (variant.Rejected (rejected_of bytes)) _
+    ∙ some_last _ (is_message 32 66 bytes) (variant.BrokenTrade (broken_trade_of bytes)) in
     (λ s. sym same ∙ s, λ t. same ∙ t)

@@ -1,6 +1,6 @@
 -- A reply to a member (OUCH 4.2, Outbound Messages): what its bytes say, and how it is written.
 use Rattle.std.specs.Prelude.{ℕ, ◌^◌, ◌<◌, ◌≡◌, ◌∷◌, ◌++◌, List, [], Option, Some, None, length, Bool, ◌||◌, if◌then◌else◌}
-use Rattle.hx_ouch.specs.OutboundKinds.{system_event, accepted, replaced, canceled, executed, rejected}
+use Rattle.hx_ouch.specs.OutboundKinds.{system_event, accepted, replaced, canceled, executed, rejected, broken_trade}
 use Rattle.hx_units.specs.Fields.{is_message, byte_at, text_at, number_at, spelled}
 use Rattle.hx_ouch.specs.declared.outbound.SystemEvent.{SystemEvent}
 use Rattle.hx_ouch.specs.declared.outbound.Accepted.{Accepted}
@@ -8,6 +8,7 @@ use Rattle.hx_ouch.specs.declared.outbound.Replaced.{Replaced}
 use Rattle.hx_ouch.specs.declared.outbound.Canceled.{Canceled}
 use Rattle.hx_ouch.specs.declared.outbound.Executed.{Executed}
 use Rattle.hx_ouch.specs.declared.outbound.Rejected.{Rejected}
+use Rattle.hx_ouch.specs.declared.outbound.BrokenTrade.{BrokenTrade}
 use Rattle.hx_ouch.specs.declared.outbound.Outbound.{Outbound}
 use Rattle.hx_ouch.specs.declared.outbound.Outbound.TheVariants as variant
 
@@ -208,6 +209,32 @@ pub record IsRejected (m : Rejected) : Type 0 where
   pub time : m.time < 2 ^ 64
   pub token : length m.token.0 ≡ 14
 
+-- ---- Broken Trade, 32 bytes of type B (OUCH 4.2, Broken Trade)
+
+-- whether the bytes are one, by their length and type
+abbrev pub is_broken_trade : List ℕ → Bool
+is_broken_trade bytes = is_message 32 broken_trade bytes
+
+-- what its bytes say: each field at its place
+abbrev pub broken_trade_of : List ℕ → BrokenTrade
+broken_trade_of bytes = record {
+  time = number_at 1 8 bytes;
+  token = record { 0 = text_at 9 14 bytes };
+  match_number = number_at 23 8 bytes;
+  reason = byte_at 31 bytes;
+}
+
+-- its bytes: field after field
+abbrev pub broken_trade_bytes : BrokenTrade → List ℕ
+broken_trade_bytes m = (broken_trade ∷ []) ++ spelled 8 m.time ++ m.token.0
+    ++ spelled 8 m.match_number ++ (m.reason ∷ [])
+
+-- its numbers fit into their bytes, and its names have their lengths
+pub record IsBrokenTrade (m : BrokenTrade) : Type 0 where
+  pub time : m.time < 2 ^ 64
+  pub token : length m.token.0 ≡ 14
+  pub match_number : m.match_number < 2 ^ 64
+
 -- ---- any message
 
 -- what the bytes say
@@ -219,12 +246,14 @@ outbound_of bytes =
     else if is_canceled bytes then Some (variant.Canceled (canceled_of bytes))
     else if is_executed bytes then Some (variant.Executed (executed_of bytes))
     else if is_rejected bytes then Some (variant.Rejected (rejected_of bytes))
+    else if is_broken_trade bytes then Some (variant.BrokenTrade (broken_trade_of bytes))
     else None
 
 -- whether they are a message at all, by their length and type
 abbrev pub is_outbound : List ℕ → Bool
 is_outbound bytes = is_system_event bytes || is_accepted bytes || is_replaced bytes
     || is_canceled bytes || is_executed bytes || is_rejected bytes
+    || is_broken_trade bytes
 
 -- the spelling that is written
 abbrev pub outbound_bytes : Outbound → List ℕ
@@ -234,6 +263,7 @@ outbound_bytes (variant.Replaced m) = replaced_bytes m
 outbound_bytes (variant.Canceled m) = canceled_bytes m
 outbound_bytes (variant.Executed m) = executed_bytes m
 outbound_bytes (variant.Rejected m) = rejected_bytes m
+outbound_bytes (variant.BrokenTrade m) = broken_trade_bytes m
 
 -- each number fits into its bytes, and each name has its length
 abbrev pub IsOutbound : Outbound → Type 0
@@ -243,3 +273,4 @@ IsOutbound (variant.Replaced m) = IsReplaced m
 IsOutbound (variant.Canceled m) = IsCanceled m
 IsOutbound (variant.Executed m) = IsExecuted m
 IsOutbound (variant.Rejected m) = IsRejected m
+IsOutbound (variant.BrokenTrade m) = IsBrokenTrade m

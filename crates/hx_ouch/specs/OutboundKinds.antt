@@ -25,3 +25,7 @@ executed = letter "E"
 -- Rejected: `J`
 abbrev pub rejected : ℕ
 rejected = letter "J"
+
+-- Broken Trade: `B`
+abbrev pub broken_trade : ℕ
+broken_trade = letter "B"

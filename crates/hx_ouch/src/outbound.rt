@@ -140,6 +140,19 @@ pub struct Rejected {
     pub reason: u8,
 }
 
+/// Broken Trade: an execution was broken. 32 bytes (OUCH 4.2, Broken Trade).
+#[derive(Clone, Copy, Debug, PartialEq, Eq)]
+pub struct BrokenTrade {
+    /// Nanoseconds since midnight (Timestamp).
+    pub time: u64,
+    /// The member's own name of the order (Order Token).
+    pub token: Token,
+    /// The exchange's number of the execution (Match Number).
+    pub match_number: u64,
+    /// `S` by the exchange, as its supervisor (Reason).
+    pub reason: u8,
+}
+
 /// A reply to a member (OUCH 4.2, Outbound Messages).
 #[derive(Clone, Copy, Debug, PartialEq, Eq)]
 pub enum Outbound {
@@ -155,6 +168,8 @@ pub enum Outbound {
     Executed(Executed),
     /// Type `J`.
     Rejected(Rejected),
+    /// Type `B`.
+    BrokenTrade(BrokenTrade),
 }
 
 /// The reply that the bytes are, or none where their type and length are not those of one.

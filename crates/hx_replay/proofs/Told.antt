@@ -28,7 +28,7 @@ use Rattle.hx_market.specs.Hours.{all_deleted, end_orders, directory, to_all, to
 use Rattle.hx_market.specs.Executions.{feed_of_executions, replies_of_executions, published, shown_of, resting_of, canceled_of, incoming_of, Arrival, arrive, arrival_feed}
 use Rattle.hx_market.specs.Removal.{others, lessened, deleted, taken_off, canceled}
 use Rattle.hx_market.specs.Replace.{executed_of, replace_fails, handed_over, is_one_display, replacing_order, replace_feed, replace_order, replaced_by}
-use Rattle.hx_market.specs.Cancel.{cancelled_shares, cancelled_if, cancelled_by}
+use Rattle.hx_market.specs.Cancel.{cancelled_shares, cancelled_by}
 use Rattle.hx_market.specs.Enter.{entered_by, rejection, accept_order, drawn, consumed, entered_order, next_reference}
 use Rattle.hx_market.specs.Steps.{receive, step, with_record}
 use Rattle.hx_market.proofs.Bounds.Counts.{ended}
@@ -184,16 +184,14 @@ replaced_few setup market member time r (Some old) false false e =
     replace_order_few market member time (symbol_of setup old.locate) r old
     (replacing_order (executed_of market member r.existing_token) (next_reference market.numbers member (is_shown r.display r.time_in_force)) time r old) (one_gone member r.existing_token old market.live e)
 
-cancelled_few : (market : Market) (member time : ℕ) (c : Cancel) (o : Option Order) → TellsFew market.live (cancelled_by market member time c o)
-cancelled_few market member time c None = record { feed = omega arith; replies = omega arith }
-cancelled_few market member time c (Some x) = at (cancelled_shares (executed_of market member c.token) c x) (nat_lt 0 (cancelled_shares (executed_of market member c.token) c x))
-  where
-    at : (by : ℕ) (b : Bool) → TellsFew market.live (cancelled_if market member time c.token by x b)
-    at by false = record { feed = omega arith; replies = omega arith }
-    at by true =
-        let less = length-lessened member c.token by market.live in
-        let told = length-off time by x in
-        record { feed = omega (arith, less, told); replies = omega (arith, less) }
+cancelled_few : (market : Market) (member time : ℕ) (c : Cancel) (idle : Bool) (o : Option Order) → TellsFew market.live (cancelled_by market member time c idle o)
+cancelled_few market member time c true o = record { feed = omega arith; replies = omega arith }
+cancelled_few market member time c false None = record { feed = omega arith; replies = omega arith }
+cancelled_few market member time c false (Some x) =
+    let by : ℕ = cancelled_shares (executed_of market member c.token) c x in
+    let less = length-lessened member c.token by market.live in
+    let told = length-off time by x in
+    record { feed = omega (arith, less, told); replies = omega (arith, less) }
 
 act_few : (setup : Setup) (market : Market) (member time : ℕ) (o : Option Inbound) → TellsFew market.live (receive setup market member time o)
 act_few setup market member time None = record { feed = omega arith; replies = omega arith }
@@ -201,7 +199,7 @@ act_few setup market member time (Some (inbound.Enter e)) = entered_few setup ma
 act_few setup market member time (Some (inbound.Replace r)) =
     replaced_few setup market member time r (find (is_called member r.existing_token) market.live) (is_used market.tokens member r.replacement_token)
     (replace_fails market.hours (executed_of market member r.existing_token) r) refl
-act_few setup market member time (Some (inbound.Cancel c)) = cancelled_few market member time c (find (is_called member c.token) market.live)
+act_few setup market member time (Some (inbound.Cancel c)) = cancelled_few market member time c _ (find (is_called member c.token) market.live)
 
 -- Of a tick and of the hours.
 

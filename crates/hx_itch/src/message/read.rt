@@ -1,10 +1,10 @@
 //! Messages of the feed, read from their bytes.
 ghost use Rattle.std.specs.Prelude.{◌≡◌, length};
-ghost use Rattle.hx_itch.specs.Message.{feed_message_of, system_event_of, stock_directory_of, add_order_of, add_order_with_attribution_of, order_executed_of, order_cancel_of, order_delete_of, order_replace_of, trade_of};
+ghost use Rattle.hx_itch.specs.Message.{feed_message_of, system_event_of, stock_directory_of, add_order_of, add_order_with_attribution_of, order_executed_of, order_cancel_of, order_delete_of, order_replace_of, trade_of, stock_trading_action_of, broken_trade_of};
 
 use super::{
-    AddOrder, AddOrderWithAttribution, Feed, OrderCancel, OrderDelete, OrderExecuted, OrderReplace,
-    StockDirectory, SystemEvent, Trade,
+    AddOrder, AddOrderWithAttribution, BrokenTrade, Feed, OrderCancel, OrderDelete, OrderExecuted,
+    OrderReplace, StockDirectory, StockTradingAction, SystemEvent, Trade,
 };
 use hx_units::fields::{array_at, u16_at, u32_at, u48_at, u64_at};
 use hx_units::{Firm, Symbol};
@@ -24,6 +24,8 @@ pub fn read(bytes: &[u8]) -> Option<Feed>
         (b'D', 19) => Some(Feed::OrderDelete(read_order_delete(bytes))),
         (b'U', 35) => Some(Feed::OrderReplace(read_order_replace(bytes))),
         (b'P', 44) => Some(Feed::Trade(read_trade(bytes))),
+        (b'H', 25) => Some(Feed::StockTradingAction(read_stock_trading_action(bytes))),
+        (b'B', 19) => Some(Feed::BrokenTrade(read_broken_trade(bytes))),
         _ => None,
     }
 }
@@ -143,5 +145,29 @@ fn read_trade(bytes: &[u8]) -> Trade
         stock: Symbol(array_at(bytes, 24)),
         price: u32_at(bytes, 32),
         match_number: u64_at(bytes, 36),
+    }
+}
+
+fn read_stock_trading_action(bytes: &[u8]) -> StockTradingAction
+    requires { length bytes.now ≡ 25 }
+    ensures { result ≡ stock_trading_action_of bytes.now }
+{
+    StockTradingAction {
+        locate: u16_at(bytes, 1),
+        time: u48_at(bytes, 5),
+        stock: Symbol(array_at(bytes, 11)),
+        trading_state: bytes[19],
+        reason: array_at(bytes, 21),
+    }
+}
+
+fn read_broken_trade(bytes: &[u8]) -> BrokenTrade
+    requires { length bytes.now ≡ 19 }
+    ensures { result ≡ broken_trade_of bytes.now }
+{
+    BrokenTrade {
+        locate: u16_at(bytes, 1),
+        time: u48_at(bytes, 5),
+        match_number: u64_at(bytes, 11),
     }
 }

@@ -1,10 +1,10 @@
 //! Messages of the feed, written as bytes.
 ghost use Rattle.std.specs.Prelude.{◌≡◌, ◌<◌, ◌^◌};
-ghost use Rattle.hx_itch.specs.Message.{feed_bytes, IsFeed, feed_time, system_event_bytes, stock_directory_bytes, add_order_bytes, add_order_with_attribution_bytes, order_executed_bytes, order_cancel_bytes, order_delete_bytes, order_replace_bytes, trade_bytes, IsSystemEvent, IsStockDirectory, IsAddOrder, IsAddOrderWithAttribution, IsOrderExecuted, IsOrderCancel, IsOrderDelete, IsOrderReplace, IsTrade};
+ghost use Rattle.hx_itch.specs.Message.{feed_bytes, IsFeed, feed_time, system_event_bytes, stock_directory_bytes, add_order_bytes, add_order_with_attribution_bytes, order_executed_bytes, order_cancel_bytes, order_delete_bytes, order_replace_bytes, trade_bytes, stock_trading_action_bytes, broken_trade_bytes, IsSystemEvent, IsStockDirectory, IsAddOrder, IsAddOrderWithAttribution, IsOrderExecuted, IsOrderCancel, IsOrderDelete, IsOrderReplace, IsTrade, IsStockTradingAction, IsBrokenTrade};
 
 use super::{
-    AddOrder, AddOrderWithAttribution, Feed, OrderCancel, OrderDelete, OrderExecuted, OrderReplace,
-    StockDirectory, SystemEvent, Trade,
+    AddOrder, AddOrderWithAttribution, BrokenTrade, Feed, OrderCancel, OrderDelete, OrderExecuted,
+    OrderReplace, StockDirectory, StockTradingAction, SystemEvent, Trade,
 };
 use arrayvec::ArrayVec;
 use hx_units::fields::{put, u16_bytes, u32_bytes, u48_bytes, u64_bytes};
@@ -25,6 +25,8 @@ pub fn write(message: &Feed) -> ArrayVec<u8, 44>
         Feed::OrderDelete(m) => write_order_delete(*m),
         Feed::OrderReplace(m) => write_order_replace(*m),
         Feed::Trade(m) => write_trade(*m),
+        Feed::StockTradingAction(m) => write_stock_trading_action(*m),
+        Feed::BrokenTrade(m) => write_broken_trade(*m),
     }
 }
 
@@ -171,6 +173,37 @@ fn write_trade(m: Trade) -> ArrayVec<u8, 44>
     put(&mut out, &u32_bytes(m.shares));
     put(&mut out, &m.stock.0);
     put(&mut out, &u32_bytes(m.price));
+    put(&mut out, &u64_bytes(m.match_number));
+    out
+}
+
+fn write_stock_trading_action(m: StockTradingAction) -> ArrayVec<u8, 44>
+    requires { m.time < 2 ^ 48 }
+    ensures bytes { result.items ≡ stock_trading_action_bytes m }
+    ensures fits { IsStockTradingAction m }
+{
+    let mut out = ArrayVec::new();
+    out.push(b'H');
+    put(&mut out, &u16_bytes(m.locate));
+    put(&mut out, &[0, 0]);
+    put(&mut out, &u48_bytes(m.time));
+    put(&mut out, &m.stock.0);
+    out.push(m.trading_state);
+    out.push(b' ');
+    put(&mut out, &m.reason);
+    out
+}
+
+fn write_broken_trade(m: BrokenTrade) -> ArrayVec<u8, 44>
+    requires { m.time < 2 ^ 48 }
+    ensures bytes { result.items ≡ broken_trade_bytes m }
+    ensures fits { IsBrokenTrade m }
+{
+    let mut out = ArrayVec::new();
+    out.push(b'B');
+    put(&mut out, &u16_bytes(m.locate));
+    put(&mut out, &[0, 0]);
+    put(&mut out, &u48_bytes(m.time));
     put(&mut out, &u64_bytes(m.match_number));
     out
 }

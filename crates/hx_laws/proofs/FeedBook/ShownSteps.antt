@@ -20,7 +20,7 @@ use Rattle.hx_rules.specs.Outputs.{Told, silent}
 use Rattle.hx_rules.specs.Enter.{consumed, drawn, next_reference, rejection, reject, accept_order, entered_order, entered_by, enter}
 use Rattle.hx_rules.specs.Removal.{less, lessened}
 use Rattle.hx_rules.specs.Replace.{executed_of, replace_fails, fail_replace, replaced_by, replace}
-use Rattle.hx_rules.specs.Cancel.{take_off, cancelled_if, cancelled_by, cancel}
+use Rattle.hx_rules.specs.Cancel.{take_off, cancelled_by, cancel}
 use Rattle.hx_rules.specs.Hours.{end_orders, is_over, all_deleted, ends_by_code, directory, told_by_code, hours_by, next_hours}
 use Rattle.hx_rules.specs.Steps.{receive, happens}
 use Rattle.hx_laws.specs.FeedBook.{ShownOrder, book_from}
@@ -151,15 +151,12 @@ replace_keeps setup a m time r s g =
     choose (Some old) h false k false l = succeed_keeps setup a m time r old g h (found_of (IsKnown a.tokens a.chains) m r.existing_token a.live old s.known h).1.0 k l
 
 cancel_keeps : (setup : Setup) (a : Market) (m time : ℕ) (c : Less) → IsBooked a → KeepsBook setup a (cancel a m time c)
-cancel_keeps setup a m time c g = choose (find (is_called m c.token) a.live) refl
+cancel_keeps setup a m time c g = choose _ (find (is_called m c.token) a.live) refl
   where
-    by : (x : Order) → find (is_called m c.token) a.live ≡ Some x → (n : ℕ) (d : Bool) → KeepsBook setup a (cancelled_if a m time c.token n x d)
-    by x h n false = idle_keeps setup a g
-    by x h n true = take_off_keeps setup a m time c.token n x g h
-
-    choose : (o : Option Order) → find (is_called m c.token) a.live ≡ o → KeepsBook setup a (cancelled_by a m time c o)
-    choose None h = idle_keeps setup a g
-    choose (Some x) h = by x h _ _
+    choose : (idle : Bool) (o : Option Order) → find (is_called m c.token) a.live ≡ o → KeepsBook setup a (cancelled_by a m time c idle o)
+    choose true o h = idle_keeps setup a g
+    choose false None h = idle_keeps setup a g
+    choose false (Some x) h = take_off_keeps setup a m time c.token _ x g h
 
 hours_keeps : (setup : Setup) (a : Market) (time code : ℕ) → IsBooked a → KeepsBook setup a (next_hours setup a time code)
 hours_keeps setup a time code g = choose _

@@ -16,7 +16,7 @@ use Rattle.hx_rules.specs.Orders.{Order, Token, is_called, is_immediate, is_show
 use Rattle.hx_rules.specs.Markets.{Market, opening}
 use Rattle.hx_rules.specs.Enter.{consumed, drawn, rejection, accept_order, next_reference, entered_by, enter}
 use Rattle.hx_rules.specs.Replace.{handed_over, executed_of, replace_fails, replacing_order, replace_order, replaced_by, replace}
-use Rattle.hx_rules.specs.Cancel.{cancelled_if, cancelled_by, cancel}
+use Rattle.hx_rules.specs.Cancel.{cancelled_by, cancel}
 use Rattle.hx_rules.specs.Outputs.{silent}
 use Rattle.hx_rules.specs.Hours.{is_over, ends_by_code, told_by_code, hours_by, next_hours}
 use Rattle.hx_rules.specs.Steps.{receive, happens, with_record, step, market_after, run}
@@ -71,15 +71,12 @@ replace_moves setup a m time r s =
         (after_joined a m time (symbol_of setup old.locate) r old (replacement_of a m time r old) (found_of _ m r.existing_token a.live old s.known h).1.0 refl)
 
 pub cancel_moves : (a : Market) (m time : ℕ) (c : Less) → Moves a (cancel a m time c).market
-cancel_moves a m time c = choose (find (is_called m c.token) a.live)
+cancel_moves a m time c = choose _ (find (is_called m c.token) a.live)
   where
-    choose_if : (x : Order) (by : ℕ) (b : Bool) → Moves a (cancelled_if a m time c.token by x b).market
-    choose_if x by true = lessened_moves a m c.token by
-    choose_if x by false = Moves_refl a
-
-    choose : (o : Option Order) → Moves a (cancelled_by a m time c o).market
-    choose None = Moves_refl a
-    choose (Some x) = choose_if x _ _
+    choose : (idle : Bool) (o : Option Order) → Moves a (cancelled_by a m time c idle o).market
+    choose true o = Moves_refl a
+    choose false None = Moves_refl a
+    choose false (Some x) = lessened_moves a m c.token _
 
 hours_moves : (setup : Setup) (a : Market) (time code : ℕ) → Moves a (next_hours setup a time code).market
 hours_moves setup a time code = choose _

@@ -90,12 +90,13 @@ act_of setup a coherent m time (Some (Replace q)) =
     choose (Some x) e false h false =
         joined x e h (succeed setup a m time q x)
         (after_joined a m time (symbol_of setup x.locate) q x (replacement_of a m time q x) (found_of (IsKnown a.tokens a.chains) m q.existing_token a.live x coherent.known e).1.0 refl)
-act_of setup a coherent m time (Some (Cancel c)) = choose (find (is_called m c.token) a.live) refl (cancel_moves a m time c)
+act_of setup a coherent m time (Some (Cancel c)) = choose _ (find (is_called m c.token) a.live) refl (cancel_moves a m time c)
   where
-    choose : (o : Option Order) → find (is_called m c.token) a.live ≡ o → Moves a (cancelled_by a m time c o).market → IsOfOne a m (Some (Cancel c)) (cancelled_by a m time c o)
-    choose None e g = idle a m (Some (Cancel c))
-    choose (Some x) e g =
-        of_token a m (Some (Cancel c)) (cancelled_by a m time c (Some x)) c.token (g.grows.used m c.token (called_used a m c.token x coherent e)) (λ t b. only_same m t c.token b)
+    choose : (i : Bool) (o : Option Order) → find (is_called m c.token) a.live ≡ o → Moves a (cancelled_by a m time c i o).market → IsOfOne a m (Some (Cancel c)) (cancelled_by a m time c i o)
+    choose true o e g = idle a m (Some (Cancel c))
+    choose false None e g = idle a m (Some (Cancel c))
+    choose false (Some x) e g =
+        of_token a m (Some (Cancel c)) (cancelled_by a m time c false (Some x)) c.token (g.grows.used m c.token (called_used a m c.token x coherent e)) (λ t b. only_same m t c.token b)
 
 -- the token is that of the member who sent the message
 own_token : (m p : ℕ) (t : Token) (x : Option Inbound) → message_bears (only p t) m x ≡ true → m ≡ p

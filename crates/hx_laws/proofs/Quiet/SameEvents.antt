@@ -20,7 +20,7 @@ use Rattle.hx_rules.specs.Outputs.{Told, silent}
 use Rattle.hx_rules.specs.Enter.{rejection, entered_by, enter}
 use Rattle.hx_rules.specs.Removal.{deleted, canceled, taken_off}
 use Rattle.hx_rules.specs.Replace.{executed_of, replace_fails, fail_replace, replaced_by, replace}
-use Rattle.hx_rules.specs.Cancel.{cancelled_shares, take_off, cancelled_if, cancelled_by, cancel}
+use Rattle.hx_rules.specs.Cancel.{cancelled_shares, take_off, is_idle, cancelled_by, cancel}
 use Rattle.hx_rules.specs.Hours.{end_orders, is_over, all_deleted, hours_codes, ends_by_code, told_by_code, hours_by, next_hours}
 use Rattle.hx_rules.specs.Steps.{receive, happens}
 use Rattle.hx_laws.specs.QuietChains.{Choice, message_bears, bears, reply_lines}
@@ -113,21 +113,23 @@ same_cancel s see a b coherent r m time c g quiet = choose (find (is_called m c.
     done : (x : Order) → find (is_called m c.token) a.live ≡ Some x → executed_of a m c.token ≡ executed_of b m c.token
     done x e = alike_executed s a b r m c.token g (sym (at.whole m c.token (called_used a m c.token x coherent e)) ∙ g)
 
-    by : (x y : Order) → blank true x ≡ blank true y → (n : ℕ) (d : Bool) → IsSame s see (cancelled_if a m time c.token n x d) (cancelled_if b m time c.token n y d)
-    by x y p n false = record { market = r; seen = refl }
-    by x y p n true = same_take_off s see a b r m time c.token n g x y p
-
     shares : (x y : Order) → blank true x ≡ blank true y → executed_of a m c.token ≡ executed_of b m c.token
         → cancelled_shares (executed_of b m c.token) c y ≡ cancelled_shares (executed_of a m c.token) c x
     shares x y p e = ap (λ (n : ℕ). cancelled_shares n c y) (sym e) ∙ ap (λ (z : Order). cancelled_shares (executed_of a m c.token) c z) (sym p)
 
-    choose : (o p : Option Order) → find (is_called m c.token) a.live ≡ o → option_map (blank true) o ≡ option_map (blank true) p → IsSame s see (cancelled_by a m time c o) (cancelled_by b m time c p)
+    by : (x y : Order) → blank true x ≡ blank true y → executed_of a m c.token ≡ executed_of b m c.token → (i : Bool)
+        → IsSame s see (cancelled_by a m time c i (Some x)) (cancelled_by b m time c i (Some y))
+    by x y p e true = record { market = r; seen = refl }
+    by x y p e false = rw (shares x y p e) (same_take_off s see a b r m time c.token _ g x y p)
+
+    choose : (o p : Option Order) → find (is_called m c.token) a.live ≡ o → option_map (blank true) o ≡ option_map (blank true) p
+        → IsSame s see (cancelled_by a m time c (is_idle (executed_of a m c.token) c o) o) (cancelled_by b m time c (is_idle (executed_of b m c.token) c p) p)
     choose None None e p = record { market = r; seen = refl }
     choose None (Some y) e p = absurd (cc p)
     choose (Some x) None e p = absurd (cc p)
     choose (Some x) (Some y) e p =
         let same : blank true x ≡ blank true y = cc in
-        rw (shares x y same (done x e)) (by x y same _ _)
+        rw (ap (λ (n : ℕ). n == 0) (shares x y same (done x e))) (by x y same (done x e) _)
 
 -- Orders end.
 

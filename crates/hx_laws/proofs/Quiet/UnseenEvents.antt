@@ -22,7 +22,7 @@ use Rattle.hx_rules.specs.Executions.{incoming_of, published, shown_of, arrive, 
 use Rattle.hx_rules.specs.Enter.{consumed, next_reference, drawn, entered_order, accept, reject, rejection, entered_by, enter}
 use Rattle.hx_rules.specs.Removal.{taken_off}
 use Rattle.hx_rules.specs.Replace.{handed_over, executed_of, replace_fails, fail_replace, succeed, replaced_by, replace}
-use Rattle.hx_rules.specs.Cancel.{take_off, cancelled_if, cancelled_by, cancel}
+use Rattle.hx_rules.specs.Cancel.{take_off, cancelled_by, cancel}
 use Rattle.hx_rules.specs.Steps.{receive, happens}
 use Rattle.hx_laws.specs.QuietChains.{Choice, message_bears, bears, reply_lines, lines_of}
 use Rattle.hx_laws.specs.Laws.{AreOneChain, AreQuietChains, IsUnknownTo}
@@ -233,22 +233,22 @@ unseen_replace s see blind setup a b coherent r m time q struck quiet =
 
 unseen_cancel : (s : Choice) (see : ℕ → Bool) → IsUnknownTo see s → (a b : Market) → Coherent a → IsAlike s a b → (m time : ℕ) (c : Less) → s m c.token ≡ true
     → AreQuietChains s (cancel a m time c).market → IsUnseen s see (cancel a m time c) b
-unseen_cancel s see blind a b coherent r m time c struck quiet = choose (find (is_called m c.token) a.live) refl
+unseen_cancel s see blind a b coherent r m time c struck quiet = choose _ (find (is_called m c.token) a.live) refl
   where
     at : AreQuietChains s a
     at = quiet_earlier s a _ (cancel_moves a m time c).grows quiet
 
-    by : (x : Order) → x.shown ≡ false → (n : ℕ) (d : Bool) → IsUnseen s see (cancelled_if a m time c.token n x d) b
-    by x e n false = record { market = r; seen = refl }
-    by x e n true =
+    by : (x : Order) → x.shown ≡ false → (n : ℕ) → IsUnseen s see (take_off a m time c.token n x) b
+    by x e n =
         record {
           market = struck_lessened s a b r m c.token n struck;
           seen = nothing_told see (take_off a m time c.token n x).told (nothing_off time n x e) (unseen_first see m _ [] (not_seen s see blind m c.token struck) refl);
         }
 
-    choose : (o : Option Order) → find (is_called m c.token) a.live ≡ o → IsUnseen s see (cancelled_by a m time c o) b
-    choose None e = record { market = r; seen = refl }
-    choose (Some x) e = by x (hidden_found s a coherent at m c.token x e struck) _ _
+    choose : (idle : Bool) (o : Option Order) → find (is_called m c.token) a.live ≡ o → IsUnseen s see (cancelled_by a m time c idle o) b
+    choose true o e = record { market = r; seen = refl }
+    choose false None e = record { market = r; seen = refl }
+    choose false (Some x) e = by x (hidden_found s a coherent at m c.token x e struck) _
 
 -- Every event.
 

@@ -4,8 +4,8 @@ ghost use Rattle.hx_itch.specs.Message.{feed_time};
 
 use arrayvec::ArrayVec;
 use hx_itch::{
-    AddOrder, AddOrderWithAttribution, Feed, OrderCancel, OrderDelete, OrderExecuted, OrderReplace,
-    StockDirectory, SystemEvent, Trade, decode, encode,
+    AddOrder, AddOrderWithAttribution, BrokenTrade, Feed, OrderCancel, OrderDelete, OrderExecuted,
+    OrderReplace, StockDirectory, StockTradingAction, SystemEvent, Trade, decode, encode,
 };
 use hx_units::{Firm, Symbol};
 use std::process::Abort;
@@ -145,6 +145,34 @@ fn a_trade(rt: HostRuntime) {
         match_number: 1,
     };
     is_feed(&rt, bytes, Feed::Trade(message));
+}
+
+// A stock is halted; the reserved byte is written as a space, and read over.
+#[test]
+fn a_halt(rt: HostRuntime) {
+    let bytes = b"H\x00\x01\x00\x00\x00\x00\x00\x00\x00\x1eABCD    H T1  ";
+    let message = Feed::StockTradingAction(StockTradingAction {
+        locate: 1,
+        time: 30,
+        stock: ABCD,
+        trading_state: b'H',
+        reason: *b"T1  ",
+    });
+    is_feed(&rt, bytes, message);
+    let reserved = b"H\x00\x01\x00\x00\x00\x00\x00\x00\x00\x1eABCD    H?T1  ";
+    assert_eq!(rt; decode(reserved), Some(message));
+}
+
+// An execution is broken.
+#[test]
+fn a_broken_trade(rt: HostRuntime) {
+    let bytes = b"B\x00\x01\x00\x00\x00\x00\x00\x00\x00Z\x00\x00\x00\x00\x00\x00\x00\x01";
+    let message = BrokenTrade {
+        locate: 1,
+        time: 90,
+        match_number: 1,
+    };
+    is_feed(&rt, bytes, Feed::BrokenTrade(message));
 }
 
 // A tracking number is read over: this is the deletion above, as another exchange would number it.

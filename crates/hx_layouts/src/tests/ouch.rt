@@ -1,8 +1,8 @@
 //! The messages of worked histories, as the exchange and its members exchange them.
 use arrayvec::ArrayVec;
 use hx_ouch::{
-    Accepted, Cancel, Canceled, Enter, Executed, Inbound, Outbound, Rejected, Replace, Replaced,
-    SystemEvent, decode_in, decode_out, encode_in, encode_out,
+    Accepted, BrokenTrade, Cancel, Canceled, Enter, Executed, Inbound, Outbound, Rejected, Replace,
+    Replaced, SystemEvent, decode_in, decode_out, encode_in, encode_out,
 };
 use hx_units::{Firm, Symbol, Token};
 use std::process::Abort;
@@ -209,6 +209,20 @@ fn canceled_executed_and_rejected(rt: HostRuntime) {
         reason: b'C',
     };
     is_outbound(&rt, bytes, Outbound::Rejected(message));
+}
+
+// An execution is broken.
+#[test]
+fn broken_trade(rt: HostRuntime) {
+    let bytes =
+        b"B\x00\x00\x00\x00\x00\x00\x00ZT1            \x00\x00\x00\x00\x00\x00\x00\x01S";
+    let message = BrokenTrade {
+        time: 90,
+        token: token(*b"T1"),
+        match_number: 1,
+        reason: b'S',
+    };
+    is_outbound(&rt, bytes, Outbound::BrokenTrade(message));
 }
 
 // The day starts, and ends.

@@ -1,8 +1,8 @@
 //! Replies to a member, read from their bytes.
 ghost use Rattle.std.specs.Prelude.{◌≡◌, length};
-ghost use Rattle.hx_ouch.specs.Outbound.{outbound_of, system_event_of, accepted_of, replaced_of, canceled_of, executed_of, rejected_of};
+ghost use Rattle.hx_ouch.specs.Outbound.{outbound_of, system_event_of, accepted_of, replaced_of, canceled_of, executed_of, rejected_of, broken_trade_of};
 
-use super::{Accepted, Canceled, Executed, Outbound, Rejected, Replaced, SystemEvent};
+use super::{Accepted, BrokenTrade, Canceled, Executed, Outbound, Rejected, Replaced, SystemEvent};
 use hx_units::fields::{array_at, u32_at, u64_at};
 use hx_units::{Firm, Symbol, Token};
 
@@ -18,6 +18,7 @@ pub fn read(bytes: &[u8]) -> Option<Outbound>
         (b'C', 28) => Some(Outbound::Canceled(read_canceled(bytes))),
         (b'E', 40) => Some(Outbound::Executed(read_executed(bytes))),
         (b'J', 24) => Some(Outbound::Rejected(read_rejected(bytes))),
+        (b'B', 32) => Some(Outbound::BrokenTrade(read_broken_trade(bytes))),
         _ => None,
     }
 }
@@ -115,5 +116,17 @@ fn read_rejected(bytes: &[u8]) -> Rejected
         time: u64_at(bytes, 1),
         token: Token(array_at(bytes, 9)),
         reason: bytes[23],
+    }
+}
+
+fn read_broken_trade(bytes: &[u8]) -> BrokenTrade
+    requires { length bytes.now ≡ 32 }
+    ensures { result ≡ broken_trade_of bytes.now }
+{
+    BrokenTrade {
+        time: u64_at(bytes, 1),
+        token: Token(array_at(bytes, 9)),
+        match_number: u64_at(bytes, 23),
+        reason: bytes[31],
     }
 }

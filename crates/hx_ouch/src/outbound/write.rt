@@ -1,8 +1,8 @@
 //! Replies to a member, written as bytes.
 ghost use Rattle.std.specs.Prelude.{◌≡◌, ◌<◌, ◌^◌};
-ghost use Rattle.hx_ouch.specs.Outbound.{outbound_bytes, IsOutbound, system_event_bytes, accepted_bytes, replaced_bytes, canceled_bytes, executed_bytes, rejected_bytes, IsSystemEvent, IsAccepted, IsReplaced, IsCanceled, IsExecuted, IsRejected};
+ghost use Rattle.hx_ouch.specs.Outbound.{outbound_bytes, IsOutbound, system_event_bytes, accepted_bytes, replaced_bytes, canceled_bytes, executed_bytes, rejected_bytes, broken_trade_bytes, IsSystemEvent, IsAccepted, IsReplaced, IsCanceled, IsExecuted, IsRejected, IsBrokenTrade};
 
-use super::{Accepted, Canceled, Executed, Outbound, Rejected, Replaced, SystemEvent};
+use super::{Accepted, BrokenTrade, Canceled, Executed, Outbound, Rejected, Replaced, SystemEvent};
 use arrayvec::ArrayVec;
 use hx_units::fields::{put, u32_bytes, u64_bytes};
 
@@ -18,6 +18,7 @@ pub fn write(message: &Outbound) -> ArrayVec<u8, 80>
         Outbound::Canceled(m) => write_canceled(*m),
         Outbound::Executed(m) => write_executed(*m),
         Outbound::Rejected(m) => write_rejected(*m),
+        Outbound::BrokenTrade(m) => write_broken_trade(*m),
     }
 }
 
@@ -119,6 +120,19 @@ fn write_rejected(m: Rejected) -> ArrayVec<u8, 80>
     out.push(b'J');
     put(&mut out, &u64_bytes(m.time));
     put(&mut out, &m.token.0);
+    out.push(m.reason);
+    out
+}
+
+fn write_broken_trade(m: BrokenTrade) -> ArrayVec<u8, 80>
+    ensures bytes { result.items ≡ broken_trade_bytes m }
+    ensures fits { IsBrokenTrade m }
+{
+    let mut out = ArrayVec::new();
+    out.push(b'B');
+    put(&mut out, &u64_bytes(m.time));
+    put(&mut out, &m.token.0);
+    put(&mut out, &u64_bytes(m.match_number));
     out.push(m.reason);
     out
 }
