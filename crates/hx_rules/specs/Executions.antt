@@ -81,19 +81,23 @@ replies_of_executions time member token number (e ∷ es) =
     ∷ to_taker time member token (number + 1) e
     ∷ replies_of_executions time member token (number + 1) es
 
--- the executions of an incoming order, as their match numbers name them: none is broken
-abbrev pub matches_of : (member : ℕ) (token : Token) → List Execution → List Match
-matches_of member token [] = []
-matches_of member token (e ∷ es) =
+-- the execution of a resting order against an incoming one, as its match number names it: it is not
+-- broken
+abbrev pub match_of : (member : ℕ) (token : Token) → Order → Match
+match_of member token x =
     record {
-      locate = e.order.locate;
-      maker = e.order.member;
-      maker_token = e.order.token;
+      locate = x.locate;
+      maker = x.member;
+      maker_token = x.token;
       taker = member;
       taker_token = token;
       broken = false;
     }
-    ∷ matches_of member token es
+
+-- the executions of an incoming order, as their match numbers name them
+abbrev pub matches_of : (member : ℕ) (token : Token) → List Execution → List Match
+matches_of member token [] = []
+matches_of member token (e ∷ es) = match_of member token e.order ∷ matches_of member token es
 
 -- each execution counts for the chains of both orders; the incoming order's chain is named by its
 -- entered token
