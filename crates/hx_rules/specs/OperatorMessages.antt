@@ -1,7 +1,8 @@
 -- The operator's messages: one letter each, but for halts and breaks.
-use Rattle.std.specs.Prelude.{ℕ, Bool, ◌==◌, if◌then◌else◌, List, [], ◌∷◌, Option, Some, None}
+use Rattle.std.specs.Prelude.{ℕ, Bool, ◌==◌, if◌then◌else◌, List, [], ◌∷◌, ◌++◌, Option, Some, None}
 use Rattle.std.specs.List.{list_any}
-use Rattle.hx_units.specs.Fields.{is_message, byte_at, text_at, number_at}
+use Rattle.hx_units.specs.Fields.{is_message, byte_at, text_at, number_at, spelled}
+use Rattle.hx_units.specs.declared.names.Symbol.{Symbol}
 use Rattle.hx_rules.specs.declared.event.Event.{Event}
 use Rattle.hx_rules.specs.declared.event.Event.TheVariants.{Tick, Hours, Halt, Break}
 use Rattle.hx_rules.specs.Letters.{tick_letter, halt_letter, break_letter}
@@ -32,6 +33,9 @@ abbrev pub halt_of : (time : ℕ) → List ℕ → Event
 halt_of time bytes =
     Halt time (record { 0 = text_at 1 8 bytes }) (byte_at 9 bytes) (text_at 10 4 bytes)
 
+abbrev pub halt_bytes : Symbol → (state : ℕ) (reason : List ℕ) → List ℕ
+halt_bytes stock state reason = (halt_letter ∷ []) ++ stock.0 ++ (state ∷ []) ++ reason
+
 -- ---- A break, 9 bytes of type B: the match number
 
 abbrev pub is_break : List ℕ → Bool
@@ -39,6 +43,9 @@ is_break bytes = is_message 9 break_letter bytes
 
 abbrev pub break_of : (time : ℕ) → List ℕ → Event
 break_of time bytes = Break time (number_at 1 8 bytes)
+
+abbrev pub break_bytes : (number : ℕ) → List ℕ
+break_bytes number = (break_letter ∷ []) ++ spelled 8 number
 
 -- ---- Any message
 
