@@ -2,6 +2,7 @@
 
 mod books;
 mod events;
+mod halts;
 mod histories;
 mod lines;
 mod market;
