@@ -94,7 +94,8 @@ pub fn commit_effect<B: Book>(
     ensures halted { trading.new.halted
         ≡ (outcome_over (B.orders book.old) tokens.old refs.old trading.old effect).market.halted }
     ensures executions { trading.new.executions
-        ≡ (outcome_over (B.orders book.old) tokens.old refs.old trading.old effect).market.executions }
+        ≡ (outcome_over (B.orders book.old) tokens.old refs.old trading.old
+        effect).market.executions }
     ensures feed { out.new.feed.items
         ≡ (outcome_over (B.orders book.old) tokens.old refs.old trading.old effect).told.feed }
     ensures replies { out.new.replies.items

@@ -1,5 +1,5 @@
--- A worked day of trading halts and broken trades: its messages, and what each tells, worked out by hand
--- from the rules of the market.
+-- A worked day of trading halts and broken trades: its messages, and what each tells, worked out
+-- by hand from the rules of the market.
 use Rattle.std.specs.Prelude.{ℕ, codes, List, [], ◌∷◌}
 use Rattle.hx_refs.specs.Numbers.{private_reference}
 use Rattle.hx_itch.specs.declared.message.Feed.{Feed}

@@ -1,6 +1,6 @@
--- Trading halts (ITCH 5.0, Stock Trading Action Message). In a halt no order is accepted or replaced
--- (Enter, Replace); cancels, ticks and the hours go on, and as the stock trades again nothing is
--- matched.
+-- Trading halts (ITCH 5.0, Stock Trading Action Message). In a halt no order is accepted or
+-- replaced (Enter, Replace); cancels, ticks and the hours go on. Nothing is matched as the stock
+-- trades again.
 use Rattle.std.specs.Prelude.{ℕ, Bool, true, false, ◌==◌, ◌||◌, List, [], ◌∷◌, Option, Some, None, slice_set}
 use Rattle.hx_units.specs.declared.names.Symbol.{Symbol}
 use Rattle.hx_members.specs.Setups.{Setup, locate_of}

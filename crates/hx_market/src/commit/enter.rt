@@ -118,22 +118,28 @@ pub fn accept<B: Book>(
     requires executions_room { length fills.now ≤ trading.old.room }
     requires room { HasRoom (length fills.now) out.old }
     ensures live { lives (B.orders book.new)
-        ≡ (outcome_over (B.orders book.old) tokens.old refs.old trading.old (Accept effect.now)).market.live }
+        ≡ (outcome_over (B.orders book.old) tokens.old refs.old trading.old
+        (Accept effect.now)).market.live }
     ensures tokens { tokens.new.tokens
-        ≡ (outcome_over (B.orders book.old) tokens.old refs.old trading.old (Accept effect.now)).market.tokens }
+        ≡ (outcome_over (B.orders book.old) tokens.old refs.old trading.old
+        (Accept effect.now)).market.tokens }
     ensures chains { tokens.new.chains
-        ≡ (outcome_over (B.orders book.old) tokens.old refs.old trading.old (Accept effect.now)).market.chains }
+        ≡ (outcome_over (B.orders book.old) tokens.old refs.old trading.old
+        (Accept effect.now)).market.chains }
     ensures keyed { AreKeyed tokens.new.tokens tokens.new.keys (B.orders book.new) }
     ensures numbers { refs.new
-        ≡ (outcome_over (B.orders book.old) tokens.old refs.old trading.old (Accept effect.now)).market.numbers }
+        ≡ (outcome_over (B.orders book.old) tokens.old refs.old trading.old
+        (Accept effect.now)).market.numbers }
     ensures halted { trading.new.halted ≡ trading.old.halted }
     ensures executions { trading.new.executions
         ≡ (outcome_over (B.orders book.old) tokens.old refs.old trading.old
         (Accept effect.now)).market.executions }
     ensures feed { out.new.feed.items
-        ≡ (outcome_over (B.orders book.old) tokens.old refs.old trading.old (Accept effect.now)).told.feed }
+        ≡ (outcome_over (B.orders book.old) tokens.old refs.old trading.old
+        (Accept effect.now)).told.feed }
     ensures replies { out.new.replies.items
-        ≡ (outcome_over (B.orders book.old) tokens.old refs.old trading.old (Accept effect.now)).told.replies }
+        ≡ (outcome_over (B.orders book.old) tokens.old refs.old trading.old
+        (Accept effect.now)).told.replies }
 {
     let chain = tokens.count();
     tokens.consume(effect.member, &effect.enter.token);

@@ -281,7 +281,8 @@ pub fn replace<B: Book>(
         ≡ (outcome_over (B.orders book.old) tokens.old refs.old trading.old
         (ToReplaceBy effect.now)).market.executions }
     ensures feed { out.new.feed.items
-        ≡ (outcome_over (B.orders book.old) tokens.old refs.old trading.old (ToReplaceBy effect.now)).told.feed }
+        ≡ (outcome_over (B.orders book.old) tokens.old refs.old trading.old
+        (ToReplaceBy effect.now)).told.feed }
     ensures replies { out.new.replies.items
         ≡ (outcome_over (B.orders book.old) tokens.old refs.old trading.old
         (ToReplaceBy effect.now)).told.replies }

@@ -65,7 +65,8 @@ pub fn break_match(trading: &mut Trading, out: &mut Output, effect: &BrokenMatch
         ≡ with_execution trading.old.executions effect.now.number
         (record effect.now.execution { broken = true }) }
     ensures feed { out.new.feed.items
-        ≡ out.old.feed.items ++ broken_of effect.now.time effect.now.number effect.now.execution ∷ [] }
+        ≡ out.old.feed.items
+        ++ broken_of effect.now.time effect.now.number effect.now.execution ∷ [] }
     ensures replies { out.new.replies.items
         ≡ out.old.replies.items
         ++ to_broken effect.now.time effect.now.execution.maker effect.now.execution.maker_token
