@@ -13,7 +13,7 @@ use Rattle.hx_ouch.specs.declared.inbound.Inbound.{Inbound}
 use Rattle.hx_ouch.specs.declared.inbound.Inbound.TheVariants.{Enter, Replace, Cancel}
 use Rattle.hx_ouch.specs.Inbound.{inbound_of}
 use Rattle.hx_rules.specs.declared.event.Event.{Event}
-use Rattle.hx_rules.specs.declared.event.Event.TheVariants.{Message, Tick, Hours}
+use Rattle.hx_rules.specs.declared.event.Event.TheVariants.{Message, Tick, Hours, Halt, Break}
 use Rattle.hx_market.specs.Markets.{Market}
 use Rattle.hx_market.specs.QuietChains.{Choice, is_quiet, message_bears, bears, strike}
 use Rattle.hx_laws.specs.Laws.{chained_with}
@@ -105,6 +105,8 @@ bears_same : (s t : Choice) → ((member : ℕ) (token : Token) → s member tok
 bears_same s t same (Message m time bytes) = message_same s t same m (inbound_of bytes)
 bears_same s t same (Tick time) = refl
 bears_same s t same (Hours time code) = refl
+bears_same s t same (Halt time stock state reason) = refl
+bears_same s t same (Break time number) = refl
 
 pub strikes_same : (s t : Choice) → ((member : ℕ) (token : Token) → s member token ≡ t member token) → (events : List Event) → strike s events ≡ strike t events
 unfolding strike

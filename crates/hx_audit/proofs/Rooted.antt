@@ -14,13 +14,14 @@ use Rattle.hx_ouch.specs.declared.inbound.Inbound.{Inbound}
 use Rattle.hx_ouch.specs.declared.inbound.Inbound.TheVariants.{Enter, Replace, Cancel}
 use Rattle.hx_ouch.specs.Inbound.{inbound_of}
 use Rattle.hx_rules.specs.declared.event.Event.{Event}
-use Rattle.hx_rules.specs.declared.event.Event.TheVariants.{Message, Tick, Hours}
+use Rattle.hx_rules.specs.declared.event.Event.TheVariants.{Message, Tick, Hours, Halt, Break}
 use Rattle.hx_market.specs.Orders.{Order, is_called}
 use Rattle.hx_market.specs.Markets.{Market, opening}
 use Rattle.hx_market.specs.MarketModel.{chain_facts}
 use Rattle.hx_market.specs.Steps.{step, market_after, run}
 use Rattle.hx_laws.proofs.History.CoherentSteps.{Coherent, used_last}
 use Rattle.hx_laws.proofs.History.EventMoves.{called_used, step_moves, coherent_opening}
+use Rattle.hx_market.specs.Replace.{is_order_halted}
 use Rattle.hx_audit.specs.Listing.{Use, use_of, uses_of, tokens_in, each_once, grouped}
 use Rattle.hx_audit.specs.Finding.{AreTold}
 use Rattle.hx_audit.proofs.Goes.{joined_if, message_uses, event_uses, step_goes}
@@ -52,12 +53,14 @@ rooted_message a m (Some (Enter e)) coherent r = at (is_used a.tokens m e.token)
     at false h =
         let v : Used = entered_used m e.token in
         rooted_push a.tokens v (record { used = used_last a.tokens v; own = entered_of-new a.tokens v h }) r
-rooted_message a m (Some (Replace q)) coherent r = at (find (is_called m q.existing_token) a.live) refl (is_used a.tokens m q.replacement_token)
+rooted_message a m (Some (Replace q)) coherent r =
+    at (find (is_called m q.existing_token) a.live) refl (is_used a.tokens m q.replacement_token) (is_order_halted a.halted (find (is_called m q.existing_token) a.live))
   where
-    at : (o : Option Order) → find (is_called m q.existing_token) a.live ≡ o → (b : Bool) → AreRooted (a.tokens ++ joined_if a m q o b)
-    at None f b = rooted_same a.tokens r
-    at (Some x) f true = rooted_same a.tokens r
-    at (Some x) f false =
+    at : (o : Option Order) → find (is_called m q.existing_token) a.live ≡ o → (b d : Bool) → AreRooted (a.tokens ++ joined_if a m q o b d)
+    at None f b d = rooted_same a.tokens r
+    at (Some x) f true d = rooted_same a.tokens r
+    at (Some x) f false true = rooted_same a.tokens r
+    at (Some x) f false false =
         let e : Token = entered_of a.tokens m q.existing_token in
         let v : Used = replacing_used m q.replacement_token e in
         let used = called_used a m q.existing_token x coherent f in
@@ -68,6 +71,8 @@ rooted_event : (a : Market) (event : Event) → Coherent a → AreRooted a.token
 rooted_event a (Message m time bytes) coherent r = rooted_message a m (inbound_of bytes) coherent r
 rooted_event a (Tick time) coherent r = rooted_same a.tokens r
 rooted_event a (Hours time code) coherent r = rooted_same a.tokens r
+rooted_event a (Halt time stock state reason) coherent r = rooted_same a.tokens r
+rooted_event a (Break time number) coherent r = rooted_same a.tokens r
 
 rooted_after : (setup : Setup) (a : Market) (events : List Event) → Coherent a → AreRooted a.tokens → AreRooted (market_after setup a events).tokens
 unfolding market_after

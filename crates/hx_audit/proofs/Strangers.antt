@@ -8,7 +8,7 @@ use Rattle.std.proofs.lemmas.Bool.Decides.{Decides-eqb}
 use Rattle.hx_members.specs.Setups.{Setup, member_of}
 use Rattle.hx_ouch.specs.Inbound.{inbound_of}
 use Rattle.hx_rules.specs.declared.event.Event.{Event}
-use Rattle.hx_rules.specs.declared.event.Event.TheVariants.{Message, Tick, Hours}
+use Rattle.hx_rules.specs.declared.event.Event.TheVariants.{Message, Tick, Hours, Halt, Break}
 use Rattle.hx_rules.specs.declared.fault.PrepareError.{PrepareError}
 use Rattle.hx_rules.specs.declared.fault.PrepareError.TheVariants.{NoMember, BadTime}
 use Rattle.hx_market.specs.Refusals.{known_member, refusal}
@@ -51,6 +51,8 @@ bears_none setup m h counts a (Message k time bytes) r =
     of_another m k a (inbound_of bytes) (λ e. absurd (let z : true ≡ false = sym ((Decides-eqb k m).1 e) ∙ other in cc))
 bears_none setup m h counts a (Tick time) r = refl
 bears_none setup m h counts a (Hours time code) r = refl
+bears_none setup m h counts a (Halt time stock state reason) r = refl
+bears_none setup m h counts a (Break time number) r = refl
 
 all_left : (setup : Setup) (m : ℕ) → member_of setup m ≡ None → (a b : Market) (events : List Event) → AreAccepted setup b events → strike (quiet_of_one m a) events ≡ events
 unfolding strike
@@ -69,6 +71,8 @@ names_none : (setup : Setup) (m : ℕ) → is_none (known_member setup m) ≡ tr
 names_none setup m h counts (Message k time bytes) r = rw (sent_by_another setup m h counts k time bytes r) refl
 names_none setup m h counts (Tick time) r = refl
 names_none setup m h counts (Hours time code) r = refl
+names_none setup m h counts (Halt time stock state reason) r = refl
+names_none setup m h counts (Break time number) r = refl
 
 uses_none : (setup : Setup) (m : ℕ) → is_none (known_member setup m) ≡ true → (a : Market) (events : List Event) → AreAccepted setup a events → uses_of a.tokens m ≡ [] → uses_of (market_after setup a events).tokens m ≡ []
 unfolding market_after

@@ -3,7 +3,7 @@ use Rattle.std.proofs.Common.{◌≡◌, ℕ, zero, suc, ◌≤◌, Bool, true, 
 use Rattle.std.specs.Prelude.{nat_le}
 use Rattle.std.specs.List.{filter, find}
 use Rattle.hx_units.specs.Limits.{day}
-use Rattle.hx_members.specs.Setups.{Setup}
+use Rattle.hx_members.specs.Setups.{Setup, locate_of}
 use Rattle.hx_members.specs.Chains.{is_used}
 use Rattle.hx_refs.specs.Numbers.{raised}
 use Rattle.hx_ouch.specs.declared.inbound.Inbound.{Inbound}
@@ -16,8 +16,12 @@ use Rattle.hx_levels.specs.declared.order.Order.{Order}
 use Rattle.hx_rules.specs.Orders.{is_called}
 use Rattle.hx_rules.specs.Markets.{Market, opening}
 use Rattle.hx_rules.specs.Enter.{entered_by, rejection}
-use Rattle.hx_rules.specs.Replace.{replace_fails, executed_of, replaced_by}
-use Rattle.hx_rules.specs.Cancel.{cancelled_by, cancelled_if, cancelled_shares}
+use Rattle.hx_rules.specs.Replace.{replace_fails, executed_of, is_order_halted, replaced_by}
+use Rattle.hx_rules.specs.Cancel.{is_idle, cancelled_by}
+use Rattle.hx_rules.specs.Halts.{is_trading_state, halted_by}
+use Rattle.hx_rules.specs.Breaks.{execution_of, broken_if, broken_by}
+use Rattle.hx_rules.specs.declared.matches.Match.{Match}
+use Rattle.hx_units.specs.declared.names.Symbol.{Symbol}
 use Rattle.hx_rules.specs.Hours.{hours_by, is_next}
 use Rattle.hx_rules.specs.Refusals.{refusal, is_from_stranger, limit_of}
 use Rattle.hx_rules.specs.Steps.{receive, happens, step, with_record, sender, time_of}
@@ -67,20 +71,18 @@ entered_counts setup a m time e true letter = refl
 entered_counts setup a m time e false (Some letter) = refl
 entered_counts setup a m time e false None = refl
 
-replaced_counts : (setup : Setup) (a : Market) (m time : ℕ) (r : Rattle.hx_ouch.specs.declared.inbound.Replace.Replace) (o : Option Order) (used fails : Bool)
-    → (replaced_by setup a m time r o used fails).market.recorded ≡ a.recorded
-replaced_counts setup a m time r None used fails = refl
-replaced_counts setup a m time r (Some old) true fails = refl
-replaced_counts setup a m time r (Some old) false true = refl
-replaced_counts setup a m time r (Some old) false false = refl
+replaced_counts : (setup : Setup) (a : Market) (m time : ℕ) (r : Rattle.hx_ouch.specs.declared.inbound.Replace.Replace) (o : Option Order) (used halted fails : Bool)
+    → (replaced_by setup a m time r o used halted fails).market.recorded ≡ a.recorded
+replaced_counts setup a m time r None used halted fails = refl
+replaced_counts setup a m time r (Some old) true halted fails = refl
+replaced_counts setup a m time r (Some old) false true fails = refl
+replaced_counts setup a m time r (Some old) false false true = refl
+replaced_counts setup a m time r (Some old) false false false = refl
 
-cancelled_counts : (a : Market) (m time : ℕ) (c : Rattle.hx_ouch.specs.declared.inbound.Cancel.Cancel) (o : Option Order) → (cancelled_by a m time c o).market.recorded ≡ a.recorded
-cancelled_counts a m time c None = refl
-cancelled_counts a m time c (Some x) = at x (cancelled_shares (executed_of a m c.token) c x) _
-  where
-    at : (x : Order) (by : ℕ) (some : Bool) → (cancelled_if a m time c.token by x some).market.recorded ≡ a.recorded
-    at x by true = refl
-    at x by false = refl
+cancelled_counts : (a : Market) (m time : ℕ) (c : Rattle.hx_ouch.specs.declared.inbound.Cancel.Cancel) (idle : Bool) (o : Option Order) → (cancelled_by a m time c idle o).market.recorded ≡ a.recorded
+cancelled_counts a m time c true o = refl
+cancelled_counts a m time c false None = refl
+cancelled_counts a m time c false (Some x) = refl
 
 hours_counts : (setup : Setup) (a : Market) (time code : ℕ) (next : Bool) → (hours_by setup a time code next).market.recorded ≡ a.recorded
 hours_counts setup a time code true = refl
@@ -88,15 +90,33 @@ hours_counts setup a time code false = refl
 
 received_counts : (setup : Setup) (a : Market) (m time : ℕ) (message : Option Inbound) → (receive setup a m time message).market.recorded ≡ a.recorded
 received_counts setup a m time None = refl
-received_counts setup a m time (Some (inbound.Enter e)) = entered_counts setup a m time e (is_used a.tokens m e.token) (rejection setup a.hours e)
+received_counts setup a m time (Some (inbound.Enter e)) = entered_counts setup a m time e (is_used a.tokens m e.token) (rejection setup a.hours a.halted e)
 received_counts setup a m time (Some (inbound.Replace r)) =
-    replaced_counts setup a m time r (find (is_called m r.existing_token) a.live) (is_used a.tokens m r.replacement_token) (replace_fails a.hours (executed_of a m r.existing_token) r)
-received_counts setup a m time (Some (inbound.Cancel c)) = cancelled_counts a m time c (find (is_called m c.token) a.live)
+    let old = find (is_called m r.existing_token) a.live in
+    replaced_counts setup a m time r old (is_used a.tokens m r.replacement_token) (is_order_halted a.halted old) (replace_fails a.hours (executed_of a m r.existing_token) r)
+received_counts setup a m time (Some (inbound.Cancel c)) =
+    let order = find (is_called m c.token) a.live in
+    cancelled_counts a m time c (is_idle (executed_of a m c.token) c order) order
+
+halted_counts : (a : Market) (time : ℕ) (stock : Symbol) (state : ℕ) (reason : List ℕ) (o : Option ℕ) (known : Bool) → (halted_by a time stock state reason o known).market.recorded ≡ a.recorded
+halted_counts a time stock state reason None known = refl
+halted_counts a time stock state reason (Some locate) false = refl
+halted_counts a time stock state reason (Some locate) true = refl
+
+broken_counts : (a : Market) (time number : ℕ) (o : Option Match) → (broken_by a time number o).market.recorded ≡ a.recorded
+broken_counts a time number None = refl
+broken_counts a time number (Some e) = at e.broken
+  where
+    at : (b : Bool) → (broken_if a time number e b).market.recorded ≡ a.recorded
+    at true = refl
+    at false = refl
 
 happens_counts : (setup : Setup) (a : Market) (v : Event) → (happens setup a v).market.recorded ≡ a.recorded
 happens_counts setup a (event.Message m time bytes) = received_counts setup a m time (inbound_of bytes)
 happens_counts setup a (event.Tick time) = refl
 happens_counts setup a (event.Hours time code) = hours_counts setup a time code (is_next a.hours code)
+happens_counts setup a (event.Halt time stock state reason) = halted_counts a time stock state reason (locate_of setup stock) (is_trading_state state)
+happens_counts setup a (event.Break time number) = broken_counts a time number (execution_of a.executions number)
 
 step_counts : (setup : Setup) (a : Market) (v : Event) → (step setup a v).market.recorded ≡ raised a.recorded (sender v)
 unfolding step

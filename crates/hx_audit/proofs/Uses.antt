@@ -14,12 +14,13 @@ use Rattle.hx_ouch.specs.declared.inbound.Inbound.{Inbound}
 use Rattle.hx_ouch.specs.declared.inbound.Inbound.TheVariants.{Enter, Replace, Cancel}
 use Rattle.hx_ouch.specs.Inbound.{inbound_of}
 use Rattle.hx_rules.specs.declared.event.Event.{Event}
-use Rattle.hx_rules.specs.declared.event.Event.TheVariants.{Message, Tick, Hours}
+use Rattle.hx_rules.specs.declared.event.Event.TheVariants.{Message, Tick, Hours, Halt, Break}
 use Rattle.hx_market.specs.Orders.{Order, is_called}
 use Rattle.hx_market.specs.Markets.{Market}
 use Rattle.hx_market.specs.MarketModel.{chain_facts}
 use Rattle.hx_market.specs.Steps.{step}
 use Rattle.hx_laws.proofs.History.CoherentSteps.{used_last}
+use Rattle.hx_market.specs.Replace.{is_order_halted}
 use Rattle.hx_audit.specs.declared.listing.Naming.{Naming}
 use Rattle.hx_audit.specs.Listing.{Use, use_of, uses_of}
 use Rattle.hx_audit.specs.Finding.{named_by, named}
@@ -86,12 +87,14 @@ uses_as a k (Some (Enter e)) = at (is_used a.tokens k e.token) refl
     at : (b : Bool) → is_used a.tokens k e.token ≡ b → UsesAs a k (Some (record { token = e.token; existing = e.token })) (cond b [] (entered_used k e.token ∷ []))
     at true h = inl refl
     at false h = inr (h, ap (λ (t : Token). replacing_used k e.token t ∷ []) (sym (entered_of-unused a.tokens k e.token h)))
-uses_as a k (Some (Replace r)) = at (find (is_called k r.existing_token) a.live) (is_used a.tokens k r.replacement_token) refl
+uses_as a k (Some (Replace r)) =
+    at (find (is_called k r.existing_token) a.live) (is_used a.tokens k r.replacement_token) refl (is_order_halted a.halted (find (is_called k r.existing_token) a.live))
   where
-    at : (o : Option Order) (b : Bool) → is_used a.tokens k r.replacement_token ≡ b → UsesAs a k (Some (record { token = r.replacement_token; existing = r.existing_token })) (joined_if a k r o b)
-    at None b h = inl refl
-    at (Some x) true h = inl refl
-    at (Some x) false h = inr (h, refl)
+    at : (o : Option Order) (b : Bool) → is_used a.tokens k r.replacement_token ≡ b → (d : Bool) → UsesAs a k (Some (record { token = r.replacement_token; existing = r.existing_token })) (joined_if a k r o b d)
+    at None b h d = inl refl
+    at (Some x) true h d = inl refl
+    at (Some x) false h true = inl refl
+    at (Some x) false h false = inr (h, refl)
 
 -- how the listed uses go on
 abbrev pub Lists : Market → Market → ℕ → Option Naming → Type 0
@@ -145,6 +148,9 @@ step_lists setup a (Message k time bytes) m = at (eqb k m) refl
     at false h = lists_other a b k m (named_by (inbound_of bytes)) us h (step_goes setup a (Message k time bytes)).tokens (uses_as a k (inbound_of bytes))
 step_lists setup a (Tick time) m = lists_own a (step setup a (Tick time)).market m None [] (step_goes setup a (Tick time)).tokens refl
 step_lists setup a (Hours time code) m = lists_own a (step setup a (Hours time code)).market m None [] (step_goes setup a (Hours time code)).tokens refl
+step_lists setup a (Halt time stock state reason) m =
+    lists_own a (step setup a (Halt time stock state reason)).market m None [] (step_goes setup a (Halt time stock state reason)).tokens refl
+step_lists setup a (Break time number) m = lists_own a (step setup a (Break time number)).market m None [] (step_goes setup a (Break time number)).tokens refl
 
 -- the list stays but for a new use, which it gets
 pub stays_listed : (a b : Market) (m : ℕ) (n : Naming) → Lists a b m (Some n) → (is_used b.tokens m n.token && not (is_used a.tokens m n.token)) ≡ false → uses_of b.tokens m ≡ uses_of a.tokens m

@@ -12,7 +12,7 @@ use Rattle.hx_ouch.specs.declared.inbound.Inbound.{Inbound}
 use Rattle.hx_ouch.specs.declared.inbound.Inbound.TheVariants.{Enter, Replace, Cancel}
 use Rattle.hx_ouch.specs.Inbound.{inbound_of}
 use Rattle.hx_rules.specs.declared.event.Event.{Event}
-use Rattle.hx_rules.specs.declared.event.Event.TheVariants.{Message, Tick, Hours}
+use Rattle.hx_rules.specs.declared.event.Event.TheVariants.{Message, Tick, Hours, Halt, Break}
 use Rattle.hx_market.specs.Markets.{Market}
 use Rattle.hx_market.specs.MarketModel.{chain_facts}
 use Rattle.hx_audit.specs.declared.listing.Naming.{Naming}
@@ -31,6 +31,8 @@ named member (Message sender time bytes) =
     if sender == member then named_by (inbound_of bytes) else None
 named member (Tick time) = None
 named member (Hours time code) = None
+named member (Halt time stock state reason) = None
+named member (Break time number) = None
 
 -- a use is put to those of its chain, or begins one
 abbrev pub with_use : List (Token × List Token) → Token → Token → List (Token × List Token)

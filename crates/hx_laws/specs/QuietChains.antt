@@ -10,7 +10,7 @@ use Rattle.hx_ouch.specs.declared.outbound.Outbound.{Outbound}
 use Rattle.hx_ouch.specs.Inbound.{inbound_of}
 use Rattle.hx_rules.specs.Orders.{Token}
 use Rattle.hx_rules.specs.declared.event.Event.{Event}
-use Rattle.hx_rules.specs.declared.event.Event.TheVariants.{Message, Tick, Hours}
+use Rattle.hx_rules.specs.declared.event.Event.TheVariants.{Message, Tick, Hours, Halt, Break}
 use Rattle.hx_rules.specs.Markets.{Market}
 use Rattle.hx_rules.specs.Outputs.{Reply, Told}
 use Rattle.hx_rules.specs.Steps.{run, told}
@@ -46,6 +46,8 @@ abbrev pub bears : Choice → Event → Bool
 bears s (Message member time bytes) = message_bears s member (inbound_of bytes)
 bears s (Tick time) = false
 bears s (Hours time code) = false
+bears s (Halt time stock state reason) = false
+bears s (Break time number) = false
 
 -- the events that bear no chosen token
 unfoldable pub strike : Choice → List Event → List Event

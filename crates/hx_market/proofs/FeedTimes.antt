@@ -7,7 +7,7 @@ use Rattle.hx_itch.specs.declared.message.Feed.{Feed}
 use Rattle.hx_itch.specs.Message.{feed_time}
 use Rattle.hx_match.specs.Matching.{Execution}
 use Rattle.hx_market.specs.declared.effect.Effect.{Effect}
-use Rattle.hx_market.specs.declared.effect.Effect.TheVariants.{Nothing, Reject, Accept, Fail, Replace, Cancel, End}
+use Rattle.hx_market.specs.declared.effect.Effect.TheVariants.{Nothing, Reject, Accept, Fail, Replace, Cancel, End, Halt, Break}
 use Rattle.hx_rules.specs.Orders.{Order, is_immediate, is_shown}
 use Rattle.hx_rules.specs.Markets.{Market}
 use Rattle.hx_rules.specs.Executions.{feed_of_executions, published, arrival_feed, shown_of, arrive}
@@ -68,6 +68,8 @@ fits_feed m (Cancel a) h =
     let l : a.time < 2 ^ 48 = omega arith in
     cond_both (nat_lt a.by a.old.order.shares) _ _ AreIn (λ _. cond_both a.old.order.shown _ _ AreIn (λ _. (l, tt)) (λ _. tt)) (λ _. deleted_in a.time a.old.order l)
 fits_feed m (End e) h = h
+fits_feed m (Halt e) h = let l : e.time < 2 ^ 48 = omega arith in (l, tt)
+fits_feed m (Break e) h = let l : e.time < 2 ^ 48 = omega arith in (l, tt)
 
 -- What orders that end tell, and what the hours' codes tell.
 

@@ -10,7 +10,7 @@ use Rattle.hx_levels.specs.Book.{lives}
 use Rattle.hx_match.specs.declared.fills.Fill.{Fill}
 use Rattle.hx_members.specs.declared.name.Name.{Name}
 use Rattle.hx_market.specs.declared.effect.Effect.{Effect}
-use Rattle.hx_market.specs.declared.effect.Effect.TheVariants.{Nothing, Reject, Accept, Fail, Replace, Cancel, End}
+use Rattle.hx_market.specs.declared.effect.Effect.TheVariants.{Nothing, Reject, Accept, Fail, Replace, Cancel, End, Halt, Break}
 use Rattle.hx_rules.specs.Markets.{Market}
 use Rattle.hx_market.specs.Effects.{outcome_of, IsAbout}
 use Rattle.hx_market.specs.Prepared.{HasPlaces, effect_feed_count, effect_members}
@@ -25,6 +25,8 @@ tells m (Fail a) orders place name fills left live about h = (length-deleted a.t
 tells m (Replace a) orders place name fills left live about h = (feed_replaced m a orders fills left live about h.2, members_replaced m a orders fills left live about h.2)
 tells m (Cancel a) orders place name fills left live about h = (length-off a.time a.by a.old.order, refl)
 tells m (End e) orders place name fills left live about h = (refl, refl)
+tells m (Halt e) orders place name fills left live about h = (refl, refl)
+tells m (Break e) orders place name fills left live about h = (refl, refl)
 
 -- what an event does, as one step
 pub step_is : (s t : Setup) (m k : Market) (e f : Event) (o : Outcome) → happens s (with_record e m) e ≡ o → s ≡ t → m ≡ k → e ≡ f → o ≡ step t k f

@@ -37,11 +37,11 @@ pub record Passes (setup : Setup) (e : Enter) : Type 0 where
   pub price : (0 < e.price) × (e.price ≤ 1999999900)
   pub shares : e.shares ≤ 999999
 
-pub passes : (setup : Setup) (hours : ℕ) (e : Enter) → rejection setup hours e ≡ None → Passes setup e
-passes setup hours e h =
-    let all = none_applies (reasons setup hours e) h in
-    let price = price_in_range e.price all.1.1.1.1.1.0 in
-    record { stock = all.1.0; price = price; shares = most e.shares (or_parts (e.shares == 0) (nat_lt 999999 e.shares) all.1.1.1.1.0).1 }
+pub passes : (setup : Setup) (hours : ℕ) (halted : List Bool) (e : Enter) → rejection setup hours halted e ≡ None → Passes setup e
+passes setup hours halted e h =
+    let all = none_applies (reasons setup hours halted e) h in
+    let price = price_in_range e.price all.1.1.1.1.1.1.0 in
+    record { stock = all.1.0; price = price; shares = most e.shares (or_parts (e.shares == 0) (nat_lt 999999 e.shares) all.1.1.1.1.1.0).1 }
   where
     most : (n : ℕ) → nat_lt 999999 n ≡ false → n ≤ 999999
     most n h = grind (arith, nat_tests)

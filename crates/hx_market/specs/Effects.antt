@@ -10,7 +10,7 @@ use Rattle.hx_match.specs.declared.fills.Incoming.{Incoming}
 use Rattle.hx_members.specs.Setups.{Setup, locate_of}
 use Rattle.hx_members.specs.Chains.{Used, Chain, is_used, entered_of, executed_by}
 use Rattle.hx_market.specs.declared.effect.Effect.{Effect}
-use Rattle.hx_market.specs.declared.effect.Effect.TheVariants.{Nothing, Reject, Accept, Fail, Replace, Cancel, End}
+use Rattle.hx_market.specs.declared.effect.Effect.TheVariants.{Nothing, Reject, Accept, Fail, Replace, Cancel, End, Halt, Break}
 use Rattle.hx_market.specs.declared.effect.Due.{Due}
 use Rattle.hx_market.specs.declared.effect.Due.TheVariants.{Over, ByCode}
 use Rattle.hx_market.specs.declared.effect.Expiry.{Expiry}
@@ -25,6 +25,8 @@ use Rattle.hx_rules.specs.Enter.{accept_order, order_from, reject, resolved_firm
 use Rattle.hx_rules.specs.Replace.{fail_replace, replacing_order, replace_order}
 use Rattle.hx_rules.specs.Cancel.{take_off}
 use Rattle.hx_rules.specs.Hours.{is_over, ends_by_code}
+use Rattle.hx_rules.specs.Halts.{set_state}
+use Rattle.hx_rules.specs.Breaks.{break_execution}
 
 -- An Enter that is accepted.
 
@@ -156,6 +158,8 @@ IsInRange (Fail a) = a.time < day
 IsInRange (Replace a) = IsReplacement a
 IsInRange (Cancel a) = IsReduction a
 IsInRange (End e) = AllByRecursion (λ f. feed_time f < 2 ^ 48) e.told.feed.items
+IsInRange (Halt h) = h.time < day
+IsInRange (Break b) = b.time < day
 
 -- it is one of this setup: its numbers are within their limits, and an accepted Enter is of a stock
 -- and a firm of the setup
@@ -172,6 +176,8 @@ IsOf member (Fail a) = a.member ≡ member
 IsOf member (Replace a) = a.member ≡ member
 IsOf member (Cancel a) = a.member ≡ member
 IsOf member (End e) = ⊤
+IsOf member (Halt h) = ⊤
+IsOf member (Break b) = ⊤
 
 -- the token that it uses is not used before
 abbrev pub IsUnused : List Used → ℕ → Token → Type 0
@@ -194,6 +200,8 @@ SuitsTokens tokens chains (Fail a) = IsUnused tokens a.member a.replacement
 SuitsTokens tokens chains (Replace a) = SuitsReplacement tokens chains a
 SuitsTokens tokens chains (Cancel a) = ⊤
 SuitsTokens tokens chains (End e) = ⊤
+SuitsTokens tokens chains (Halt h) = ⊤
+SuitsTokens tokens chains (Break b) = ⊤
 
 -- the live orders that it is about, where there are any
 abbrev pub IsAbout : List Live → Effect → Type 0
@@ -204,6 +212,8 @@ IsAbout orders (Fail a) = IsOnly orders a.member a.existing a.old
 IsAbout orders (Replace a) = IsOnly orders a.member a.replace.existing_token a.old
 IsAbout orders (Cancel a) = IsOnly orders a.member a.token a.old
 IsAbout orders (End e) = IsExpiry orders e
+IsAbout orders (Halt h) = ⊤
+IsAbout orders (Break b) = ⊤
 
 -- what an effect does
 abbrev pub outcome_of : Market → Effect → Outcome
@@ -215,6 +225,8 @@ outcome_of market (Fail a) =
 outcome_of market (Replace a) = replaced_by_effect market a
 outcome_of market (Cancel a) = take_off market a.member a.time a.token a.by a.old.order
 outcome_of market (End e) = ended_by market e
+outcome_of market (Halt h) = set_state market h.time h.locate h.stock h.state h.reason
+outcome_of market (Break b) = break_execution market b.time b.number b.execution
 
 -- how many hours codes are past after it
 abbrev pub hours_after : Effect → (hours : ℕ) → ℕ
@@ -225,3 +237,5 @@ hours_after (Fail a) hours = hours
 hours_after (Replace a) hours = hours
 hours_after (Cancel a) hours = hours
 hours_after (End e) hours = e.hours
+hours_after (Halt h) hours = hours
+hours_after (Break b) hours = hours

@@ -14,6 +14,8 @@ pub use Rattle.hx_rules.specs.Removal
 pub use Rattle.hx_rules.specs.Replace
 pub use Rattle.hx_rules.specs.Cancel
 pub use Rattle.hx_rules.specs.Hours
+pub use Rattle.hx_rules.specs.Halts
+pub use Rattle.hx_rules.specs.Breaks
 pub use Rattle.hx_rules.specs.OperatorMessages
 pub use Rattle.hx_rules.specs.Steps
 pub use Rattle.hx_rules.specs.Refusals

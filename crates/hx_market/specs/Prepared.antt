@@ -17,10 +17,10 @@ use Rattle.hx_members.specs.Tokens.{TokenList}
 use Rattle.hx_members.specs.declared.name.Name.{Name}
 use Rattle.hx_refs.specs.Numbers.{Numbers}
 use Rattle.hx_market.specs.Bounds.{CanAccept}
-use Rattle.hx_market.specs.MarketModel.{Planned, name_of, market_of}
+use Rattle.hx_market.specs.MarketModel.{Planned, TradingState, name_of, market_of}
 use Rattle.hx_rules.specs.declared.output.Output.{Output}
 use Rattle.hx_market.specs.declared.effect.Effect.{Effect}
-use Rattle.hx_market.specs.declared.effect.Effect.TheVariants.{Nothing, Reject, Accept, Fail, Replace, Cancel, End}
+use Rattle.hx_market.specs.declared.effect.Effect.TheVariants.{Nothing, Reject, Accept, Fail, Replace, Cancel, End, Halt, Break}
 use Rattle.hx_market.specs.declared.effect.AcceptedEnter.{AcceptedEnter}
 use Rattle.hx_market.specs.declared.effect.Replacement.{Replacement}
 use Rattle.hx_rules.specs.Orders.{is_immediate, is_shown}
@@ -31,9 +31,11 @@ use Rattle.hx_rules.specs.Replace.{is_one_display}
 use Rattle.hx_rules.specs.Steps.{happens, sender, with_record}
 use Rattle.hx_market.specs.Effects.{IsEffect, IsOf, SuitsTokens, IsAbout, incoming_of_enter, terms_of_enter, open_shares, incoming_of_replacement, terms_of_replacement, replacement_order, outcome_of}
 
--- what an effect does over a book, its tokens and its numbers: hours and counts are not read
-abbrev pub outcome_over : List Live → TokenList → Numbers → Effect → Outcome
-outcome_over orders tokens numbers effect = outcome_of (market_of orders tokens numbers 0 []) effect
+-- what an effect does over a book, its tokens and its numbers, halts and executions: hours and
+-- counts are not read
+abbrev pub outcome_over : List Live → TokenList → Numbers → TradingState → Effect → Outcome
+outcome_over orders tokens numbers trading effect =
+    outcome_of (market_of orders tokens numbers 0 [] trading) effect
 
 -- the numbers and the chains have room for the order that is accepted
 abbrev pub HasRoomFor : Market → AcceptedEnter → Type 0
@@ -106,6 +108,8 @@ effect_feed_count (Fail a) fills left = one_if a.old.order.shown
 effect_feed_count (Replace a) fills left = replaced_count a fills left
 effect_feed_count (Cancel a) fills left = one_if a.old.order.shown
 effect_feed_count (End e) fills left = length e.told.feed.items
+effect_feed_count (Halt h) fills left = 1
+effect_feed_count (Break b) fills left = 1
 
 abbrev pub effect_members : Effect → List Live → List Fill → ℕ → List ℕ
 effect_members Nothing orders fills left = []
@@ -117,6 +121,8 @@ effect_members (Replace a) orders fills left =
     arrival_members a.member (is_immediate a.replace.time_in_force) orders fills left
 effect_members (Cancel a) orders fills left = a.member ∷ []
 effect_members (End e) orders fills left = map (λ r. r.0) e.told.replies.items
+effect_members (Halt h) orders fills left = []
+effect_members (Break b) orders fills left = b.execution.maker ∷ b.execution.taker ∷ []
 
 -- the places and the plan that an effect needs: a place for the token that it uses, one for the
 -- order that may rest, and the executions
@@ -136,6 +142,8 @@ HasPlaces orders book_place name_place fills left (Replace a) =
     × AreFills (incoming_of_replacement a) (without a.old.key.0 orders) fills left
 HasPlaces orders book_place name_place fills left (Cancel a) = ⊤
 HasPlaces orders book_place name_place fills left (End e) = ⊤
+HasPlaces orders book_place name_place fills left (Halt h) = ⊤
+HasPlaces orders book_place name_place fills left (Break b) = ⊤
 
 -- the numbers and the chains have room for an effect
 abbrev pub FitsEffect : Market → Effect → Type 0
@@ -148,11 +156,14 @@ FitsEffect market (Replace a) =
     × IsChainOf market.tokens a.member a.replace.existing_token a.old.order.chain
 FitsEffect market (Cancel a) = ⊤
 FitsEffect market (End e) = ⊤
+FitsEffect market (Halt h) = ⊤
+FitsEffect market (Break b) = ⊤
 
 -- it was made for this event, over this market: it does what the event does, and its growths are
 -- made
 pub record IsPlanned (setup : Setup) (market : Market) (orders : List Live)
-    (book_place : Option Terms) (name_place : Option Name) (p : Planned) : Type 0 where
+    (book_place : Option Terms) (name_place : Option Name) (room : ℕ)
+    (p : Planned) : Type 0 where
   pub number : p.number ≡ sender p.event
   pub may_record : MayRecord market.recorded p.number
   pub does :
@@ -163,6 +174,8 @@ pub record IsPlanned (setup : Setup) (market : Market) (orders : List Live)
   pub about : IsAbout orders p.effect
   pub sender : IsOf p.number p.effect
   pub places : HasPlaces orders book_place name_place p.fills p.left p.effect
+  -- each of its executions has a place among all executions
+  pub has_room : length p.fills ≤ room
   pub feed_count :
       p.feed_count ≡ length (outcome_of (with_record p.event market) p.effect).told.feed
   pub reply_members :

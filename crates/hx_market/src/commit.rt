@@ -1,5 +1,5 @@
 //! What was prepared, done.
-ghost use Rattle.std.specs.Prelude.{◌≡◌, ◌<◌, ◌++◌, [], ◌∷◌, length, None, false};
+ghost use Rattle.std.specs.Prelude.{◌≡◌, ◌<◌, ◌≤◌, ◌++◌, [], ◌∷◌, length, None, false};
 ghost use Rattle.std.specs.Vec.{vec_len, vec_capacity};
 ghost use Rattle.hx_levels.specs.Book.{lives};
 ghost use Rattle.hx_members.specs.Chains.{is_used, entered_used, entered_chain};
@@ -15,12 +15,15 @@ mod execute;
 mod expire;
 mod incoming;
 mod replace;
+mod trading;
 
 use crate::commit::cancel::cancel;
 use crate::commit::enter::accept;
 use crate::commit::expire::end;
 use crate::commit::replace::{fail, replace};
+use crate::commit::trading::{break_match, set_state};
 use crate::effect::{Effect, RejectedEnter};
+use crate::trading::Trading;
 use hx_levels::Book;
 use hx_match::Fill;
 use hx_members::Tokens;
@@ -63,6 +66,7 @@ pub fn commit_effect<B: Book>(
     book: &mut B,
     tokens: &mut Tokens,
     refs: &mut Refs,
+    trading: &mut Trading,
     out: &mut Output,
     effect: Effect,
     fills: &[Fill],
@@ -74,29 +78,42 @@ pub fn commit_effect<B: Book>(
     requires places { HasPlaces (B.orders book.old)
         (B.place book.old) tokens.old.place fills.now left effect }
     requires keyed { AreKeyed tokens.old.tokens tokens.old.keys (B.orders book.old) }
-    requires fits { FitsEffect (market_of (B.orders book.old) tokens.old refs.old 0 []) effect }
+    requires fits { FitsEffect
+        (market_of (B.orders book.old) tokens.old refs.old 0 [] trading.old) effect }
+    requires executions_room { length fills.now ≤ trading.old.room }
     requires room { HasRoom (length fills.now) out.old }
     ensures live { lives (B.orders book.new)
-        ≡ (outcome_over (B.orders book.old) tokens.old refs.old effect).market.live }
+        ≡ (outcome_over (B.orders book.old) tokens.old refs.old trading.old effect).market.live }
     ensures tokens { tokens.new.tokens
-        ≡ (outcome_over (B.orders book.old) tokens.old refs.old effect).market.tokens }
+        ≡ (outcome_over (B.orders book.old) tokens.old refs.old trading.old effect).market.tokens }
     ensures chains { tokens.new.chains
-        ≡ (outcome_over (B.orders book.old) tokens.old refs.old effect).market.chains }
+        ≡ (outcome_over (B.orders book.old) tokens.old refs.old trading.old effect).market.chains }
     ensures keyed { AreKeyed tokens.new.tokens tokens.new.keys (B.orders book.new) }
     ensures numbers { refs.new
-        ≡ (outcome_over (B.orders book.old) tokens.old refs.old effect).market.numbers }
+        ≡ (outcome_over (B.orders book.old) tokens.old refs.old trading.old effect).market.numbers }
+    ensures halted { trading.new.halted
+        ≡ (outcome_over (B.orders book.old) tokens.old refs.old trading.old effect).market.halted }
+    ensures executions { trading.new.executions
+        ≡ (outcome_over (B.orders book.old) tokens.old refs.old trading.old
+        effect).market.executions }
     ensures feed { out.new.feed.items
-        ≡ (outcome_over (B.orders book.old) tokens.old refs.old effect).told.feed }
+        ≡ (outcome_over (B.orders book.old) tokens.old refs.old trading.old effect).told.feed }
     ensures replies { out.new.replies.items
-        ≡ (outcome_over (B.orders book.old) tokens.old refs.old effect).told.replies }
+        ≡ (outcome_over (B.orders book.old) tokens.old refs.old trading.old effect).told.replies }
 {
     match effect {
         Effect::Nothing => {}
         Effect::Reject(effect) => reject(tokens, out, &effect),
-        Effect::Accept(effect) => accept(book, tokens, refs, out, &effect, fills, left),
+        Effect::Accept(effect) => {
+            accept(book, tokens, refs, trading, out, &effect, fills, left)
+        }
         Effect::Fail(effect) => fail(book, tokens, out, &effect),
-        Effect::Replace(effect) => replace(book, tokens, refs, out, &effect, fills, left),
+        Effect::Replace(effect) => {
+            replace(book, tokens, refs, trading, out, &effect, fills, left)
+        }
         Effect::Cancel(effect) => cancel(book, out, &effect),
         Effect::End(effect) => end(book, out, effect),
+        Effect::Halt(effect) => set_state(trading, out, &effect),
+        Effect::Break(effect) => break_match(trading, out, &effect),
     }
 }

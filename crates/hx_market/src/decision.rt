@@ -10,18 +10,23 @@ ghost use Rattle.hx_rules.specs.Steps.{receive, happens, sender, time_of};
 ghost use Rattle.hx_rules.specs.Refusals.{is_from_stranger};
 ghost use Rattle.hx_market.specs.Effects.{outcome_of, IsEffect, IsOf, SuitsTokens, IsAbout};
 
+mod break_trade;
 mod cancel;
 mod enter;
 mod expiry;
+mod halt;
 mod hours;
 mod replace;
 
+use crate::decision::break_trade::break_effect;
 use crate::decision::cancel::cancel_effect;
 use crate::decision::enter::enter_effect;
 use crate::decision::expiry::tick_effect;
+use crate::decision::halt::halt_effect;
 use crate::decision::hours::hours_effect;
 use crate::decision::replace::replace_effect;
 use crate::effect::Effect;
+use crate::trading::Trading;
 use hx_levels::Book;
 use hx_members::{Setup, Tokens};
 use hx_ouch::{Inbound, decode_in};
@@ -33,6 +38,7 @@ use std::alloc::Global;
 fn message_effect<B: Book>(
     setup: &Setup,
     hours: u8,
+    trading: &Trading,
     tokens: &Tokens,
     book: &B,
     member: MemberNo,
@@ -43,18 +49,21 @@ fn message_effect<B: Book>(
     requires time { time < day }
     requires keyed { AreKeyed tokens.now.tokens tokens.now.keys (B.orders book.now) }
     ensures does { (n : Numbers) (counts : List ℕ)
-        → receive setup.now (market_of (B.orders book.now) tokens.now n hours counts) member time
+        → receive setup.now
+        (market_of (B.orders book.now) tokens.now n hours counts trading.now) member time
         (inbound_of bytes.now)
-        ≡ outcome_of (market_of (B.orders book.now) tokens.now n hours counts) result }
+        ≡ outcome_of (market_of (B.orders book.now) tokens.now n hours counts trading.now) result }
     ensures is_effect { IsEffect setup.now result }
     ensures sender { IsOf member result }
     ensures suits { SuitsTokens tokens.now.tokens tokens.now.chains result }
     ensures about { IsAbout (B.orders book.now) result }
 {
     match decode_in(bytes) {
-        Some(Inbound::Enter(enter)) => enter_effect(setup, hours, tokens, member, time, enter),
+        Some(Inbound::Enter(enter)) => {
+            enter_effect(setup, hours, trading.halted(), tokens, member, time, enter)
+        }
         Some(Inbound::Replace(replace)) => {
-            replace_effect(setup, hours, tokens, book, member, time, replace)
+            replace_effect(setup, hours, trading, tokens, book, member, time, replace)
         }
         Some(Inbound::Cancel(cancel)) => cancel_effect(tokens, book, member, time, cancel),
         None => Effect::Nothing,
@@ -67,6 +76,7 @@ pub fn effect_of<B: Book>(
     alloc: Global,
     setup: &Setup,
     hours: u8,
+    trading: &Trading,
     tokens: &Tokens,
     book: &B,
     event: &Event,
@@ -75,8 +85,9 @@ pub fn effect_of<B: Book>(
     requires time { time_of event.now < day }
     requires keyed { AreKeyed tokens.now.tokens tokens.now.keys (B.orders book.now) }
     ensures does { IfOk result (λ a. (n : Numbers) (counts : List ℕ)
-        → happens setup.now (market_of (B.orders book.now) tokens.now n hours counts) event.now
-        ≡ outcome_of (market_of (B.orders book.now) tokens.now n hours counts) a) }
+        → happens setup.now
+        (market_of (B.orders book.now) tokens.now n hours counts trading.now) event.now
+        ≡ outcome_of (market_of (B.orders book.now) tokens.now n hours counts trading.now) a) }
     ensures is_effect { IfOk result (λ a. IsEffect setup.now a) }
     ensures sender { IfOk result (λ a. IsOf (sender event.now) a) }
     ensures suits { IfOk result (λ a. SuitsTokens tokens.now.tokens tokens.now.chains a) }
@@ -89,9 +100,25 @@ pub fn effect_of<B: Book>(
             bytes,
         } => {
             let member = MemberNo::of(*member).unwrap();
-            Ok(message_effect(setup, hours, tokens, book, member, *time, bytes.as_slice()))
+            Ok(message_effect(
+                setup,
+                hours,
+                trading,
+                tokens,
+                book,
+                member,
+                *time,
+                bytes.as_slice(),
+            ))
         }
         Event::Tick { time } => tick_effect(alloc, hours, book, *time),
         Event::Hours { time, code } => hours_effect(alloc, setup, hours, book, *time, *code),
+        Event::Halt {
+            time,
+            stock,
+            state,
+            reason,
+        } => Ok(halt_effect(setup, *time, *stock, *state, *reason)),
+        Event::Break { time, number } => Ok(break_effect(trading, *time, *number)),
     }
 }

@@ -5,7 +5,7 @@ ghost use Rattle.hx_rules.specs.Replace.{is_one_display};
 
 use hx_levels::{Live, Order};
 use hx_ouch::{Enter, Replace};
-use hx_rules::{Output, is_shown};
+use hx_rules::{Match, Output, is_shown};
 use hx_units::{Firm, MemberNo, Price, Side, Symbol, Token};
 
 /// An Enter that is rejected.
@@ -113,6 +113,32 @@ pub struct Expiry {
     pub told: Output,
 }
 
+/// A stock that is halted, or that trades again.
+#[derive(Clone, Copy, Debug)]
+pub struct StateChange {
+    /// When it is, in nanoseconds since midnight.
+    pub time: u64,
+    /// The place of the stock in the setup, from 1.
+    pub locate: u16,
+    /// The stock.
+    pub stock: Symbol,
+    /// `H` halted, `T` trading (ITCH 5.0, Stock Trading Action: Trading State).
+    pub state: u8,
+    /// Why.
+    pub reason: [u8; 4],
+}
+
+/// An execution that is broken.
+#[derive(Clone, Copy, Debug)]
+pub struct BrokenMatch {
+    /// When it is, in nanoseconds since midnight.
+    pub time: u64,
+    /// Its match number.
+    pub number: u64,
+    /// The execution as it was.
+    pub execution: Match,
+}
+
 /// What an event does.
 #[derive(Drop)]
 pub enum Effect {
@@ -130,6 +156,10 @@ pub enum Effect {
     Cancel(Reduction),
     /// Orders end.
     End(Expiry),
+    /// A stock is halted, or trades again.
+    Halt(StateChange),
+    /// An execution is broken.
+    Break(BrokenMatch),
 }
 
 /// Whether the feed tells of old and new by one message, if nothing trades.

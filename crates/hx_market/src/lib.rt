@@ -13,6 +13,7 @@ mod messages;
 mod order_by_token;
 mod prepare;
 mod refuse;
+mod trading;
 
 pub use hx_laws as laws;
 pub use hx_rules::{Bytes, Event, Output, PrepareError, decode_operator};

@@ -14,6 +14,7 @@ use crate::event_counts::EventCounts;
 use crate::known::Known;
 use crate::live_orders::list_orders;
 use crate::prepare::{Prepared, make};
+use crate::trading::Trading;
 use hx_levels::{Book, Order};
 use hx_members::{ChainFacts, Setup, Tokens};
 use hx_refs::Refs;
@@ -31,6 +32,7 @@ pub struct Market<B: Book> {
     // How many of the hours codes are past.
     hours: u8,
     recorded: EventCounts,
+    trading: Trading,
     // What the last `prepare` gave, known to contracts alone.
     ready: Known<Prepared>,
     alloc: Global,
@@ -46,6 +48,7 @@ impl<B: Book + Drop> Drop for Market<B> {
             refs: _,
             hours: _,
             recorded: _,
+            trading: _,
             ready: _,
             alloc: _,
         } = self;
@@ -64,16 +67,17 @@ impl<B: Book> Model for Market<B> {
     ghost view = { λ m. record {
       setup = m.setup;
       market = market_of
-          (B.orders m.book) m.tokens m.refs m.hours m.recorded;
+          (B.orders m.book) m.tokens m.refs m.hours m.recorded m.trading;
       ready = m.ready;
     } };
 
     ghost invariant = { λ m. IsSound
-        (market_of (B.orders m.book) m.tokens m.refs m.hours m.recorded)
+        (market_of (B.orders m.book) m.tokens m.refs m.hours m.recorded m.trading)
         × AreKeyed m.tokens.tokens m.tokens.keys (B.orders m.book)
         × ((p : Planned) → m.ready ≡ Some p
-        → IsPlanned m.setup (market_of (B.orders m.book) m.tokens m.refs m.hours m.recorded)
-        (B.orders m.book) (B.place m.book) m.tokens.place p) };
+        → IsPlanned m.setup
+        (market_of (B.orders m.book) m.tokens m.refs m.hours m.recorded m.trading)
+        (B.orders m.book) (B.place m.book) m.tokens.place m.trading.room p) };
 }
 
 // How many of the hours codes are past as the day begins.
@@ -93,7 +97,9 @@ fn hours_after(effect: &Effect, hours: u8) -> u8
         | Effect::Accept(_)
         | Effect::Fail(_)
         | Effect::Replace(_)
-        | Effect::Cancel(_) => hours,
+        | Effect::Cancel(_)
+        | Effect::Halt(_)
+        | Effect::Break(_) => hours,
         Effect::End(ending) => ending.hours,
     }
 }
@@ -107,6 +113,7 @@ impl<B: Book + Drop> Market<B> {
         ensures ready { IfOk result (λ m. m.ready ≡ None) }
     {
         let hours = opening_hours(&setup);
+        let stocks = setup.stocks().len() as u16;
         Ok(Market {
             setup,
             book,
@@ -114,6 +121,7 @@ impl<B: Book + Drop> Market<B> {
             refs: Refs::new(alloc)?,
             hours,
             recorded: EventCounts::new(alloc)?,
+            trading: Trading::new(alloc, stocks)?,
             ready: Known::none(alloc),
             alloc,
         })
@@ -144,6 +152,7 @@ impl<B: Book + Drop> Market<B> {
             &self.setup,
             self.hours,
             &self.recorded,
+            &mut self.trading,
             &mut self.book,
             &mut self.tokens,
             event,
@@ -182,6 +191,7 @@ impl<B: Book + Drop> Market<B> {
             &mut self.book,
             &mut self.tokens,
             &mut self.refs,
+            &mut self.trading,
             &mut out,
             effect,
             &fills,

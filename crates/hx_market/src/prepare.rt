@@ -13,6 +13,7 @@ use crate::effect::Effect;
 use crate::event_counts::EventCounts;
 use crate::prepare::draft::{draft_effect, room_for};
 use crate::refuse::admit;
+use crate::trading::Trading;
 use hx_levels::Book;
 use hx_match::Fill;
 use hx_members::{Setup, Tokens};
@@ -74,13 +75,14 @@ impl Prepared {
     }
 }
 
-/// What is prepared for an event, with all growths that its commit needs. What contracts see of book and tokens
-/// stays, but for their reserved places.
+/// What is prepared for an event, with all growths that its commit needs. What contracts see of book, tokens and
+/// executions stays, but for their reserved places.
 pub fn make<B: Book>(
     alloc: Global,
     setup: &Setup,
     hours: u8,
     recorded: &EventCounts,
+    trading: &mut Trading,
     book: &mut B,
     tokens: &mut Tokens,
     event: &Event,
@@ -90,17 +92,21 @@ pub fn make<B: Book>(
     ensures tokens { tokens.new.tokens ≡ tokens.old.tokens }
     ensures keys { tokens.new.keys ≡ tokens.old.keys }
     ensures chains { tokens.new.chains ≡ tokens.old.chains }
+    ensures halted { trading.new.halted ≡ trading.old.halted }
+    ensures executions { trading.new.executions ≡ trading.old.executions }
     ensures event { IfOk result (λ p. p.event ≡ event.now) }
     ensures planned { IfOk result (λ p. (n : Numbers)
-        → IsPlanned setup.now (market_of (B.orders book.new) tokens.new n hours recorded.now)
-        (B.orders book.new) (B.place book.new) tokens.new.place p) }
+        → IsPlanned setup.now
+        (market_of (B.orders book.new) tokens.new n hours recorded.now trading.new)
+        (B.orders book.new) (B.place book.new) tokens.new.place trading.new.room p) }
     ensures passes { OnOk result (refusal setup.now recorded.now event.now ≡ None) }
     ensures refused { IfErr result (λ e. e
         ≡ or_no_memory (refusal setup.now recorded.now event.now)) }
 {
     let number = admit(setup, recorded, event)?;
-    let effect = effect_of(alloc, setup, hours, tokens, book, event)?;
+    let effect = effect_of(alloc, setup, hours, trading, tokens, book, event)?;
     let draft = draft_effect(alloc, book, tokens, &effect)?;
+    trading.reserve_for(&draft.fills)?;
     let out = room_for(alloc, draft.fills.len())?;
     Ok(Prepared {
         event: Snapshot::of(event),

@@ -23,7 +23,7 @@ fn number_of(event: &Event) -> u16
 {
     match event {
         Event::Message { member, .. } => *member,
-        Event::Tick { .. } | Event::Hours { .. } => 0,
+        Event::Tick { .. } | Event::Hours { .. } | Event::Halt { .. } | Event::Break { .. } => 0,
     }
 }
 
@@ -31,7 +31,11 @@ fn time_of(event: &Event) -> u64
     ensures { result ≡ time_of event.now }
 {
     match event {
-        Event::Message { time, .. } | Event::Tick { time } | Event::Hours { time, .. } => *time,
+        Event::Message { time, .. }
+        | Event::Tick { time }
+        | Event::Hours { time, .. }
+        | Event::Halt { time, .. }
+        | Event::Break { time, .. } => *time,
     }
 }
 
@@ -43,7 +47,9 @@ fn limit_of(setup: &Setup, event: &Event) -> Option<u32>
 {
     match event {
         Event::Message { member, .. } => Some(known_member(setup, *member)?.limit),
-        Event::Tick { .. } | Event::Hours { .. } => Some(u32::MAX),
+        Event::Tick { .. } | Event::Hours { .. } | Event::Halt { .. } | Event::Break { .. } => {
+            Some(u32::MAX)
+        }
     }
 }
 

@@ -8,7 +8,7 @@ use Rattle.hx_units.specs.declared.names.Symbol.{Symbol}
 use Rattle.hx_units.specs.declared.names.Token.{Token}
 use Rattle.hx_levels.specs.declared.order.Order.{Order}
 use Rattle.hx_match.specs.Matching.{Execution, Matched, matched, with_shares}
-use Rattle.hx_members.specs.Setups.{Setup, symbol_of}
+use Rattle.hx_members.specs.Setups.{Setup, locate_of, symbol_of}
 use Rattle.hx_members.specs.Chains.{is_used}
 use Rattle.hx_ouch.specs.declared.inbound.Inbound.{Inbound}
 use Rattle.hx_ouch.specs.declared.inbound.Inbound.TheVariants as inbound
@@ -19,7 +19,7 @@ use Rattle.hx_itch.specs.declared.message.Feed.{Feed}
 use Rattle.hx_itch.specs.declared.message.Feed.TheVariants.{OrderReplace, OrderCancel, OrderDelete}
 use Rattle.hx_ouch.specs.Inbound.{inbound_of}
 use Rattle.hx_rules.specs.declared.event.Event.{Event}
-use Rattle.hx_rules.specs.declared.event.Event.TheVariants.{Message, Tick, Hours}
+use Rattle.hx_rules.specs.declared.event.Event.TheVariants.{Message, Tick, Hours, Halt, Break}
 use Rattle.hx_market.specs.Markets.{Market}
 use Rattle.hx_market.specs.Orders.{is_immediate, is_shown, is_called}
 use Rattle.hx_members.specs.declared.stock.Stock.{Stock}
@@ -27,9 +27,12 @@ use Rattle.hx_market.specs.Outputs.{Reply, Told, Outcome, silent}
 use Rattle.hx_market.specs.Hours.{all_deleted, end_orders, directory, to_all, told_by_code, is_over, ends_by_code, hours_by, is_next}
 use Rattle.hx_market.specs.Executions.{feed_of_executions, replies_of_executions, published, shown_of, resting_of, canceled_of, incoming_of, Arrival, arrive, arrival_feed}
 use Rattle.hx_market.specs.Removal.{others, lessened, deleted, taken_off, canceled}
-use Rattle.hx_market.specs.Replace.{executed_of, replace_fails, handed_over, is_one_display, replacing_order, replace_feed, replace_order, replaced_by}
+use Rattle.hx_market.specs.Replace.{executed_of, is_order_halted, replace_fails, handed_over, is_one_display, replacing_order, replace_feed, replace_order, replaced_by}
 use Rattle.hx_market.specs.Cancel.{cancelled_shares, cancelled_by}
 use Rattle.hx_market.specs.Enter.{entered_by, rejection, accept_order, drawn, consumed, entered_order, next_reference}
+use Rattle.hx_market.specs.Halts.{is_trading_state, halted_by}
+use Rattle.hx_market.specs.Breaks.{execution_of, broken_if, broken_by}
+use Rattle.hx_rules.specs.declared.matches.Match.{Match}
 use Rattle.hx_market.specs.Steps.{receive, step, with_record}
 use Rattle.hx_market.proofs.Bounds.Counts.{ended}
 
@@ -172,15 +175,16 @@ replace_order_few market member time stock r old x gone =
     length-append (replies_of_executions time x.member x.token handed.numbers.matches m.fills) (canceled_of time x.member x.token immediate m.left) in
     record { feed = omega (arith, ends, one, most, rests, live, gone); replies = omega (arith, ends, one, executed, canceled_one, rests, live, replies, gone) }
 
-replaced_few : (setup : Setup) (market : Market) (member time : ℕ) (r : Replace) (o : Option Order) (used fails : Bool) → find (is_called member r.existing_token) market.live ≡ o
-    → TellsFew market.live (replaced_by setup market member time r o used fails)
-replaced_few setup market member time r None used fails e = record { feed = omega arith; replies = omega arith }
-replaced_few setup market member time r (Some old) true fails e = record { feed = omega arith; replies = omega arith }
-replaced_few setup market member time r (Some old) false true e =
+replaced_few : (setup : Setup) (market : Market) (member time : ℕ) (r : Replace) (o : Option Order) (used halted fails : Bool) → find (is_called member r.existing_token) market.live ≡ o
+    → TellsFew market.live (replaced_by setup market member time r o used halted fails)
+replaced_few setup market member time r None used halted fails e = record { feed = omega arith; replies = omega arith }
+replaced_few setup market member time r (Some old) true halted fails e = record { feed = omega arith; replies = omega arith }
+replaced_few setup market member time r (Some old) false true fails e = record { feed = omega arith; replies = omega arith }
+replaced_few setup market member time r (Some old) false false true e =
     let gone = one_gone member r.existing_token old market.live e in
     let told = length-deleted time old in
     record { feed = omega (arith, gone, told); replies = omega (arith, gone) }
-replaced_few setup market member time r (Some old) false false e =
+replaced_few setup market member time r (Some old) false false false e =
     replace_order_few market member time (symbol_of setup old.locate) r old
     (replacing_order (executed_of market member r.existing_token) (next_reference market.numbers member (is_shown r.display r.time_in_force)) time r old) (one_gone member r.existing_token old market.live e)
 
@@ -195,10 +199,10 @@ cancelled_few market member time c false (Some x) =
 
 act_few : (setup : Setup) (market : Market) (member time : ℕ) (o : Option Inbound) → TellsFew market.live (receive setup market member time o)
 act_few setup market member time None = record { feed = omega arith; replies = omega arith }
-act_few setup market member time (Some (inbound.Enter e)) = entered_few setup market member time e (is_used market.tokens member e.token) (rejection setup market.hours e)
+act_few setup market member time (Some (inbound.Enter e)) = entered_few setup market member time e (is_used market.tokens member e.token) (rejection setup market.hours market.halted e)
 act_few setup market member time (Some (inbound.Replace r)) =
     replaced_few setup market member time r (find (is_called member r.existing_token) market.live) (is_used market.tokens member r.replacement_token)
-    (replace_fails market.hours (executed_of market member r.existing_token) r) refl
+    (is_order_halted market.halted (find (is_called member r.existing_token) market.live)) (replace_fails market.hours (executed_of market member r.existing_token) r) refl
 act_few setup market member time (Some (inbound.Cancel c)) = cancelled_few market member time c _ (find (is_called member c.token) market.live)
 
 -- Of a tick and of the hours.
@@ -241,8 +245,23 @@ hours_few setup market time code true s m =
     let told = either-few (code == 83 || code == 69) (to_all setup.members time code) 4095 (omega arith) in
     ended_few (ends_by_code code) time (record market { hours = market.hours + 1 }) (told_by_code setup time code) (omega arith) (omega arith)
 
+halt_few : (market : Market) (time : ℕ) (stock : Symbol) (state : ℕ) (reason : List ℕ) (o : Option ℕ) (known : Bool) → TellsFew market.live (halted_by market time stock state reason o known)
+halt_few market time stock state reason None known = record { feed = omega arith; replies = omega arith }
+halt_few market time stock state reason (Some locate) false = record { feed = omega arith; replies = omega arith }
+halt_few market time stock state reason (Some locate) true = record { feed = omega arith; replies = omega arith }
+
+break_few : (market : Market) (time number : ℕ) (o : Option Match) → TellsFew market.live (broken_by market time number o)
+break_few market time number None = record { feed = omega arith; replies = omega arith }
+break_few market time number (Some e) = at e.broken
+  where
+    at : (b : Bool) → TellsFew market.live (broken_if market time number e b)
+    at true = record { feed = omega arith; replies = omega arith }
+    at false = record { feed = omega arith; replies = omega arith }
+
 pub told_few : (setup : Setup) (market : Market) (event : Event) → length setup.stocks ≤ 1000 → length setup.members ≤ 4095 → TellsFew market.live (step setup market event)
 unfolding step
 told_few setup market (Message member time bytes) s m = act_few setup (with_record (Message member time bytes) market) member time (inbound_of bytes)
 told_few setup market (Tick time) s m = ended_few (λ x. is_over time x.life) time (with_record (Tick time) market) silent (omega arith) (omega arith)
 told_few setup market (Hours time code) s m = hours_few setup (with_record (Hours time code) market) time code (is_next market.hours code) s m
+told_few setup market (Halt time stock state reason) s m = halt_few (with_record (Halt time stock state reason) market) time stock state reason (locate_of setup stock) (is_trading_state state)
+told_few setup market (Break time number) s m = break_few (with_record (Break time number) market) time number (execution_of market.executions number)

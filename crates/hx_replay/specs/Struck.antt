@@ -5,7 +5,8 @@ use Rattle.std.specs.Io.KnownBytes.{Consumes, Appends, IsAtEnd}
 use Rattle.hx_units.specs.Letters.{line_feed}
 use Rattle.hx_members.specs.Setups.{Setup, member_of}
 use Rattle.hx_rules.specs.declared.event.Event.{Event}
-use Rattle.hx_rules.specs.declared.event.Event.TheVariants.{Message, Tick, Hours}
+use Rattle.hx_rules.specs.declared.event.Event.TheVariants.{Message, Tick, Hours, Halt, Break}
+use Rattle.hx_market.specs.OperatorMessages.{halt_bytes, break_bytes}
 use Rattle.hx_market.specs.Markets.{Market}
 use Rattle.hx_market.specs.Steps.{run}
 use Rattle.hx_market.specs.QuietChains.{Choice, bears, is_quiet, quiet_of_one}
@@ -51,6 +52,10 @@ abbrev pub entry_of_event : Event → Entry
 entry_of_event (Message member time bytes) = record { time = time; member = member; bytes = bytes }
 entry_of_event (Tick time) = record { time = time; member = 0; bytes = 75 ∷ [] }
 entry_of_event (Hours time code) = record { time = time; member = 0; bytes = code ∷ [] }
+entry_of_event (Halt time stock state reason) =
+    record { time = time; member = 0; bytes = halt_bytes stock state reason }
+entry_of_event (Break time number) =
+    record { time = time; member = 0; bytes = break_bytes number }
 
 -- ---- the lines of a text
 

@@ -2,6 +2,7 @@
 ghost use Rattle.std.specs.Prelude.{◌≡◌, ◌++◌, ◌∷◌, [], map, IfOk, IfErr, OnOk, OnErr, IfSome, IfNone, None};
 ghost use Rattle.std.specs.Io.KnownBytes.{Consumes, IsAtEnd};
 ghost use Rattle.hx_members.specs.Setups.{member_of};
+ghost use Rattle.hx_rules.specs.OperatorMessages.{halt_bytes, break_bytes};
 ghost use Rattle.hx_replay.specs.Text.{line};
 ghost use Rattle.hx_replay.specs.Run.{tape};
 ghost use Rattle.hx_market.specs.Steps.{run};
@@ -14,11 +15,13 @@ use crate::fault::{Kind, TapeError};
 use crate::line;
 use crate::replaying::{READS, write_whole};
 use crate::run::{Counts, event_of, fault_of};
+use arrayvec::ArrayVec;
 use hx_audit::{StrikeError, strike, strike_all};
 use hx_market::Event;
 use hx_members::Setup;
 use hx_text::split_once;
-use hx_units::MemberNo;
+use hx_units::fields::{put, u64_bytes};
+use hx_units::{MemberNo, Symbol};
 use std::alloc::{AllocError, Global};
 use std::io::{ErrorKind, Read, Write};
 
@@ -162,6 +165,28 @@ fn write_line(
     Ok(())
 }
 
+// The operator's bytes of a halt.
+fn halt_bytes(stock: Symbol, state: u8, reason: [u8; 4]) -> ArrayVec<u8, 14>
+    ensures { result.items ≡ halt_bytes stock state reason }
+{
+    let mut bytes = ArrayVec::new();
+    bytes.push(b'H');
+    put(&mut bytes, &stock.0);
+    bytes.push(state);
+    put(&mut bytes, &reason);
+    bytes
+}
+
+// The operator's bytes of a break.
+fn break_bytes(number: u64) -> ArrayVec<u8, 9>
+    ensures { result.items ≡ break_bytes number }
+{
+    let mut bytes = ArrayVec::new();
+    bytes.push(b'B');
+    put(&mut bytes, &u64_bytes(number));
+    bytes
+}
+
 // Appends the line of an event.
 fn write_event(alloc: Global, text: &mut Vec<u8>, event: &Event) -> Result<(), AllocError>
     ensures { OnOk result (
@@ -175,6 +200,18 @@ fn write_event(alloc: Global, text: &mut Vec<u8>, event: &Event) -> Result<(), A
         } => write_line(alloc, text, *time, *member, bytes.as_slice()),
         Event::Tick { time } => write_line(alloc, text, *time, 0, b"K"),
         Event::Hours { time, code } => write_line(alloc, text, *time, 0, &[*code]),
+        Event::Halt {
+            time,
+            stock,
+            state,
+            reason,
+        } => {
+            let bytes = halt_bytes(*stock, *state, *reason);
+            write_line(alloc, text, *time, 0, bytes.as_slice())
+        }
+        Event::Break { time, number } => {
+            write_line(alloc, text, *time, 0, break_bytes(*number).as_slice())
+        }
     }
 }
 

@@ -2,6 +2,8 @@
 ghost use Rattle.std.specs.Prelude.{◌≡◌};
 ghost use Rattle.hx_members.specs.Setups.{standard};
 ghost use Rattle.hx_market.specs.Steps.{told};
+ghost use Rattle.hx_market.specs.QuietChains.{strike_one};
+ghost use Rattle.hx_rows.specs.HaltDays.{halts_and_breaks, halts_and_breaks_tells, halts_and_breaks_struck};
 ghost use Rattle.hx_rows.specs.Days.{one_displayed_order, one_displayed_order_tells, hidden_then_displayed, hidden_then_displayed_tells, display_beats_time, display_beats_time_tells, hidden_executions_on_both_sides, hidden_executions_on_both_sides_tells, minimum_passed_over, minimum_passed_over_tells, minimum_stays, minimum_stays_tells, displayed_immediate_or_cancel, displayed_immediate_or_cancel_tells, two_levels_taken, two_levels_taken_tells, times_going_back, times_going_back_tells, limits_of_fields, limits_of_fields_tells, failed_replace, failed_replace_tells, chain_that_traded, chain_that_traded_tells, display_changes, display_changes_tells, cancels, cancels_tells, replaces_that_trade, replaces_that_trade_tells, ticks, ticks_tells, closed, hours_of_a_day, hours_of_a_day_tells};
 
 /// What the day tells: one displayed order.
@@ -87,4 +89,14 @@ pub fn ticks()
 /// What the day tells: the hours go on.
 pub fn hours_of_a_day()
     ensures { told closed hours_of_a_day ≡ hours_of_a_day_tells }
+{}
+
+/// What the day tells: a halt, its end, and executions that are broken.
+pub fn halts_and_breaks()
+    ensures { told standard halts_and_breaks ≡ halts_and_breaks_tells }
+{}
+
+/// What stays of the day without the messages of the second member's quiet chains: all but his sell in the halt.
+pub fn halts_and_breaks_struck()
+    ensures { strike_one standard 2 halts_and_breaks ≡ halts_and_breaks_struck }
 {}

@@ -4,6 +4,7 @@ mod all_members;
 mod books;
 mod events;
 mod generated;
+mod halts;
 mod histories;
 mod lines;
 mod market;

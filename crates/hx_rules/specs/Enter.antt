@@ -1,6 +1,8 @@
 -- The rules of Enter (OUCH 4.2, Enter Order Message).
 use Rattle.std.specs.Prelude.{ℕ, ◌%◌, Bool, true, false, if◌then◌else◌, ◌==◌, ◌&&◌, ◌||◌, not, nat_lt, nat_le, List, [], ◌∷◌, ◌++◌, length, Option, Some, None, is_none, unwrap_or}
+use Rattle.std.specs.Option.{option_map_or}
 use Rattle.hx_units.specs.declared.names.Firm.{Firm}
+use Rattle.hx_units.specs.declared.names.Symbol.{Symbol}
 use Rattle.hx_units.specs.Limits.{greatest_price, most_shares}
 use Rattle.hx_units.specs.Names.{is_firm}
 use Rattle.hx_members.specs.Setups.{Setup, locate_of, firm_of, no_firm}
@@ -8,10 +10,10 @@ use Rattle.hx_members.specs.Chains.{is_used, entered_used, entered_chain}
 use Rattle.hx_refs.specs.Numbers.{Numbers, next_public, next_private, public_drawn, private_drawn}
 use Rattle.hx_ouch.specs.declared.inbound.Enter.{Enter}
 use Rattle.hx_ouch.specs.declared.outbound.Outbound.TheVariants.{Accepted, Rejected}
-use Rattle.hx_rules.specs.Letters.{no_cross, order_live, no_weight, closed, invalid_stock, other_reason, invalid_display, invalid_shares, invalid_price, invalid_minimum}
+use Rattle.hx_rules.specs.Letters.{no_cross, order_live, no_weight, closed, invalid_stock, stock_halted, other_reason, invalid_display, invalid_shares, invalid_price, invalid_minimum}
 use Rattle.hx_rules.specs.Limits.{dollar, cent, market_hours}
 use Rattle.hx_rules.specs.Orders.{Order, Token, Side, is_side, side_of, is_display, is_immediate, is_shown, life_of}
-use Rattle.hx_rules.specs.Markets.{Market, is_open, is_after_market}
+use Rattle.hx_rules.specs.Markets.{Market, is_open, is_after_market, is_halted}
 use Rattle.hx_rules.specs.Outputs.{Reply, Outcome, nothing}
 use Rattle.hx_rules.specs.Executions.{arrive, arrival_feed}
 
@@ -37,6 +39,11 @@ is_late hours time_in_force = time_in_force == market_hours && is_after_market h
 abbrev pub is_shown_minimum : (minimum display time_in_force : ℕ) → Bool
 is_shown_minimum minimum display time_in_force = nat_lt 0 minimum && is_shown display time_in_force
 
+-- whether the stock is one of the setup, and halted
+abbrev pub is_stock_halted : Setup → (halted : List Bool) → Symbol → Bool
+is_stock_halted setup halted stock =
+    option_map_or (λ locate. is_halted halted locate) (locate_of setup stock) false
+
 -- a reason to reject: whether it applies, and its letter
 pub record Reason : Type 0 where
   pub applies : Bool
@@ -47,11 +54,13 @@ abbrev pub first_reason : List Reason → Option ℕ
 first_reason [] = None
 first_reason (r ∷ rs) = if r.applies then Some r.letter else first_reason rs
 
--- the reasons in their order, with so many hours codes past (Rejected Order Message, Reason)
-abbrev pub reasons : Setup → (hours : ℕ) → Enter → List Reason
-reasons setup hours e =
+-- the reasons in their order, with so many hours codes past and these stocks halted (Rejected Order
+-- Message, Reason)
+abbrev pub reasons : Setup → (hours : ℕ) (halted : List Bool) → Enter → List Reason
+reasons setup hours halted e =
     record { applies = not (is_open hours) || is_late hours e.time_in_force; letter = closed }
     ∷ record { applies = is_none (locate_of setup e.stock); letter = invalid_stock }
+    ∷ record { applies = is_stock_halted setup halted e.stock; letter = stock_halted }
     ∷ record {
       applies = not (is_side e.side) || not (e.cross_type == no_cross);
       letter = other_reason;
@@ -67,8 +76,8 @@ reasons setup hours e =
     ∷ []
 
 -- the letter that rejects the message, if any does
-abbrev pub rejection : Setup → (hours : ℕ) → Enter → Option ℕ
-rejection setup hours e = first_reason (reasons setup hours e)
+abbrev pub rejection : Setup → (hours : ℕ) (halted : List Bool) → Enter → Option ℕ
+rejection setup hours halted e = first_reason (reasons setup hours halted e)
 
 -- ---- What an accepted message becomes
 
@@ -196,4 +205,4 @@ entered_by setup market member time e false None = accept setup market member ti
 abbrev pub enter : Setup → Market → (member time : ℕ) → Enter → Outcome
 enter setup market member time e =
     entered_by setup market member time e
-    (is_used market.tokens member e.token) (rejection setup market.hours e)
+    (is_used market.tokens member e.token) (rejection setup market.hours market.halted e)

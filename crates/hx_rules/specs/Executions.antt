@@ -10,6 +10,7 @@ use Rattle.hx_itch.specs.declared.message.Feed.TheVariants.{AddOrder, AddOrderWi
 use Rattle.hx_ouch.specs.declared.outbound.Outbound.TheVariants.{Executed, Canceled}
 use Rattle.hx_rules.specs.Letters.{attributable, added, added_hidden, removed, immediate_or_cancel}
 use Rattle.hx_rules.specs.Orders.{Order, Token, published_side}
+use Rattle.hx_rules.specs.declared.matches.Match.{Match}
 use Rattle.hx_rules.specs.Markets.{Market}
 use Rattle.hx_rules.specs.Outputs.{Reply}
 
@@ -79,6 +80,24 @@ replies_of_executions time member token number (e ∷ es) =
     to_maker time (number + 1) e
     ∷ to_taker time member token (number + 1) e
     ∷ replies_of_executions time member token (number + 1) es
+
+-- the execution of a resting order against an incoming one, as its match number names it: it is not
+-- broken
+abbrev pub match_of : (member : ℕ) (token : Token) → Order → Match
+match_of member token x =
+    record {
+      locate = x.locate;
+      maker = x.member;
+      maker_token = x.token;
+      taker = member;
+      taker_token = token;
+      broken = false;
+    }
+
+-- the executions of an incoming order, as their match numbers name them
+abbrev pub matches_of : (member : ℕ) (token : Token) → List Execution → List Match
+matches_of member token [] = []
+matches_of member token (e ∷ es) = match_of member token e.order ∷ matches_of member token es
 
 -- each execution counts for the chains of both orders; the incoming order's chain is named by its
 -- entered token
@@ -175,6 +194,7 @@ settled time immediate x market m =
         live = m.rest ++ resting;
         chains = if displays resting then note x.member entered 0 true chains else chains;
         numbers = record market.numbers { matches = market.numbers.matches + length m.fills };
+        executions = market.executions ++ matches_of x.member x.token m.fills;
       };
       executions = m.fills;
       resting = resting;

@@ -69,6 +69,10 @@ closed = letter "C"
 abbrev pub invalid_stock : ℕ
 invalid_stock = letter "S"
 
+-- the stock is halted
+abbrev pub stock_halted : ℕ
+stock_halted = letter "H"
+
 -- any other reason: side and cross type here
 abbrev pub other_reason : ℕ
 other_reason = letter "O"
@@ -88,6 +92,22 @@ invalid_price = letter "X"
 -- a minimum quantity that the order cannot have
 abbrev pub invalid_minimum : ℕ
 invalid_minimum = letter "N"
+
+-- ---- Trading states (ITCH 5.0, Stock Trading Action: Trading State)
+
+-- halted
+abbrev pub halted_state : ℕ
+halted_state = letter "H"
+
+-- trading
+abbrev pub trading_state : ℕ
+trading_state = letter "T"
+
+-- ---- Reasons to break a trade (OUCH 4.2, Broken Trade: Reason)
+
+-- supervisory: the exchange breaks it
+abbrev pub supervisory : ℕ
+supervisory = letter "S"
 
 -- ---- Event codes of the hours (ITCH 5.0, System Event Message; OUCH 4.2, System Event)
 
@@ -109,8 +129,16 @@ end_of_system_hours = letter "E"
 abbrev pub end_of_messages : ℕ
 end_of_messages = letter "C"
 
--- ---- The operator's own letter
+-- ---- The operator's own letters
 
 -- time passes: seconds that are over end their orders
 abbrev pub tick_letter : ℕ
 tick_letter = letter "K"
+
+-- a stock is halted, or trades again
+abbrev pub halt_letter : ℕ
+halt_letter = letter "H"
+
+-- an execution is broken
+abbrev pub break_letter : ℕ
+break_letter = letter "B"

@@ -9,6 +9,8 @@ pub mod Removal
 pub mod Replace
 pub mod Cancel
 pub mod Hours
+pub mod Halts
+pub mod Breaks
 pub mod OperatorMessages
 pub mod Steps
 pub mod Refusals

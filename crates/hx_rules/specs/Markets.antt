@@ -1,10 +1,11 @@
 -- The state of the market.
-use Rattle.std.specs.Prelude.{ℕ, Bool, if◌then◌else◌, ◌&&◌, nat_lt, nat_le, List, [], replicate}
+use Rattle.std.specs.Prelude.{ℕ, Bool, if◌then◌else◌, ◌&&◌, nat_lt, nat_le, suc, false, List, [], length, replicate, slice_index_or}
 use Rattle.hx_units.specs.Limits.{member_numbers}
 use Rattle.hx_members.specs.Chains.{Used, Chain}
 use Rattle.hx_members.specs.Setups.{Setup}
 use Rattle.hx_refs.specs.Numbers.{Numbers, opening_numbers}
 use Rattle.hx_rules.specs.Orders.{Order}
+use Rattle.hx_rules.specs.declared.matches.Match.{Match}
 
 pub record Market : Type 0 where
   -- the live orders, the earlier ones first: time priority is the place in this list
@@ -16,6 +17,10 @@ pub record Market : Type 0 where
   pub numbers : Numbers
   -- how many of the hours codes O, S, Q, M, E, C are past (ITCH 5.0, System Event Message)
   pub hours : ℕ
+  -- whether each stock is halted, under its locate (ITCH 5.0, Stock Trading Action Message)
+  pub halted : List Bool
+  -- the executions, in the order of their match numbers 1, 2, ..
+  pub executions : List Match
   -- how many events of each member number were recorded; the operator has number 0
   pub recorded : List ℕ
 
@@ -27,6 +32,10 @@ no_counts = replicate member_numbers 0
 abbrev pub opening_hours : Setup → ℕ
 opening_hours setup = if setup.start_open then 2 else 0
 
+-- no stock is halted: there is a place for each locate, of which 0 is no stock's
+abbrev pub none_halted : Setup → List Bool
+none_halted setup = replicate (suc (length setup.stocks)) false
+
 -- the market as the day begins
 unfoldable pub opening : Setup → Market
 opening setup =
@@ -36,8 +45,14 @@ opening setup =
       chains = [];
       numbers = opening_numbers;
       hours = opening_hours setup;
+      halted = none_halted setup;
+      executions = [];
       recorded = no_counts;
     }
+
+-- whether the stock of this locate is halted
+abbrev pub is_halted : (halted : List Bool) (locate : ℕ) → Bool
+is_halted halted locate = slice_index_or halted locate false
 
 -- whether orders are accepted: from code S, the second, to code E, the fifth
 abbrev pub is_open : (hours : ℕ) → Bool

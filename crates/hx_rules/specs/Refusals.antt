@@ -5,7 +5,7 @@ use Rattle.hx_units.specs.Limits.{day, greatest_member}
 use Rattle.hx_members.specs.Setups.{Setup, member_of}
 use Rattle.hx_members.specs.declared.stock.Member.{Member}
 use Rattle.hx_rules.specs.declared.event.Event.{Event}
-use Rattle.hx_rules.specs.declared.event.Event.TheVariants.{Message, Tick, Hours}
+use Rattle.hx_rules.specs.declared.event.Event.TheVariants.{Message, Tick, Hours, Halt, Break}
 use Rattle.hx_rules.specs.declared.fault.PrepareError.{PrepareError}
 use Rattle.hx_rules.specs.declared.fault.PrepareError.TheVariants.{NoMemory, Limit, NoMember, BadTime}
 use Rattle.hx_rules.specs.Limits.{operator_limit}
@@ -21,6 +21,8 @@ abbrev pub is_from_stranger : Setup → Event → Bool
 is_from_stranger setup (Message member time bytes) = is_none (known_member setup member)
 is_from_stranger setup (Tick time) = false
 is_from_stranger setup (Hours time code) = false
+is_from_stranger setup (Halt time stock state reason) = false
+is_from_stranger setup (Break time number) = false
 
 -- how many events may be recorded under the event's number: the member's limit, or the operator's
 abbrev pub limit_of : Setup → Event → ℕ
@@ -28,6 +30,8 @@ limit_of setup (Message member time bytes) =
     option_map_or (λ m. m.limit) (known_member setup member) 0
 limit_of setup (Tick time) = operator_limit
 limit_of setup (Hours time code) = operator_limit
+limit_of setup (Halt time stock state reason) = operator_limit
+limit_of setup (Break time number) = operator_limit
 
 -- why the market refuses an event, at so many recorded events of each number: a time that is not
 -- within the day, no such member, or a limit that is met

@@ -12,7 +12,7 @@ use Rattle.hx_ouch.specs.declared.inbound.Replace.{Replace}
 use Rattle.hx_ouch.specs.declared.outbound.Outbound.TheVariants.{Replaced}
 use Rattle.hx_rules.specs.Letters.{no_cross, order_live, no_weight, by_user}
 use Rattle.hx_rules.specs.Orders.{Order, Token, is_display, is_immediate, is_shown, life_of, is_called}
-use Rattle.hx_rules.specs.Markets.{Market}
+use Rattle.hx_rules.specs.Markets.{Market, is_halted}
 use Rattle.hx_rules.specs.Outputs.{Reply, Outcome, nothing}
 use Rattle.hx_rules.specs.Executions.{arrive, arrival_feed}
 use Rattle.hx_rules.specs.Enter.{is_bad_shares, is_bad_price, is_late, is_shown_minimum, next_reference, drawn}
@@ -160,23 +160,32 @@ succeed setup market member time r old =
     replace_order market member time (symbol_of setup old.locate) r old
     (replacing_order executed reference time r old)
 
--- by the live order that the existing token names, whether the replacement token is used, and
--- whether the Replace fails: it is ignored where there is no such order or the replacement token is
--- used; it cancels the order where it fails; else it replaces it
+-- whether there is such an order, and its stock is halted
+abbrev pub is_order_halted : (halted : List Bool) → Option Order → Bool
+is_order_halted halted None = false
+is_order_halted halted (Some x) = is_halted halted x.locate
+
+-- by the live order that the existing token names, whether the replacement token is used, whether
+-- the stock is halted, and whether the Replace fails: it is ignored where there is no such order,
+-- the replacement token is used or the stock is halted; it cancels the order where it fails; else
+-- it replaces it
 abbrev pub replaced_by :
-    Setup → Market → (member time : ℕ) → Replace → Option Order → (used fails : Bool) → Outcome
-replaced_by setup market member time r None used fails = nothing market
-replaced_by setup market member time r (Some old) true fails = nothing market
-replaced_by setup market member time r (Some old) false true =
+    Setup → Market → (member time : ℕ) → Replace → Option Order → (used halted fails : Bool)
+    → Outcome
+replaced_by setup market member time r None used halted fails = nothing market
+replaced_by setup market member time r (Some old) true halted fails = nothing market
+replaced_by setup market member time r (Some old) false true fails = nothing market
+replaced_by setup market member time r (Some old) false false true =
     fail_replace market member time r.existing_token r.replacement_token old
-replaced_by setup market member time r (Some old) false false =
+replaced_by setup market member time r (Some old) false false false =
     succeed setup market member time r old
 
 -- a member's Replace
 abbrev pub replace : Setup → Market → (member time : ℕ) → Replace → Outcome
 replace setup market member time r =
     let executed = executed_of market member r.existing_token in
-    replaced_by setup market member time r
-    (find (is_called member r.existing_token) market.live)
+    let old = find (is_called member r.existing_token) market.live in
+    replaced_by setup market member time r old
     (is_used market.tokens member r.replacement_token)
+    (is_order_halted market.halted old)
     (replace_fails market.hours executed r)

@@ -7,7 +7,7 @@ use Rattle.hx_ouch.specs.declared.inbound.Inbound.TheVariants.{Enter, Replace, C
 use Rattle.hx_ouch.specs.declared.outbound.Outbound.{Outbound}
 use Rattle.hx_ouch.specs.Inbound.{inbound_of}
 use Rattle.hx_rules.specs.declared.event.Event.{Event}
-use Rattle.hx_rules.specs.declared.event.Event.TheVariants.{Message, Tick, Hours}
+use Rattle.hx_rules.specs.declared.event.Event.TheVariants.{Message, Tick, Hours, Halt, Break}
 use Rattle.hx_rules.specs.Markets.{Market, opening}
 use Rattle.hx_refs.specs.Numbers.{raised}
 use Rattle.hx_rules.specs.Outputs.{Reply, Told, Outcome, nothing}
@@ -15,6 +15,8 @@ use Rattle.hx_rules.specs.Enter.{enter}
 use Rattle.hx_rules.specs.Replace.{replace}
 use Rattle.hx_rules.specs.Cancel.{cancel}
 use Rattle.hx_rules.specs.Hours.{tick, next_hours}
+use Rattle.hx_rules.specs.Halts.{halt}
+use Rattle.hx_rules.specs.Breaks.{break_trade}
 
 -- what a member's message does (OUCH 4.2, Inbound Messages). One that is not readable has no effect
 abbrev pub receive : Setup → Market → (member time : ℕ) → Option Inbound → Outcome
@@ -29,18 +31,25 @@ happens setup market (Message member time bytes) =
     receive setup market member time (inbound_of bytes)
 happens setup market (Tick time) = tick market time
 happens setup market (Hours time code) = next_hours setup market time code
+happens setup market (Halt time stock state reason) =
+    halt setup market time stock state reason
+happens setup market (Break time number) = break_trade market time number
 
 -- the number under which an event is recorded: its member's, or the operator's
 abbrev pub sender : Event → ℕ
 sender (Message member time bytes) = member
 sender (Tick time) = 0
 sender (Hours time code) = 0
+sender (Halt time stock state reason) = 0
+sender (Break time number) = 0
 
 -- when the event was
 abbrev pub time_of : Event → ℕ
 time_of (Message member time bytes) = time
 time_of (Tick time) = time
 time_of (Hours time code) = time
+time_of (Halt time stock state reason) = time
+time_of (Break time number) = time
 
 -- the market with the event counted under its number
 abbrev pub with_record : Event → Market → Market

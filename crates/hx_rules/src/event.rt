@@ -1,7 +1,7 @@
 //! Events: what the market is told, each with its time.
 ghost use Rattle.std.specs.Prelude.{◌≡◌, IfOk, List};
 
-use hx_units::NoMemory;
+use hx_units::{NoMemory, Symbol};
 use std::alloc::Global;
 use std::marker::Model;
 
@@ -42,8 +42,8 @@ impl Bytes {
     }
 }
 
-/// One event of the market: a member's message, a tick, or the hours' next code. Its time is in nanoseconds
-/// since midnight, and it is that of all that the event gives.
+/// One event of the market: a member's message, or one of the operator: a tick, the hours' next code, a halt, or a
+/// break. Its time is in nanoseconds since midnight, and it is that of all that the event gives.
 #[derive(Drop)]
 pub enum Event {
     /// A message of a member, an OUCH 4.2 message where it is readable.
@@ -67,6 +67,24 @@ pub enum Event {
         /// The event code: `O`, `S`, `Q`, `M`, `E` or `C`.
         code: u8,
     },
+    /// The operator halts a stock, or lets it trade (ITCH 5.0, Stock Trading Action Message).
+    Halt {
+        /// When it is, in nanoseconds since midnight.
+        time: u64,
+        /// The stock.
+        stock: Symbol,
+        /// `H` halted, `T` trading.
+        state: u8,
+        /// Why, as the feed tells it.
+        reason: [u8; 4],
+    },
+    /// The operator breaks an execution (ITCH 5.0, Broken Trade Message).
+    Break {
+        /// When it is, in nanoseconds since midnight.
+        time: u64,
+        /// The match number of the execution.
+        number: u64,
+    },
 }
 
 impl Event {
@@ -88,6 +106,21 @@ impl Event {
             Event::Hours { time, code } => Event::Hours {
                 time: *time,
                 code: *code,
+            },
+            Event::Halt {
+                time,
+                stock,
+                state,
+                reason,
+            } => Event::Halt {
+                time: *time,
+                stock: *stock,
+                state: *state,
+                reason: *reason,
+            },
+            Event::Break { time, number } => Event::Break {
+                time: *time,
+                number: *number,
             },
         })
     }

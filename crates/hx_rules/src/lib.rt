@@ -3,12 +3,14 @@
 
 mod event;
 mod fault;
+mod matches;
 mod operator;
 mod output;
 mod rules;
 
 pub use event::{Bytes, Event};
 pub use fault::PrepareError;
+pub use matches::Match;
 pub use operator::decode_operator;
 pub use output::Output;
-pub use rules::{is_shown, life_of, published_side, rejection, replace_fails, side_of};
+pub use rules::{is_halted, is_shown, life_of, published_side, rejection, replace_fails, side_of};

@@ -1,7 +1,7 @@
 //! The rules of Enter and Replace (OUCH 4.2, Enter Order and Replace Order Message).
 ghost use Rattle.std.specs.Prelude.{◌≡◌, ◌<◌, ◌^◌};
 ghost use Rattle.hx_rules.specs.Orders.{is_side, side_of, is_visible, is_display, is_shown, life_of, published_side};
-ghost use Rattle.hx_rules.specs.Markets.{is_open};
+ghost use Rattle.hx_rules.specs.Markets.{is_open, is_halted};
 ghost use Rattle.hx_rules.specs.Enter.{rejection, is_bad_shares, is_bad_price, is_late};
 ghost use Rattle.hx_rules.specs.Replace.{replace_fails};
 
@@ -95,14 +95,29 @@ fn is_late(hours: u8, time_in_force: u32) -> bool
     time_in_force == 99998 && hours >= 4
 }
 
-/// The letter of the first reason to reject a message, at this many hours codes past.
-pub fn rejection(setup: &Setup, hours: u8, enter: &Enter) -> Option<u8>
-    ensures { result ≡ rejection setup.now hours enter.now }
+/// Whether the stock of this locate is halted.
+pub fn is_halted(halted: &[bool], locate: u16) -> bool
+    ensures { result ≡ is_halted halted.now locate }
+{
+    match halted.get(locate as usize) {
+        Some(is_halted) => *is_halted,
+        None => false,
+    }
+}
+
+/// The letter of the first reason to reject a message, at this many hours codes past, and with these stocks halted,
+/// each under its locate.
+pub fn rejection(setup: &Setup, hours: u8, halted: &[bool], enter: &Enter) -> Option<u8>
+    ensures { result ≡ rejection setup.now hours halted.now enter.now }
 {
     if !is_open(hours) || is_late(hours, enter.time_in_force) {
-        Some(b'C')
-    } else if setup.locate(enter.stock).is_none() {
-        Some(b'S')
+        return Some(b'C');
+    }
+    let Some(locate) = setup.locate(enter.stock) else {
+        return Some(b'S');
+    };
+    if is_halted(halted, locate) {
+        Some(b'H')
     } else if !is_side(enter.side) || enter.cross_type != b'N' {
         Some(b'O')
     } else if !is_display(enter.display) {

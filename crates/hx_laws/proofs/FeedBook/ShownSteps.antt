@@ -3,7 +3,8 @@ use Rattle.std.proofs.Common.{◌≡◌, ℕ, ◌+◌, Bool, true, false, cond, 
 use Rattle.std.specs.Prelude.{if◌then◌else◌}
 use Rattle.std.specs.List.{filter, find}
 use Rattle.hx_levels.proofs.Lists.{all_weaker, all_filtered}
-use Rattle.hx_members.specs.Setups.{Setup, symbol_of}
+use Rattle.hx_units.specs.declared.names.Symbol.{Symbol}
+use Rattle.hx_members.specs.Setups.{Setup, locate_of, symbol_of}
 use Rattle.hx_members.specs.declared.stock.Stock.{Stock}
 use Rattle.hx_members.specs.Chains.{is_used, entered_used}
 use Rattle.hx_ouch.specs.declared.inbound.Inbound.TheVariants.{Enter, Replace, Cancel}
@@ -13,15 +14,18 @@ use Rattle.hx_ouch.specs.declared.inbound.Replace.{Replace as Change}
 use Rattle.hx_ouch.specs.declared.inbound.Cancel.{Cancel as Less}
 use Rattle.hx_ouch.specs.Inbound.{inbound_of}
 use Rattle.hx_rules.specs.declared.event.Event.{Event}
-use Rattle.hx_rules.specs.declared.event.Event.TheVariants.{Message, Tick, Hours}
+use Rattle.hx_rules.specs.declared.event.Event.TheVariants.{Message, Tick, Hours, Halt, Break}
 use Rattle.hx_rules.specs.Orders.{Order, Token, is_called, is_shown, is_immediate}
+use Rattle.hx_rules.specs.declared.matches.Match.{Match}
 use Rattle.hx_rules.specs.Markets.{Market}
 use Rattle.hx_rules.specs.Outputs.{Told, silent}
 use Rattle.hx_rules.specs.Enter.{consumed, drawn, next_reference, rejection, reject, accept_order, entered_order, entered_by, enter}
 use Rattle.hx_rules.specs.Removal.{less, lessened}
-use Rattle.hx_rules.specs.Replace.{executed_of, replace_fails, fail_replace, replaced_by, replace}
+use Rattle.hx_rules.specs.Replace.{executed_of, is_order_halted, replace_fails, fail_replace, replaced_by, replace}
 use Rattle.hx_rules.specs.Cancel.{take_off, cancelled_by, cancel}
 use Rattle.hx_rules.specs.Hours.{end_orders, is_over, all_deleted, ends_by_code, directory, told_by_code, hours_by, next_hours}
+use Rattle.hx_rules.specs.Halts.{is_trading_state, halted_by, halt}
+use Rattle.hx_rules.specs.Breaks.{execution_of, broken_if, broken_by, break_trade}
 use Rattle.hx_rules.specs.Steps.{receive, happens}
 use Rattle.hx_laws.specs.FeedBook.{ShownOrder, book_from}
 use Rattle.hx_laws.proofs.History.CoherentMarkets.{IsKnown}
@@ -130,25 +134,27 @@ code_book setup time code b = choose (eqb code 79)
 -- Every event.
 
 enter_keeps : (setup : Setup) (a : Market) (m time : ℕ) (e : NewOrder) → IsBooked a → KeepsBook setup a (enter setup a m time e)
-enter_keeps setup a m time e g = choose (is_used a.tokens m e.token) refl (rejection setup a.hours e) refl
+enter_keeps setup a m time e g = choose (is_used a.tokens m e.token) refl (rejection setup a.hours a.halted e) refl
   where
-    choose : (u : Bool) → is_used a.tokens m e.token ≡ u → (o : Option ℕ) → rejection setup a.hours e ≡ o → KeepsBook setup a (entered_by setup a m time e u o)
+    choose : (u : Bool) → is_used a.tokens m e.token ≡ u → (o : Option ℕ) → rejection setup a.hours a.halted e ≡ o → KeepsBook setup a (entered_by setup a m time e u o)
     choose true h o f = idle_keeps setup a g
     choose false h (Some letter) f = reject_keeps setup a m time e.token letter g
     choose false h None f =
         accept_keeps setup a time e (entered_order setup (length a.tokens) (next_reference a.numbers m (is_shown e.display e.time_in_force)) m time e) h refl
-        (accepted_minimum setup a.hours e f) (accepted_stock setup a.hours e f) g
+        (accepted_minimum setup a.hours a.halted e f) (accepted_stock setup a.hours a.halted e f) g
 
 replace_keeps : (setup : Setup) (a : Market) (m time : ℕ) (r : Change) → Coherent a → IsBooked a → KeepsBook setup a (replace setup a m time r)
 replace_keeps setup a m time r s g =
-    choose (find (is_called m r.existing_token) a.live) refl (is_used a.tokens m r.replacement_token) refl (replace_fails a.hours (executed_of a m r.existing_token) r) refl
+    choose (find (is_called m r.existing_token) a.live) refl (is_used a.tokens m r.replacement_token) refl
+    (is_order_halted a.halted (find (is_called m r.existing_token) a.live)) (replace_fails a.hours (executed_of a m r.existing_token) r) refl
   where
     choose : (o : Option Order) → find (is_called m r.existing_token) a.live ≡ o → (u : Bool) → is_used a.tokens m r.replacement_token ≡ u
-        → (f : Bool) → replace_fails a.hours (executed_of a m r.existing_token) r ≡ f → KeepsBook setup a (replaced_by setup a m time r o u f)
-    choose None h u k f l = idle_keeps setup a g
-    choose (Some old) h true k f l = idle_keeps setup a g
-    choose (Some old) h false k true l = fail_keeps setup a m time r.existing_token r.replacement_token old g h
-    choose (Some old) h false k false l = succeed_keeps setup a m time r old g h (found_of (IsKnown a.tokens a.chains) m r.existing_token a.live old s.known h).1.0 k l
+        → (d f : Bool) → replace_fails a.hours (executed_of a m r.existing_token) r ≡ f → KeepsBook setup a (replaced_by setup a m time r o u d f)
+    choose None h u k d f l = idle_keeps setup a g
+    choose (Some old) h true k d f l = idle_keeps setup a g
+    choose (Some old) h false k true f l = idle_keeps setup a g
+    choose (Some old) h false k false true l = fail_keeps setup a m time r.existing_token r.replacement_token old g h
+    choose (Some old) h false k false false l = succeed_keeps setup a m time r old g h (found_of (IsKnown a.tokens a.chains) m r.existing_token a.live old s.known h).1.0 k l
 
 cancel_keeps : (setup : Setup) (a : Market) (m time : ℕ) (c : Less) → IsBooked a → KeepsBook setup a (cancel a m time c)
 cancel_keeps setup a m time c g = choose _ (find (is_called m c.token) a.live) refl
@@ -170,6 +176,27 @@ hours_keeps setup a time code g = choose _
         let k = end_keeps setup (ends_by_code code) time (record a { hours = a.hours + 1 }) (told_by_code setup time code) turned (code_book setup time code) in
         record { book = k.book; good = k.good }
 
+-- the feed's message of a halt is no order's
+halt_keeps : (setup : Setup) (a : Market) (time : ℕ) (stock : Symbol) (state : ℕ) (reason : List ℕ) → IsBooked a → KeepsBook setup a (halt setup a time stock state reason)
+halt_keeps setup a time stock state reason g = choose (locate_of setup stock) (is_trading_state state)
+  where
+    choose : (o : Option ℕ) (known : Bool) → KeepsBook setup a (halted_by a time stock state reason o known)
+    choose None known = idle_keeps setup a g
+    choose (Some locate) false = idle_keeps setup a g
+    choose (Some locate) true = record { book = refl; good = record { apart = g.apart; old = g.old; some = g.some } }
+
+-- nor is that of a break
+break_keeps : (setup : Setup) (a : Market) (time number : ℕ) → IsBooked a → KeepsBook setup a (break_trade a time number)
+break_keeps setup a time number g = choose (execution_of a.executions number)
+  where
+    choose_if : (e : Match) (broken : Bool) → KeepsBook setup a (broken_if a time number e broken)
+    choose_if e true = idle_keeps setup a g
+    choose_if e false = record { book = refl; good = record { apart = g.apart; old = g.old; some = g.some } }
+
+    choose : (o : Option Match) → KeepsBook setup a (broken_by a time number o)
+    choose None = idle_keeps setup a g
+    choose (Some e) = choose_if e e.broken
+
 act_keeps : (setup : Setup) (a : Market) (m time : ℕ) (x : Option Inbound) → Coherent a → IsBooked a → KeepsBook setup a (receive setup a m time x)
 act_keeps setup a m time None s g = idle_keeps setup a g
 act_keeps setup a m time (Some (Enter e)) s g = enter_keeps setup a m time e g
@@ -180,3 +207,5 @@ pub happens_keeps : (setup : Setup) (a : Market) (event : Event) → Coherent a 
 happens_keeps setup a (Message m time bytes) s g = act_keeps setup a m time (inbound_of bytes) s g
 happens_keeps setup a (Tick time) s g = end_keeps setup (λ x. is_over time x.life) time a silent g (λ b. refl)
 happens_keeps setup a (Hours time code) s g = hours_keeps setup a time code g
+happens_keeps setup a (Halt time stock state reason) s g = halt_keeps setup a time stock state reason g
+happens_keeps setup a (Break time number) s g = break_keeps setup a time number g

@@ -33,16 +33,16 @@ some_shares : (n : ℕ) → is_bad_shares n ≡ false → ltb 0 n ≡ true
 some_shares n h = grind (arith, nat_tests)
 
 -- a message of no shares is rejected
-pub accepted_shares : (setup : Setup) (hours : ℕ) (e : Enter) → rejection setup hours e ≡ None → ltb 0 e.shares ≡ true
-accepted_shares setup hours e h = some_shares e.shares (no_reason (reasons setup hours e) h).1.1.1.1.0
+pub accepted_shares : (setup : Setup) (hours : ℕ) (halted : List Bool) (e : Enter) → rejection setup hours halted e ≡ None → ltb 0 e.shares ≡ true
+accepted_shares setup hours halted e h = some_shares e.shares (no_reason (reasons setup hours halted e) h).1.1.1.1.1.0
 
 no_minimum : (n : ℕ) (a b : Bool) → (a || (ltb 0 n && b)) ≡ false → b ≡ true → n ≡ 0
 no_minimum n a b h e = grind (arith, nat_tests)
 
 -- an accepted order that is shown has no minimum
-pub accepted_minimum : (setup : Setup) (hours : ℕ) (e : Enter) → rejection setup hours e ≡ None → is_shown e.display e.time_in_force ≡ true → e.minimum_quantity ≡ 0
-accepted_minimum setup hours e h s =
-    no_minimum e.minimum_quantity (ltb e.shares e.minimum_quantity) (is_shown e.display e.time_in_force) (no_reason (reasons setup hours e) h).1.1.1.1.1.1.0 s
+pub accepted_minimum : (setup : Setup) (hours : ℕ) (halted : List Bool) (e : Enter) → rejection setup hours halted e ≡ None → is_shown e.display e.time_in_force ≡ true → e.minimum_quantity ≡ 0
+accepted_minimum setup hours halted e h s =
+    no_minimum e.minimum_quantity (ltb e.shares e.minimum_quantity) (is_shown e.display e.time_in_force) (no_reason (reasons setup hours halted e) h).1.1.1.1.1.1.1.0 s
 
 -- the stock of an accepted order is one of the setup, and stands at its place
 record StandsAt (stocks : List Stock) (symbol : Symbol) (n k : ℕ) : Type 0 where
@@ -78,8 +78,8 @@ symbol_at setup symbol k h =
     found None g = absurd (cc g)
     found (Some s) g = let same : s.symbol ≡ symbol = cc in same
 
-pub accepted_stock : (setup : Setup) (hours : ℕ) (e : Enter) → rejection setup hours e ≡ None → symbol_of setup (unwrap_or (locate_of setup e.stock) 0) ≡ e.stock
-accepted_stock setup hours e h = choose (locate_of setup e.stock) refl (no_reason (reasons setup hours e) h).1.0
+pub accepted_stock : (setup : Setup) (hours : ℕ) (halted : List Bool) (e : Enter) → rejection setup hours halted e ≡ None → symbol_of setup (unwrap_or (locate_of setup e.stock) 0) ≡ e.stock
+accepted_stock setup hours halted e h = choose (locate_of setup e.stock) refl (no_reason (reasons setup hours halted e) h).1.0
   where
     choose : (o : Option ℕ) → locate_of setup e.stock ≡ o → is_none o ≡ false → symbol_of setup (unwrap_or o 0) ≡ e.stock
     choose None g f = absurd (let z : true ≡ false = f in cc)

@@ -39,6 +39,12 @@ alike_matches s a b r = ap (λ (z : Market). z.numbers.matches) r.rest
 pub alike_hours : (s : Choice) (a b : Market) → IsAlike s a b → a.hours ≡ b.hours
 alike_hours s a b r = ap (λ (z : Market). z.hours) r.rest
 
+pub alike_halted : (s : Choice) (a b : Market) → IsAlike s a b → a.halted ≡ b.halted
+alike_halted s a b r = ap (λ (z : Market). z.halted) r.rest
+
+pub alike_executions : (s : Choice) (a b : Market) → IsAlike s a b → a.executions ≡ b.executions
+alike_executions s a b r = ap (λ (z : Market). z.executions) r.rest
+
 -- What is told of tokens that are not chosen.
 
 pub alike_used : (s : Choice) (a b : Market) → IsAlike s a b → (m : ℕ) (t : Token) → s m t ≡ false → is_used a.tokens m t ≡ is_used b.tokens m t

@@ -5,8 +5,9 @@ use Rattle.hx_match.specs.declared.fills.Incoming.{Incoming}
 use Rattle.hx_match.specs.Matching.{Execution, Matched, matched, with_shares}
 use Rattle.hx_members.specs.Chains.{Used, Chain, entered_of, note}
 use Rattle.hx_rules.specs.Orders.{Order, Token}
+use Rattle.hx_rules.specs.declared.matches.Match.{Match}
 use Rattle.hx_rules.specs.Markets.{Market}
-use Rattle.hx_rules.specs.Executions.{incoming_of, chains_after, replies_of_executions, canceled_of, resting_of, displays, Arrival, settled, arrive}
+use Rattle.hx_rules.specs.Executions.{incoming_of, matches_of, chains_after, replies_of_executions, canceled_of, resting_of, displays, Arrival, settled, arrive}
 use Rattle.hx_laws.specs.QuietChains.{Choice}
 use Rattle.hx_laws.specs.Laws.{AreSpared}
 use Rattle.hx_laws.proofs.Quiet.KeptViews.{none, blank, kept, kept_chains, kept_matched, blank_executions}
@@ -23,6 +24,10 @@ none_chosen (e ∷ es) = (refl, none_chosen es)
 pub length-blank : (es : List Execution) → length (blank_executions true es) ≡ length es
 length-blank [] = refl
 length-blank (e ∷ es) = rw (length-blank es) refl
+
+matches-blank : (m : ℕ) (t : Token) (es : List Execution) → matches_of m t (blank_executions true es) ≡ matches_of m t es
+matches-blank m t [] = refl
+matches-blank m t (e ∷ es) = rw (matches-blank m t es) refl
 
 chains-blank : (ts : List Used) (m : ℕ) (e : Token) (es : List Execution) (cs : List Chain) → chains_after ts m e (blank_executions true es) cs ≡ chains_after ts m e es cs
 chains-blank ts m e [] cs = refl
@@ -73,8 +78,18 @@ settled_alike s a b r time immediate x y p e ma mb q h =
         chains = displayed_kept s (displays (resting_of x immediate ma.left)) x.member ea (chains_after a.tokens x.member ea ma.fills a.chains) ∙ (rw (shows, chains, entered, member) refl);
         counts = r.counts;
         private = r.private;
-        rest = ap (λ (z : Market). record z { numbers = record z.numbers { matches = z.numbers.matches + length ma.fills } }) r.rest
-            ∙ ap (λ (n : ℕ). record (rest_of b) { numbers = record b.numbers { private = []; matches = b.numbers.matches + n } }) number;
+        rest = ap (λ (z : Market). record z {
+              numbers = record z.numbers { matches = z.numbers.matches + length ma.fills };
+              executions = z.executions ++ matches_of x.member x.token ma.fills;
+            }) r.rest
+            ∙ ap (λ (n : ℕ). record (rest_of b) {
+              numbers = record b.numbers { private = []; matches = b.numbers.matches + n };
+              executions = b.executions ++ matches_of x.member x.token ma.fills;
+            }) number
+            ∙ ap (λ (ms : List Match). record (rest_of b) {
+              numbers = record b.numbers { private = []; matches = b.numbers.matches + length mb.fills };
+              executions = b.executions ++ ms;
+            }) done;
       };
       executions = fills;
       resting = resting_kept none x immediate ma.left refl ∙ rests ∙ sym (resting_kept none y immediate mb.left refl);
@@ -102,6 +117,9 @@ settled_alike s a b r time immediate x y p e ma mb q h =
 
     number : length ma.fills ≡ length mb.fills
     number = sym (length-blank ma.fills) ∙ ap length fills ∙ length-blank mb.fills
+
+    done : matches_of x.member x.token ma.fills ≡ matches_of y.member y.token mb.fills
+    done = sym (matches-blank x.member x.token ma.fills) ∙ (rw (member, token, fills) (matches-blank y.member y.token mb.fills))
 
     ea : Token
     ea = entered_of a.tokens x.member x.token

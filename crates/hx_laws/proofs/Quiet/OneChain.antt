@@ -11,12 +11,12 @@ use Rattle.hx_ouch.specs.declared.inbound.Inbound.{Inbound}
 use Rattle.hx_ouch.specs.declared.inbound.Inbound.TheVariants.{Enter, Replace, Cancel}
 use Rattle.hx_ouch.specs.declared.inbound.Replace.{Replace as Change}
 use Rattle.hx_ouch.specs.Inbound.{inbound_of}
-use Rattle.hx_rules.specs.declared.event.Event.TheVariants.{Message, Tick, Hours}
+use Rattle.hx_rules.specs.declared.event.Event.TheVariants.{Message, Tick, Hours, Halt, Break}
 use Rattle.hx_rules.specs.Orders.{Order, Token, is_called}
 use Rattle.hx_rules.specs.Markets.{Market}
 use Rattle.hx_rules.specs.Outputs.{Outcome, nothing}
 use Rattle.hx_rules.specs.Enter.{consumed, rejection, reject, accept, entered_by}
-use Rattle.hx_rules.specs.Replace.{handed_over, executed_of, replace_fails, fail_replace, succeed, replaced_by}
+use Rattle.hx_rules.specs.Replace.{handed_over, executed_of, is_order_halted, replace_fails, fail_replace, succeed, replaced_by}
 use Rattle.hx_rules.specs.Cancel.{cancelled_by}
 use Rattle.hx_rules.specs.Steps.{receive, with_record, step, run}
 use Rattle.hx_laws.specs.QuietChains.{message_bears}
@@ -66,7 +66,7 @@ of_both a m q o c = record { root = λ _. (entered_of o.market.tokens m q.existi
 
 act_of : (setup : Setup) (a : Market) → Coherent a → (m time : ℕ) (x : Option Inbound) → IsOfOne a m x (receive setup a m time x)
 act_of setup a coherent m time None = idle a m None
-act_of setup a coherent m time (Some (Enter e)) = choose (is_used a.tokens m e.token) (rejection setup a.hours e)
+act_of setup a coherent m time (Some (Enter e)) = choose (is_used a.tokens m e.token) (rejection setup a.hours a.halted e)
   where
     used : (o : Outcome) → Moves (consumed a m e.token) o.market → is_used o.market.tokens m e.token ≡ true
     used o moves = moves.grows.used m e.token (used_last a.tokens (entered_used m e.token))
@@ -76,18 +76,20 @@ act_of setup a coherent m time (Some (Enter e)) = choose (is_used a.tokens m e.t
     choose false (Some letter) = of_token a m _ (reject a m time e.token letter) e.token (used (reject a m time e.token letter) (Moves_refl _)) (λ t b. only_same m t e.token b)
     choose false None = of_token a m _ (accept setup a m time e) e.token (used (accept setup a m time e) (after_consumed a time e _)) (λ t b. only_same m t e.token b)
 act_of setup a coherent m time (Some (Replace q)) =
-    choose (find (is_called m q.existing_token) a.live) refl (is_used a.tokens m q.replacement_token) refl (replace_fails a.hours (executed_of a m q.existing_token) q)
+    choose (find (is_called m q.existing_token) a.live) refl (is_used a.tokens m q.replacement_token) refl
+    (is_order_halted a.halted (find (is_called m q.existing_token) a.live)) (replace_fails a.hours (executed_of a m q.existing_token) q)
   where
     joined : (x : Order) → find (is_called m q.existing_token) a.live ≡ Some x → is_used a.tokens m q.replacement_token ≡ false
         → (o : Outcome) → Moves (handed_over a m q.existing_token q.replacement_token) o.market → IsOfOne a m (Some (Replace q)) o
     joined x e h o moves = of_both a m q o (joined_one a o.market m q.existing_token q.replacement_token (called_used a m q.existing_token x coherent e) h moves)
 
-    choose : (o : Option Order) → find (is_called m q.existing_token) a.live ≡ o → (u : Bool) → is_used a.tokens m q.replacement_token ≡ u → (f : Bool)
-        → IsOfOne a m (Some (Replace q)) (replaced_by setup a m time q o u f)
-    choose None e u h f = idle a m (Some (Replace q))
-    choose (Some x) e true h f = idle a m (Some (Replace q))
-    choose (Some x) e false h true = joined x e h (fail_replace a m time q.existing_token q.replacement_token x) (Moves_refl _)
-    choose (Some x) e false h false =
+    choose : (o : Option Order) → find (is_called m q.existing_token) a.live ≡ o → (u : Bool) → is_used a.tokens m q.replacement_token ≡ u → (d f : Bool)
+        → IsOfOne a m (Some (Replace q)) (replaced_by setup a m time q o u d f)
+    choose None e u h d f = idle a m (Some (Replace q))
+    choose (Some x) e true h d f = idle a m (Some (Replace q))
+    choose (Some x) e false h true f = idle a m (Some (Replace q))
+    choose (Some x) e false h false true = joined x e h (fail_replace a m time q.existing_token q.replacement_token x) (Moves_refl _)
+    choose (Some x) e false h false false =
         joined x e h (succeed setup a m time q x)
         (after_joined a m time (symbol_of setup x.locate) q x (replacement_of a m time q x) (found_of (IsKnown a.tokens a.chains) m q.existing_token a.live x coherent.known e).1.0 refl)
 act_of setup a coherent m time (Some (Cancel c)) = choose _ (find (is_called m c.token) a.live) refl (cancel_moves a m time c)
@@ -121,3 +123,5 @@ one_chain setup events (Message m time bytes) p t u ht hu effect =
     rw (← own) (record { first = ft.0; second = fu.0; same = ft.1 ∙ sym fu.1 })
 one_chain setup events (Tick time) p t u ht hu effect = absurd (let z : false ≡ true = ht in cc)
 one_chain setup events (Hours time code) p t u ht hu effect = absurd (let z : false ≡ true = ht in cc)
+one_chain setup events (Halt time stock state reason) p t u ht hu effect = absurd (let z : false ≡ true = ht in cc)
+one_chain setup events (Break time number) p t u ht hu effect = absurd (let z : false ≡ true = ht in cc)

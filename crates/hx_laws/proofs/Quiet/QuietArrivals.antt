@@ -1,5 +1,5 @@
 -- Quiet chains were quiet before, execute nothing, and show nothing.
-use Rattle.std.proofs.Common.{◌≡◌, ℕ, ◌+◌, Bool, true, false, cond, refl, ap, ◌∙◌, sym, ltb, ◌&&◌, not, List, [], ◌∷◌, length}
+use Rattle.std.proofs.Common.{◌≡◌, ℕ, ◌+◌, Bool, true, false, cond, refl, ap, ◌∙◌, sym, ltb, ◌&&◌, not, List, [], ◌∷◌, ◌++◌, length}
 use Rattle.std.specs.Prelude.{if◌then◌else◌}
 use Rattle.std.specs.List.{AllByRecursion}
 use Rattle.std.proofs.lemmas.List.{append-nil}
@@ -8,8 +8,9 @@ use Rattle.hx_match.specs.Matching.{Execution, Matched, matched, with_shares}
 use Rattle.hx_members.specs.Chains.{Used, Chain, is_used, entered_of, note, has_chain, is_loud}
 use Rattle.hx_members.proofs.ChainLaws.{has_chain-note}
 use Rattle.hx_rules.specs.Orders.{Order, Token}
+use Rattle.hx_rules.specs.declared.matches.Match.{Match}
 use Rattle.hx_rules.specs.Markets.{Market}
-use Rattle.hx_rules.specs.Executions.{incoming_of, chains_after, resting_of, displays, arrive}
+use Rattle.hx_rules.specs.Executions.{incoming_of, matches_of, chains_after, resting_of, displays, arrive}
 use Rattle.hx_laws.specs.QuietChains.{Choice}
 use Rattle.hx_laws.specs.Laws.{AreSpared, AreQuietChains}
 use Rattle.hx_laws.proofs.Quiet.QuietBefore.{not_both}
@@ -151,6 +152,10 @@ struck_arrive s a b r time immediate x e q =
       counts = r.counts;
       private = r.private;
       rest =
-          ap (λ (es : List Execution). record (rest_of a) { numbers = record a.numbers { private = []; matches = a.numbers.matches + length es } }) q.executions
-          ∙ ap (λ (n : ℕ). record (rest_of a) { numbers = record a.numbers { private = []; matches = n } }) (add-zero a.numbers.matches) ∙ r.rest;
+          ap (λ (es : List Execution). record (rest_of a) {
+            numbers = record a.numbers { private = []; matches = a.numbers.matches + length es };
+            executions = a.executions ++ matches_of x.member x.token es;
+          }) q.executions
+          ∙ ap (λ (n : ℕ). record (rest_of a) { numbers = record a.numbers { private = []; matches = n }; executions = a.executions ++ [] }) (add-zero a.numbers.matches)
+          ∙ ap (λ (ms : List Match). record (rest_of a) { executions = ms }) (append-nil a.executions) ∙ r.rest;
     }

@@ -1,10 +1,11 @@
 -- An event that bears no chosen token does and tells the same in two markets that are alike.
 use Rattle.std.proofs.Common.{◌≡◌, ℕ, ◌+◌, Bool, true, false, refl, ap, sym, ◌∙◌, ltb, ◌&&◌, not, List, [], ◌∷◌, ◌++◌, Some, None, Option, map}
-use Rattle.std.specs.Prelude.{◌==◌, slice_index}
+use Rattle.std.specs.Prelude.{◌==◌, slice_index, slice_set}
 use Rattle.std.specs.Option.{option_map}
 use Rattle.std.specs.List.{AllByRecursion, filter, find}
 use Rattle.std.proofs.lemmas.Bool.{or_parts}
-use Rattle.hx_members.specs.Setups.{Setup}
+use Rattle.hx_units.specs.declared.names.Symbol.{Symbol}
+use Rattle.hx_members.specs.Setups.{Setup, locate_of}
 use Rattle.hx_members.specs.Chains.{is_used}
 use Rattle.hx_ouch.specs.declared.inbound.Inbound.{Inbound}
 use Rattle.hx_ouch.specs.declared.inbound.Inbound.TheVariants.{Enter, Replace, Cancel}
@@ -13,15 +14,18 @@ use Rattle.hx_ouch.specs.declared.inbound.Replace.{Replace as Change}
 use Rattle.hx_ouch.specs.declared.inbound.Cancel.{Cancel as Less}
 use Rattle.hx_ouch.specs.Inbound.{inbound_of}
 use Rattle.hx_rules.specs.declared.event.Event.{Event}
-use Rattle.hx_rules.specs.declared.event.Event.TheVariants.{Message, Tick, Hours}
+use Rattle.hx_rules.specs.declared.event.Event.TheVariants.{Message, Tick, Hours, Halt, Break}
 use Rattle.hx_rules.specs.Orders.{Order, Token, is_called}
-use Rattle.hx_rules.specs.Markets.{Market}
+use Rattle.hx_rules.specs.declared.matches.Match.{Match}
+use Rattle.hx_rules.specs.Markets.{Market, is_halted}
 use Rattle.hx_rules.specs.Outputs.{Told, silent}
 use Rattle.hx_rules.specs.Enter.{rejection, entered_by, enter}
 use Rattle.hx_rules.specs.Removal.{deleted, canceled, taken_off}
-use Rattle.hx_rules.specs.Replace.{executed_of, replace_fails, fail_replace, replaced_by, replace}
+use Rattle.hx_rules.specs.Replace.{executed_of, is_order_halted, replace_fails, fail_replace, replaced_by, replace}
 use Rattle.hx_rules.specs.Cancel.{cancelled_shares, take_off, is_idle, cancelled_by, cancel}
 use Rattle.hx_rules.specs.Hours.{end_orders, is_over, all_deleted, hours_codes, ends_by_code, told_by_code, hours_by, next_hours}
+use Rattle.hx_rules.specs.Halts.{is_trading_state, halted_by, halt}
+use Rattle.hx_rules.specs.Breaks.{execution_of, with_execution, broken_if, broken_by, break_trade}
 use Rattle.hx_rules.specs.Steps.{receive, happens}
 use Rattle.hx_laws.specs.QuietChains.{Choice, message_bears, bears, reply_lines}
 use Rattle.hx_laws.specs.Laws.{AreQuietChains, IsUnknownTo}
@@ -31,7 +35,7 @@ use Rattle.hx_laws.proofs.History.CoherentSteps.{Coherent, found_of}
 use Rattle.hx_laws.proofs.History.EventMoves.{called_used, replace_moves, cancel_moves}
 use Rattle.hx_laws.proofs.Quiet.KeptViews.{none, blank}
 use Rattle.hx_laws.proofs.Quiet.KeptWords.{find_kept}
-use Rattle.hx_laws.proofs.Quiet.Alike.{IsAlike, alike_hours, alike_used, alike_executed, alike_consumed, alike_handed_over, alike_filtered, alike_lessened}
+use Rattle.hx_laws.proofs.Quiet.Alike.{IsAlike, alike_hours, alike_halted, alike_executions, alike_used, alike_executed, alike_consumed, alike_handed_over, alike_filtered, alike_lessened}
 use Rattle.hx_laws.proofs.Quiet.QuietArrivals.{quiet_earlier}
 use Rattle.hx_laws.proofs.Quiet.SeenLines.{IsHidden, LooksPast, reply_lines-append, deleted-blank, taken_off-blank, deleted_kept, ended, ended_kept}
 use Rattle.hx_laws.proofs.Quiet.SameArrivals.{IsSame, same_told, same_accept, same_succeed}
@@ -41,7 +45,7 @@ use Rattle.hx_laws.proofs.Quiet.SameArrivals.{IsSame, same_told, same_accept, sa
 same_enter : (s : Choice) (see : ℕ → Bool) → IsUnknownTo see s → (setup : Setup) (a b : Market) → Coherent a → IsAlike s a b → (m time : ℕ) (e : NewOrder) → s m e.token ≡ false
     → AreQuietChains s (enter setup a m time e).market → IsSame s see (enter setup a m time e) (enter setup b m time e)
 same_enter s see blind setup a b coherent r m time e keep =
-    rw (← alike_used s a b r m e.token keep, ap (λ (n : ℕ). rejection setup n e) (sym (alike_hours s a b r))) (choose (is_used a.tokens m e.token) refl (rejection setup a.hours e))
+    rw (← alike_used s a b r m e.token keep, ap (λ (n : ℕ). rejection setup n b.halted e) (sym (alike_hours s a b r)), ap (λ (hs : List Bool). rejection setup a.hours hs e) (sym (alike_halted s a b r))) (choose (is_used a.tokens m e.token) refl (rejection setup a.hours a.halted e))
   where
     choose : (u : Bool) → is_used a.tokens m e.token ≡ u → (o : Option ℕ) → AreQuietChains s (entered_by setup a m time e u o).market
         → IsSame s see (entered_by setup a m time e u o) (entered_by setup b m time e u o)
@@ -73,27 +77,31 @@ same_replace s see blind setup a b coherent r m time q g h quiet = choose (find 
     done : (x : Order) → find (is_called m q.existing_token) a.live ≡ Some x → executed_of a m q.existing_token ≡ executed_of b m q.existing_token
     done x e = alike_executed s a b r m q.existing_token g (sym (at.whole m q.existing_token (called_used a m q.existing_token x coherent e)) ∙ g)
 
-    by : (x y : Order) → find (is_called m q.existing_token) a.live ≡ Some x → blank true x ≡ blank true y → (u f : Bool)
-        → AreQuietChains s (replaced_by setup a m time q (Some x) u f).market → IsSame s see (replaced_by setup a m time q (Some x) u f) (replaced_by setup b m time q (Some y) u f)
-    by x y e p true f c = record { market = r; seen = refl }
-    by x y e p false true c = same_fail s see a b r m time q.existing_token q.replacement_token g h x y p
-    by x y e p false false c =
+    by : (x y : Order) → find (is_called m q.existing_token) a.live ≡ Some x → blank true x ≡ blank true y → (u d f : Bool)
+        → AreQuietChains s (replaced_by setup a m time q (Some x) u d f).market → IsSame s see (replaced_by setup a m time q (Some x) u d f) (replaced_by setup b m time q (Some y) u d f)
+    by x y e p true d f c = record { market = r; seen = refl }
+    by x y e p false true f c = record { market = r; seen = refl }
+    by x y e p false false true c = same_fail s see a b r m time q.existing_token q.replacement_token g h x y p
+    by x y e p false false false c =
         same_succeed s see blind setup a b coherent r m time q g h x y p (found_of (IsKnown a.tokens a.chains) m q.existing_token a.live x coherent.known e).1.0
         (called_used a m q.existing_token x coherent e) (done x e) c
 
     fails : executed_of a m q.existing_token ≡ executed_of b m q.existing_token → replace_fails b.hours (executed_of b m q.existing_token) q ≡ replace_fails a.hours (executed_of a m q.existing_token) q
     fails e = ap (λ (n : ℕ). replace_fails n (executed_of b m q.existing_token) q) (sym (alike_hours s a b r)) ∙ ap (λ (n : ℕ). replace_fails a.hours n q) (sym e)
 
+    stopped : (x y : Order) → blank true x ≡ blank true y → is_halted b.halted y.locate ≡ is_halted a.halted x.locate
+    stopped x y p = ap (λ (hs : List Bool). is_halted hs y.locate) (sym (alike_halted s a b r)) ∙ ap (λ (z : Order). is_halted a.halted z.locate) (sym p)
+
     choose : (o p : Option Order) → find (is_called m q.existing_token) a.live ≡ o → option_map (blank true) o ≡ option_map (blank true) p
-        → AreQuietChains s (replaced_by setup a m time q o (is_used a.tokens m q.replacement_token) (replace_fails a.hours (executed_of a m q.existing_token) q)).market
-        → IsSame s see (replaced_by setup a m time q o (is_used a.tokens m q.replacement_token) (replace_fails a.hours (executed_of a m q.existing_token) q))
-        (replaced_by setup b m time q p (is_used b.tokens m q.replacement_token) (replace_fails b.hours (executed_of b m q.existing_token) q))
+        → AreQuietChains s (replaced_by setup a m time q o (is_used a.tokens m q.replacement_token) (is_order_halted a.halted o) (replace_fails a.hours (executed_of a m q.existing_token) q)).market
+        → IsSame s see (replaced_by setup a m time q o (is_used a.tokens m q.replacement_token) (is_order_halted a.halted o) (replace_fails a.hours (executed_of a m q.existing_token) q))
+        (replaced_by setup b m time q p (is_used b.tokens m q.replacement_token) (is_order_halted b.halted p) (replace_fails b.hours (executed_of b m q.existing_token) q))
     choose None None e p c = record { market = r; seen = refl }
     choose None (Some y) e p c = absurd (cc p)
     choose (Some x) None e p c = absurd (cc p)
     choose (Some x) (Some y) e p c =
         let same : blank true x ≡ blank true y = cc in
-        rw (← alike_used s a b r m q.replacement_token h, fails (done x e)) (by x y e same _ _ c)
+        rw (← alike_used s a b r m q.replacement_token h, stopped x y same, fails (done x e)) (by x y e same _ _ _ c)
 
 same_take_off : (s : Choice) (see : ℕ → Bool) (a b : Market) → IsAlike s a b → (m time : ℕ) (t : Token) (by : ℕ) → s m t ≡ false → (x y : Order) → blank true x ≡ blank true y
     → IsSame s see (take_off a m time t by x) (take_off b m time t by y)
@@ -177,6 +185,37 @@ same_hours s see blind setup a b coherent r quiet time code =
         same_end s see blind (record a { hours = a.hours + 1 }) (record b { hours = b.hours + 1 }) coherent (turn_alike s a b r) (record { whole = quiet.whole; quiet = quiet.quiet })
         (ends_by_code code) (λ x. refl) time (told_by_code setup time code)
 
+-- A stock is halted, or an execution is broken.
+
+state_alike : (s : Choice) (a b : Market) → IsAlike s a b → (locate : ℕ) (d : Bool) → IsAlike s (record a { halted = slice_set a.halted locate d }) (record b { halted = slice_set b.halted locate d })
+state_alike s a b r locate d =
+    record { live = r.live; tokens = r.tokens; chains = r.chains; counts = r.counts; private = r.private; rest = ap (λ (z : Market). record z { halted = slice_set z.halted locate d }) r.rest }
+
+same_halt : (s : Choice) (see : ℕ → Bool) (setup : Setup) (a b : Market) → IsAlike s a b → (time : ℕ) (stock : Symbol) (state : ℕ) (reason : List ℕ)
+    → IsSame s see (halt setup a time stock state reason) (halt setup b time stock state reason)
+same_halt s see setup a b r time stock state reason = choose (locate_of setup stock) (is_trading_state state)
+  where
+    choose : (o : Option ℕ) (known : Bool) → IsSame s see (halted_by a time stock state reason o known) (halted_by b time stock state reason o known)
+    choose None known = record { market = r; seen = refl }
+    choose (Some locate) false = record { market = r; seen = refl }
+    choose (Some locate) true = record { market = state_alike s a b r locate (state == 72); seen = refl }
+
+break_alike : (s : Choice) (a b : Market) → IsAlike s a b → (number : ℕ) (e : Match)
+    → IsAlike s (record a { executions = with_execution a.executions number e }) (record b { executions = with_execution b.executions number e })
+break_alike s a b r number e =
+    record { live = r.live; tokens = r.tokens; chains = r.chains; counts = r.counts; private = r.private; rest = ap (λ (z : Market). record z { executions = with_execution z.executions number e }) r.rest }
+
+same_break : (s : Choice) (see : ℕ → Bool) (a b : Market) → IsAlike s a b → (time number : ℕ) → IsSame s see (break_trade a time number) (break_trade b time number)
+same_break s see a b r time number = rw (ap (λ (es : List Match). execution_of es number) (sym (alike_executions s a b r))) (choose (execution_of a.executions number))
+  where
+    choose_if : (e : Match) (broken : Bool) → IsSame s see (broken_if a time number e broken) (broken_if b time number e broken)
+    choose_if e true = record { market = r; seen = refl }
+    choose_if e false = record { market = break_alike s a b r number (record e { broken = true }); seen = refl }
+
+    choose : (o : Option Match) → IsSame s see (broken_by a time number o) (broken_by b time number o)
+    choose None = record { market = r; seen = refl }
+    choose (Some e) = choose_if e e.broken
+
 -- Every event.
 
 same_act : (s : Choice) (see : ℕ → Bool) → IsUnknownTo see s → (setup : Setup) (a b : Market) → Coherent a → IsAlike s a b → (m time : ℕ) (x : Option Inbound) → message_bears s m x ≡ false
@@ -191,3 +230,5 @@ pub same_happens : (s : Choice) (see : ℕ → Bool) → IsUnknownTo see s → (
 same_happens s see blind setup a b coherent r quiet (Message m time bytes) h q = same_act s see blind setup a b coherent r m time (inbound_of bytes) h q
 same_happens s see blind setup a b coherent r quiet (Tick time) h q = same_end s see blind a b coherent r quiet (λ x. is_over time x.life) (λ x. refl) time silent
 same_happens s see blind setup a b coherent r quiet (Hours time code) h q = same_hours s see blind setup a b coherent r quiet time code
+same_happens s see blind setup a b coherent r quiet (Halt time stock state reason) h q = same_halt s see setup a b r time stock state reason
+same_happens s see blind setup a b coherent r quiet (Break time number) h q = same_break s see a b r time number

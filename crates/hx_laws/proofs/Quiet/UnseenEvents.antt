@@ -14,14 +14,14 @@ use Rattle.hx_itch.specs.declared.message.Feed.{Feed}
 use Rattle.hx_ouch.specs.declared.outbound.Outbound.TheVariants.{Canceled}
 use Rattle.hx_ouch.specs.Inbound.{inbound_of}
 use Rattle.hx_rules.specs.declared.event.Event.{Event}
-use Rattle.hx_rules.specs.declared.event.Event.TheVariants.{Message, Tick, Hours}
+use Rattle.hx_rules.specs.declared.event.Event.TheVariants.{Message, Tick, Hours, Halt, Break}
 use Rattle.hx_rules.specs.Orders.{Order, Token, is_called, is_shown, is_immediate}
 use Rattle.hx_rules.specs.Markets.{Market}
 use Rattle.hx_rules.specs.Outputs.{Told, Outcome}
 use Rattle.hx_rules.specs.Executions.{incoming_of, published, shown_of, arrive, arrival_feed}
 use Rattle.hx_rules.specs.Enter.{consumed, next_reference, drawn, entered_order, accept, reject, rejection, entered_by, enter}
 use Rattle.hx_rules.specs.Removal.{taken_off}
-use Rattle.hx_rules.specs.Replace.{handed_over, executed_of, replace_fails, fail_replace, succeed, replaced_by, replace}
+use Rattle.hx_rules.specs.Replace.{handed_over, executed_of, is_order_halted, replace_fails, fail_replace, succeed, replaced_by, replace}
 use Rattle.hx_rules.specs.Cancel.{take_off, cancelled_by, cancel}
 use Rattle.hx_rules.specs.Steps.{receive, happens}
 use Rattle.hx_laws.specs.QuietChains.{Choice, message_bears, bears, reply_lines, lines_of}
@@ -112,9 +112,9 @@ unseen_accept s see blind setup a b coherent r m time e unused struck some q =
 
 unseen_enter : (s : Choice) (see : ℕ → Bool) → IsUnknownTo see s → (setup : Setup) (a b : Market) → Coherent a → IsAlike s a b → (m time : ℕ) (e : NewOrder) → s m e.token ≡ true
     → AreQuietChains s (enter setup a m time e).market → IsUnseen s see (enter setup a m time e) b
-unseen_enter s see blind setup a b coherent r m time e struck = choose (is_used a.tokens m e.token) refl (rejection setup a.hours e) refl
+unseen_enter s see blind setup a b coherent r m time e struck = choose (is_used a.tokens m e.token) refl (rejection setup a.hours a.halted e) refl
   where
-    choose : (u : Bool) → is_used a.tokens m e.token ≡ u → (o : Option ℕ) → rejection setup a.hours e ≡ o → AreQuietChains s (entered_by setup a m time e u o).market
+    choose : (u : Bool) → is_used a.tokens m e.token ≡ u → (o : Option ℕ) → rejection setup a.hours a.halted e ≡ o → AreQuietChains s (entered_by setup a m time e u o).market
         → IsUnseen s see (entered_by setup a m time e u o) b
     choose true h o f q = record { market = r; seen = refl }
     choose false h (Some letter) f q =
@@ -122,7 +122,7 @@ unseen_enter s see blind setup a b coherent r m time e struck = choose (is_used 
           market = struck_consumed s a b r m e.token struck;
           seen = nothing_told see (reject a m time e.token letter).told refl (unseen_first see m _ [] (not_seen s see blind m e.token struck) refl);
         }
-    choose false h None f q = unseen_accept s see blind setup a b coherent r m time e h struck (accepted_shares setup a.hours e f) q
+    choose false h None f q = unseen_accept s see blind setup a b coherent r m time e h struck (accepted_shares setup a.hours a.halted e f) q
 
 -- a hidden order loses shares unseen
 nothing_off : (time by : ℕ) (x : Order) → x.shown ≡ false → taken_off time by x ≡ []
@@ -208,7 +208,8 @@ unseen_succeed s see blind setup a b coherent r m time q old g h hidden own used
 unseen_replace : (s : Choice) (see : ℕ → Bool) → IsUnknownTo see s → (setup : Setup) (a b : Market) → Coherent a → IsAlike s a b → (m time : ℕ) (q : Change)
     → (s m q.existing_token || s m q.replacement_token) ≡ true → AreQuietChains s (replace setup a m time q).market → IsUnseen s see (replace setup a m time q) b
 unseen_replace s see blind setup a b coherent r m time q struck quiet =
-    choose (find (is_called m q.existing_token) a.live) refl (is_used a.tokens m q.replacement_token) refl (replace_fails a.hours (executed_of a m q.existing_token) q) refl quiet
+    choose (find (is_called m q.existing_token) a.live) refl (is_used a.tokens m q.replacement_token) refl
+    (is_order_halted a.halted (find (is_called m q.existing_token) a.live)) (replace_fails a.hours (executed_of a m q.existing_token) q) refl quiet
   where
     at : AreQuietChains s a
     at = quiet_earlier s a _ (replace_moves setup a m time q coherent).grows quiet
@@ -219,13 +220,14 @@ unseen_replace s see blind setup a b coherent r m time q struck quiet =
         both_struck _ _ (both_alike s c m _ _ (joined_one a c m q.existing_token q.replacement_token (called_used a m q.existing_token x coherent e) h moves) k) struck
 
     choose : (o : Option Order) → find (is_called m q.existing_token) a.live ≡ o → (u : Bool) → is_used a.tokens m q.replacement_token ≡ u
-        → (f : Bool) → replace_fails a.hours (executed_of a m q.existing_token) q ≡ f → AreQuietChains s (replaced_by setup a m time q o u f).market → IsUnseen s see (replaced_by setup a m time q o u f) b
-    choose None e u h f g c = record { market = r; seen = refl }
-    choose (Some x) e true h f g c = record { market = r; seen = refl }
-    choose (Some x) e false h true g c =
+        → (d f : Bool) → replace_fails a.hours (executed_of a m q.existing_token) q ≡ f → AreQuietChains s (replaced_by setup a m time q o u d f).market → IsUnseen s see (replaced_by setup a m time q o u d f) b
+    choose None e u h d f g c = record { market = r; seen = refl }
+    choose (Some x) e true h d f g c = record { market = r; seen = refl }
+    choose (Some x) e false h true f g c = record { market = r; seen = refl }
+    choose (Some x) e false h false true g c =
         let k = both x e h (fail_replace a m time q.existing_token q.replacement_token x).market (Moves_refl _) c in
         unseen_fail s see blind a b r m time q.existing_token q.replacement_token x k.0 k.1 (hidden_found s a coherent at m q.existing_token x e k.0)
-    choose (Some x) e false h false g c =
+    choose (Some x) e false h false false g c =
         let own = (found_of (IsKnown a.tokens a.chains) m q.existing_token a.live x coherent.known e).1.0 in
         let k = both x e h (succeed setup a m time q x).market (after_joined a m time (symbol_of setup x.locate) q x (replacement_of a m time q x) own refl) c in
         unseen_succeed s see blind setup a b coherent r m time q x k.0 k.1 (hidden_found s a coherent at m q.existing_token x e k.0) own (called_used a m q.existing_token x coherent e)
@@ -264,3 +266,5 @@ pub unseen_happens : (s : Choice) (see : ℕ → Bool) → IsUnknownTo see s →
 unseen_happens s see blind setup a b coherent r (Message m time bytes) h q = unseen_act s see blind setup a b coherent r m time (inbound_of bytes) h q
 unseen_happens s see blind setup a b coherent r (Tick time) h q = absurd (let z : false ≡ true = h in cc)
 unseen_happens s see blind setup a b coherent r (Hours time code) h q = absurd (let z : false ≡ true = h in cc)
+unseen_happens s see blind setup a b coherent r (Halt time stock state reason) h q = absurd (let z : false ≡ true = h in cc)
+unseen_happens s see blind setup a b coherent r (Break time number) h q = absurd (let z : false ≡ true = h in cc)

@@ -1,9 +1,12 @@
 -- What an effect leaves: a sound market again.
-use Rattle.std.proofs.Common.{◌≡◌, ℕ, List, [], length, not, refl, sym, ap, ◌∙◌, subst, arith}
+use Rattle.std.proofs.Common.{◌≡◌, ℕ, Bool, true, List, [], length, not, refl, sym, ap, ◌∙◌, subst, arith}
+use Rattle.std.specs.Prelude.{◌==◌, slice_set}
 use Rattle.hx_levels.specs.declared.order.Order.{Order}
+use Rattle.hx_rules.specs.declared.matches.Match.{Match}
+use Rattle.hx_rules.specs.Breaks.{with_execution}
 use Rattle.hx_members.specs.Setups.{Setup}
 use Rattle.hx_market.specs.declared.effect.Effect.{Effect}
-use Rattle.hx_market.specs.declared.effect.Effect.TheVariants.{Nothing, Reject, Accept, Fail, Replace, Cancel, End}
+use Rattle.hx_market.specs.declared.effect.Effect.TheVariants.{Nothing, Reject, Accept, Fail, Replace, Cancel, End, Halt, Break}
 use Rattle.hx_market.specs.declared.effect.AcceptedEnter.{AcceptedEnter}
 use Rattle.hx_rules.specs.Markets.{Market}
 use Rattle.hx_rules.specs.Orders.{is_shown, is_called}
@@ -25,7 +28,7 @@ bare m = record m { hours = 0; recorded = [] }
 
 -- what an effect changes, and that the counts stay
 pub parts : (m : Market) (effect : Effect) → let k : Market = (outcome_of (bare m) effect).market in
-    (outcome_of m effect).market ≡ record { live = k.live; tokens = k.tokens; chains = k.chains; numbers = k.numbers; hours = hours_after effect m.hours; recorded = m.recorded }
+    (outcome_of m effect).market ≡ record { live = k.live; tokens = k.tokens; chains = k.chains; numbers = k.numbers; hours = hours_after effect m.hours; halted = k.halted; executions = k.executions; recorded = m.recorded }
 parts m Nothing = refl
 parts m (Reject r) = refl
 parts m (Accept a) = refl
@@ -33,6 +36,8 @@ parts m (Fail a) = refl
 parts m (Replace a) = refl
 parts m (Cancel a) = refl
 parts m (End e) = refl
+parts m (Halt e) = refl
+parts m (Break e) = refl
 
 pub told_same : (m : Market) (effect : Effect) → (outcome_of m effect).told ≡ (outcome_of (bare m) effect).told
 told_same m Nothing = refl
@@ -42,6 +47,22 @@ told_same m (Fail a) = refl
 told_same m (Replace a) = refl
 told_same m (Cancel a) = refl
 told_same m (End e) = refl
+told_same m (Halt e) = refl
+told_same m (Break e) = refl
+
+-- neither halts nor executions are counted
+sound_traded : (m : Market) (halted : List Bool) (executions : List Match) → IsSound m → IsSound (record m { halted = halted; executions = executions })
+sound_traded m halted executions h = record {
+  public = h.public;
+  private = h.private;
+  matches = h.matches;
+  within = h.within;
+  placed = h.placed;
+  lone = h.lone;
+  chained = h.chained;
+  numbered = h.numbered;
+  limited = h.limited;
+}
 
 abbrev order_by : Market → AcceptedEnter → Order
 order_by m a = order_of_enter (length m.tokens) (next_reference m.numbers a.member (is_shown a.enter.display a.enter.time_in_force)) a
@@ -57,6 +78,8 @@ in_range setup (Fail a) h = h
 in_range setup (Replace a) h = h
 in_range setup (Cancel a) h = h
 in_range setup (End e) h = h
+in_range setup (Halt e) h = h
+in_range setup (Break e) h = h
 
 -- what an order that replaces has to be
 replaces : (m : Market) (a : Replacement) (orders : List Live) (reference : ℕ) → m.live ≡ lives orders → IsReplacement a → SuitsReplacement m.tokens m.chains a → IsOnly orders a.member a.replace.existing_token a.old
@@ -83,6 +106,8 @@ fits_effect setup m i (Replace a) orders live h l k u b e =
     )
 fits_effect setup m i (Cancel a) orders live h l k u b e = tt
 fits_effect setup m i (End x) orders live h l k u b e = tt
+fits_effect setup m i (Halt x) orders live h l k u b e = tt
+fits_effect setup m i (Break x) orders live h l k u b e = tt
 
 pub sound_outcome : (setup : Setup) (m : Market) (i : ℕ) (effect : Effect) (orders : List Live) → m.live ≡ lives orders → IsSound m → MayRecord m.recorded i → IsEffect setup effect → SuitsTokens m.tokens m.chains effect → IsAbout orders effect → IsOf i effect
     → IsSound (outcome_of (recording m i) effect).market
@@ -99,3 +124,5 @@ sound_outcome setup m i (Replace a) orders live h l k u b e =
     (replaces m a orders (next_reference m.numbers a.member (is_shown a.replace.display a.replace.time_in_force)) live k u b) refl)
 sound_outcome setup m i (Cancel a) orders live h l k u b e = sound_lessened (recording m i) a.member a.token a.by (sound_recorded m i h l)
 sound_outcome setup m i (End x) orders live h l k u b e = sound_filtered (recording m i) (λ y. not (is_due x.due x.time y)) x.hours (sound_recorded m i h l)
+sound_outcome setup m i (Halt x) orders live h l k u b e = sound_traded (recording m i) (slice_set m.halted x.locate (x.state == 72)) m.executions (sound_recorded m i h l)
+sound_outcome setup m i (Break x) orders live h l k u b e = sound_traded (recording m i) m.halted (with_execution m.executions x.number (record x.execution { broken = true })) (sound_recorded m i h l)

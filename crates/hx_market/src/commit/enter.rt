@@ -1,5 +1,5 @@
 //! An Enter that is accepted, done.
-ghost use Rattle.std.specs.Prelude.{◌≡◌, ◌<◌, ◌^◌, Some, [], false, length};
+ghost use Rattle.std.specs.Prelude.{◌≡◌, ◌<◌, ◌≤◌, ◌^◌, Some, [], false, length};
 ghost use Rattle.hx_units.specs.Limits.{day};
 ghost use Rattle.hx_levels.specs.Book.{lives};
 ghost use Rattle.hx_members.specs.Chains.{is_used};
@@ -15,6 +15,7 @@ use crate::commit::execute::Taker;
 use crate::commit::incoming::{arrive, draw};
 use crate::effect::AcceptedEnter;
 use crate::messages::publish;
+use crate::trading::Trading;
 use hx_levels::{Book, Order};
 use hx_match::Fill;
 use hx_members::Tokens;
@@ -98,6 +99,7 @@ pub fn accept<B: Book>(
     book: &mut B,
     tokens: &mut Tokens,
     refs: &mut Refs,
+    trading: &mut Trading,
     out: &mut Output,
     effect: &AcceptedEnter,
     fills: &[Fill],
@@ -111,21 +113,33 @@ pub fn accept<B: Book>(
     requires executions { AreFills (incoming_of_enter effect.now)
         (B.orders book.old) fills.now left }
     requires keyed { AreKeyed tokens.old.tokens tokens.old.keys (B.orders book.old) }
-    requires fits { HasRoomFor (market_of (B.orders book.old) tokens.old refs.old 0 []) effect.now }
+    requires fits { HasRoomFor
+        (market_of (B.orders book.old) tokens.old refs.old 0 [] trading.old) effect.now }
+    requires executions_room { length fills.now ≤ trading.old.room }
     requires room { HasRoom (length fills.now) out.old }
     ensures live { lives (B.orders book.new)
-        ≡ (outcome_over (B.orders book.old) tokens.old refs.old (Accept effect.now)).market.live }
+        ≡ (outcome_over (B.orders book.old) tokens.old refs.old trading.old
+        (Accept effect.now)).market.live }
     ensures tokens { tokens.new.tokens
-        ≡ (outcome_over (B.orders book.old) tokens.old refs.old (Accept effect.now)).market.tokens }
+        ≡ (outcome_over (B.orders book.old) tokens.old refs.old trading.old
+        (Accept effect.now)).market.tokens }
     ensures chains { tokens.new.chains
-        ≡ (outcome_over (B.orders book.old) tokens.old refs.old (Accept effect.now)).market.chains }
+        ≡ (outcome_over (B.orders book.old) tokens.old refs.old trading.old
+        (Accept effect.now)).market.chains }
     ensures keyed { AreKeyed tokens.new.tokens tokens.new.keys (B.orders book.new) }
     ensures numbers { refs.new
-        ≡ (outcome_over (B.orders book.old) tokens.old refs.old (Accept effect.now)).market.numbers }
+        ≡ (outcome_over (B.orders book.old) tokens.old refs.old trading.old
+        (Accept effect.now)).market.numbers }
+    ensures halted { trading.new.halted ≡ trading.old.halted }
+    ensures executions { trading.new.executions
+        ≡ (outcome_over (B.orders book.old) tokens.old refs.old trading.old
+        (Accept effect.now)).market.executions }
     ensures feed { out.new.feed.items
-        ≡ (outcome_over (B.orders book.old) tokens.old refs.old (Accept effect.now)).told.feed }
+        ≡ (outcome_over (B.orders book.old) tokens.old refs.old trading.old
+        (Accept effect.now)).told.feed }
     ensures replies { out.new.replies.items
-        ≡ (outcome_over (B.orders book.old) tokens.old refs.old (Accept effect.now)).told.replies }
+        ≡ (outcome_over (B.orders book.old) tokens.old refs.old trading.old
+        (Accept effect.now)).told.replies }
 {
     let chain = tokens.count();
     tokens.consume(effect.member, &effect.enter.token);
@@ -136,7 +150,7 @@ pub fn accept<B: Book>(
     out.replies.push_reserved(accepted(&order, effect));
     let immediate = effect.enter.time_in_force == 0;
     let resting = arrive(
-        book, tokens, refs, out, &taker, &order, immediate, fills, left,
+        book, tokens, refs, trading, out, &taker, &order, immediate, fills, left,
     );
     publish(out, effect.time, effect.enter.stock, resting);
 }

@@ -3,16 +3,17 @@ ghost use Rattle.std.specs.Prelude.{◌≡◌, ◌+◌, ◌*◌, ◌<◌, ◌≤
 ghost use Rattle.std.specs.Vec.{vec_len, vec_capacity};
 ghost use Rattle.hx_levels.specs.Book.{order_of};
 ghost use Rattle.hx_match.specs.Executing.{taken, done_by, left_by, AreGood};
-ghost use Rattle.hx_rules.specs.Executions.{feed_of_execution, feed_of_executions, to_maker, to_taker, replies_of_executions};
+ghost use Rattle.hx_rules.specs.Executions.{match_of, matches_of, feed_of_execution, feed_of_executions, to_maker, to_taker, replies_of_executions};
 ghost use Rattle.hx_market.specs.Bounds.{CanNoteAll, chains_by};
 
+use crate::trading::Trading;
 use hx_itch::{Feed, OrderExecuted, Trade};
 use hx_levels::{Book, Order};
 use hx_match::Fill;
 use hx_members::Tokens;
 use hx_ouch::{Executed, Outbound};
 use hx_refs::Refs;
-use hx_rules::Output;
+use hx_rules::{Match, Output};
 use hx_units::{MemberNo, Symbol, Token};
 
 /// The incoming order, as its executions tell of it.
@@ -119,11 +120,26 @@ fn tell(out: &mut Output, taker: &Taker, order: &Order, shares: u32, number: u64
     ));
 }
 
+// The execution, as its match number names it.
+fn match_of(taker: &Taker, order: &Order) -> Match
+    ensures { result ≡ match_of taker.now.member taker.now.token order.now }
+{
+    Match {
+        locate: order.locate,
+        maker: order.member,
+        maker_token: order.token,
+        taker: taker.member,
+        taker_token: taker.token,
+        broken: false,
+    }
+}
+
 /// Carries out the fills of a plan: each draws a match number, and is told. There is room for what they tell.
 pub fn execute<B: Book>(
     book: &mut B,
     tokens: &mut Tokens,
     refs: &mut Refs,
+    trading: &mut Trading,
     out: &mut Output,
     taker: &Taker,
     fills: &[Fill],
@@ -132,6 +148,7 @@ pub fn execute<B: Book>(
     requires counts { CanNoteAll tokens.old.tokens taker.now.chain
         (done_by fills.now (B.orders book.old)) tokens.old.chains }
     requires numbers { refs.old.matches + length fills.now < 2 ^ 62 }
+    requires executions_room { length fills.now ≤ trading.old.room }
     requires feed { vec_len out.old.feed + length fills.now ≤ vec_capacity out.old.feed }
     requires replies { vec_len out.old.replies + 2 * length fills.now
         ≤ vec_capacity out.old.replies }
@@ -142,6 +159,10 @@ pub fn execute<B: Book>(
     ensures chains { tokens.new.chains
         ≡ chains_by tokens.old.tokens taker.now.chain
         (done_by fills.now (B.orders book.old)) tokens.old.chains }
+    ensures halted { trading.new.halted ≡ trading.old.halted }
+    ensures executions { trading.new.executions
+        ≡ trading.old.executions
+        ++ matches_of taker.now.member taker.now.token (done_by fills.now (B.orders book.old)) }
     ensures feed { out.new.feed.items
         ≡ out.old.feed.items
         ++ feed_of_executions taker.now.time taker.now.stock refs.old.matches
@@ -162,6 +183,7 @@ pub fn execute<B: Book>(
         let order = take(book, fill);
         tokens.note(order.chain, fill.shares, false);
         tokens.note(taker.chain, fill.shares, false);
+        trading.push(match_of(taker, &order));
         tell(out, taker, &order, fill.shares, number);
     }
 }

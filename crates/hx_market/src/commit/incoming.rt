@@ -8,10 +8,11 @@ ghost use Rattle.hx_market.specs.Bounds.{CanNote, noted_if, CanNoteAll, chains_b
 ghost use Rattle.hx_market.specs.MarketModel.{listed};
 ghost use Rattle.std.specs.Vec.{vec_len, vec_capacity};
 ghost use Rattle.hx_match.specs.Executing.{done_by, left_by, AreGood};
-ghost use Rattle.hx_rules.specs.Executions.{feed_of_executions, replies_of_executions, resting_of, displays, canceled_of};
+ghost use Rattle.hx_rules.specs.Executions.{matches_of, feed_of_executions, replies_of_executions, resting_of, displays, canceled_of};
 
 use crate::commit::execute::{Taker, execute};
 use crate::messages::tell_canceled;
+use crate::trading::Trading;
 use hx_levels::{Book, Order};
 use hx_match::Fill;
 use hx_members::Tokens;
@@ -90,6 +91,7 @@ pub fn arrive<B: Book>(
     book: &mut B,
     tokens: &mut Tokens,
     refs: &mut Refs,
+    trading: &mut Trading,
     out: &mut Output,
     taker: &Taker,
     order: &Order,
@@ -110,6 +112,7 @@ pub fn arrive<B: Book>(
         (chains_by tokens.old.tokens taker.now.chain
         (done_by fills.now (B.orders book.old)) tokens.old.chains) }
     requires numbers { refs.old.matches + length fills.now < 2 ^ 62 }
+    requires executions_room { length fills.now ≤ trading.old.room }
     requires feed { vec_len out.old.feed + length fills.now ≤ vec_capacity out.old.feed }
     requires replies { vec_len out.old.replies + 2 * length fills.now + 1
         ≤ vec_capacity out.old.replies }
@@ -124,6 +127,10 @@ pub fn arrive<B: Book>(
         (done_by fills.now (B.orders book.old)) tokens.old.chains) }
     ensures keyed { AreKeyed tokens.new.tokens tokens.new.keys (B.orders book.new) }
     ensures numbers { refs.new ≡ record refs.old { matches = refs.old.matches + length fills.now } }
+    ensures halted { trading.new.halted ≡ trading.old.halted }
+    ensures executions { trading.new.executions
+        ≡ trading.old.executions
+        ++ matches_of taker.now.member taker.now.token (done_by fills.now (B.orders book.old)) }
     ensures feed { out.new.feed.items
         ≡ out.old.feed.items
         ++ feed_of_executions taker.now.time taker.now.stock refs.old.matches
@@ -134,7 +141,7 @@ pub fn arrive<B: Book>(
         ≡ out.old.replies.items
         ++ (replies_of_executions taker.now.time taker.now.member taker.now.token refs.old.matches (done_by fills.now (B.orders book.old)) ++ canceled_of taker.now.time taker.now.member taker.now.token immediate left) }
 {
-    execute(book, tokens, refs, out, taker, fills);
+    execute(book, tokens, refs, trading, out, taker, fills);
     if left == 0 {
         return None;
     }

@@ -20,6 +20,7 @@ use crate::commit::execute::Taker;
 use crate::commit::incoming::{arrive, draw};
 use crate::effect::{FailedReplace, Replacement, is_one_display};
 use crate::messages::{delete, publish, tell_canceled};
+use crate::trading::Trading;
 use hx_itch::{Feed, OrderReplace};
 use hx_levels::{Book, Key, Order};
 use hx_match::Fill;
@@ -238,6 +239,7 @@ pub fn replace<B: Book>(
     book: &mut B,
     tokens: &mut Tokens,
     refs: &mut Refs,
+    trading: &mut Trading,
     out: &mut Output,
     effect: &Replacement,
     fills: &[Fill],
@@ -256,27 +258,33 @@ pub fn replace<B: Book>(
         (without effect.now.old.key.0 (B.orders book.old)) fills.now left }
     requires keyed { AreKeyed tokens.old.tokens tokens.old.keys (B.orders book.old) }
     requires fits { HasRoomToReplace
-        (market_of (B.orders book.old) tokens.old refs.old 0 []) effect.now }
+        (market_of (B.orders book.old) tokens.old refs.old 0 [] trading.old) effect.now }
+    requires executions_room { length fills.now ≤ trading.old.room }
     requires chain { IsChainOf tokens.old.tokens effect.now.member
         effect.now.replace.existing_token effect.now.old.order.chain }
     requires room { HasRoom (length fills.now) out.old }
     ensures live { lives (B.orders book.new)
-        ≡ (outcome_over (B.orders book.old) tokens.old refs.old
+        ≡ (outcome_over (B.orders book.old) tokens.old refs.old trading.old
         (ToReplaceBy effect.now)).market.live }
     ensures tokens { tokens.new.tokens
-        ≡ (outcome_over (B.orders book.old) tokens.old refs.old
+        ≡ (outcome_over (B.orders book.old) tokens.old refs.old trading.old
         (ToReplaceBy effect.now)).market.tokens }
     ensures chains { tokens.new.chains
-        ≡ (outcome_over (B.orders book.old) tokens.old refs.old
+        ≡ (outcome_over (B.orders book.old) tokens.old refs.old trading.old
         (ToReplaceBy effect.now)).market.chains }
     ensures keyed { AreKeyed tokens.new.tokens tokens.new.keys (B.orders book.new) }
     ensures numbers { refs.new
-        ≡ (outcome_over (B.orders book.old) tokens.old refs.old
+        ≡ (outcome_over (B.orders book.old) tokens.old refs.old trading.old
         (ToReplaceBy effect.now)).market.numbers }
+    ensures halted { trading.new.halted ≡ trading.old.halted }
+    ensures executions { trading.new.executions
+        ≡ (outcome_over (B.orders book.old) tokens.old refs.old trading.old
+        (ToReplaceBy effect.now)).market.executions }
     ensures feed { out.new.feed.items
-        ≡ (outcome_over (B.orders book.old) tokens.old refs.old (ToReplaceBy effect.now)).told.feed }
+        ≡ (outcome_over (B.orders book.old) tokens.old refs.old trading.old
+        (ToReplaceBy effect.now)).told.feed }
     ensures replies { out.new.replies.items
-        ≡ (outcome_over (B.orders book.old) tokens.old refs.old
+        ≡ (outcome_over (B.orders book.old) tokens.old refs.old trading.old
         (ToReplaceBy effect.now)).told.replies }
 {
     let replace = &effect.replace;
@@ -291,7 +299,7 @@ pub fn replace<B: Book>(
     tell_old(out, effect, in_one);
     let immediate = replace.time_in_force == 0;
     let resting = arrive(
-        book, tokens, refs, out, &taker, &order, immediate, fills, left,
+        book, tokens, refs, trading, out, &taker, &order, immediate, fills, left,
     );
     tell_new(out, effect, &order, in_one, resting);
 }

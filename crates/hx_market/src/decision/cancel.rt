@@ -6,7 +6,7 @@ ghost use Rattle.hx_refs.specs.Numbers.{Numbers};
 ghost use Rattle.hx_rules.specs.Cancel.{cancel, cancelled_shares};
 ghost use Rattle.hx_market.specs.OrderKeys.{AreKeyed};
 ghost use Rattle.hx_market.specs.Effects.{IsEffect, IsOf, SuitsTokens, IsAbout, outcome_of};
-ghost use Rattle.hx_market.specs.MarketModel.{market_of};
+ghost use Rattle.hx_market.specs.MarketModel.{TradingState, market_of};
 
 use crate::effect::{Effect, Reduction};
 use crate::order_by_token::{Found, find_order};
@@ -34,9 +34,9 @@ pub fn cancel_effect<B: Book>(
 ) -> Effect
     requires keyed { AreKeyed tokens.now.tokens tokens.now.keys (B.orders book.now) }
     requires time { time < day }
-    ensures does { (n : Numbers) (hours : ℕ) (counts : List ℕ)
-        → cancel (market_of (B.orders book.now) tokens.now n hours counts) member time message
-        ≡ outcome_of (market_of (B.orders book.now) tokens.now n hours counts) result }
+    ensures does { (n : Numbers) (hours : ℕ) (counts : List ℕ) (r : TradingState)
+        → cancel (market_of (B.orders book.now) tokens.now n hours counts r) member time message
+        ≡ outcome_of (market_of (B.orders book.now) tokens.now n hours counts r) result }
     ensures is_effect { (setup : SetupOf) → IsEffect setup result }
     ensures sender { IsOf member result }
     ensures suits { SuitsTokens tokens.now.tokens tokens.now.chains result }

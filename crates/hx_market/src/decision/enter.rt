@@ -30,13 +30,14 @@ fn resolved_firm(setup: &Setup, member: MemberNo, firm: Firm) -> Firm
 fn accepted_enter(
     setup: &Setup,
     hours: u8,
+    halted: &[bool],
     member: MemberNo,
     time: u64,
     enter: Enter,
 ) -> AcceptedEnter
     requires member { IsSome (member_of setup.now member) }
     requires time { time < day }
-    requires passes { rejection setup.now hours enter ≡ None }
+    requires passes { rejection setup.now hours halted.now enter ≡ None }
     ensures message { (result.member ≡ member) × (result.time ≡ time) × (result.enter ≡ enter) }
     ensures is_accepted_enter { IsAcceptedEnter setup.now result }
 {
@@ -55,6 +56,7 @@ fn accepted_enter(
 fn unused_enter_effect(
     setup: &Setup,
     hours: u8,
+    halted: &[bool],
     member: MemberNo,
     time: u64,
     enter: Enter,
@@ -62,7 +64,8 @@ fn unused_enter_effect(
     requires member { IsSome (member_of setup.now member) }
     requires time { time < day }
     ensures does { (m : Market)
-        → entered_by setup.now m member time enter false (rejection setup.now hours enter)
+        → entered_by setup.now m member time enter false
+        (rejection setup.now hours halted.now enter)
         ≡ outcome_of m result }
     ensures is_effect { IsEffect setup.now result }
     ensures sender { IsOf member result }
@@ -70,7 +73,7 @@ fn unused_enter_effect(
         → is_used tokens member enter.token ≡ false → SuitsTokens tokens chains result }
     ensures about { (orders : List LiveOrder) → IsAbout orders result }
 {
-    if let Some(letter) = rejection(setup, hours, &enter) {
+    if let Some(letter) = rejection(setup, hours, halted, &enter) {
         return Effect::Reject(RejectedEnter {
             member,
             time,
@@ -78,13 +81,14 @@ fn unused_enter_effect(
             letter,
         });
     }
-    Effect::Accept(accepted_enter(setup, hours, member, time, enter))
+    Effect::Accept(accepted_enter(setup, hours, halted, member, time, enter))
 }
 
-/// What an Enter does, at so many hours codes past.
+/// What an Enter does, at so many hours codes past, and with these stocks halted.
 pub fn enter_effect(
     setup: &Setup,
     hours: u8,
+    halted: &[bool],
     tokens: &Tokens,
     member: MemberNo,
     time: u64,
@@ -93,7 +97,7 @@ pub fn enter_effect(
     requires member { IsSome (member_of setup.now member) }
     requires time { time < day }
     ensures does { (m : Market) → m.tokens ≡ tokens.now.tokens → m.hours ≡ hours
-        → enter setup.now m member time message ≡ outcome_of m result }
+        → m.halted ≡ halted.now → enter setup.now m member time message ≡ outcome_of m result }
     ensures is_effect { IsEffect setup.now result }
     ensures sender { IsOf member result }
     ensures suits { SuitsTokens tokens.now.tokens tokens.now.chains result }
@@ -102,5 +106,5 @@ pub fn enter_effect(
     if tokens.state(member, &message.token).is_some() {
         return Effect::Nothing;
     }
-    unused_enter_effect(setup, hours, member, time, message)
+    unused_enter_effect(setup, hours, halted, member, time, message)
 }

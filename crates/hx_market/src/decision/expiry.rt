@@ -12,7 +12,7 @@ ghost use Rattle.hx_refs.specs.Numbers.{Numbers};
 ghost use Rattle.hx_rules.specs.Removal.{deleted, canceled};
 ghost use Rattle.hx_rules.specs.Hours.{is_over, is_to_market, tick, all_deleted, end_orders};
 ghost use Rattle.hx_market.specs.Effects.{IsEffect, IsOf, SuitsTokens, IsAbout, is_due, outcome_of};
-ghost use Rattle.hx_market.specs.MarketModel.{market_of};
+ghost use Rattle.hx_market.specs.MarketModel.{TradingState, market_of};
 
 use crate::effect::{Due, Effect, Expiry};
 use crate::messages::{delete, tell_canceled};
@@ -117,10 +117,10 @@ pub fn end_orders<B: Book>(
     requires time { time < day }
     requires times { AllByRecursion (λ f. feed_time f < 2 ^ 48) first.feed.items }
     ensures does { IfOk result (λ a. (t : TokenList) (n : Numbers) (before : ℕ) (counts : List ℕ)
-        → end_orders (λ x. is_due due time x) time
-        (market_of (B.orders book.now) t n hours counts)
+        (r : TradingState) → end_orders (λ x. is_due due time x) time
+        (market_of (B.orders book.now) t n hours counts r)
         (record { feed = first.feed.items; replies = first.replies.items })
-        ≡ outcome_of (market_of (B.orders book.now) t n before counts) a) }
+        ≡ outcome_of (market_of (B.orders book.now) t n before counts r) a) }
     ensures is_effect { IfOk result (λ a. (setup : SetupOf) → IsEffect setup a) }
     ensures sender { IfOk result (λ a. (i : ℕ) → IsOf i a) }
     ensures suits { IfOk result (λ a. (ts : List Used) (cs : List Chain) → SuitsTokens ts cs a) }
@@ -148,8 +148,8 @@ pub fn tick_effect<B: Book>(
 ) -> Result<Effect, NoMemory>
     requires { time < day }
     ensures does { IfOk result (λ a. (t : TokenList) (n : Numbers) (counts : List ℕ)
-        → tick (market_of (B.orders book.now) t n hours counts) time
-        ≡ outcome_of (market_of (B.orders book.now) t n hours counts) a) }
+        (r : TradingState) → tick (market_of (B.orders book.now) t n hours counts r) time
+        ≡ outcome_of (market_of (B.orders book.now) t n hours counts r) a) }
     ensures is_effect { IfOk result (λ a. (setup : SetupOf) → IsEffect setup a) }
     ensures sender { IfOk result (λ a. (i : ℕ) → IsOf i a) }
     ensures suits { IfOk result (λ a. (ts : List Used) (cs : List Chain) → SuitsTokens ts cs a) }

@@ -6,7 +6,7 @@ ghost use Rattle.hx_members.specs.Tokens.{TokenList};
 ghost use Rattle.hx_refs.specs.Numbers.{Numbers};
 ghost use Rattle.hx_rules.specs.Hours.{next_hours, is_next, directory, to_all, told_by_code};
 ghost use Rattle.hx_market.specs.Effects.{IsEffect, IsOf, SuitsTokens, IsAbout, outcome_of};
-ghost use Rattle.hx_market.specs.MarketModel.{market_of};
+ghost use Rattle.hx_market.specs.MarketModel.{TradingState, market_of};
 
 use crate::decision::expiry::end_orders;
 use crate::effect::{Due, Effect};
@@ -97,8 +97,9 @@ pub fn hours_effect<B: Book>(
 ) -> Result<Effect, NoMemory>
     requires { time < day }
     ensures does { IfOk result (λ a. (t : TokenList) (n : Numbers) (counts : List ℕ)
-        → next_hours setup.now (market_of (B.orders book.now) t n hours counts) time code
-        ≡ outcome_of (market_of (B.orders book.now) t n hours counts) a) }
+        (r : TradingState)
+        → next_hours setup.now (market_of (B.orders book.now) t n hours counts r) time code
+        ≡ outcome_of (market_of (B.orders book.now) t n hours counts r) a) }
     ensures is_effect { IfOk result (λ a. IsEffect setup.now a) }
     ensures sender { IfOk result (λ a. (i : ℕ) → IsOf i a) }
     ensures suits { IfOk result (λ a. (ts : List Used) (cs : List Chain) → SuitsTokens ts cs a) }

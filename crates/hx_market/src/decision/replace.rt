@@ -13,10 +13,11 @@ ghost use Rattle.hx_market.specs.MarketModel.{market_of};
 
 use crate::effect::{Effect, FailedReplace, Replacement};
 use crate::order_by_token::{Found, find_order};
+use crate::trading::Trading;
 use hx_levels::Book;
 use hx_members::{Setup, Tokens};
 use hx_ouch::Replace;
-use hx_rules::replace_fails;
+use hx_rules::{is_halted, replace_fails};
 use hx_units::{MemberNo, Price, Symbol};
 
 // The name of the stock with this number.
@@ -41,7 +42,7 @@ fn replace_or_fail(
     requires time { time < day }
     ensures does { (m : Market) → executed_of m member replace.existing_token ≡ found.executed
         → replaced_by setup.now m member time replace (Some found.live.order) false
-        (replace_fails hours found.executed replace) ≡ outcome_of m result }
+        false (replace_fails hours found.executed replace) ≡ outcome_of m result }
     ensures is_effect { IsEffect setup.now result }
     ensures sender { IsOf member result }
     ensures suits { (tokens : List Used) (chains : List Chain)
@@ -72,10 +73,11 @@ fn replace_or_fail(
     })
 }
 
-/// What a Replace does, at so many hours codes past.
+/// What a Replace does, at so many hours codes past, and with these stocks halted.
 pub fn replace_effect<B: Book>(
     setup: &Setup,
     hours: u8,
+    trading: &Trading,
     tokens: &Tokens,
     book: &B,
     member: MemberNo,
@@ -86,8 +88,8 @@ pub fn replace_effect<B: Book>(
     requires time { time < day }
     ensures does { (n : Numbers) (counts : List ℕ)
         → replace setup.now
-        (market_of (B.orders book.now) tokens.now n hours counts) member time message
-        ≡ outcome_of (market_of (B.orders book.now) tokens.now n hours counts) result }
+        (market_of (B.orders book.now) tokens.now n hours counts trading.now) member time message
+        ≡ outcome_of (market_of (B.orders book.now) tokens.now n hours counts trading.now) result }
     ensures is_effect { IsEffect setup.now result }
     ensures sender { IsOf member result }
     ensures suits { SuitsTokens tokens.now.tokens tokens.now.chains result }
@@ -97,6 +99,9 @@ pub fn replace_effect<B: Book>(
         return Effect::Nothing;
     };
     if tokens.state(member, &message.replacement_token).is_some() {
+        return Effect::Nothing;
+    }
+    if is_halted(trading.halted(), found.live.order.locate) {
         return Effect::Nothing;
     }
     replace_or_fail(setup, hours, member, time, message, found)

@@ -280,5 +280,11 @@ pub fn draft_effect<B: Book>(
             let members = told_members(alloc, &effect.told.replies)?;
             Ok(draft_told(alloc, effect.told.feed.len() as u64, members))
         }
+        Effect::Halt(_) => Ok(draft_told(alloc, 1, Vec::new(alloc))),
+        Effect::Break(effect) => {
+            let execution = &effect.execution;
+            let members = vec![in alloc; execution.maker, execution.taker]?;
+            Ok(draft_told(alloc, 1, members))
+        }
     }
 }

@@ -119,7 +119,7 @@ pub fn expect_output<R: Abort>(rt: &R, day: &Day, replayed: Replayed) -> Result<
 }
 
 // A day over price levels, and over a plain list of orders.
-fn expect_day<R: AllocGlobal + Abort>(rt: &R, day: &Day) -> Result<(), Fail> {
+pub fn expect_day<R: AllocGlobal + Abort>(rt: &R, day: &Day) -> Result<(), Fail> {
     expect_output(rt, day, replayed(rt.alloc(), &day.tape))?;
     expect_output(rt, day, replayed_on_list(rt.alloc(), &day.tape))
 }
@@ -265,7 +265,7 @@ fn expect_bad_line<R: Abort>(rt: &R, day: &Day, replayed: Replayed, want: Kind) 
 }
 
 // The line behind the tape of one displayed order is bad, over either book.
-fn expect_bad<R: AllocGlobal + Abort>(rt: &R, text: &[u8], want: Kind) -> Result<(), Fail> {
+pub fn expect_bad<R: AllocGlobal + Abort>(rt: &R, text: &[u8], want: Kind) -> Result<(), Fail> {
     let day = Day::of(rt.alloc(), worked::ONE_DISPLAYED_ORDER)?;
     let mut tape = day.tape.clone()?;
     tape.extend_from_slice(text)?;

@@ -25,7 +25,7 @@ fn strike<R: Read, W: Write>(
     strike_tape(alloc, &setup, reader, writer, member)
 }
 
-fn struck(alloc: Global, text: &[u8], number: u16) -> Replayed {
+pub fn struck(alloc: Global, text: &[u8], number: u16) -> Replayed {
     let mut output = Vec::new(alloc);
     let mut reader = text;
     let result = strike(alloc, &mut reader, &mut output, number);
@@ -33,7 +33,12 @@ fn struck(alloc: Global, text: &[u8], number: u16) -> Replayed {
 }
 
 // So many lines stay of a text, and they are these.
-fn expect_kept<R: Abort>(rt: &R, struck: Replayed, kept: &[u8], events: u64) -> Result<(), Fail> {
+pub fn expect_kept<R: Abort>(
+    rt: &R,
+    struck: Replayed,
+    kept: &[u8],
+    events: u64,
+) -> Result<(), Fail> {
     let (output, result) = struck;
     assert_eq!(rt; output.as_slice(), kept);
     let counts = result?;

@@ -4,8 +4,8 @@ ghost use Rattle.hx_itch.specs.Message.{feed_time};
 
 use super::word::Words;
 use hx_itch::{
-    AddOrder, AddOrderWithAttribution, Feed, OrderCancel, OrderDelete, OrderExecuted, OrderReplace,
-    StockDirectory, SystemEvent, Trade,
+    AddOrder, AddOrderWithAttribution, BrokenTrade, Feed, OrderCancel, OrderDelete, OrderExecuted,
+    OrderReplace, StockDirectory, StockTradingAction, SystemEvent, Trade,
 };
 use hx_units::{Firm, Nanos, Symbol};
 use std::test::Fail;
@@ -25,6 +25,7 @@ fn locate_of(stock: Symbol) -> u16 {
 /// - `executed REFERENCE SHARES match NUMBER`, `trade SHARES STOCK PRICE match NUMBER`
 /// - `cancel REFERENCE SHARES`, `delete REFERENCE`, `replace OLD NEW SHARES PRICE`; and then the stock, where it is
 ///   not the first one
+/// - `halted STOCK REASON`, `trading STOCK REASON`; `broken NUMBER`, and then the stock, where it is not the first one
 pub fn published(words: &mut Words, time: Nanos) -> Result<Feed, Fail>
     ensures { IfOk result (λ message. feed_time message < 2 ^ 48) }
 {
@@ -37,6 +38,9 @@ pub fn published(words: &mut Words, time: Nanos) -> Result<Feed, Fail>
         "cancel" => cancel(words, time),
         "delete" => delete(words, time),
         "replace" => replace(words, time),
+        "halted" => state(words, time, b'H'),
+        "trading" => state(words, time, b'T'),
+        "broken" => broken(words, time),
         _ => Err("no such message of the feed".into()),
     }
 }
@@ -166,5 +170,29 @@ fn replace(words: &mut Words, time: Nanos) -> Result<Feed, Fail>
         reference,
         shares,
         price,
+    }))
+}
+
+fn state(words: &mut Words, time: Nanos, trading_state: u8) -> Result<Feed, Fail>
+    ensures { IfOk result (λ message. feed_time message < 2 ^ 48) }
+{
+    let stock = Symbol(words.name());
+    Ok(Feed::StockTradingAction(StockTradingAction {
+        locate: locate_of(stock),
+        time: time.get(),
+        stock,
+        trading_state,
+        reason: words.name(),
+    }))
+}
+
+fn broken(words: &mut Words, time: Nanos) -> Result<Feed, Fail>
+    ensures { IfOk result (λ message. feed_time message < 2 ^ 48) }
+{
+    let match_number = words.number()?;
+    Ok(Feed::BrokenTrade(BrokenTrade {
+        locate: locate_of(Symbol(words.name())),
+        time: time.get(),
+        match_number,
     }))
 }

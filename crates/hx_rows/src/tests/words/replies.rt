@@ -1,7 +1,9 @@
 //! Replies in words.
 
 use super::word::Words;
-use hx_ouch::{Accepted, Canceled, Executed, Inbound, Outbound, Rejected, Replaced, SystemEvent};
+use hx_ouch::{
+    Accepted, BrokenTrade, Canceled, Executed, Inbound, Outbound, Rejected, Replaced, SystemEvent,
+};
 use hx_units::{Firm, Symbol, Token};
 use std::test::Fail;
 
@@ -23,7 +25,7 @@ pub struct Answered {
 ///   `minimum SHARES` where they are not the usual ones
 /// - `canceled TOKEN SHARES REASON`: `user`, `immediate`, `timeout`
 /// - `executed TOKEN SHARES PRICE FLAG match NUMBER`: `added`, `hidden`, `removed`
-/// - `rejected LETTER`, of the Enter above it; `system CODE`
+/// - `rejected LETTER`, of the Enter above it; `system CODE`; `broken TOKEN match NUMBER`
 pub fn reply(words: &mut Words, to: &Answered) -> Result<Outbound, Fail> {
     match words.next() {
         "accepted" => accepted(words, to),
@@ -31,6 +33,7 @@ pub fn reply(words: &mut Words, to: &Answered) -> Result<Outbound, Fail> {
         "canceled" => canceled(words, to),
         "executed" => executed(words, to),
         "rejected" => rejected(words, to),
+        "broken" => broken(words, to),
         "system" => Ok(Outbound::SystemEvent(SystemEvent {
             time: to.time,
             event_code: words.letter()?,
@@ -154,5 +157,16 @@ fn rejected(words: &mut Words, to: &Answered) -> Result<Outbound, Fail> {
         time: to.time,
         token: enter.token,
         reason: words.letter()?,
+    }))
+}
+
+fn broken(words: &mut Words, to: &Answered) -> Result<Outbound, Fail> {
+    let token = Token(words.name());
+    let _match = words.next();
+    Ok(Outbound::BrokenTrade(BrokenTrade {
+        time: to.time,
+        token,
+        match_number: words.number()?,
+        reason: b'S',
     }))
 }

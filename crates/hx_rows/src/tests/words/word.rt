@@ -107,14 +107,38 @@ impl<'a> Words<'a> {
         }
     }
 
-    /// What is no message of a member: `tick`, `hours CODE`, or `bytes` in hexadecimal.
+    /// What is no message of a member: `tick`, `hours CODE`, `halt STOCK REASON`, `resume STOCK REASON`, `break NUMBER`,
+    /// or `bytes` in hexadecimal.
     pub fn payload(&mut self, alloc: Global) -> Result<String, Fail> {
         match self.next() {
             "tick" => Ok(hex::encode(alloc, b"K")?),
             "hours" => Ok(hex::encode(alloc, self.next().as_bytes())?),
+            "halt" => self.state(alloc, b'H'),
+            "resume" => self.state(alloc, b'T'),
+            "break" => self.broken(alloc),
             "bytes" => Ok(self.next().to_string(alloc)?),
             _ => Err("no such event".into()),
         }
+    }
+}
+
+impl Words<'_> {
+    // The operator's bytes of a stock's state.
+    fn state(&mut self, alloc: Global, state: u8) -> Result<String, Fail> {
+        let stock: [u8; 8] = self.name();
+        let reason: [u8; 4] = self.name();
+        let mut bytes = vec![in alloc; b'H']?;
+        bytes.extend_from_slice(&stock)?;
+        bytes.push(state)?;
+        bytes.extend_from_slice(&reason)?;
+        Ok(hex::encode(alloc, &bytes)?)
+    }
+
+    // The operator's bytes of a break.
+    fn broken(&mut self, alloc: Global) -> Result<String, Fail> {
+        let mut bytes = vec![in alloc; b'B']?;
+        bytes.extend_from_slice(&self.number()?.to_be_bytes())?;
+        Ok(hex::encode(alloc, &bytes)?)
     }
 }
 

@@ -7,8 +7,9 @@ use Rattle.hx_match.specs.Executing.{done_by}
 use Rattle.hx_members.specs.Chains.{Used, Chain, is_used, place_of, entered_of, entered_used, entered_chain}
 use Rattle.hx_refs.specs.Numbers.{Numbers}
 use Rattle.hx_market.specs.declared.commit.execute.Taker.{Taker}
+use Rattle.hx_rules.specs.declared.matches.Match.{Match}
 use Rattle.hx_rules.specs.Orders.{is_immediate, is_shown}
-use Rattle.hx_rules.specs.Executions.{chains_after, resting_of, displays}
+use Rattle.hx_rules.specs.Executions.{matches_of, chains_after, resting_of, displays}
 use Rattle.hx_rules.specs.Enter.{next_reference, after_draw}
 use Rattle.hx_market.specs.OrderKeys.{AreKeyed, AreBefore}
 use Rattle.hx_market.specs.Bounds.{chains_by, noted_if}
@@ -100,3 +101,12 @@ arrive-resting-requires-clause-keyed g c =
     let u : Used = entered_used a.member a.enter.token in
     subst (λ (us : List Used). AreKeyed us c.consume.new.self.keys xs) (sym c.consume.ensures.tokens)
     (subst (λ (ks : List (Option ℕ)). AreKeyed (t.tokens ++ u ∷ []) ks xs) (sym c.consume.ensures.keys) (keyed_pushed t.tokens t.keys u xs c.requires.keyed))
+
+pub returns-clause-executions : goal.returns-clause-executions
+returns-clause-executions g c =
+    let effect = c.args.effect.now in
+    let orders = g.B.Book.orders c.args.book.now in
+    let old : List Match = c.args.trading.now.executions in
+    c.arrive-resting.ensures.executions
+    ∙ ap (λ (t : Taker). old ++ matches_of t.member t.token (done_by c.args.fills.now orders)) c.taker_of-taker.ensures
+    ∙ ap (λ (es : List Execution). old ++ matches_of effect.member effect.enter.token es) c.requires.executions.done

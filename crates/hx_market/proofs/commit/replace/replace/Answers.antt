@@ -11,9 +11,10 @@ use Rattle.hx_refs.specs.Numbers.{Numbers}
 use Rattle.hx_itch.specs.declared.message.Feed.{Feed}
 use Rattle.hx_itch.specs.declared.message.Feed.TheVariants.{OrderReplace}
 use Rattle.hx_market.specs.declared.commit.execute.Taker.{Taker}
+use Rattle.hx_rules.specs.declared.matches.Match.{Match}
 use Rattle.hx_rules.specs.Orders.{is_immediate, is_shown}
 use Rattle.hx_rules.specs.Outputs.{Reply}
-use Rattle.hx_rules.specs.Executions.{chains_after, feed_of_executions, replies_of_executions, canceled_of, resting_of, displays, published, shown_of}
+use Rattle.hx_rules.specs.Executions.{matches_of, chains_after, feed_of_executions, replies_of_executions, canceled_of, resting_of, displays, published, shown_of}
 use Rattle.hx_rules.specs.Enter.{next_reference, after_draw}
 use Rattle.hx_rules.specs.Removal.{others, deleted}
 use Rattle.hx_rules.specs.Replace.{replaced_of, is_one_display}
@@ -271,3 +272,17 @@ returns-clause-replies g c =
     ∙ ap (λ n. R ++ (replies_of_executions a.time a.old.order.member token n (done_by fills (g.B.Book.orders c.hand_over.new.book)) ++ canceled_of a.time a.old.order.member token imm c.args.left)) number
     ∙ ap (λ (es : List Execution). R ++ (replies_of_executions a.time a.old.order.member token (after_draw refs a.member shown).matches es ++ canceled_of a.time a.old.order.member token imm c.args.left)) done
     ∙ ap (λ n. R ++ (replies_of_executions a.time a.old.order.member token (after_draw refs a.member shown).matches m.fills ++ canceled_of a.time a.old.order.member token imm n)) left
+
+pub returns-clause-executions : goal.returns-clause-executions
+returns-clause-executions g c =
+    let a = c.args.effect.now in
+    let orders = g.B.Book.orders c.args.book.now in
+    let fills = c.args.fills.now in
+    let old : List Match = c.args.trading.now.executions in
+    let left_over : lives (without a.old.key.0 orders) ≡ others a.member a.replace.existing_token (lives orders) = others_lives a.member a.replace.existing_token a.old.key.0 orders c.requires.only.only c.requires.only.differ in
+    let m : Matched = matched (incoming_of_replacement a) (open_shares a) (others a.member a.replace.existing_token (lives orders)) in
+    let done : done_by fills (g.B.Book.orders c.hand_over.new.book) ≡ m.fills =
+    ap (λ (xs : List Live). done_by fills xs) c.hand_over.ensures.orders ∙ c.requires.executions.done ∙ ap (λ (xs : List Order). (matched (incoming_of_replacement a) (open_shares a) xs).fills) left_over in
+    c.arrive-resting.ensures.executions
+    ∙ ap (λ (t : Taker). old ++ matches_of t.member t.token (done_by fills (g.B.Book.orders c.hand_over.new.book))) c.taker_of-taker.ensures
+    ∙ ap (λ (es : List Execution). old ++ matches_of a.old.order.member a.replace.replacement_token es) done

@@ -15,11 +15,11 @@ use Rattle.hx_market.proofs.FeedTimes.{both_in, all_deleted_in}
 use Rattle.hx_market.proofs.decision.expiry.end_orders.Goals as goal
 
 pub returns-clause-does : goal.returns-clause-does
-returns-clause-does g c = λ t n before counts.
+returns-clause-does g c = λ t n before counts r.
     let a = c.args in
     let orders = g.B.Book.orders a.book.now in
     let due : lives c.deref.result.now ≡ filter (λ x. is_due a.due a.time x) (lives orders) = ap lives (c.deref.ensures.value ∙ c.in_ok-orders.ensures.due) ∙ lives-filter (λ x. is_due a.due a.time x) orders in
-    let m : Market = record (market_of orders t n a.hours counts) { live = filter (λ x. Rattle.std.proofs.Common.not (is_due a.due a.time x)) (lives orders) } in
+    let m : Market = record (market_of orders t n a.hours counts r) { live = filter (λ x. Rattle.std.proofs.Common.not (is_due a.due a.time x)) (lives orders) } in
     let feed : a.first.feed.items ++ all_deleted a.time (filter (λ x. is_due a.due a.time x) (lives orders)) ≡ c.tell_ended.new.out.feed.items =
     ap (λ (l : List Order). a.first.feed.items ++ all_deleted a.time l) (sym due) ∙ sym c.in_ok-tell_ended.ensures.feed in
     let replies : a.first.replies.items ++ map (λ x. canceled a.time x.member x.token x.shares 84) (filter (λ x. is_due a.due a.time x) (lives orders)) ≡ c.tell_ended.new.out.replies.items =

@@ -1,10 +1,11 @@
-use Rattle.std.proofs.Common.{◌≡◌, ◌<◌, ◌^◌, ℕ, List, Some, refl, sym, ap, ◌∙◌, subst}
+use Rattle.std.proofs.Common.{◌≡◌, ◌<◌, ◌≤◌, ◌^◌, ℕ, Bool, List, length, Some, refl, sym, ap, ◌∙◌, subst}
 use Rattle.hx_levels.specs.declared.order.Order.{Order}
 use Rattle.hx_levels.specs.Book.{lives}
 use Rattle.hx_match.specs.declared.fills.Fill.{Fill}
 use Rattle.hx_members.specs.Chains.{Used, Chain}
 use Rattle.hx_refs.specs.Numbers.{Numbers, raised}
 use Rattle.hx_itch.specs.declared.message.Feed.{Feed}
+use Rattle.hx_rules.specs.declared.matches.Match.{Match}
 use Rattle.hx_rules.specs.Markets.{Market}
 use Rattle.hx_rules.specs.Outputs.{Outcome, Told}
 use Rattle.hx_rules.specs.Steps.{step, with_record}
@@ -21,23 +22,25 @@ use Rattle.hx_market.proofs.Bounds.AfterEffect.{bare, parts, told_same, in_range
 use Rattle.hx_market.proofs.market.Market.commit.Goals as goal
 
 -- the market by its parts
-whole : (xs ys : List Order) (ts us : List Used) (cs ds : List Chain) (n k : Numbers) (hours then : ℕ) (rs qs : List ℕ) → xs ≡ ys → ts ≡ us → cs ≡ ds → n ≡ k → hours ≡ then → rs ≡ qs
-    → (let m : Market = record { live = xs; tokens = ts; chains = cs; numbers = n; hours = hours; recorded = rs } in m) ≡ (let m : Market = record { live = ys; tokens = us; chains = ds; numbers = k; hours = then; recorded = qs } in m)
-whole xs ys ts us cs ds n k hours then rs qs l t c e o r =
-    ap (λ (z : List Order). (let m : Market = record { live = z; tokens = ts; chains = cs; numbers = n; hours = hours; recorded = rs } in m)) l
-    ∙ ap (λ (z : List Used). (let m : Market = record { live = ys; tokens = z; chains = cs; numbers = n; hours = hours; recorded = rs } in m)) t
-    ∙ ap (λ (z : List Chain). (let m : Market = record { live = ys; tokens = us; chains = z; numbers = n; hours = hours; recorded = rs } in m)) c
-    ∙ ap (λ (z : Numbers). (let m : Market = record { live = ys; tokens = us; chains = ds; numbers = z; hours = hours; recorded = rs } in m)) e
-    ∙ ap (λ (z : ℕ). (let m : Market = record { live = ys; tokens = us; chains = ds; numbers = k; hours = z; recorded = rs } in m)) o
-    ∙ ap (λ (z : List ℕ). (let m : Market = record { live = ys; tokens = us; chains = ds; numbers = k; hours = then; recorded = z } in m)) r
+whole : (xs ys : List Order) (ts us : List Used) (cs ds : List Chain) (n k : Numbers) (hours then : ℕ) (hs is : List Bool) (es fs : List Match) (rs qs : List ℕ) → xs ≡ ys → ts ≡ us → cs ≡ ds → n ≡ k → hours ≡ then → hs ≡ is → es ≡ fs → rs ≡ qs
+    → (let m : Market = record { live = xs; tokens = ts; chains = cs; numbers = n; hours = hours; halted = hs; executions = es; recorded = rs } in m) ≡ (let m : Market = record { live = ys; tokens = us; chains = ds; numbers = k; hours = then; halted = is; executions = fs; recorded = qs } in m)
+whole xs ys ts us cs ds n k hours then hs is es fs rs qs l t c e o h x r =
+    ap (λ (z : List Order). (let m : Market = record { live = z; tokens = ts; chains = cs; numbers = n; hours = hours; halted = hs; executions = es; recorded = rs } in m)) l
+    ∙ ap (λ (z : List Used). (let m : Market = record { live = ys; tokens = z; chains = cs; numbers = n; hours = hours; halted = hs; executions = es; recorded = rs } in m)) t
+    ∙ ap (λ (z : List Chain). (let m : Market = record { live = ys; tokens = us; chains = z; numbers = n; hours = hours; halted = hs; executions = es; recorded = rs } in m)) c
+    ∙ ap (λ (z : Numbers). (let m : Market = record { live = ys; tokens = us; chains = ds; numbers = z; hours = hours; halted = hs; executions = es; recorded = rs } in m)) e
+    ∙ ap (λ (z : ℕ). (let m : Market = record { live = ys; tokens = us; chains = ds; numbers = k; hours = z; halted = hs; executions = es; recorded = rs } in m)) o
+    ∙ ap (λ (z : List Bool). (let m : Market = record { live = ys; tokens = us; chains = ds; numbers = k; hours = then; halted = z; executions = es; recorded = rs } in m)) h
+    ∙ ap (λ (z : List Match). (let m : Market = record { live = ys; tokens = us; chains = ds; numbers = k; hours = then; halted = is; executions = z; recorded = rs } in m)) x
+    ∙ ap (λ (z : List ℕ). (let m : Market = record { live = ys; tokens = us; chains = ds; numbers = k; hours = then; halted = is; executions = fs; recorded = z } in m)) r
 
 pub raise-requires : goal.raise-requires
 raise-requires g c =
     let s = c.self.inside in
     let q = c.prepared.inside in
     let p : Planned = record { event = q.event.value; feed_count = q.feed_count; reply_members = q.reply_members.items; number = q.number; effect = q.effect; fills = q.fills.items; left = q.left } in
-    let m : Market = market_of (g.B.Book.orders s.book) s.tokens s.refs s.hours s.recorded in
-    let i : IsPlanned s.setup m (g.B.Book.orders s.book) (g.B.Book.place s.book) s.tokens.place p =
+    let m : Market = market_of (g.B.Book.orders s.book) s.tokens s.refs s.hours s.recorded s.trading in
+    let i : IsPlanned s.setup m (g.B.Book.orders s.book) (g.B.Book.place s.book) s.tokens.place s.trading.room p =
     c.self.invariant.2 p (ap (λ (v : Seen). v.ready) c.self.view_is ∙ c.requires.ready ∙ ap (λ (z : Planned). Some z) (sym c.prepared.view_is)) in
     i.may_record
 
@@ -46,8 +49,8 @@ commit_effect-requires-clause-range g c =
     let s = c.self.inside in
     let q = c.prepared.inside in
     let p : Planned = record { event = q.event.value; feed_count = q.feed_count; reply_members = q.reply_members.items; number = q.number; effect = q.effect; fills = q.fills.items; left = q.left } in
-    let m : Market = market_of (g.B.Book.orders s.book) s.tokens s.refs s.hours s.recorded in
-    let i : IsPlanned s.setup m (g.B.Book.orders s.book) (g.B.Book.place s.book) s.tokens.place p =
+    let m : Market = market_of (g.B.Book.orders s.book) s.tokens s.refs s.hours s.recorded s.trading in
+    let i : IsPlanned s.setup m (g.B.Book.orders s.book) (g.B.Book.place s.book) s.tokens.place s.trading.room p =
     c.self.invariant.2 p (ap (λ (v : Seen). v.ready) c.self.view_is ∙ c.requires.ready ∙ ap (λ (z : Planned). Some z) (sym c.prepared.view_is)) in
     in_range s.setup q.effect i.is_effect
 
@@ -56,8 +59,8 @@ commit_effect-requires-clause-suits g c =
     let s = c.self.inside in
     let q = c.prepared.inside in
     let p : Planned = record { event = q.event.value; feed_count = q.feed_count; reply_members = q.reply_members.items; number = q.number; effect = q.effect; fills = q.fills.items; left = q.left } in
-    let m : Market = market_of (g.B.Book.orders s.book) s.tokens s.refs s.hours s.recorded in
-    let i : IsPlanned s.setup m (g.B.Book.orders s.book) (g.B.Book.place s.book) s.tokens.place p =
+    let m : Market = market_of (g.B.Book.orders s.book) s.tokens s.refs s.hours s.recorded s.trading in
+    let i : IsPlanned s.setup m (g.B.Book.orders s.book) (g.B.Book.place s.book) s.tokens.place s.trading.room p =
     c.self.invariant.2 p (ap (λ (v : Seen). v.ready) c.self.view_is ∙ c.requires.ready ∙ ap (λ (z : Planned). Some z) (sym c.prepared.view_is)) in
     i.suits
 
@@ -66,8 +69,8 @@ commit_effect-requires-clause-about g c =
     let s = c.self.inside in
     let q = c.prepared.inside in
     let p : Planned = record { event = q.event.value; feed_count = q.feed_count; reply_members = q.reply_members.items; number = q.number; effect = q.effect; fills = q.fills.items; left = q.left } in
-    let m : Market = market_of (g.B.Book.orders s.book) s.tokens s.refs s.hours s.recorded in
-    let i : IsPlanned s.setup m (g.B.Book.orders s.book) (g.B.Book.place s.book) s.tokens.place p =
+    let m : Market = market_of (g.B.Book.orders s.book) s.tokens s.refs s.hours s.recorded s.trading in
+    let i : IsPlanned s.setup m (g.B.Book.orders s.book) (g.B.Book.place s.book) s.tokens.place s.trading.room p =
     c.self.invariant.2 p (ap (λ (v : Seen). v.ready) c.self.view_is ∙ c.requires.ready ∙ ap (λ (z : Planned). Some z) (sym c.prepared.view_is)) in
     i.about
 
@@ -79,8 +82,8 @@ commit_effect-requires-clause-places g c =
     let s = c.self.inside in
     let q = c.prepared.inside in
     let p : Planned = record { event = q.event.value; feed_count = q.feed_count; reply_members = q.reply_members.items; number = q.number; effect = q.effect; fills = q.fills.items; left = q.left } in
-    let m : Market = market_of (g.B.Book.orders s.book) s.tokens s.refs s.hours s.recorded in
-    let i : IsPlanned s.setup m (g.B.Book.orders s.book) (g.B.Book.place s.book) s.tokens.place p =
+    let m : Market = market_of (g.B.Book.orders s.book) s.tokens s.refs s.hours s.recorded s.trading in
+    let i : IsPlanned s.setup m (g.B.Book.orders s.book) (g.B.Book.place s.book) s.tokens.place s.trading.room p =
     c.self.invariant.2 p (ap (λ (v : Seen). v.ready) c.self.view_is ∙ c.requires.ready ∙ ap (λ (z : Planned). Some z) (sym c.prepared.view_is)) in
     subst (λ (fs : List Fill). HasPlaces (g.B.Book.orders s.book) (g.B.Book.place s.book) s.tokens.place fs q.left q.effect) (sym c.deref.ensures.value) i.places
 
@@ -89,24 +92,34 @@ commit_effect-requires-clause-fits g c =
     let s = c.self.inside in
     let q = c.prepared.inside in
     let p : Planned = record { event = q.event.value; feed_count = q.feed_count; reply_members = q.reply_members.items; number = q.number; effect = q.effect; fills = q.fills.items; left = q.left } in
-    let m : Market = market_of (g.B.Book.orders s.book) s.tokens s.refs s.hours s.recorded in
-    let i : IsPlanned s.setup m (g.B.Book.orders s.book) (g.B.Book.place s.book) s.tokens.place p =
+    let m : Market = market_of (g.B.Book.orders s.book) s.tokens s.refs s.hours s.recorded s.trading in
+    let i : IsPlanned s.setup m (g.B.Book.orders s.book) (g.B.Book.place s.book) s.tokens.place s.trading.room p =
     c.self.invariant.2 p (ap (λ (v : Seen). v.ready) c.self.view_is ∙ c.requires.ready ∙ ap (λ (z : Planned). Some z) (sym c.prepared.view_is)) in
     fits_effect s.setup m q.number q.effect (g.B.Book.orders s.book) refl c.self.invariant.0 i.may_record i.is_effect i.suits i.about i.sender
+
+pub commit_effect-requires-clause-executions_room : goal.commit_effect-requires-clause-executions_room
+commit_effect-requires-clause-executions_room g c =
+    let s = c.self.inside in
+    let q = c.prepared.inside in
+    let p : Planned = record { event = q.event.value; feed_count = q.feed_count; reply_members = q.reply_members.items; number = q.number; effect = q.effect; fills = q.fills.items; left = q.left } in
+    let m : Market = market_of (g.B.Book.orders s.book) s.tokens s.refs s.hours s.recorded s.trading in
+    let i : IsPlanned s.setup m (g.B.Book.orders s.book) (g.B.Book.place s.book) s.tokens.place s.trading.room p =
+    c.self.invariant.2 p (ap (λ (v : Seen). v.ready) c.self.view_is ∙ c.requires.ready ∙ ap (λ (z : Planned). Some z) (sym c.prepared.view_is)) in
+    subst (λ (fs : List Fill). length fs ≤ s.trading.room) (sym c.deref.ensures.value) i.has_room
 
 pub invariant_of-self : goal.invariant_of-self
 invariant_of-self g c =
     let s = c.self.inside in
     let q = c.prepared.inside in
     let p : Planned = record { event = q.event.value; feed_count = q.feed_count; reply_members = q.reply_members.items; number = q.number; effect = q.effect; fills = q.fills.items; left = q.left } in
-    let m : Market = market_of (g.B.Book.orders s.book) s.tokens s.refs s.hours s.recorded in
-    let i : IsPlanned s.setup m (g.B.Book.orders s.book) (g.B.Book.place s.book) s.tokens.place p =
+    let m : Market = market_of (g.B.Book.orders s.book) s.tokens s.refs s.hours s.recorded s.trading in
+    let i : IsPlanned s.setup m (g.B.Book.orders s.book) (g.B.Book.place s.book) s.tokens.place s.trading.room p =
     c.self.invariant.2 p (ap (λ (v : Seen). v.ready) c.self.view_is ∙ c.requires.ready ∙ ap (λ (z : Planned). Some z) (sym c.prepared.view_is)) in
     let k : Market = (outcome_of (bare m) q.effect).market in
-    let n : Market = market_of (g.B.Book.orders c.commit_effect.new.book) c.commit_effect.new.tokens c.commit_effect.new.refs c.hours_after-self-inside.result c.raise.new.self in
+    let n : Market = market_of (g.B.Book.orders c.commit_effect.new.book) c.commit_effect.new.tokens c.commit_effect.new.refs c.hours_after-self-inside.result c.raise.new.self c.commit_effect.new.trading in
     let is : n ≡ (outcome_of (recording m q.number) q.effect).market =
-    whole (lives (g.B.Book.orders c.commit_effect.new.book)) k.live c.commit_effect.new.tokens.tokens k.tokens c.commit_effect.new.tokens.chains k.chains c.commit_effect.new.refs k.numbers c.hours_after-self-inside.result (hours_after q.effect s.hours) c.raise.new.self (raised s.recorded q.number)
-    c.commit_effect.ensures.live c.commit_effect.ensures.tokens c.commit_effect.ensures.chains c.commit_effect.ensures.numbers c.hours_after-self-inside.ensures c.raise.ensures
+    whole (lives (g.B.Book.orders c.commit_effect.new.book)) k.live c.commit_effect.new.tokens.tokens k.tokens c.commit_effect.new.tokens.chains k.chains c.commit_effect.new.refs k.numbers c.hours_after-self-inside.result (hours_after q.effect s.hours) c.commit_effect.new.trading.halted k.halted c.commit_effect.new.trading.executions k.executions c.raise.new.self (raised s.recorded q.number)
+    c.commit_effect.ensures.live c.commit_effect.ensures.tokens c.commit_effect.ensures.chains c.commit_effect.ensures.numbers c.hours_after-self-inside.ensures c.commit_effect.ensures.halted c.commit_effect.ensures.executions c.raise.ensures
     ∙ sym (parts (recording m q.number) q.effect) in
     (subst IsSound (sym is) (sound_outcome s.setup m q.number q.effect (g.B.Book.orders s.book) refl c.self.invariant.0 i.may_record i.is_effect i.suits i.about i.sender), c.commit_effect.ensures.keyed, λ p h. cc)
 
@@ -115,14 +128,14 @@ returns-clause-market g c =
     let s = c.self.inside in
     let q = c.prepared.inside in
     let p : Planned = record { event = q.event.value; feed_count = q.feed_count; reply_members = q.reply_members.items; number = q.number; effect = q.effect; fills = q.fills.items; left = q.left } in
-    let m : Market = market_of (g.B.Book.orders s.book) s.tokens s.refs s.hours s.recorded in
-    let i : IsPlanned s.setup m (g.B.Book.orders s.book) (g.B.Book.place s.book) s.tokens.place p =
+    let m : Market = market_of (g.B.Book.orders s.book) s.tokens s.refs s.hours s.recorded s.trading in
+    let i : IsPlanned s.setup m (g.B.Book.orders s.book) (g.B.Book.place s.book) s.tokens.place s.trading.room p =
     c.self.invariant.2 p (ap (λ (v : Seen). v.ready) c.self.view_is ∙ c.requires.ready ∙ ap (λ (z : Planned). Some z) (sym c.prepared.view_is)) in
     let k : Market = (outcome_of (bare m) q.effect).market in
-    let n : Market = market_of (g.B.Book.orders c.commit_effect.new.book) c.commit_effect.new.tokens c.commit_effect.new.refs c.hours_after-self-inside.result c.raise.new.self in
+    let n : Market = market_of (g.B.Book.orders c.commit_effect.new.book) c.commit_effect.new.tokens c.commit_effect.new.refs c.hours_after-self-inside.result c.raise.new.self c.commit_effect.new.trading in
     let is : n ≡ (outcome_of (recording m q.number) q.effect).market =
-    whole (lives (g.B.Book.orders c.commit_effect.new.book)) k.live c.commit_effect.new.tokens.tokens k.tokens c.commit_effect.new.tokens.chains k.chains c.commit_effect.new.refs k.numbers c.hours_after-self-inside.result (hours_after q.effect s.hours) c.raise.new.self (raised s.recorded q.number)
-    c.commit_effect.ensures.live c.commit_effect.ensures.tokens c.commit_effect.ensures.chains c.commit_effect.ensures.numbers c.hours_after-self-inside.ensures c.raise.ensures
+    whole (lives (g.B.Book.orders c.commit_effect.new.book)) k.live c.commit_effect.new.tokens.tokens k.tokens c.commit_effect.new.tokens.chains k.chains c.commit_effect.new.refs k.numbers c.hours_after-self-inside.result (hours_after q.effect s.hours) c.commit_effect.new.trading.halted k.halted c.commit_effect.new.trading.executions k.executions c.raise.new.self (raised s.recorded q.number)
+    c.commit_effect.ensures.live c.commit_effect.ensures.tokens c.commit_effect.ensures.chains c.commit_effect.ensures.numbers c.hours_after-self-inside.ensures c.commit_effect.ensures.halted c.commit_effect.ensures.executions c.raise.ensures
     ∙ sym (parts (recording m q.number) q.effect) in
     let one : outcome_of (with_record p.event m) q.effect ≡ step c.args.self.now.setup c.args.self.now.market c.args.prepared.event =
     step_is s.setup c.args.self.now.setup m c.args.self.now.market p.event c.args.prepared.event (outcome_of (with_record p.event m) q.effect) i.does (ap (λ (v : Seen). v.setup) c.self.view_is) (ap (λ (v : Seen). v.market) c.self.view_is) (ap (λ (v : Planned). v.event) c.prepared.view_is) in
@@ -133,8 +146,8 @@ returns-clause-feed g c =
     let s = c.self.inside in
     let q = c.prepared.inside in
     let p : Planned = record { event = q.event.value; feed_count = q.feed_count; reply_members = q.reply_members.items; number = q.number; effect = q.effect; fills = q.fills.items; left = q.left } in
-    let m : Market = market_of (g.B.Book.orders s.book) s.tokens s.refs s.hours s.recorded in
-    let i : IsPlanned s.setup m (g.B.Book.orders s.book) (g.B.Book.place s.book) s.tokens.place p =
+    let m : Market = market_of (g.B.Book.orders s.book) s.tokens s.refs s.hours s.recorded s.trading in
+    let i : IsPlanned s.setup m (g.B.Book.orders s.book) (g.B.Book.place s.book) s.tokens.place s.trading.room p =
     c.self.invariant.2 p (ap (λ (v : Seen). v.ready) c.self.view_is ∙ c.requires.ready ∙ ap (λ (z : Planned). Some z) (sym c.prepared.view_is)) in
     let one : outcome_of (with_record p.event m) q.effect ≡ step c.args.self.now.setup c.args.self.now.market c.args.prepared.event =
     step_is s.setup c.args.self.now.setup m c.args.self.now.market p.event c.args.prepared.event (outcome_of (with_record p.event m) q.effect) i.does (ap (λ (v : Seen). v.setup) c.self.view_is) (ap (λ (v : Seen). v.market) c.self.view_is) (ap (λ (v : Planned). v.event) c.prepared.view_is) in
@@ -147,8 +160,8 @@ returns-clause-replies g c =
     let s = c.self.inside in
     let q = c.prepared.inside in
     let p : Planned = record { event = q.event.value; feed_count = q.feed_count; reply_members = q.reply_members.items; number = q.number; effect = q.effect; fills = q.fills.items; left = q.left } in
-    let m : Market = market_of (g.B.Book.orders s.book) s.tokens s.refs s.hours s.recorded in
-    let i : IsPlanned s.setup m (g.B.Book.orders s.book) (g.B.Book.place s.book) s.tokens.place p =
+    let m : Market = market_of (g.B.Book.orders s.book) s.tokens s.refs s.hours s.recorded s.trading in
+    let i : IsPlanned s.setup m (g.B.Book.orders s.book) (g.B.Book.place s.book) s.tokens.place s.trading.room p =
     c.self.invariant.2 p (ap (λ (v : Seen). v.ready) c.self.view_is ∙ c.requires.ready ∙ ap (λ (z : Planned). Some z) (sym c.prepared.view_is)) in
     let one : outcome_of (with_record p.event m) q.effect ≡ step c.args.self.now.setup c.args.self.now.market c.args.prepared.event =
     step_is s.setup c.args.self.now.setup m c.args.self.now.market p.event c.args.prepared.event (outcome_of (with_record p.event m) q.effect) i.does (ap (λ (v : Seen). v.setup) c.self.view_is) (ap (λ (v : Seen). v.market) c.self.view_is) (ap (λ (v : Planned). v.event) c.prepared.view_is) in
@@ -161,7 +174,7 @@ returns-clause-times g c =
     let s = c.self.inside in
     let q = c.prepared.inside in
     let p : Planned = record { event = q.event.value; feed_count = q.feed_count; reply_members = q.reply_members.items; number = q.number; effect = q.effect; fills = q.fills.items; left = q.left } in
-    let m : Market = market_of (g.B.Book.orders s.book) s.tokens s.refs s.hours s.recorded in
-    let i : IsPlanned s.setup m (g.B.Book.orders s.book) (g.B.Book.place s.book) s.tokens.place p =
+    let m : Market = market_of (g.B.Book.orders s.book) s.tokens s.refs s.hours s.recorded s.trading in
+    let i : IsPlanned s.setup m (g.B.Book.orders s.book) (g.B.Book.place s.book) s.tokens.place s.trading.room p =
     c.self.invariant.2 p (ap (λ (v : Seen). v.ready) c.self.view_is ∙ c.requires.ready ∙ ap (λ (z : Planned). Some z) (sym c.prepared.view_is)) in
     subst (λ (fs : List Feed). AllByRecursion (λ f. feed_time f < 2 ^ 48) fs) (sym c.commit_effect.ensures.feed) (fits_feed (bare m) q.effect (in_range s.setup q.effect i.is_effect))

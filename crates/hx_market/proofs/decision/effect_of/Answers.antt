@@ -1,0 +1,23 @@
+use Rattle.hx_rules.specs.Steps.{sender}
+use Rattle.hx_market.proofs.decision.effect_of.Goals as goal
+
+pub returns-in-Halt-clause-sender : goal.returns-in-Halt-clause-sender
+returns-in-Halt-clause-sender g c = c.halt_effect.ensures.sender (sender c.args.event.now)
+
+pub returns-in-Halt-clause-suits : goal.returns-in-Halt-clause-suits
+returns-in-Halt-clause-suits g c = c.halt_effect.ensures.suits c.args.tokens.now.tokens c.args.tokens.now.chains
+
+pub returns-in-Halt-clause-about : goal.returns-in-Halt-clause-about
+returns-in-Halt-clause-about g c = c.halt_effect.ensures.about (g.B.Book.orders c.args.book.now)
+
+pub returns-in-Break-clause-is_effect : goal.returns-in-Break-clause-is_effect
+returns-in-Break-clause-is_effect g c = c.break_effect.ensures.is_effect c.args.setup.now
+
+pub returns-in-Break-clause-sender : goal.returns-in-Break-clause-sender
+returns-in-Break-clause-sender g c = c.break_effect.ensures.sender (sender c.args.event.now)
+
+pub returns-in-Break-clause-suits : goal.returns-in-Break-clause-suits
+returns-in-Break-clause-suits g c = c.break_effect.ensures.suits c.args.tokens.now.tokens c.args.tokens.now.chains
+
+pub returns-in-Break-clause-about : goal.returns-in-Break-clause-about
+returns-in-Break-clause-about g c = c.break_effect.ensures.about (g.B.Book.orders c.args.book.now)

@@ -1,0 +1,35 @@
+//! Which effect a break has (ITCH 5.0, Broken Trade Message).
+ghost use Rattle.std.specs.Prelude.{◌≡◌, ◌<◌, ℕ, List};
+ghost use Rattle.hx_units.specs.Limits.{day};
+ghost use Rattle.hx_levels.specs.declared.order.Live.{Live as LiveOrder};
+ghost use Rattle.hx_members.specs.Chains.{Used, Chain};
+ghost use Rattle.hx_members.specs.Setups.{Setup as SetupOf};
+ghost use Rattle.hx_rules.specs.Markets.{Market};
+ghost use Rattle.hx_rules.specs.Breaks.{break_trade};
+ghost use Rattle.hx_market.specs.Effects.{outcome_of, IsEffect, IsOf, SuitsTokens, IsAbout};
+
+use crate::effect::{BrokenMatch, Effect};
+use crate::trading::Trading;
+
+/// What a break does: nothing for a match number that was never drawn, or whose execution is broken.
+pub fn break_effect(trading: &Trading, time: u64, number: u64) -> Effect
+    requires { time < day }
+    ensures does { (m : Market) → m.executions ≡ trading.now.executions
+        → break_trade m time number ≡ outcome_of m result }
+    ensures is_effect { (setup : SetupOf) → IsEffect setup result }
+    ensures sender { (i : ℕ) → IsOf i result }
+    ensures suits { (ts : List Used) (cs : List Chain) → SuitsTokens ts cs result }
+    ensures about { (orders : List LiveOrder) → IsAbout orders result }
+{
+    let Some(execution) = trading.execution(number) else {
+        return Effect::Nothing;
+    };
+    if execution.broken {
+        return Effect::Nothing;
+    }
+    Effect::Break(BrokenMatch {
+        time,
+        number,
+        execution,
+    })
+}

@@ -1,0 +1,43 @@
+//! Which effect a halt has (ITCH 5.0, Stock Trading Action Message).
+ghost use Rattle.std.specs.Prelude.{◌≡◌, ◌<◌, ℕ, List};
+ghost use Rattle.hx_units.specs.Limits.{day};
+ghost use Rattle.hx_levels.specs.declared.order.Live.{Live as LiveOrder};
+ghost use Rattle.hx_members.specs.Chains.{Used, Chain};
+ghost use Rattle.hx_rules.specs.Markets.{Market};
+ghost use Rattle.hx_rules.specs.Halts.{halt, is_trading_state};
+ghost use Rattle.hx_market.specs.Effects.{outcome_of, IsEffect, IsOf, SuitsTokens, IsAbout};
+
+use crate::effect::{Effect, StateChange};
+use hx_members::Setup;
+use hx_units::Symbol;
+
+// Whether the letter is a state of a stock.
+fn is_trading_state(state: u8) -> bool
+    ensures { result ≡ is_trading_state state }
+{
+    state == b'H' || state == b'T'
+}
+
+/// What a halt does, or its end: nothing for a stock that the setup does not have, or for another letter.
+pub fn halt_effect(setup: &Setup, time: u64, stock: Symbol, state: u8, reason: [u8; 4]) -> Effect
+    requires { time < day }
+    ensures does { (m : Market) → halt setup.now m time stock state reason ≡ outcome_of m result }
+    ensures is_effect { IsEffect setup.now result }
+    ensures sender { (i : ℕ) → IsOf i result }
+    ensures suits { (ts : List Used) (cs : List Chain) → SuitsTokens ts cs result }
+    ensures about { (orders : List LiveOrder) → IsAbout orders result }
+{
+    let Some(locate) = setup.locate(stock) else {
+        return Effect::Nothing;
+    };
+    if !is_trading_state(state) {
+        return Effect::Nothing;
+    }
+    Effect::Halt(StateChange {
+        time,
+        locate,
+        stock,
+        state,
+        reason,
+    })
+}
