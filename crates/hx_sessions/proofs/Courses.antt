@@ -31,7 +31,7 @@ use Rattle.hx_sessions.proofs.Going.{until_join, sent_join, known_grows}
 -- ---- what was written
 
 brings_of : (first : ℕ) (replies rest : List (List ℕ)) (d : Delivery) (frames : List (List ℕ)) → Delivers first replies rest d frames → Brings first replies rest d.over frames
-brings_of first replies rest d frames s = record { before = s.before; rows = s.rows; splits = s.splits; starts = s.starts; are = s.are }
+brings_of first replies rest d frames s = record { before = s.before; rows = s.rows; splits = s.splits; starts = s.starts; are = s.are; ends = s.ends }
 
 wrote_of : (first : ℕ) (replies rest : List (List ℕ)) (d : Delivery) (over : Bool) (a b : Option (List ℕ)) → d.over ≡ over → Sent first replies rest d a b → Wrote [] first replies rest over a b
 wrote_of first replies rest d over a b is s = record {
@@ -301,6 +301,7 @@ broken setup own input output answered out pass before reader first_input r b k 
             splits = sym (take-append-drop (first - 1) replies);
             starts = omega (arith, b.opens.one, b.opens.most, length-take (first - 1) replies);
             are = (refl, refl);
+            ends = λ e. absurd (cc e);
           };
           unwritten = b.unwritten;
           wrote = subst (λ l. Writes output out l b.unwritten) (sym (append-nil answer)) (writes_stay output answered out answer b.unwritten k b.wrote);

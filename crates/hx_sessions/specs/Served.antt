@@ -43,8 +43,8 @@ rejection reason = framed login_rejected (reason ∷ [])
 
 -- ---- what goes out
 
--- The frames bring the replies from number `first` on, each once and in order, and these are left; where
--- the session is over, none is.
+-- The frames bring the replies from number `first` on, each once and in order, and the rest is left: nothing
+-- where the end of the session is among them.
 pub record Brings
     (first : ℕ) (replies rest : List (List ℕ)) (over : Bool) (frames : List (List ℕ))
     : Type 0 where
@@ -53,6 +53,7 @@ pub record Brings
   pub splits : replies ≡ before ++ (rows ++ rest)
   pub starts : first ≡ length before + 1
   pub are : AreFrames rows over frames
+  pub ends : over ≡ true → rest ≡ []
 
 -- The answer to the login was written, and behind it such frames.
 pub record Wrote
