@@ -1,5 +1,5 @@
 -- A session from its login to its end: what it read, wrote and submitted, by how it ended.
-use Rattle.std.specs.Prelude.{ℕ, ◌≡◌, ◌⊎◌, ◌+◌, ◌≤◌, List, [], ◌∷◌, ◌++◌, length, Option, Bool, true, false, Result, Ok, Err}
+use Rattle.std.specs.Prelude.{ℕ, ◌≡◌, ◌⊎◌, ◌+◌, ◌≤◌, List, [], ◌∷◌, ◌++◌, length, Option, Some, IfSome, Bool, true, false, Result, Ok, Err}
 use Rattle.std.specs.List.{concat}
 use Rattle.std.specs.Io.KnownBytes.{Consumes, Appends, Keeps, IsAtEnd}
 use mathlib.Core.List.{IsPrefix}
@@ -200,3 +200,22 @@ Serves setup own old new result =
     (NotLoggedIn old.input new.input old.output new.output result × (new.pass ≡ old.pass))
     ⊎ (Rejected own old.input new.input old.output new.output result × (new.pass ≡ old.pass))
     ⊎ Opened setup own old new result
+
+-- ---- many at once
+
+-- The part that waited, if one did, was served.
+pub record ServesWaiting
+    (setup own : Setup) (waiting : Option Side) (served : Option (Side × Result Ended Fault))
+    : Type 0 where
+  pub serves :
+      IfSome waiting (λ p. (s : Side × Result Ended Fault) × (served ≡ Some s)
+      × Serves setup own p s.0 s.1)
+
+-- Each part was served, in their order: the first of what came of them is that of the first, and so on.
+abbrev pub ServesAll :
+    (setup own : Setup) → (parts : List Side) → (served : List (Side × Result Ended Fault))
+    → Type 0
+ServesAll setup own [] [] = Unit {0}
+ServesAll setup own [] (s ∷ ss) = ⊥
+ServesAll setup own (p ∷ ps) [] = ⊥
+ServesAll setup own (p ∷ ps) (s ∷ ss) = Serves setup own p s.0 s.1 × ServesAll setup own ps ss
