@@ -1,5 +1,5 @@
 -- How a delivery goes on.
-use Rattle.std.proofs.Common.{◌≡◌, ◌⊎◌, ℕ, zero, suc, ◌+◌, ◌-◌, ◌<◌, ◌≤◌, ◌^◌, List, [], ◌∷◌, ◌++◌, length, take, drop, Bool, true, false, Option, refl, sym, ap, ◌∙◌, subst, inl, inr, arith, append_assoc, append-nil, length-append, take-append-drop, length-drop, length-take}
+use Rattle.std.proofs.Common.{◌≡◌, ℕ, zero, suc, ◌+◌, ◌-◌, ◌<◌, ◌≤◌, List, [], ◌∷◌, ◌++◌, length, take, drop, Bool, true, false, Option, refl, sym, ap, ◌∙◌, subst, inl, inr, arith, append_assoc, append-nil, length-append, take-append-drop, length-drop, length-take}
 use Rattle.std.specs.Prelude.{MatchBool}
 use Rattle.std.specs.List.{concat}
 use Rattle.std.specs.Io.KnownBytes.{Appends}
@@ -7,8 +7,6 @@ use Rattle.std.proofs.KnownBytes.{Appends-nil, Appends-trans}
 use Rattle.std.proofs.lemmas.List.Folds.{concat-append}
 use Rattle.std.proofs.Math.Seq.{drop-append_seam}
 use mathlib.Core.List.{IsPrefix}
-use Rattle.hx_soup.specs.Kinds.{sequenced_data, server_heartbeat, end_of_session}
-use Rattle.hx_soup.specs.Packets.{framed}
 use Rattle.arrayvec.specs.ArrayVec.{ArrayVec}
 use Rattle.hx_session_core.specs.declared.delivery.Turn.TheVariants as turn
 use Rattle.hx_units.specs.Fields.{texts}
@@ -22,7 +20,7 @@ use Rattle.hx_members.specs.Setups.{Setup}
 use Rattle.hx_sessions.specs.declared.ending.Stop.{Stop}
 use Rattle.hx_sessions.specs.declared.ending.Stop.TheVariants as stop
 use Rattle.hx_sessions.specs.Workers.{SentUntil}
-use Rattle.hx_sessions.specs.Frames.{Writes, WritesAll, WritesSome, AreFrames, Sends, Delivers, Sent, SentSome}
+use Rattle.hx_sessions.specs.Frames.{WritesAll, WritesSome, AreFrames, Sends, Delivers, Sent, SentSome}
 
 drop_one : (all : List (List ℕ)) (i : ℕ) → drop 1 (drop i all) ≡ drop (i + 1) all
 drop_one all i = drop-drop 1 i all ∙ ap (λ n. drop n all) (omega arith)

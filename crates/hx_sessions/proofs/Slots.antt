@@ -1,5 +1,5 @@
 -- Sessions that were served each in its slot are all served.
-use Rattle.std.proofs.Common.{◌≡◌, ◌<◌, ◌≤◌, ℕ, zero, suc, List, [], ◌∷◌, ◌++◌, length, map, take, drop, Option, Some, None, Result, refl, sym, ap, ◌∙◌, subst, arith, append-nil, slice_index_or, filter_map, option_map}
+use Rattle.std.proofs.Common.{◌≡◌, ◌<◌, ℕ, suc, List, [], ◌∷◌, ◌++◌, length, map, take, drop, Option, Some, None, Result, sym, ap, ◌∙◌, subst, arith, append-nil, slice_index_or, filter_map, option_map}
 use Rattle.std.proofs.lemmas.List.{take_all, drop_all}
 use Rattle.std.specs.List.{cons_option}
 use Rattle.hx_members.specs.Setups.{Setup}

@@ -1,5 +1,5 @@
 -- A session from its login to its end: what it read, wrote and submitted, by how it ended.
-use Rattle.std.specs.Prelude.{ℕ, ◌≡◌, ◌⊎◌, ◌+◌, ◌≤◌, List, [], ◌∷◌, ◌++◌, length, Option, Some, IfSome, Bool, true, false, Result, Ok, Err}
+use Rattle.std.specs.Prelude.{ℕ, ◌≡◌, ◌⊎◌, ◌+◌, List, [], ◌∷◌, ◌++◌, length, Option, Some, IfSome, Bool, true, false, Result, Ok, Err}
 use Rattle.std.specs.List.{concat}
 use Rattle.std.specs.Io.KnownBytes.{Consumes, Appends, Keeps, IsAtEnd}
 use mathlib.Core.List.{IsPrefix}
@@ -9,7 +9,6 @@ use Rattle.hx_soup.specs.Packets.{framed, Cuts}
 use Rattle.hx_soup.specs.declared.packet.SoupPacket.{SoupPacket}
 use Rattle.hx_soup.specs.declared.login.LoginRequest.{LoginRequest}
 use Rattle.hx_members.specs.Setups.{Setup}
-use Rattle.hx_rules.specs.declared.event.Event.{Event}
 use Rattle.hx_blog.specs.Feed.{Entries}
 use Rattle.hx_blog.specs.Ends.{ReaderState}
 use Rattle.hx_desk.specs.declared.entry.Entry.{Entry}

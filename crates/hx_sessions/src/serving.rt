@@ -43,8 +43,21 @@ fn serve<
     slot: &mut Slot<V, R, W, C>,
 )
     ensures { ServesWaiting V.setup setup.now
-        (option_map (λ p. record { input = R.remaining p.input; output = W.contents p.output; pass = p.pass; reader = p.reader }) slot.old.waiting)
-        (option_map (λ s. (record { input = R.remaining s.0.input; output = W.contents s.0.output; pass = s.0.pass; reader = s.0.reader }, s.1)) slot.new.served) }
+        (option_map (λ p. record {
+          input = R.remaining p.input;
+          output = W.contents p.output;
+          pass = p.pass;
+          reader = p.reader;
+        }) slot.old.waiting)
+        (option_map (λ s. (
+          record {
+            input = R.remaining s.0.input;
+            output = W.contents s.0.output;
+            pass = s.0.pass;
+            reader = s.0.reader;
+          },
+          s.1,
+        )) slot.new.served) }
 {
     if let Some(part) = slot.waiting.take() {
         slot.served = Some(Session::run(rt, alloc, exchange, setup, part, gate, turns));
@@ -72,8 +85,21 @@ fn serve_slots<
     requires { 0 < count }
     ensures len { length slots.new ≡ length slots.old }
     ensures each { (i : ℕ) (d : _) → i < length slots.old → ServesWaiting V.setup setup.now
-        (option_map (λ p. record { input = R.remaining p.input; output = W.contents p.output; pass = p.pass; reader = p.reader }) (slice_index_or slots.old i d).waiting)
-        (option_map (λ s. (record { input = R.remaining s.0.input; output = W.contents s.0.output; pass = s.0.pass; reader = s.0.reader }, s.1)) (slice_index_or slots.new i d).served) }
+        (option_map (λ p. record {
+          input = R.remaining p.input;
+          output = W.contents p.output;
+          pass = p.pass;
+          reader = p.reader;
+        }) (slice_index_or slots.old i d).waiting)
+        (option_map (λ s. (
+          record {
+            input = R.remaining s.0.input;
+            output = W.contents s.0.output;
+            pass = s.0.pass;
+            reader = s.0.reader;
+          },
+          s.1,
+        )) (slice_index_or slots.new i d).served) }
 {
     for_each_mut(
         rt,
@@ -149,8 +175,21 @@ pub fn serve_all<
     turns: u64,
 ) -> Result<Vec<(Part<V, R, W, C>, Result<Ended, Fault>)>, Vec<Part<V, R, W, C>>>
     ensures ok { IfOk result (λ all. ServesAll V.setup setup.now
-        (map (λ p. record { input = R.remaining p.input; output = W.contents p.output; pass = p.pass; reader = p.reader }) parts.items)
-        (map (λ s. (record { input = R.remaining s.0.input; output = W.contents s.0.output; pass = s.0.pass; reader = s.0.reader }, s.1)) all.items)) }
+        (map (λ p. record {
+          input = R.remaining p.input;
+          output = W.contents p.output;
+          pass = p.pass;
+          reader = p.reader;
+        }) parts.items)
+        (map (λ s. (
+          record {
+            input = R.remaining s.0.input;
+            output = W.contents s.0.output;
+            pass = s.0.pass;
+            reader = s.0.reader;
+          },
+          s.1,
+        )) all.items)) }
     ensures err { IfErr result (λ back. back ≡ parts) }
 {
     let count = parts.len();

@@ -25,7 +25,7 @@ use std::thread::Threads;
 use std::time::Clock as Timer;
 
 /// How both workers ended, as one: a fault before an ending, the inbound fault first, and the end of the day before
-/// the other endings. Where neither ended by itself, no thread could be started.
+/// the other endings. Where neither ended by itself there was no session, as for want of memory.
 pub fn both(inbound: Stop, outbound: Stop) -> Result<Ended, Fault>
     ensures { result ≡ both_of inbound outbound }
 {
@@ -66,8 +66,18 @@ impl Session {
         turns: u64,
     ) -> (Part<V, R, W, C>, Result<Ended, Fault>)
         ensures { Serves V.setup setup.now
-            (record { input = R.remaining part.input; output = W.contents part.output; pass = part.pass; reader = part.reader })
-            (record { input = R.remaining result.0.input; output = W.contents result.0.output; pass = result.0.pass; reader = result.0.reader })
+            (record {
+              input = R.remaining part.input;
+              output = W.contents part.output;
+              pass = part.pass;
+              reader = part.reader;
+            })
+            (record {
+              input = R.remaining result.0.input;
+              output = W.contents result.0.output;
+              pass = result.0.pass;
+              reader = result.0.reader;
+            })
             result.1 }
     {
         let Part {
@@ -166,8 +176,18 @@ fn converse<
     ensures log { result.1.reader.log ≡ V.log }
     ensures known { IsPrefix outbox.reader.known result.1.reader.known }
     ensures converses { Converses V.setup member outbox.delivery.next []
-        (record { input = R.remaining inbox.input; output = W.contents outbox.output; pass = inbox.pass; reader = outbox.reader })
-        (record { input = R.remaining result.0.input; output = W.contents result.1.output; pass = result.0.pass; reader = result.1.reader })
+        (record {
+          input = R.remaining inbox.input;
+          output = W.contents outbox.output;
+          pass = inbox.pass;
+          reader = outbox.reader;
+        })
+        (record {
+          input = R.remaining result.0.input;
+          output = W.contents result.1.output;
+          pass = result.0.pass;
+          reader = result.1.reader;
+        })
         result.2 }
 {
     let (mut inbox, inn, outbox, out) = work(

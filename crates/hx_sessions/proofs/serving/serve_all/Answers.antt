@@ -1,4 +1,4 @@
-use Rattle.std.proofs.Common.{rules, ◌≡◌, length, filter_map, refl, sym, ap, ◌∙◌, arith}
+use Rattle.std.proofs.Common.{rules, ◌≡◌, length, filter_map, refl, ap, ◌∙◌}
 use lib.ListN.{length-map}
 use Rattle.hx_sessions.proofs.Slots.{served_all, all_written}
 use Rattle.hx_sessions.proofs.serving.serve_all.Goals as goal
