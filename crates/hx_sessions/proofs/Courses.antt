@@ -1,12 +1,11 @@
 -- How the parts of a session make one.
-use Rattle.std.proofs.Common.{◌≡◌, ◌⊎◌, ℕ, ◌+◌, ◌-◌, ◌≤◌, List, [], ◌∷◌, ◌++◌, length, take, drop, take-append-drop, length-take, Bool, true, false, Option, Result, Ok, Err, refl, sym, ap, ◌∙◌, subst, inl, inr, arith, append_assoc, append-nil}
+use Rattle.std.proofs.Common.{◌≡◌, ◌⊎◌, ℕ, ◌-◌, List, [], ◌++◌, take, drop, take-append-drop, length-take, Bool, true, false, Option, Result, Ok, Err, refl, sym, ap, ◌∙◌, subst, inl, inr, arith, append_assoc, append-nil}
 use Rattle.std.specs.List.{concat}
-use Rattle.std.specs.Io.KnownBytes.{Consumes, Appends, Keeps, IsAtEnd}
-use Rattle.std.proofs.KnownBytes.{Appends-nil, Appends-trans, Appends-kept, Consumes-nil, Keeps-trans}
+use Rattle.std.specs.Io.KnownBytes.{Appends, Keeps}
+use Rattle.std.proofs.KnownBytes.{Appends-trans, Appends-kept, Consumes-nil, Keeps-trans}
 use mathlib.Core.List.{IsPrefix}
 use Rattle.hx_soup.specs.declared.packet.SoupPacket.{SoupPacket}
 use Rattle.hx_members.specs.Setups.{Setup}
-use Rattle.hx_rules.specs.declared.event.Event.{Event}
 use Rattle.hx_blog.specs.Feed.{Entries}
 use Rattle.hx_desk.specs.declared.entry.Entry.{Entry}
 use Rattle.hx_desk.specs.Known.{known_replies}
@@ -20,7 +19,7 @@ use Rattle.hx_sessions.specs.declared.ending.Stop.TheVariants as stop
 use Rattle.hx_sessions.specs.Asked.{asked}
 use Rattle.hx_sessions.specs.Frames.{Writes, Delivers, Sent, SentSome}
 use Rattle.hx_sessions.specs.Workers.{Received, Why, SentUntil, both_of}
-use Rattle.hx_sessions.specs.Served.{Side, Brings, Wrote, WroteSome, EndsAs, Converses, acceptance, rejection, Admits, BreaksOff, Dismisses, NotLoggedIn, Rejected, Opened, Serves}
+use Rattle.hx_sessions.specs.Served.{Side, Brings, Wrote, WroteSome, EndsAs, Converses, acceptance, rejection, Admits, BreaksOff, Dismisses, Serves}
 use Rattle.hx_session_core.specs.declared.opening.Start.{Start}
 use Rattle.hx_engine.specs.Passes.{PassState}
 use Rattle.hx_blog.specs.Ends.{ReaderState}
@@ -31,7 +30,7 @@ use Rattle.hx_sessions.proofs.Going.{until_join, sent_join, known_grows}
 -- ---- what was written
 
 brings_of : (first : ℕ) (replies rest : List (List ℕ)) (d : Delivery) (frames : List (List ℕ)) → Delivers first replies rest d frames → Brings first replies rest d.over frames
-brings_of first replies rest d frames s = record { before = s.before; rows = s.rows; splits = s.splits; starts = s.starts; are = s.are }
+brings_of first replies rest d frames s = record { before = s.before; rows = s.rows; splits = s.splits; starts = s.starts; are = s.are; ends = s.ends }
 
 wrote_of : (first : ℕ) (replies rest : List (List ℕ)) (d : Delivery) (over : Bool) (a b : Option (List ℕ)) → d.over ≡ over → Sent first replies rest d a b → Wrote [] first replies rest over a b
 wrote_of first replies rest d over a b is s = record {
@@ -301,6 +300,7 @@ broken setup own input output answered out pass before reader first_input r b k 
             splits = sym (take-append-drop (first - 1) replies);
             starts = omega (arith, b.opens.one, b.opens.most, length-take (first - 1) replies);
             are = (refl, refl);
+            ends = λ e. absurd (cc e);
           };
           unwritten = b.unwritten;
           wrote = subst (λ l. Writes output out l b.unwritten) (sym (append-nil answer)) (writes_stay output answered out answer b.unwritten k b.wrote);

@@ -1,5 +1,5 @@
 -- How a delivery goes on.
-use Rattle.std.proofs.Common.{◌≡◌, ◌⊎◌, ℕ, zero, suc, ◌+◌, ◌-◌, ◌<◌, ◌≤◌, ◌^◌, List, [], ◌∷◌, ◌++◌, length, take, drop, Bool, true, false, Option, refl, sym, ap, ◌∙◌, subst, inl, inr, arith, append_assoc, append-nil, length-append, take-append-drop, length-drop, length-take}
+use Rattle.std.proofs.Common.{◌≡◌, ℕ, zero, suc, ◌+◌, ◌-◌, ◌<◌, ◌≤◌, List, [], ◌∷◌, ◌++◌, length, take, drop, Bool, true, false, Option, refl, sym, ap, ◌∙◌, subst, inl, inr, arith, append_assoc, append-nil, length-append, take-append-drop, length-drop, length-take}
 use Rattle.std.specs.Prelude.{MatchBool}
 use Rattle.std.specs.List.{concat}
 use Rattle.std.specs.Io.KnownBytes.{Appends}
@@ -7,8 +7,6 @@ use Rattle.std.proofs.KnownBytes.{Appends-nil, Appends-trans}
 use Rattle.std.proofs.lemmas.List.Folds.{concat-append}
 use Rattle.std.proofs.Math.Seq.{drop-append_seam}
 use mathlib.Core.List.{IsPrefix}
-use Rattle.hx_soup.specs.Kinds.{sequenced_data, server_heartbeat, end_of_session}
-use Rattle.hx_soup.specs.Packets.{framed}
 use Rattle.arrayvec.specs.ArrayVec.{ArrayVec}
 use Rattle.hx_session_core.specs.declared.delivery.Turn.TheVariants as turn
 use Rattle.hx_units.specs.Fields.{texts}
@@ -22,7 +20,7 @@ use Rattle.hx_members.specs.Setups.{Setup}
 use Rattle.hx_sessions.specs.declared.ending.Stop.{Stop}
 use Rattle.hx_sessions.specs.declared.ending.Stop.TheVariants as stop
 use Rattle.hx_sessions.specs.Workers.{SentUntil}
-use Rattle.hx_sessions.specs.Frames.{Writes, WritesAll, WritesSome, AreFrames, Sends, Delivers, Sent, SentSome}
+use Rattle.hx_sessions.specs.Frames.{WritesAll, WritesSome, AreFrames, Sends, Delivers, Sent, SentSome}
 
 drop_one : (all : List (List ℕ)) (i : ℕ) → drop 1 (drop i all) ≡ drop (i + 1) all
 drop_one all i = drop-drop 1 i all ∙ ap (λ n. drop n all) (omega arith)
@@ -61,6 +59,11 @@ sends_next old new (row ∷ rows) ended frames (is, next, over) = next
 sends_next old new [] true frames (is, next, over) = omega (arith, next)
 sends_next old new [] false frames (is, next, over) = omega (arith, next)
 
+-- where the end of the session goes out, no reply is left
+sends_ends : (old new : Delivery) (rows : List (List ℕ)) (ended : Bool) (frames : List (List ℕ)) → Sends old new rows ended frames → new.over ≡ true → drop 1 rows ≡ []
+sends_ends old new (row ∷ rows) ended frames (is, next, over) e = absurd (cc (over, e))
+sends_ends old new [] ended frames s e = refl
+
 pub sends_open : (old new : Delivery) (rows : List (List ℕ)) (frames : List (List ℕ)) → Sends old new rows false frames → new.over ≡ false
 sends_open old new (row ∷ rows) frames (is, next, over) = over
 sends_open old new [] frames (is, next, over) = over
@@ -74,6 +77,7 @@ delivers_more first replies rest old new ended fs gs d live s = record {
   starts = d.starts;
   next = omega (arith, d.next, sends_next old new rest ended gs s, length-append d.rows (take 1 rest));
   are = frames-append d.rows (take 1 rest) new.over fs gs (subst (λ b. AreFrames d.rows b fs) live d.are) (sends_frames old new rest ended gs s);
+  ends = sends_ends old new rest ended gs s;
 }
 
 -- ---- frames that were written
@@ -101,21 +105,6 @@ sent_some first replies rest old new ended gs a b c s live sends (left, w) = rec
   );
 }
 
--- more replies are there
-pub sent_longer : (first : ℕ) (replies longer rest : List (List ℕ)) (d : Delivery) (a b : Option (List ℕ)) → (p : IsPrefix replies longer) → Sent first replies rest d a b → Sent first longer (rest ++ p.0) d a b
-sent_longer first replies longer rest d a b p s = record {
-  frames = s.frames;
-  delivers = record {
-    before = s.delivers.before;
-    rows = s.delivers.rows;
-    splits = sym p.1 ∙ (ap (λ l. l ++ p.0) s.delivers.splits ∙ (append_assoc s.delivers.before (s.delivers.rows ++ rest) p.0 ∙ ap (λ l. s.delivers.before ++ l) (append_assoc s.delivers.rows rest p.0)));
-    starts = s.delivers.starts;
-    next = s.delivers.next;
-    are = s.delivers.are;
-  };
-  wrote = s.wrote;
-}
-
 -- what is left are the replies from the next one on
 pub sent_rest : (first : ℕ) (replies rest : List (List ℕ)) (d : Delivery) (a b : Option (List ℕ)) → Sent first replies rest d a b → drop (d.next - 1) replies ≡ rest
 sent_rest first replies rest d a b s =
@@ -139,6 +128,7 @@ sent_none first replies d a next live one most = record {
     starts = omega (arith, length-take (first - 1) replies);
     next = omega (arith, next);
     are = (refl, live);
+    ends = λ e. absurd (cc (live, e));
   };
   wrote = Appends-nil a;
 }
@@ -188,6 +178,7 @@ delivers_join first replies longer rest left d e fs gs p s live t = record {
   starts = s.starts;
   next = omega (arith, t.next, s.next, length-append s.rows t.rows);
   are = frames-append s.rows t.rows e.over fs gs (subst (λ b. AreFrames s.rows b fs) live s.are) t.are;
+  ends = t.ends;
 }
 
 pub sent_join : (first : ℕ) (replies longer rest left : List (List ℕ)) (d e : Delivery) (a b c : Option (List ℕ)) → IsPrefix replies longer → Sent first replies rest d a b → d.over ≡ false → Sent d.next longer left e b c → Sent first longer left e a c

@@ -48,7 +48,8 @@ Sends old new [] false frames =
     ((frames ≡ framed server_heartbeat [] ∷ []) ⊎ (frames ≡ [])) × (new.next ≡ old.next)
     × (new.over ≡ false)
 
--- Of these replies those from number `first` on have gone out in these frames, and the rest is left.
+-- Of these replies those from number `first` on have gone out in these frames, and the rest is left: nothing where the
+-- end of the session has gone out.
 pub record Delivers (first : ℕ) (replies rest : List (List ℕ)) (d : Delivery)
     (frames : List (List ℕ)) : Type 0 where
   pub before : List (List ℕ)
@@ -57,6 +58,7 @@ pub record Delivers (first : ℕ) (replies rest : List (List ℕ)) (d : Delivery
   pub starts : first ≡ length before + 1
   pub next : d.next ≡ first + length rows
   pub are : AreFrames rows d.over frames
+  pub ends : d.over ≡ true → rest ≡ []
 
 -- So far the frames were written whole.
 pub record Sent (first : ℕ) (replies rest : List (List ℕ)) (d : Delivery)

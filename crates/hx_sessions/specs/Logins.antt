@@ -10,7 +10,7 @@ use Rattle.hx_sessions.specs.declared.ending.Stop.{Stop}
 use Rattle.hx_sessions.specs.declared.ending.Stop.TheVariants as stop
 use Rattle.hx_soup.specs.declared.login.LoginRequest.{LoginRequest}
 use Rattle.hx_members.specs.Setups.{Setup, login_of}
-use Rattle.hx_session_core.specs.Starts.{is_present, first_reply}
+use Rattle.hx_session_core.specs.Starts.{first_reply}
 use Rattle.hx_session_core.specs.declared.opening.Start.{Start}
 use Rattle.hx_blog.specs.Feed.{Entries}
 use Rattle.hx_desk.specs.declared.entry.Entry.{Entry}

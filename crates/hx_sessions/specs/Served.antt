@@ -1,5 +1,5 @@
 -- A session from its login to its end: what it read, wrote and submitted, by how it ended.
-use Rattle.std.specs.Prelude.{ℕ, ◌≡◌, ◌⊎◌, ◌+◌, ◌≤◌, List, [], ◌∷◌, ◌++◌, length, Option, Bool, true, false, Result, Ok, Err}
+use Rattle.std.specs.Prelude.{ℕ, ◌≡◌, ◌⊎◌, ◌+◌, List, [], ◌∷◌, ◌++◌, length, Option, Some, IfSome, Bool, true, false, Result, Ok, Err}
 use Rattle.std.specs.List.{concat}
 use Rattle.std.specs.Io.KnownBytes.{Consumes, Appends, Keeps, IsAtEnd}
 use mathlib.Core.List.{IsPrefix}
@@ -9,7 +9,6 @@ use Rattle.hx_soup.specs.Packets.{framed, Cuts}
 use Rattle.hx_soup.specs.declared.packet.SoupPacket.{SoupPacket}
 use Rattle.hx_soup.specs.declared.login.LoginRequest.{LoginRequest}
 use Rattle.hx_members.specs.Setups.{Setup}
-use Rattle.hx_rules.specs.declared.event.Event.{Event}
 use Rattle.hx_blog.specs.Feed.{Entries}
 use Rattle.hx_blog.specs.Ends.{ReaderState}
 use Rattle.hx_desk.specs.declared.entry.Entry.{Entry}
@@ -43,8 +42,8 @@ rejection reason = framed login_rejected (reason ∷ [])
 
 -- ---- what goes out
 
--- The frames bring the replies from number `first` on, each once and in order, and these are left; where
--- the session is over, none is.
+-- The frames bring the replies from number `first` on, each once and in order, and the rest is left: nothing
+-- where the end of the session is among them.
 pub record Brings
     (first : ℕ) (replies rest : List (List ℕ)) (over : Bool) (frames : List (List ℕ))
     : Type 0 where
@@ -53,6 +52,7 @@ pub record Brings
   pub splits : replies ≡ before ++ (rows ++ rest)
   pub starts : first ≡ length before + 1
   pub are : AreFrames rows over frames
+  pub ends : over ≡ true → rest ≡ []
 
 -- The answer to the login was written, and behind it such frames.
 pub record Wrote
@@ -199,3 +199,22 @@ Serves setup own old new result =
     (NotLoggedIn old.input new.input old.output new.output result × (new.pass ≡ old.pass))
     ⊎ (Rejected own old.input new.input old.output new.output result × (new.pass ≡ old.pass))
     ⊎ Opened setup own old new result
+
+-- ---- many at once
+
+-- The part that waited, if one did, was served.
+pub record ServesWaiting
+    (setup own : Setup) (waiting : Option Side) (served : Option (Side × Result Ended Fault))
+    : Type 0 where
+  pub serves :
+      IfSome waiting (λ p. (s : Side × Result Ended Fault) × (served ≡ Some s)
+      × Serves setup own p s.0 s.1)
+
+-- Each part was served, in their order: the first of what came of them is that of the first, and so on.
+abbrev pub ServesAll :
+    (setup own : Setup) → (parts : List Side) → (served : List (Side × Result Ended Fault))
+    → Type 0
+ServesAll setup own [] [] = Unit {0}
+ServesAll setup own [] (s ∷ ss) = ⊥
+ServesAll setup own (p ∷ ps) [] = ⊥
+ServesAll setup own (p ∷ ps) (s ∷ ss) = Serves setup own p s.0 s.1 × ServesAll setup own ps ss

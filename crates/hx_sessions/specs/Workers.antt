@@ -1,12 +1,11 @@
 -- What the two workers of a session leave.
-use Rattle.std.specs.Prelude.{ℕ, ◌≡◌, ◌⊎◌, ◌+◌, ◌≤◌, List, [], ◌∷◌, ◌++◌, length, Option, Some, Bool, true, false, Result, Ok, Err}
+use Rattle.std.specs.Prelude.{ℕ, ◌≡◌, ◌⊎◌, List, [], ◌++◌, Option, Some, Bool, true, false, Result, Ok, Err}
 use Rattle.std.specs.Io.KnownBytes.{Consumes, IsAtEnd}
 use mathlib.Core.List.{IsPrefix}
 use Rattle.hx_soup.specs.declared.packet.SoupPacket.{SoupPacket}
 use Rattle.hx_soup.specs.Packets.{Cuts}
 use Rattle.hx_session_core.specs.Deliveries.{Delivery}
 use Rattle.hx_rules.specs.declared.event.Event.{Event}
-use Rattle.hx_desk.specs.Known.{known_replies}
 use Rattle.hx_sessions.specs.declared.ending.Ended.{Ended}
 use Rattle.hx_sessions.specs.declared.ending.Ended.TheVariants as ended
 use Rattle.hx_sessions.specs.declared.ending.Fault.{Fault}
@@ -17,7 +16,7 @@ use Rattle.hx_sessions.specs.Asked.{asked, IsStream, Submits}
 use Rattle.hx_sessions.specs.Frames.{Sent, SentSome}
 
 -- How both ended, as one: a fault before an ending, the inbound fault first, and the end of the day before the other
--- endings. Where neither ended by itself, no thread could be started.
+-- endings. Where neither ended by itself there was no session, as for want of memory.
 abbrev pub both_of : (inbound outbound : Stop) → Result Ended Fault
 both_of (stop.Faulted f) out = Err f
 both_of (stop.Ended e) (stop.Faulted f) = Err f

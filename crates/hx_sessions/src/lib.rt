@@ -6,6 +6,7 @@ mod ending;
 mod inbound;
 mod opening;
 mod outbound;
+mod pair;
 mod part;
 mod ports;
 mod serving;

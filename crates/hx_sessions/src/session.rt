@@ -3,13 +3,14 @@ ghost use Rattle.std.specs.Prelude.{ℕ, List, ◌≡◌, ◌⊎◌, ◌+◌, �
 ghost use mathlib.Core.List.{IsPrefix};
 ghost use Rattle.hx_desk.specs.Known.{known_replies};
 ghost use Rattle.hx_sessions.specs.Frames.{IsNextOf};
-ghost use Rattle.hx_sessions.specs.Workers.{Received, SentUntil, both_of};
+ghost use Rattle.hx_sessions.specs.Workers.{both_of};
 ghost use Rattle.hx_sessions.specs.Served.{Converses, Serves};
 
 use crate::ending::{Ended, Fault, Stop};
-use crate::inbound::{Inbox, receive};
+use crate::inbound::Inbox;
 use crate::opening::admit;
-use crate::outbound::{Outbox, deliver, finish};
+use crate::outbound::{Outbox, finish};
+use crate::pair::work;
 use crate::part::Part;
 use crate::ports::{Clock, Gate};
 use hx_blog::Reader;
@@ -20,12 +21,11 @@ use hx_units::MemberNo;
 use std::alloc::Global;
 use std::io::{Read, Write};
 use std::sync::Wait;
-use std::sync::atomic::{AtomicBool, Ordering};
-use std::thread::{Threads, join};
+use std::thread::Threads;
 use std::time::Clock as Timer;
 
 /// How both workers ended, as one: a fault before an ending, the inbound fault first, and the end of the day before
-/// the other endings. Where neither ended by itself, no thread could be started.
+/// the other endings. Where neither ended by itself there was no session, as for want of memory.
 pub fn both(inbound: Stop, outbound: Stop) -> Result<Ended, Fault>
     ensures { result ≡ both_of inbound outbound }
 {
@@ -66,8 +66,18 @@ impl Session {
         turns: u64,
     ) -> (Part<V, R, W, C>, Result<Ended, Fault>)
         ensures { Serves V.setup setup.now
-            (record { input = R.remaining part.input; output = W.contents part.output; pass = part.pass; reader = part.reader })
-            (record { input = R.remaining result.0.input; output = W.contents result.0.output; pass = result.0.pass; reader = result.0.reader })
+            (record {
+              input = R.remaining part.input;
+              output = W.contents part.output;
+              pass = part.pass;
+              reader = part.reader;
+            })
+            (record {
+              input = R.remaining result.0.input;
+              output = W.contents result.0.output;
+              pass = result.0.pass;
+              reader = result.0.reader;
+            })
             result.1 }
     {
         let Part {
@@ -166,8 +176,18 @@ fn converse<
     ensures log { result.1.reader.log ≡ V.log }
     ensures known { IsPrefix outbox.reader.known result.1.reader.known }
     ensures converses { Converses V.setup member outbox.delivery.next []
-        (record { input = R.remaining inbox.input; output = W.contents outbox.output; pass = inbox.pass; reader = outbox.reader })
-        (record { input = R.remaining result.0.input; output = W.contents result.1.output; pass = result.0.pass; reader = result.1.reader })
+        (record {
+          input = R.remaining inbox.input;
+          output = W.contents outbox.output;
+          pass = inbox.pass;
+          reader = outbox.reader;
+        })
+        (record {
+          input = R.remaining result.0.input;
+          output = W.contents result.1.output;
+          pass = result.0.pass;
+          reader = result.1.reader;
+        })
         result.2 }
 {
     let (mut inbox, inn, outbox, out) = work(
@@ -186,70 +206,4 @@ fn converse<
         Ok(Ended::DayEnd) => (inbox, outbox, Ok(Ended::DayEnd)),
         Err(fault) => (inbox, outbox, Err(fault)),
     }
-}
-
-// Both workers at once, each of which ends at its next turn once the other has.
-fn work<
-    V: Venue + Send + Sync,
-    R: Read + Send + Drop,
-    W: Write + Send + Drop,
-    C: Clock + Send + Drop,
-    G: Gate + Sync,
-    T: Threads + Wait + Timer + Sync,
->(
-    rt: &T,
-    alloc: Global,
-    exchange: &Exchange<V>,
-    gate: &G,
-    member: MemberNo,
-    inbox: Inbox<V, R, C>,
-    outbox: Outbox<W, C>,
-    reads: u64,
-    turns: u64,
-) -> (Inbox<V, R, C>, Stop, Outbox<W, C>, Stop)
-    requires log { outbox.reader.log ≡ V.log }
-    requires live { outbox.delivery.over ≡ false }
-    requires next { IsNextOf (known_replies V.setup member outbox.reader.known)
-        outbox.delivery.next }
-    ensures number { result.0.pass.number ≡ inbox.pass.number }
-    ensures received { Received member (R.remaining inbox.input)
-        (R.remaining result.0.input) inbox.pass.sent result.0.pass.sent result.1 }
-    ensures log { result.2.reader.log ≡ V.log }
-    ensures known { IsPrefix outbox.reader.known result.2.reader.known }
-    ensures sent { SentUntil outbox.delivery.next
-        (known_replies V.setup member result.2.reader.known) result.2.delivery
-        (W.contents outbox.output) (W.contents result.2.output) result.3 }
-{
-    let in_ended = AtomicBool::new(false);
-    let out_ended = AtomicBool::new(false);
-    let in_flag = &in_ended;
-    let out_flag = &out_ended;
-    // Where no thread can be made, `join` runs its second call first: messages are taken in before replies are looked
-    // for, and none waits for the other.
-    let ((outbox, out), (inbox, inn)) = join(
-        rt,
-        move || -> (Outbox<W, C>, Stop)
-            requires { (outbox.reader.log ≡ V.log) × (outbox.delivery.over ≡ false)
-                × IsNextOf (known_replies V.setup member outbox.reader.known) outbox.delivery.next }
-            ensures log { result.0.reader.log ≡ V.log }
-            ensures known { IsPrefix outbox.reader.known result.0.reader.known }
-            ensures sent { SentUntil outbox.delivery.next
-                (known_replies V.setup member result.0.reader.known) result.0.delivery
-                (W.contents outbox.output) (W.contents result.0.output) result.1 }
-        {
-            let done = deliver(rt, exchange, member, outbox, in_flag, turns);
-            out_flag.store(true, Ordering::SeqCst);
-            done
-        },
-        move || -> (Inbox<V, R, C>, Stop)
-            ensures number { result.0.pass.number ≡ inbox.pass.number }
-            ensures received { Received member (R.remaining inbox.input)
-                (R.remaining result.0.input) inbox.pass.sent result.0.pass.sent result.1 }
-        {
-            let done = receive(rt, alloc, exchange, gate, member, inbox, out_flag, reads);
-            in_flag.store(true, Ordering::SeqCst);
-            done
-        },
-    );
-    (inbox, inn, outbox, out)
 }

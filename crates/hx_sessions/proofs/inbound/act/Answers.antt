@@ -1,10 +1,10 @@
 use Rattle.hx_rules.specs.declared.event.Event.{Event}
-use Rattle.std.proofs.Common.{rules, ◌≡◌, ℕ, ◌+◌, List, [], ◌∷◌, ◌++◌, ap, sym, ◌∙◌, subst, inl, inr, append-nil}
+use Rattle.std.proofs.Common.{◌≡◌, ℕ, List, [], ◌∷◌, ◌++◌, ap, sym, ◌∙◌, subst, inr}
 use Rattle.hx_engine.specs.Passes.{PassState}
 use Rattle.hx_session_core.specs.Intakes.{later_action, Means, after as then_at}
 use Rattle.hx_session_core.specs.declared.intake.Action.TheVariants as action
 use Rattle.hx_sessions.specs.Asked.{Submits}
-use Rattle.hx_sessions.proofs.Taking.{Upto, upto_cut, upto_submit, upto_ignore, submits_join}
+use Rattle.hx_sessions.proofs.Taking.{upto_cut, upto_submit, upto_ignore, submits_join}
 use Rattle.hx_sessions.proofs.inbound.act.Goals as goal
 use Rattle.hx_sessions.proofs.inbound.act.Goals.{in-Submit+in-Ok, in-Ignore}
 

@@ -1,8 +1,7 @@
-use Rattle.std.proofs.Common.{◌≡◌, ◌<◌, ℕ, Option, List, [], ap, sym, ◌∙◌, subst, take, length, refl, arith}
-use Rattle.hx_engine.specs.Passes.{PassState}
+use Rattle.std.proofs.Common.{◌≡◌, ℕ, Option, List, [], ap, sym, ◌∙◌, subst, take, refl, arith}
 use Rattle.hx_sessions.specs.declared.ending.Fault.TheVariants as faults
 use Rattle.hx_sessions.specs.declared.ending.Stop.TheVariants as stops
-use Rattle.hx_sessions.specs.Workers.{Receiving, Received}
+use Rattle.hx_sessions.specs.Workers.{Receiving}
 use Rattle.hx_sessions.proofs.Taking.{receiving_none, receiving_more, receiving_kept, received_here, received_end, received_stop, acting_all, why_all}
 use Rattle.hx_sessions.proofs.inbound.receive.Goals as goal
 use Rattle.hx_sessions.proofs.inbound.receive.Goals.{in-Ok+in-Ok-take, in-Err+else-not-is_passing}

@@ -1,4 +1,4 @@
-use Rattle.std.proofs.Common.{◌≡◌, sym, subst, List, ℕ}
+use Rattle.std.proofs.Common.{sym, subst, List}
 use Rattle.hx_soup.specs.declared.packet.SoupPacket.{SoupPacket}
 use Rattle.hx_soup.specs.Framers.{Takes as Gives, StopsAt}
 use Rattle.hx_sessions.proofs.Taking.{takes_ok, takes_fault}

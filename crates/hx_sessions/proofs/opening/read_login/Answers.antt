@@ -1,4 +1,4 @@
-use Rattle.std.proofs.Common.{◌≡◌, ◌≤◌, ◌-◌, ℕ, Option, List, Some, sym, subst, arith}
+use Rattle.std.proofs.Common.{ℕ, Option, List, sym, subst, arith}
 use Rattle.hx_sessions.specs.Logins.{AwaitsLogin}
 use Rattle.hx_sessions.proofs.Logging.{awaits_none, awaits_more, awaits_login, awaits_stop, space_fits}
 use Rattle.hx_sessions.proofs.opening.read_login.Goals as goal

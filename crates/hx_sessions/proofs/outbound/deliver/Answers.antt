@@ -1,10 +1,6 @@
-use Rattle.std.proofs.Common.{◌≡◌, ◌≤◌, ℕ, ◌+◌, ◌-◌, List, [], length, drop, false, ap, sym, ◌∙◌, subst, refl, arith}
-use mathlib.Core.List.{IsPrefix}
+use Rattle.std.proofs.Common.{refl}
 use Rattle.hx_blog.proofs.Prefixes.{prefix_self, prefix_trans}
-use Rattle.hx_blog.specs.Ends.{ReaderState}
-use Rattle.hx_desk.specs.declared.entry.Entry.{Entry}
 use Rattle.hx_desk.specs.Known.{known_replies}
-use Rattle.hx_sessions.specs.Frames.{Sent}
 use Rattle.hx_sessions.proofs.Going.{sent_none, sent_join, until_join, known_grows, sent_bounds, still_there}
 use Rattle.hx_sessions.proofs.outbound.deliver.Goals as goal
 

@@ -1,4 +1,4 @@
-use Rattle.std.proofs.Common.{◌≡◌, ◌≤◌, ◌+◌, ℕ, List, length, drop, false}
+use Rattle.std.proofs.Common.{◌≡◌, ℕ, List, false}
 use mathlib.Core.List.{IsPrefix}
 use Rattle.hx_desk.specs.Known.{known_replies}
 use Rattle.hx_sessions.specs.Frames.{Sent}

@@ -1,6 +1,5 @@
-use Rattle.std.proofs.Common.{◌≡◌, ◌≤◌, ℕ, ◌+◌, ◌-◌, List, [], length, drop, false, ap, sym, ◌∙◌, subst, refl, arith}
-use mathlib.Core.List.{IsPrefix}
-use Rattle.hx_blog.proofs.Prefixes.{prefix_self, prefix_trans}
+use Rattle.std.proofs.Common.{◌≡◌, [], ap, ◌∙◌, subst, refl}
+use Rattle.hx_blog.proofs.Prefixes.{prefix_trans}
 use Rattle.hx_blog.specs.Ends.{ReaderState}
 use Rattle.hx_desk.specs.declared.entry.Entry.{Entry}
 use Rattle.hx_desk.specs.Known.{known_replies}

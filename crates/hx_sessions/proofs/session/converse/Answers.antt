@@ -1,12 +1,10 @@
-use Rattle.std.proofs.Common.{◌≡◌, ℕ, List, [], ap, sym, ◌∙◌, subst, refl, Ok, Err}
+use Rattle.std.proofs.Common.{◌≡◌, [], ap, sym, ◌∙◌, subst, Ok, Err}
 use mathlib.Core.List.{IsPrefix}
 use Rattle.hx_blog.specs.Feed.{Entries}
 use Rattle.hx_blog.specs.Ends.{ReceiptState}
 use Rattle.hx_desk.specs.declared.entry.Entry.{Entry}
 use Rattle.hx_engine.specs.Passes.{PassState}
 use Rattle.hx_sessions.specs.declared.ending.Ended.TheVariants as ended
-use Rattle.hx_sessions.specs.declared.ending.Fault.TheVariants as fault
-use Rattle.hx_sessions.specs.declared.ending.Stop.TheVariants as stop
 use Rattle.hx_desk.specs.Known.{known_replies}
 use Rattle.hx_sessions.specs.declared.ending.Stop.{Stop}
 use Rattle.hx_sessions.specs.Workers.{SentUntil}

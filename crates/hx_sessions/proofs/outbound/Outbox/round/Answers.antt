@@ -1,8 +1,7 @@
-use Rattle.std.proofs.Common.{◌≡◌, ◌⊎◌, ℕ, ◌+◌, ◌-◌, ◌<◌, List, [], ◌∷◌, ◌++◌, length, take, drop, true, false, ap, sym, ◌∙◌, subst, inl, inr, refl, arith, length-append}
+use Rattle.std.proofs.Common.{◌≡◌, ◌-◌, ◌<◌, [], ◌++◌, length, take, drop, true, false, ap, sym, ◌∙◌, subst, inl, inr, refl, arith, length-append}
 use Rattle.std.proofs.lemmas.Grind.{common_steps}
 use Rattle.hx_units.specs.Fields.{texts}
 use lib.ListN.{length-map}
-use Rattle.std.proofs.lemmas.List.{drop_all}
 use Rattle.hx_blog.specs.Ends.{ReaderState}
 use Rattle.hx_desk.specs.declared.entry.Entry.{Entry}
 use Rattle.hx_desk.specs.Known.{known_replies}

@@ -1,4 +1,4 @@
-use Rattle.std.proofs.Common.{◌≡◌, ℕ, ap}
+use Rattle.std.proofs.Common.{◌≡◌, ap}
 use Rattle.hx_session_core.specs.Deliveries.{Delivery}
 use Rattle.hx_sessions.proofs.Courses.{dismissed, opened}
 use Rattle.hx_sessions.proofs.session.Session.run.Goals as goal

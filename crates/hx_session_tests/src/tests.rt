@@ -1,0 +1,14 @@
+//! Sessions over readers and writers in memory.
+
+mod client;
+mod cutting;
+mod day;
+mod failing;
+mod fresh;
+mod logins;
+mod memory;
+mod overlap;
+mod packets;
+mod parting;
+mod resuming;
+mod stage;

@@ -1,0 +1,109 @@
+//! A client, and what must come of his session.
+
+use super::memory::{Input, Output};
+use super::stage::{Day, play};
+use hx_sessions::{Ended, Fault};
+use std::alloc::Global;
+use std::process::Abort;
+use std::sync::Wait;
+use std::sync::atomic::AtomicU64;
+use std::test::*;
+use std::thread::Threads;
+use std::time::Clock;
+
+/// How a session ends.
+#[derive(Clone, Copy, Debug, PartialEq, Eq)]
+pub enum End {
+    Logout,
+    ReaderEnd,
+    DayEnd,
+    Read,
+    Write,
+    Framing,
+    NotAuthorized(u8),
+    NoMemory,
+    Turns,
+    Refused,
+}
+
+fn end_of(outcome: &Result<Ended, Fault>) -> End {
+    match outcome {
+        Ok(Ended::Logout) => End::Logout,
+        Ok(Ended::ReaderEnd) => End::ReaderEnd,
+        Ok(Ended::DayEnd) => End::DayEnd,
+        Err(Fault::Read) => End::Read,
+        Err(Fault::Write) => End::Write,
+        Err(Fault::Framing) => End::Framing,
+        Err(Fault::NotAuthorized { reason }) => End::NotAuthorized(*reason),
+        Err(Fault::NoMemory) => End::NoMemory,
+        Err(Fault::Turns) => End::Turns,
+        Err(Fault::Refused(_)) => End::Refused,
+    }
+}
+
+/// What must come of a session.
+#[derive(Clone, Copy)]
+pub struct Want<'a> {
+    /// How it ends.
+    pub end: End,
+    /// How many messages it submits at least, and at most.
+    pub sent: (usize, usize),
+    /// What it writes at least.
+    pub least: &'a [u8],
+    /// What it writes a beginning of.
+    pub whole: &'a [u8],
+}
+
+impl<'a> Want<'a> {
+    /// It submits so many messages, and writes all this.
+    pub fn new(end: End, sent: usize, whole: &'a [u8]) -> Self {
+        Want {
+            end,
+            sent: (sent, sent),
+            least: whole,
+            whole,
+        }
+    }
+
+    /// That is what came of it; and its output was flushed once.
+    pub fn meet<R: Abort>(
+        &self,
+        rt: &R,
+        output: &Output,
+        sent: usize,
+        outcome: &Result<Ended, Fault>,
+    ) {
+        assert_eq!(rt; end_of(outcome), self.end);
+        assert!(rt; self.sent.0 <= sent && sent <= self.sent.1);
+        assert!(rt; output.taken.starts_with(self.least));
+        assert!(rt; self.whole.starts_with(&output.taken));
+        assert_eq!(rt; output.flushed, 1);
+    }
+}
+
+/// A client.
+#[derive(Drop)]
+pub struct Client<'a> {
+    /// What comes from him.
+    pub input: Input<'a>,
+    /// What goes to him.
+    pub output: Output<'a>,
+    /// What must come of his session.
+    pub want: Want<'a>,
+}
+
+/// He is the only one, at a new exchange of the standard setup.
+pub fn alone<R: Threads + Wait + Clock + Abort + Sync>(
+    rt: &R,
+    alloc: Global,
+    input: Input,
+    want: Want,
+) -> Result<(), Fail> {
+    let count = AtomicU64::new(0);
+    let client = Client {
+        input,
+        output: Output::new(alloc, &count),
+        want,
+    };
+    play(rt, alloc, Day::of(alloc, vec![in alloc; client]?))
+}

@@ -1,0 +1,151 @@
+//! Reads and writes that fail in the midst of a session.
+
+use super::client::{Client, End, Want};
+use super::cutting::{two_orders, two_replies};
+use super::memory::{Bad, Input, NONE_BAD, Output};
+use super::packets::ACCEPTED;
+use super::stage::{Day, play};
+use std::io::ErrorKind;
+use std::process::Abort;
+use std::sync::Wait;
+use std::sync::atomic::AtomicU64;
+use std::test::*;
+use std::thread::Threads;
+use std::time::Clock;
+
+// How a session ends, what it submits at least and at most, and how many bytes it writes at least and at most.
+type Outcome = (End, (usize, usize), (usize, usize));
+
+// A session of two orders, whose bytes come in 40 at a time: the login in two reads, then three more.
+fn expect<R: AllocGlobal + Threads + Wait + Clock + Abort + Sync>(
+    rt: &R,
+    read: Bad,
+    write: Bad,
+    outcome: &Outcome,
+) -> Result<(), Fail> {
+    let alloc = rt.alloc();
+    let (bytes, replies) = (two_orders(alloc)?, two_replies(alloc)?);
+    let count = AtomicU64::new(0);
+    let (end, sent, (least, most)) = *outcome;
+    let client = Client {
+        input: Input {
+            most: 40,
+            bad: read,
+            ..Input::new(&bytes)
+        },
+        output: Output {
+            bad: write,
+            ..Output::new(alloc, &count)
+        },
+        want: Want {
+            end,
+            sent,
+            least: replies.get(..least).ok_or("a front")?,
+            whole: replies.get(..most).ok_or("a front")?,
+        },
+    };
+    play(rt, alloc, Day::of(alloc, vec![in alloc; client]?))
+}
+
+// Each read of these numbers fails so, and this comes of it.
+fn expect_reads<R: AllocGlobal + Threads + Wait + Clock + Abort + Sync>(
+    rt: &R,
+    kind: Option<ErrorKind>,
+    outcomes: &[Outcome],
+) -> Result<(), Fail> {
+    for (call, outcome) in (1..).zip(outcomes) {
+        expect(rt, Bad { call, kind }, NONE_BAD, outcome)?;
+    }
+    Ok(())
+}
+
+// The same of each write.
+fn expect_writes<R: AllocGlobal + Threads + Wait + Clock + Abort + Sync>(
+    rt: &R,
+    kind: Option<ErrorKind>,
+    outcomes: &[Outcome],
+) -> Result<(), Fail> {
+    for (call, outcome) in (1..).zip(outcomes) {
+        expect(rt, NONE_BAD, Bad { call, kind }, outcome)?;
+    }
+    Ok(())
+}
+
+// The bytes of the answer to the login, of this and the first reply, and of this and both.
+const LOGIN: usize = 33;
+
+const ONE: usize = 102;
+
+const BOTH: usize = 171;
+
+// All is done.
+const DONE: Outcome = (End::Logout, (2, 2), (BOTH, BOTH));
+
+#[test]
+fn a_session_writes_so_many_bytes(rt: HostRuntime) -> Result<(), Fail> {
+    assert_eq!(rt; ACCEPTED.len(), LOGIN);
+    assert_eq!(rt; two_replies(rt.alloc())?.len(), BOTH);
+    Ok(())
+}
+
+#[test]
+fn reads_that_may_be_tried_again(rt: HostRuntime) -> Result<(), Fail> {
+    for kind in [
+        ErrorKind::Interrupted,
+        ErrorKind::WouldBlock,
+        ErrorKind::TimedOut,
+    ] {
+        expect_reads(&rt, Some(kind), &[DONE; 6])?;
+    }
+    Ok(())
+}
+
+// What a session has done before its reads of these numbers, where the last of them is never asked for.
+fn before_reads(end: End) -> [Outcome; 6] {
+    [
+        (end, (0, 0), (0, 0)),
+        (end, (0, 0), (0, 0)),
+        (end, (0, 0), (LOGIN, LOGIN)),
+        (end, (0, 0), (LOGIN, LOGIN)),
+        (end, (1, 1), (LOGIN, ONE)),
+        DONE,
+    ]
+}
+
+#[test]
+fn reads_that_fail(rt: HostRuntime) -> Result<(), Fail> {
+    for kind in [
+        ErrorKind::BrokenPipe,
+        ErrorKind::ConnectionReset,
+        ErrorKind::Other,
+    ] {
+        expect_reads(&rt, Some(kind), &before_reads(End::Read))?;
+    }
+    expect_reads(&rt, None, &before_reads(End::ReaderEnd))
+}
+
+#[test]
+fn a_write_that_is_interrupted(rt: HostRuntime) -> Result<(), Fail> {
+    expect_writes(&rt, Some(ErrorKind::Interrupted), &[DONE; 4])
+}
+
+#[test]
+fn writes_that_fail(rt: HostRuntime) -> Result<(), Fail> {
+    let outcomes = [
+        (End::Write, (0, 0), (0, 0)),
+        (End::Write, (1, 2), (LOGIN, LOGIN)),
+        (End::Write, (2, 2), (ONE, ONE)),
+        DONE,
+    ];
+    let kinds = [
+        Some(ErrorKind::WouldBlock),
+        Some(ErrorKind::TimedOut),
+        Some(ErrorKind::BrokenPipe),
+        Some(ErrorKind::Other),
+        None,
+    ];
+    for kind in kinds {
+        expect_writes(&rt, kind, &outcomes)?;
+    }
+    Ok(())
+}

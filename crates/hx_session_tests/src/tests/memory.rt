@@ -1,0 +1,176 @@
+//! Inputs and outputs in memory.
+ghost use Rattle.std.specs.Prelude.{◌≡◌, ◌≤◌, length};
+
+use std::alloc::Global;
+use std::io::{self, Error, ErrorKind, Read, Write};
+use std::sync::atomic::{AtomicU64, Ordering};
+use std::thread::yield_now;
+
+/// What an input does behind its bytes.
+#[derive(Clone, Copy)]
+pub enum Behind<'a> {
+    /// It ends.
+    End,
+    /// Each read fails so.
+    Fails(ErrorKind),
+    /// It gives heartbeats for ever.
+    Heartbeats,
+    /// It gives these bytes once this number is there, and ends.
+    Waits {
+        count: &'a AtomicU64,
+        wanted: u64,
+        last: &'a [u8],
+    },
+}
+
+/// The one call that goes wrong: its number, from 1, or 0 for none; it fails so, or gives or takes nothing.
+#[derive(Clone, Copy)]
+pub struct Bad {
+    pub call: u64,
+    pub kind: Option<ErrorKind>,
+}
+
+/// No call goes wrong.
+pub const NONE_BAD: Bad = Bad {
+    call: 0,
+    kind: None,
+};
+
+/// An input over bytes in memory.
+#[derive(Clone, Copy)]
+pub struct Input<'a> {
+    pub bytes: &'a [u8],
+    /// No read goes on behind this place.
+    pub cut: usize,
+    /// A read gives at most so many bytes.
+    pub most: usize,
+    pub behind: Behind<'a>,
+    pub bad: Bad,
+    pub calls: u64,
+}
+
+impl<'a> Input<'a> {
+    /// All that is asked for at once; then it ends.
+    pub fn new(bytes: &'a [u8]) -> Self {
+        Input {
+            bytes,
+            cut: 0,
+            most: usize::MAX,
+            behind: Behind::End,
+            bad: NONE_BAD,
+            calls: 0,
+        }
+    }
+}
+
+// Puts a front of the bytes into the space, and takes it off them.
+fn give(bytes: &mut &[u8], space: &mut [u8], most: usize) -> usize
+    ensures { (result ≤ length space.new) × (length space.new ≡ length space.old) }
+{
+    let count = bytes.len().min(space.len()).min(most);
+    let (front, others) = bytes.split_at(count);
+    space[..count].copy_from_slice(front);
+    *bytes = others;
+    count
+}
+
+// A heartbeat of a client (SoupBinTCP 3.00, Client Heartbeat Packet).
+const HEARTBEAT: &[u8] = b"\0\x01R";
+
+impl Read for Input<'_> {
+    fn read(&mut self, buf: &mut [u8]) -> io::Result<usize> {
+        self.calls = self.calls.saturating_add(1);
+        if self.calls == self.bad.call {
+            return match self.bad.kind {
+                Some(kind) => Err(Error::from(kind)),
+                None => Ok(0),
+            };
+        }
+        if self.bytes.is_empty() {
+            match self.behind {
+                Behind::End => return Ok(0),
+                Behind::Fails(kind) => return Err(Error::from(kind)),
+                Behind::Heartbeats => self.bytes = HEARTBEAT,
+                Behind::Waits {
+                    count,
+                    wanted,
+                    last,
+                } => {
+                    if !wait_for(count, wanted) {
+                        return Err(Error::from(ErrorKind::TimedOut));
+                    }
+                    self.bytes = last;
+                    self.behind = Behind::End;
+                }
+            }
+        }
+        let most = if self.cut > 0 { self.cut } else { self.most };
+        let count = give(&mut self.bytes, buf, most);
+        self.cut = self.cut.saturating_sub(count);
+        Ok(count)
+    }
+}
+
+/// An output in memory.
+#[derive(Drop)]
+pub struct Output<'a> {
+    /// What it has taken.
+    pub taken: Vec<u8>,
+    /// A write takes at most so many bytes.
+    pub most: usize,
+    pub bad: Bad,
+    pub calls: u64,
+    /// How often it was flushed.
+    pub flushed: u64,
+    /// Here it tells how many bytes it has taken.
+    pub count: &'a AtomicU64,
+}
+
+impl<'a> Output<'a> {
+    /// An empty one, which takes all at once.
+    pub fn new(alloc: Global, count: &'a AtomicU64) -> Self {
+        Output {
+            taken: Vec::new(alloc),
+            most: usize::MAX,
+            bad: NONE_BAD,
+            calls: 0,
+            flushed: 0,
+            count,
+        }
+    }
+}
+
+impl Write for Output<'_> {
+    fn write(&mut self, buf: &[u8]) -> io::Result<usize> {
+        self.calls = self.calls.saturating_add(1);
+        if self.calls == self.bad.call {
+            return match self.bad.kind {
+                Some(kind) => Err(Error::from(kind)),
+                None => Ok(0),
+            };
+        }
+        let count = buf.len().min(self.most);
+        self.taken.extend_from_slice(&buf[..count])?;
+        self.count.store(self.taken.len() as u64, Ordering::SeqCst);
+        Ok(count)
+    }
+
+    fn flush(&mut self) -> io::Result<()> {
+        self.flushed = self.flushed.saturating_add(1);
+        Ok(())
+    }
+}
+
+// The most turns that anything here waits.
+const PATIENCE: u64 = 10_000_000;
+
+/// Waits until the number is there: whether it came in time.
+pub fn wait_for(number: &AtomicU64, wanted: u64) -> bool {
+    for _ in 0..PATIENCE {
+        if number.load(Ordering::SeqCst) >= wanted {
+            return true;
+        }
+        yield_now();
+    }
+    false
+}

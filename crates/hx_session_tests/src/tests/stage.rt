@@ -1,0 +1,255 @@
+//! An exchange for a test, and sessions at it.
+ghost use Rattle.std.specs.Prelude.{◌≡◌, ◌≤◌, []};
+
+use super::client::{Client, Want};
+use super::memory::{Input, Output};
+use super::overlap::Meeting;
+use super::packets::{Order, enter};
+use hx_blog::{Log, Reader, Writer};
+use hx_engine::{Entry, Exchange, FinishError, Pass, Venue};
+use hx_market::{Bytes, Event};
+use hx_members::Setup;
+use hx_sessions::{Clock, Part, serve_all};
+use hx_units::NoMemory;
+use std::alloc::Global;
+use std::marker::Brand;
+use std::process::Abort;
+use std::sync::Wait;
+use std::sync::ledger::Blank;
+use std::test::*;
+use std::thread::Threads;
+use std::time::Clock as Timer;
+
+/// The time of day is always the same.
+#[derive(Drop)]
+pub struct Still;
+
+impl Clock for Still {
+    fn now(&mut self) -> u64 {
+        1000
+    }
+}
+
+/// What happens at a new exchange.
+#[derive(Drop)]
+pub struct Day<'a> {
+    /// The orders of the first member that are recorded before anybody comes.
+    pub before: Vec<Order>,
+    /// The hours codes that come then.
+    pub codes: &'static [u8],
+    /// The clients who come at the same time.
+    pub clients: Vec<Client<'a>>,
+    /// Those who come behind them.
+    pub later: Vec<Client<'a>>,
+    /// What is called round each submit.
+    pub gate: Meeting,
+    /// The turns that each session has.
+    pub turns: u64,
+    /// How many events and how many messages of the feed there are at the end, where the test says so.
+    pub left: Option<(usize, u64)>,
+}
+
+impl<'a> Day<'a> {
+    /// These clients come.
+    pub fn of(alloc: Global, clients: Vec<Client<'a>>) -> Self {
+        Day {
+            before: Vec::new(alloc),
+            codes: &[],
+            clients,
+            later: Vec::new(alloc),
+            gate: Meeting::of_nobody(),
+            turns: 1_000_000,
+            left: None,
+        }
+    }
+}
+
+// What a client's session is made of.
+type OwnPart<'a, V> = Part<V, Input<'a>, Output<'a>, Still>;
+
+// An exchange with its setup, the passes that are left, and a reader of its log.
+#[derive(Drop)]
+struct Stage<V: Venue> {
+    alloc: Global,
+    setup: Setup,
+    exchange: Exchange<V>,
+    passes: Vec<Pass<V>>,
+    reader: Reader<Entry>,
+    ghost belongs: { reader.log ≡ V.log },
+}
+
+impl<V: Venue> Stage<V> {
+    // Records an event by the first of the passes that are left: whether it was taken.
+    fn record<R: Wait>(&mut self, rt: &R, event: &Event) -> bool {
+        match self.passes.first_mut() {
+            Some(pass) => self.exchange.submit(rt, pass, event).is_ok(),
+            None => false,
+        }
+    }
+
+    // Records orders of the first member, and then hours codes.
+    fn open<R: Wait + Abort>(
+        &mut self,
+        rt: &R,
+        orders: &[Order],
+        codes: &[u8],
+    ) -> Result<(), NoMemory> {
+        for order in orders {
+            let bytes = Vec::from_slice(self.alloc, enter(order).as_slice())?;
+            let event = Event::Message {
+                member: 1,
+                time: 1000,
+                bytes: Bytes::of(bytes),
+            };
+            assert!(rt; self.record(rt, &event));
+        }
+        for code in codes {
+            let event = Event::Hours {
+                time: 1000,
+                code: *code,
+            };
+            assert!(rt; self.record(rt, &event));
+        }
+        Ok(())
+    }
+
+    // A part for a client, with the last of the passes that are left.
+    fn part<'a>(&mut self, input: Input<'a>, output: Output<'a>) -> Option<OwnPart<'a, V>> {
+        let pass = self.passes.pop()?;
+        let reader = self.reader.split(self.exchange.feed_log());
+        Some(Part {
+            input,
+            output,
+            inbound: Still,
+            outbound: Still,
+            pass,
+            reader,
+        })
+    }
+
+    // Ends the exchange, first without one of its passes: it is named, and all comes back.
+    fn finish<R: Abort>(mut self, rt: &R, entries: usize, messages: u64) -> Result<(), Fail> {
+        let last = self.passes.pop().ok_or("a pass")?;
+        let Err(
+            FinishError::Missing {
+                number,
+                exchange,
+                mut passes,
+            },
+        ) = self.exchange.finish(self.passes)
+        else {
+            return Err("a pass is missing".into());
+        };
+        assert_eq!(rt; number, last.number());
+        passes.push(last)?;
+        let Ok(finished) = exchange.finish(passes) else {
+            return Err("all passes are there".into());
+        };
+        assert_eq!(rt; finished.history.len(), entries);
+        assert_eq!(rt; finished.feed, messages);
+        Ok(())
+    }
+}
+
+// The parts of these clients, and what must come of each.
+fn parts_of<'a, V: Venue>(
+    stage: &mut Stage<V>,
+    clients: Vec<Client<'a>>,
+) -> Result<(Vec<OwnPart<'a, V>>, Vec<Want<'a>>), Fail> {
+    let mut parts = Vec::new(stage.alloc);
+    let mut wants = Vec::new(stage.alloc);
+    for client in clients {
+        let Client {
+            input,
+            output,
+            want,
+        } = client;
+        parts.push(stage.part(input, output).ok_or("a pass")?)?;
+        wants.push(want)?;
+    }
+    Ok((parts, wants))
+}
+
+// Serves these clients at once, and looks at what came of it. Their passes are there again then.
+fn serve<V: Venue + Send + Sync, R: Threads + Wait + Timer + Abort + Sync>(
+    rt: &R,
+    stage: &mut Stage<V>,
+    clients: Vec<Client>,
+    gate: &Meeting,
+    turns: u64,
+) -> Result<(), Fail> {
+    let (parts, wants) = parts_of(stage, clients)?;
+    let served = serve_all(
+        rt,
+        stage.alloc,
+        &stage.exchange,
+        &stage.setup,
+        parts,
+        gate,
+        turns,
+    );
+    let Ok(ended) = served else {
+        return Err("memory".into());
+    };
+    assert_eq!(rt; ended.len(), wants.len());
+    for ((part, outcome), want) in ended.into_iter().zip(&wants) {
+        want.meet(rt, &part.output, part.pass.sent().len(), &outcome);
+        stage.passes.push(part.pass)?;
+    }
+    Ok(())
+}
+
+fn play_at<V: Venue + Send + Sync, R: Threads + Wait + Timer + Abort + Sync>(
+    rt: &R,
+    alloc: Global,
+    setup: Setup,
+    log: Log<Entry>,
+    writer: Writer<Entry>,
+    blank: Blank,
+    reader: Reader<Entry>,
+    day: Day,
+) -> Result<(), Fail>
+    requires log { log ≡ V.log }
+    requires of_setup { setup ≡ V.setup }
+    requires writer { writer ≡ record { log = V.log; published = []; staged = [] } }
+    requires reader { reader.log ≡ V.log }
+    requires blank { (blank.name ≡ V.name) × (blank.parts ≡ V.parts) × (V.parts ≡ 3) }
+{
+    let own = setup.copy(alloc)?;
+    let (exchange, passes) = Exchange::<V>::new(alloc, setup, log, writer, blank, 3)?;
+    let mut stage = Stage {
+        alloc,
+        setup: own,
+        exchange,
+        passes,
+        reader,
+    };
+    stage.open(rt, &day.before, day.codes)?;
+    serve(rt, &mut stage, day.clients, &day.gate, day.turns)?;
+    serve(rt, &mut stage, day.later, &day.gate, day.turns)?;
+    assert!(rt; day.gate.was_in_time());
+    match day.left {
+        Some((entries, messages)) => stage.finish(rt, entries, messages),
+        None => Ok(()),
+    }
+}
+
+/// Plays a day at a new exchange of this setup, with three passes.
+pub fn play_by<R: Threads + Wait + Timer + Abort + Sync>(
+    rt: &R,
+    alloc: Global,
+    setup: Setup,
+    day: Day,
+) -> Result<(), Fail> {
+    let (log, writer, reader) = Log::<Entry>::new(alloc, 5000)?;
+    play_at::<Brand, R>(rt, alloc, setup, log, writer, Blank::new(3), reader, day)
+}
+
+/// Plays a day at a new exchange of the standard setup.
+pub fn play<R: Threads + Wait + Timer + Abort + Sync>(
+    rt: &R,
+    alloc: Global,
+    day: Day,
+) -> Result<(), Fail> {
+    play_by(rt, alloc, Setup::standard(alloc)?, day)
+}
