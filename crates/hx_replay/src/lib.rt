@@ -13,4 +13,4 @@ mod striking;
 pub use fault::{Kind, TapeError};
 pub use replaying::{replay, replay_on};
 pub use run::Counts;
-pub use striking::strike_tape;
+pub use striking::{read_event, strike_tape, write_event};
