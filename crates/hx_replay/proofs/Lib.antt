@@ -10,3 +10,4 @@ pub mod OneReading
 pub mod OutputIsTold
 pub mod NoTrace
 pub mod Strikes
+pub mod Operators

@@ -4,3 +4,4 @@ pub mod Run
 pub mod Seen
 pub mod Whole
 pub mod Struck
+pub mod Operators

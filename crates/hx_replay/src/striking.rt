@@ -43,8 +43,8 @@ fn read_all<R: Read>(alloc: Global, reader: &mut R) -> Result<Vec<u8>, TapeError
     Err(TapeError::Turns)
 }
 
-/// The event of a line of a tape, where it is one. It takes memory.
-pub fn read_event(alloc: Global, text: &[u8]) -> Result<Option<Event>, AllocError>
+// The event of a line, where it is one.
+fn read_event(alloc: Global, text: &[u8]) -> Result<Option<Event>, AllocError>
     ensures some { IfOk result (λ o. IfSome o (IsLineOf text.now)) }
     ensures none { IfOk result (λ o. IfNone o (IsNoLine text.now)) }
 {

@@ -1,5 +1,5 @@
 //! What the command line asks of a server.
-ghost use Rattle.std.specs.Prelude.{◌≡◌, ◌↔◌, IfSome, IsSome};
+ghost use Rattle.std.specs.Prelude.{◌↔◌, IfSome, IsSome};
 ghost use Rattle.hx_serve.specs.Arguments.{AreInRange};
 
 /// Where a server listens and sends, and how much it takes.
@@ -22,6 +22,8 @@ pub struct ServeArgs {
 }
 
 impl ServeArgs {
+    ghost use Rattle.hx_serve.specs.Given.{AreThese};
+
     /// These arguments, or none where one of the numbers is out of its range.
     pub fn of(
         port: u16,
@@ -30,7 +32,11 @@ impl ServeArgs {
         sessions: u16,
         capacity: u64,
         turns: u64,
-    ) -> Option<ServeArgs> {
+    ) -> Option<ServeArgs>
+        ensures fits { IsSome result ↔ AreInRange port feed requests sessions capacity turns }
+        ensures same { IfSome result
+            (AreThese port feed requests sessions capacity turns) }
+    {
         if port == 0 || feed == 0 || requests == 0 {
             return None;
         }

@@ -1,7 +1,8 @@
 //! How a day ends.
-ghost use Rattle.std.specs.Prelude.{◌≡◌, ◌++◌, ◌∷◌, [], codes, OnOk};
-ghost use Rattle.std.specs.Fmt.{decimal};
+ghost use Rattle.std.specs.Prelude.{◌≡◌, IfOk, OnOk};
+ghost use Rattle.std.specs.Io.KnownBytes.{Appends};
 ghost use Rattle.hx_serve.specs.Faults.{fault_of_day};
+ghost use Rattle.hx_serve.specs.LastLine.{last_line};
 
 use crate::fault::ServeError;
 use itoa::Buffer;
@@ -29,8 +30,10 @@ pub fn fault_of_day(
     }
 }
 
-/// The last line.
-fn last_line(alloc: Global, events: u64, feed: u64) -> Result<Vec<u8>, AllocError> {
+// The last line.
+fn last_line(alloc: Global, events: u64, feed: u64) -> Result<Vec<u8>, AllocError>
+    ensures { IfOk result (λ text. text.items ≡ last_line events feed) }
+{
     let mut text = Vec::new(alloc);
     let mut buffer = Buffer::new();
     text.extend_from_slice(b"events ")?;
@@ -42,15 +45,21 @@ fn last_line(alloc: Global, events: u64, feed: u64) -> Result<Vec<u8>, AllocErro
     Ok(text)
 }
 
-/// Writes the last line: the numbers of events and of messages of the feed.
+/// Writes the last line: the numbers of events and of messages of the feed. Where it fails, some of it may be written.
 pub fn write_last_line<W: Write>(
     alloc: Global,
     writer: &mut W,
     events: u64,
     feed: u64,
-) -> Result<(), ServeError> {
+) -> Result<(), ServeError>
+    ensures { OnOk result (
+        Appends (W.contents writer.old) (W.contents writer.new) (last_line events feed)) }
+{
     let line = last_line(alloc, events, feed)?;
-    if writer.write_all(&line).is_err() || writer.flush().is_err() {
+    if writer.write_all(&line).is_err() {
+        return Err(ServeError::Write);
+    }
+    if writer.flush().is_err() {
         return Err(ServeError::Write);
     }
     Ok(())

@@ -20,5 +20,5 @@ pub use args::ServeArgs;
 pub use clock::DayClock;
 pub use fault::ServeError;
 pub use history::write_history;
-pub use operator::read_operator_line;
+pub use notices::Notices;
 pub use serving::{Day, serve, serve_day};

@@ -9,6 +9,7 @@ use log::{Log, info};
 /// A gate that holds nothing, and tells when a session is open.
 #[derive(Clone, Copy)]
 pub struct Notices<'a, T> {
+    /// Where the notices go.
     pub rt: &'a T,
 }
 

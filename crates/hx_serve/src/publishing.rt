@@ -1,5 +1,7 @@
 //! The worker that publishes the feed and answers requests.
-ghost use Rattle.std.specs.Prelude.{◌≡◌};
+ghost use Rattle.std.specs.Prelude.{◌≡◌, false, true};
+ghost use mathlib.Core.List.{IsPrefix};
+ghost use Rattle.hx_serve.specs.Publishing.{KnowsNoMore};
 
 use crate::clock::DayClock;
 use crate::rest::Rest;

@@ -7,13 +7,13 @@ use crate::crew::{dismiss, hire};
 use crate::ending::{fault_of_day, write_last_line};
 use crate::fault::ServeError;
 use crate::notices::Notices;
-use crate::operator::Operator;
 use crate::publishing::Publishing;
 use crate::sockets::Doors;
 use crate::workers::work;
 use hx_blog::{Log, Reader, Writer};
 use hx_engine::{Entry, Exchange, Finished, Pass, Venue};
 use hx_members::Setup;
+use hx_sessions::Gate;
 use log::Log as Logs;
 use std::alloc::Global;
 use std::io::{Read, Write};
@@ -58,12 +58,18 @@ fn learn_all<'a, V: Venue>(
 }
 
 // A day from its first connection on, up to the packet that ends the feed.
-fn attend<V: Venue + Send + Sync, T: Threads + Wait + Clock + Logs + Sync, R: Read + Drop>(
+fn attend<
+    V: Venue + Send + Sync,
+    G: Gate + Sync,
+    T: Threads + Wait + Clock + Logs + Sync,
+    R: Read + Drop,
+>(
     rt: &T,
     alloc: Global,
     exchange: &Exchange<V>,
     setup: &Setup,
     args: &ServeArgs,
+    gate: &G,
     doors: &Doors,
     passes: Vec<Pass<V>>,
     reader: Reader<Entry>,
@@ -81,19 +87,17 @@ fn attend<V: Venue + Send + Sync, T: Threads + Wait + Clock + Logs + Sync, R: Re
     let now = DayClock { rt }.time_of_day();
     let other = reader.split(log);
     let publishing = Publishing::new(*setup.session(), args.feed, log, reader, other, now);
-    let operator = Operator::new(alloc, own);
-    let gate = Notices { rt };
     let (mut publishing, ((own, operated), served)) = work(
         rt,
         alloc,
         exchange,
         setup,
-        &gate,
+        gate,
         args.turns,
         &doors.socket,
         publishing,
         parts,
-        operator,
+        own,
         input,
     );
     let begun = dismiss(rt, setup, served, &mut passes);
@@ -134,12 +138,19 @@ fn conclude<V: Venue, W: Write>(
 }
 
 // A day over an exchange of its own.
-fn run<V: Venue + Send + Sync, T: Threads + Wait + Clock + Logs + Sync, R: Read + Drop, W: Write>(
+fn run<
+    V: Venue + Send + Sync,
+    G: Gate + Sync,
+    T: Threads + Wait + Clock + Logs + Sync,
+    R: Read + Drop,
+    W: Write,
+>(
     rt: &T,
     alloc: Global,
     setup: &Setup,
     own: Setup,
     args: &ServeArgs,
+    gate: &G,
     doors: &Doors,
     log: Log<Entry>,
     pen: Writer<Entry>,
@@ -158,13 +169,15 @@ fn run<V: Venue + Send + Sync, T: Threads + Wait + Clock + Logs + Sync, R: Read 
     let count = args.sessions + 1;
     let (exchange, passes) = Exchange::<V>::new(alloc, own, log, pen, blank, count)?;
     let outcome = attend(
-        rt, alloc, &exchange, setup, args, doors, passes, reader, input,
+        rt, alloc, &exchange, setup, args, gate, doors, passes, reader, input,
     )?;
     conclude(alloc, exchange, outcome, output)
 }
 
-/// Serves a day, and answers what it leaves; or why its sessions never began. The last line goes to the output.
+/// Serves a day, and answers what it leaves; or why its sessions never began. The gate is called round each submit and
+/// at each login. The last line goes to the output.
 pub fn serve_day<
+    G: Gate + Sync,
     T: Net<Listener = TcpListener, Stream = TcpStream> + Threads + Wait + Clock + Logs + Sync,
     R: Read + Drop,
     W: Write,
@@ -173,6 +186,7 @@ pub fn serve_day<
     alloc: Global,
     setup: &Setup,
     args: &ServeArgs,
+    gate: &G,
     input: R,
     output: &mut W,
 ) -> Result<Day, ServeError> {
@@ -180,8 +194,8 @@ pub fn serve_day<
     let (log, pen, reader) = Log::<Entry>::new(alloc, args.capacity)?;
     let doors = Doors::open(rt, args)?;
     let blank = Blank::new(u64::from(args.sessions) + 1);
-    run::<Brand, T, R, W>(
-        rt, alloc, setup, own, args, &doors, log, pen, reader, blank, input, output,
+    run::<Brand, G, T, R, W>(
+        rt, alloc, setup, own, args, gate, &doors, log, pen, reader, blank, input, output,
     )
 }
 
@@ -200,7 +214,7 @@ pub fn serve<
     input: R,
     output: &mut W,
 ) -> Result<(), ServeError> {
-    match serve_day(rt, alloc, setup, args, input, output)?.fault {
+    match serve_day(rt, alloc, setup, args, &Notices { rt }, input, output)?.fault {
         None => Ok(()),
         Some(fault) => Err(fault),
     }

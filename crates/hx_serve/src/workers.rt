@@ -1,7 +1,7 @@
 //! The workers of a day, all at once: the publisher, the operator, and two for each session.
 use crate::crew::{Member, Served};
 use crate::fault::ServeError;
-use crate::operator::Operator;
+use crate::operator::operate;
 use crate::publishing::Publishing;
 use hx_engine::{Exchange, Pass, Venue};
 use hx_members::Setup;
@@ -32,7 +32,7 @@ fn trade<
     gate: &G,
     turns: u64,
     parts: Vec<Member<V, C>>,
-    operator: Operator<V>,
+    pass: Pass<V>,
     reader: R,
 ) -> Traded<V, C> {
     let (served, operated) = join(
@@ -40,7 +40,7 @@ fn trade<
         move || serve_all(rt, alloc, exchange, setup, parts, gate, turns),
         move || {
             let mut reader = reader;
-            operator.operate(rt, alloc, exchange, &mut reader, turns)
+            operate(rt, alloc, exchange, pass, &mut reader, turns)
         },
     );
     (operated, served)
@@ -64,7 +64,7 @@ pub fn work<
     socket: &UdpSocket,
     publishing: Publishing<'a, V>,
     parts: Vec<Member<V, C>>,
-    operator: Operator<V>,
+    pass: Pass<V>,
     reader: R,
 ) -> (Publishing<'a, V>, Traded<V, C>) {
     let ended = AtomicBool::new(false);
@@ -73,9 +73,7 @@ pub fn work<
         rt,
         move || publishing.work(rt, socket, flag),
         move || {
-            let traded = trade(
-                rt, alloc, exchange, setup, gate, turns, parts, operator, reader,
-            );
+            let traded = trade(rt, alloc, exchange, setup, gate, turns, parts, pass, reader);
             flag.store(true, Ordering::SeqCst);
             traded
         },

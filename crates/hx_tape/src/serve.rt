@@ -3,7 +3,7 @@
 use crate::failure::Failure;
 use crate::setups::read_setup;
 use clap::ArgMatches;
-use hx_serve::{Day, ServeArgs, ServeError, serve_day, write_history};
+use hx_serve::{Day, Notices, ServeArgs, ServeError, serve_day, write_history};
 use log::Log;
 use std::alloc::Global;
 use std::fs::File;
@@ -63,14 +63,31 @@ pub fn serve_input<
         return Err(Failure::CommandLine);
     };
     let setup = read_setup(rt, matches)?;
+    let gate = Notices { rt };
     let Some(path) = matches.get_str("history") else {
-        let day = serve_day(rt, alloc, &setup, &args, rt.reader(), &mut io::writer(rt))?;
+        let day = serve_day(
+            rt,
+            alloc,
+            &setup,
+            &args,
+            &gate,
+            rt.reader(),
+            &mut io::writer(rt),
+        )?;
         return answer_of(day, Ok(()));
     };
     let Ok(file) = File::create(rt, path) else {
         return Err(Failure::Serve(ServeError::Write));
     };
-    let day = serve_day(rt, alloc, &setup, &args, rt.reader(), &mut io::writer(rt))?;
+    let day = serve_day(
+        rt,
+        alloc,
+        &setup,
+        &args,
+        &gate,
+        rt.reader(),
+        &mut io::writer(rt),
+    )?;
     let kept = keep_history(alloc, &day, file);
     answer_of(day, kept)
 }
