@@ -12,3 +12,4 @@ pub mod NoTrace
 pub mod Strikes
 pub mod Texts
 pub mod StruckTapes
+pub mod Operators

@@ -23,7 +23,7 @@ decimal_same m n p q e = sym (decimal_is_IsNumeral m p).1 ∙ ap (digits_value 1
 hex_same : (a b : List ℕ) → IsBytes a → IsBytes b → encode_lower a ≡ encode_lower b → a ≡ b
 hex_same a b p q e = decode_of-same (encode_lower a) a b (decode_of-encode_lower a p) (ap decode_of e ∙ decode_of-encode_lower b q)
 
-line_same : (a b : Entry) → IsEntry a → IsEntry b → line a ≡ line b → a ≡ b
+pub line_same : (a b : Entry) → IsEntry a → IsEntry b → line a ≡ line b → a ≡ b
 line_same a b p q e =
     let f = three_fields b (line a) (decimal a.time) (after_time a) (decimal a.member) (encode_lower a.bytes) q e refl (time_Lacks a p) refl (member_Lacks a p) in
     same_entry a b (decimal_same a.time b.time (omega (arith, p.time)) (omega (arith, q.time)) f.time)

@@ -6,3 +6,4 @@ pub mod Grep
 pub mod Whole
 pub mod Struck
 pub mod Quiet
+pub mod Operators

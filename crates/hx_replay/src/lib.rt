@@ -6,11 +6,13 @@ mod fault;
 mod hexadecimal;
 pub mod laws;
 mod line;
+mod operator;
 mod replaying;
 mod run;
 mod striking;
 
 pub use fault::{Kind, TapeError};
+pub use operator::read_operator_line;
 pub use replaying::{replay, replay_on};
 pub use run::Counts;
-pub use striking::{strike_all_tape, strike_tape};
+pub use striking::{strike_all_tape, strike_tape, write_event};

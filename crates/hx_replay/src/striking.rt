@@ -187,8 +187,8 @@ fn break_bytes(number: u64) -> ArrayVec<u8, 9>
     bytes
 }
 
-// Appends the line of an event.
-fn write_event(alloc: Global, text: &mut Vec<u8>, event: &Event) -> Result<(), AllocError>
+/// Appends the line of an event, with its line feed. It takes memory.
+pub fn write_event(alloc: Global, text: &mut Vec<u8>, event: &Event) -> Result<(), AllocError>
     ensures { OnOk result (
         text.new.items ≡ text.old.items ++ (line (entry_of_event event.now) ++ 10 ∷ [])) }
 {

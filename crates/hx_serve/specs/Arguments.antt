@@ -1,0 +1,23 @@
+-- The numbers of a server's command line.
+use Rattle.std.specs.Prelude.{ℕ, ◌≤◌}
+
+abbrev pub most_sessions : ℕ
+most_sessions = 63
+
+-- the most messages that the log of the feed has room for
+abbrev pub most_messages : ℕ
+most_messages = 1000000
+
+-- the most reads of a session, turns of its output, and reads of the operator's input
+abbrev pub most_turns : ℕ
+most_turns = 1000000000
+
+-- from 1 to this
+abbrev pub IsWithin : (most number : ℕ) → Type 0
+IsWithin most number = (1 ≤ number) × (number ≤ most)
+
+-- three ports, and how much is taken
+abbrev pub AreInRange : (port feed requests sessions capacity turns : ℕ) → Type 0
+AreInRange port feed requests sessions capacity turns =
+    (1 ≤ port) × (1 ≤ feed) × (1 ≤ requests)
+    × IsWithin most_sessions sessions × IsWithin most_messages capacity × IsWithin most_turns turns

@@ -1,0 +1,36 @@
+-- The faults of a day: by which numbers those of sessions are told, and which one is answered in the end.
+use Rattle.std.specs.Prelude.{ℕ, Bool, true, false, Option, Some, None}
+use Rattle.hx_sessions.specs.declared.ending.Fault.{Fault}
+use Rattle.hx_sessions.specs.declared.ending.Fault.TheVariants as fault
+use Rattle.hx_desk.specs.declared.fault.DeskError.{DeskError}
+use Rattle.hx_desk.specs.declared.fault.DeskError.TheVariants as refused
+use Rattle.hx_replay.specs.declared.fault.Kind.TheVariants as kind
+use Rattle.hx_serve.specs.declared.fault.ServeError.{ServeError}
+use Rattle.hx_serve.specs.declared.fault.ServeError.TheVariants as failure
+
+-- the number by which the operator is told of a session's fault
+abbrev pub fault_number : Fault → ℕ
+fault_number fault.Read = 1
+fault_number fault.Write = 2
+fault_number fault.Framing = 3
+fault_number (fault.NotAuthorized reason) = 4
+fault_number fault.NoMemory = 5
+fault_number fault.Turns = 6
+fault_number (fault.Refused error) = 7
+
+-- the fault of line n of the operator where the exchange refuses its event
+abbrev pub line_fault : ℕ → DeskError → ServeError
+line_fault n refused.NoMemory = failure.NoMemory
+line_fault n (refused.Full free needed) = failure.Full
+line_fault n (refused.Limit member) = failure.Line n kind.Limit
+line_fault n refused.NoMember = failure.Line n kind.Member
+line_fault n refused.BadTime = failure.Line n kind.Time
+
+-- The fault of a day: that of the network, else want of memory, else that of the operator's input, else that of the
+-- output.
+abbrev pub fault_of_day :
+    (network memory : Bool) → (operated written : Option ServeError) → Option ServeError
+fault_of_day true memory operated written = Some failure.Network
+fault_of_day false true operated written = Some failure.NoMemory
+fault_of_day false false (Some e) written = Some e
+fault_of_day false false None written = written

@@ -1,0 +1,72 @@
+//! The parts of a day's sessions: how they are made of connections and passes, and what comes back of them.
+ghost use Rattle.std.specs.Prelude.{◌≡◌};
+
+use crate::clock::DayClock;
+use crate::fault::ServeError;
+use crate::notices::tell_end;
+use crate::sockets::{Connection, Inlet, Outlet};
+use hx_blog::{Log, Reader};
+use hx_engine::{Entry, Pass, Venue};
+use hx_members::Setup;
+use hx_sessions::{Ended, Fault, Part};
+use log::Log as Logs;
+use std::alloc::Global;
+
+/// The part of a member's session.
+pub type Member<V, C> = Part<V, Inlet, Outlet, C>;
+
+/// What the sessions left in the parts' order; or the parts, where there was no memory to begin.
+pub type Served<V, C> = Result<Vec<(Member<V, C>, Result<Ended, Fault>)>, Vec<Member<V, C>>>;
+
+/// A part for each connection, each by the last pass that is left.
+pub fn hire<'a, V: Venue, T>(
+    rt: &'a T,
+    alloc: Global,
+    log: &Log<Entry>,
+    connections: Vec<Connection>,
+    passes: &mut Vec<Pass<V>>,
+    reader: &mut Reader<Entry>,
+) -> Result<Vec<Member<V, DayClock<'a, T>>>, ServeError>
+    requires { (log.now ≡ V.log) × (reader.old.log ≡ V.log) }
+    ensures { reader.new.log ≡ V.log }
+{
+    let mut parts = Vec::new(alloc);
+    for connection in connections {
+        let Some(pass) = passes.pop() else {
+            break;
+        };
+        parts.push(Part {
+            input: connection.inlet,
+            output: connection.outlet,
+            inbound: DayClock { rt },
+            outbound: DayClock { rt },
+            pass,
+            reader: reader.split(log),
+        })?;
+    }
+    Ok(parts)
+}
+
+/// Takes the passes back, and tells how each session ended. Answers whether they had begun.
+pub fn dismiss<V: Venue, C: Drop, T: Logs>(
+    rt: &T,
+    setup: &Setup,
+    served: Served<V, C>,
+    passes: &mut Vec<Pass<V>>,
+) -> bool {
+    match served {
+        Ok(results) => {
+            for (part, ended) in results {
+                tell_end(rt, part.input.member(setup), &ended);
+                let _ = passes.push(part.pass);
+            }
+            true
+        }
+        Err(parts) => {
+            for part in parts {
+                let _ = passes.push(part.pass);
+            }
+            false
+        }
+    }
+}

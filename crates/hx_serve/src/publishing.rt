@@ -1,0 +1,171 @@
+//! The worker that publishes the feed and answers requests.
+ghost use Rattle.std.specs.Prelude.{◌≡◌, false, true};
+ghost use mathlib.Core.List.{IsPrefix};
+ghost use Rattle.hx_serve.specs.Publishing.{KnowsNoMore};
+
+use crate::clock::DayClock;
+use crate::rest::Rest;
+use hx_blog::{Log, Reader, Receipt};
+use hx_engine::{Entry, Venue};
+use hx_retransmit::{LogMessages, Publisher, Server};
+use std::io::ErrorKind;
+use std::marker::PhantomData;
+use std::net::{Ipv4Addr, ToSocketAddrs, UdpSocket};
+use std::sync::atomic::{AtomicBool, Ordering};
+use std::time::Clock;
+
+// A datagram that finds no room is tried again so often.
+const TRIES: u32 = 10_000;
+
+// A request has 20 bytes; what is longer is none.
+const REQUEST: usize = 64;
+
+// Sends a datagram, and answers whether it went out.
+fn send<T: Clock, A: ToSocketAddrs + Copy>(
+    rt: &T,
+    socket: &UdpSocket,
+    bytes: &[u8],
+    to: A,
+) -> bool {
+    let mut rest = Rest::new();
+    for _ in 0..TRIES {
+        match socket.send_to(bytes, to) {
+            Ok(_) => return true,
+            Err(error) => match error.kind() {
+                ErrorKind::WouldBlock => rest.sleep(rt),
+                // An answer to an earlier datagram: nobody listens there.
+                ErrorKind::Interrupted | ErrorKind::ConnectionRefused => {}
+                _ => return false,
+            },
+        }
+    }
+    false
+}
+
+/// A publisher of the feed and a server of requests, each over a reader of its own of the log.
+#[derive(Drop)]
+pub struct Publishing<'a, V: Venue> {
+    publisher: Publisher<LogMessages<'a, Entry>>,
+    server: Server<LogMessages<'a, Entry>>,
+    // The port that the feed goes to.
+    feed: u16,
+    /// Whether a datagram could not be sent or received.
+    pub failed: bool,
+    of: PhantomData<V>,
+    pub ghost belongs: { publisher.messages.log ≡ V.log },
+}
+
+impl<'a, V: Venue> Publishing<'a, V> {
+    /// A publisher that has sent nothing, and a server.
+    pub fn new(
+        session: [u8; 10],
+        feed: u16,
+        log: &'a Log<Entry>,
+        first: Reader<Entry>,
+        second: Reader<Entry>,
+        now: u64,
+    ) -> Publishing<'a, V>
+        requires log { log.now ≡ V.log }
+        requires first { first.log ≡ V.log }
+        requires second { second.log ≡ V.log }
+        ensures { result.publisher.messages ≡ first }
+    {
+        Publishing {
+            publisher: Publisher::new(session, LogMessages::new(log, first), now),
+            server: Server::new(session, LogMessages::new(log, second)),
+            feed,
+            failed: false,
+            of: PhantomData,
+        }
+    }
+
+    // Sends a packet of the feed.
+    fn send_feed<T: Clock>(&mut self, rt: &T, socket: &UdpSocket, packet: &[u8])
+        ensures { self.new.publisher ≡ self.old.publisher }
+    {
+        if !send(rt, socket, packet, (Ipv4Addr::new(127, 0, 0, 1), self.feed)) {
+            self.failed = true;
+        }
+    }
+
+    // Sends the next packet, where there is one. Answers whether there was.
+    fn publish<T: Clock>(&mut self, rt: &T, socket: &UdpSocket, now: u64) -> bool {
+        let Some(packet) = self.publisher.turn(now) else {
+            return false;
+        };
+        self.send_feed(rt, socket, packet.as_slice());
+        true
+    }
+
+    // Answers the next request, where there is one. Answers whether there was any datagram.
+    fn answer<T: Clock>(&mut self, rt: &T, socket: &UdpSocket) -> bool
+        ensures { self.new.publisher ≡ self.old.publisher }
+    {
+        let mut buffer = [0; REQUEST];
+        match socket.recv_from(&mut buffer) {
+            Ok((count, from)) => {
+                if let Some(packet) = self.server.answer(&buffer[..count])
+                    && !send(rt, socket, packet.as_slice(), from)
+                {
+                    self.failed = true;
+                }
+                true
+            }
+            Err(error) => match error.kind() {
+                ErrorKind::WouldBlock | ErrorKind::TimedOut => false,
+                ErrorKind::Interrupted | ErrorKind::ConnectionRefused => true,
+                _ => {
+                    self.failed = true;
+                    false
+                }
+            },
+        }
+    }
+
+    /// Publishes and answers by turns, without waiting for a request, until all who write have ended and a turn has
+    /// found nothing. It takes neither a lock nor memory.
+    pub fn work<T: Clock>(
+        self,
+        rt: &T,
+        socket: &UdpSocket,
+        ended: &AtomicBool,
+    ) -> Publishing<'a, V> {
+        let mut publishing = self;
+        let clock = DayClock { rt };
+        let mut rest = Rest::new();
+        for _ in 0..u64::MAX {
+            let last = ended.load(Ordering::SeqCst);
+            let sent = publishing.publish(rt, socket, clock.time_of_day());
+            let answered = publishing.answer(rt, socket);
+            if sent || answered {
+                rest = Rest::new();
+            } else if last {
+                break;
+            } else {
+                rest.sleep(rt);
+            }
+        }
+        publishing
+    }
+
+    /// Adds what a receipt knows: all its messages are sent before the end.
+    pub fn learn(&mut self, receipt: Receipt<Entry>)
+        requires { receipt.log ≡ V.log }
+    {
+        self.publisher.learn(receipt);
+    }
+
+    /// Sends what is left, and the packet that ends the session. Answers whether no datagram failed.
+    pub fn finish<T: Clock>(self, rt: &T, socket: &UdpSocket) -> bool {
+        let mut publishing = self;
+        let now = DayClock { rt }.time_of_day();
+        for _ in 0..u64::MAX {
+            if !publishing.publish(rt, socket, now) {
+                break;
+            }
+        }
+        let packet = publishing.publisher.end();
+        publishing.send_feed(rt, socket, packet.as_slice());
+        !publishing.failed
+    }
+}

@@ -1,0 +1,95 @@
+//! The words of the command line.
+
+use clap::{Arg, ArgAction, ArgGroup, Command, value_parser};
+use std::alloc::{AllocError, Global};
+
+// The file of the setup.
+fn setup_file<'a>(alloc: Global) -> Arg<'a> {
+    Arg::new(alloc, "setup")
+        .long("setup")
+        .value_name("FILE")
+        .help("The setup of the day, in place of the standard one")
+}
+
+fn replay_command<'a>(alloc: Global) -> Result<Command<'a>, AllocError> {
+    Command::new(alloc, "replay")
+        .about("Writes the output lines of a tape")
+        .arg(setup_file(alloc))
+}
+
+// One member, or all: the one or the other.
+fn strike_command<'a>(alloc: Global) -> Result<Command<'a>, AllocError> {
+    let member = Arg::new(alloc, "member")
+        .long("member")
+        .value_name("N")
+        .value_parser(value_parser!(u16).range(1..=4095))
+        .help("The number of the member");
+    let all = Arg::new(alloc, "all")
+        .long("all")
+        .action(ArgAction::SetTrue)
+        .help("All members at once");
+    let whose = ArgGroup::new(alloc, "whose")
+        .required(true)
+        .arg("member")?
+        .arg("all")?;
+    Command::new(alloc, "strike")
+        .about("Writes a tape without the messages of quiet chains, of a member or of all")
+        .arg(member)?
+        .arg(all)?
+        .group(whose)?
+        .arg(setup_file(alloc))
+}
+
+// A port, 1 to 65,535.
+fn port<'a>(alloc: Global, name: &'static str, help: &'static str) -> Arg<'a> {
+    Arg::new(alloc, name)
+        .long(name)
+        .value_name("P")
+        .required(true)
+        .value_parser(value_parser!(u16).range(1..=65535))
+        .help(help)
+}
+
+fn serve_command<'a>(alloc: Global) -> Result<Command<'a>, AllocError> {
+    let sessions = Arg::new(alloc, "sessions")
+        .long("sessions")
+        .value_name("N")
+        .required(true)
+        .value_parser(value_parser!(u16).range(1..=63))
+        .help("How many sessions of members there are");
+    let capacity = Arg::new(alloc, "capacity")
+        .long("capacity")
+        .value_name("C")
+        .default_value("100000")
+        .value_parser(value_parser!(u64).range(1..=1_000_000))
+        .help("How many messages the feed has room for");
+    let turns = Arg::new(alloc, "turns")
+        .long("turns")
+        .value_name("T")
+        .default_value("1000000000")
+        .value_parser(value_parser!(u64).range(1..=1_000_000_000))
+        .help("How many reads each session and the operator's input have");
+    let history = Arg::new(alloc, "history")
+        .long("history")
+        .value_name("FILE")
+        .help("Where the history of the day goes, as a tape");
+    Command::new(alloc, "serve")
+        .about("Serves a day to members by TCP and to vendors by UDP, at 127.0.0.1")
+        .arg(port(alloc, "port", "The TCP port of members' sessions"))?
+        .arg(port(alloc, "feed", "The UDP port that the feed goes to"))?
+        .arg(port(alloc, "requests", "The UDP port of requests"))?
+        .arg(sessions)?
+        .arg(setup_file(alloc))?
+        .arg(capacity)?
+        .arg(turns)?
+        .arg(history)
+}
+
+/// The program's command line.
+pub fn command<'a>(alloc: Global) -> Result<Command<'a>, AllocError> {
+    Command::new(alloc, "hx_tape")
+        .subcommand_required(true)
+        .subcommand(replay_command(alloc)?)?
+        .subcommand(strike_command(alloc)?)?
+        .subcommand(serve_command(alloc)?)
+}

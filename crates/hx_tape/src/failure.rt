@@ -1,0 +1,71 @@
+//! Why the program ends without success.
+
+use hx_members::SetupError;
+use hx_replay::TapeError;
+use hx_serve::ServeError;
+use hx_units::NoMemory;
+use std::alloc::AllocError;
+
+/// Why the program ends without success.
+#[derive(Debug, Drop, thiserror::Error)]
+pub enum Failure {
+    /// The command line, which `clap` has answered.
+    #[error("")]
+    CommandLine,
+    /// A word of the command line that is no text, which `clap` does not take.
+    #[error("error: invalid UTF-8 was detected in one or more arguments")]
+    NoText,
+    #[error(transparent)]
+    Setup(SetupError),
+    #[error(transparent)]
+    Tape(TapeError),
+    #[error(transparent)]
+    Serve(ServeError),
+}
+
+impl Failure {
+    /// The status that the program ends with.
+    pub fn status(&self) -> u8 {
+        match self {
+            Failure::CommandLine | Failure::NoText => 2,
+            Failure::Setup(SetupError::Bad { .. })
+            | Failure::Tape(TapeError::Line { .. })
+            | Failure::Serve(ServeError::Line { .. }) => 1,
+            Failure::Setup(SetupError::NoMemory)
+            | Failure::Tape(TapeError::NoMemory)
+            | Failure::Serve(ServeError::NoMemory) => 3,
+            Failure::Tape(TapeError::Read | TapeError::Write | TapeError::Turns) => 4,
+            Failure::Serve(
+                ServeError::Read
+                | ServeError::Write
+                | ServeError::Network
+                | ServeError::Full
+                | ServeError::Turns,
+            ) => 4,
+        }
+    }
+}
+
+impl From<AllocError> for Failure {
+    fn from(_e: AllocError) -> Failure {
+        Failure::Tape(TapeError::NoMemory)
+    }
+}
+
+impl From<NoMemory> for Failure {
+    fn from(_e: NoMemory) -> Failure {
+        Failure::Tape(TapeError::NoMemory)
+    }
+}
+
+impl From<TapeError> for Failure {
+    fn from(e: TapeError) -> Failure {
+        Failure::Tape(e)
+    }
+}
+
+impl From<ServeError> for Failure {
+    fn from(e: ServeError) -> Failure {
+        Failure::Serve(e)
+    }
+}
