@@ -16,7 +16,7 @@ use Rattle.hx_sessions.specs.declared.ending.Fault.{Fault}
 use Rattle.hx_sessions.specs.declared.ending.Fault.TheVariants as fault
 use Rattle.hx_sessions.specs.declared.ending.Stop.{Stop}
 use Rattle.hx_sessions.specs.declared.ending.Stop.TheVariants as stop
-use Rattle.hx_sessions.specs.Asked.{asked}
+use Rattle.hx_sessions.specs.Asked.{HasLogout, asked}
 use Rattle.hx_sessions.specs.Frames.{Writes, Delivers, Sent, SentSome}
 use Rattle.hx_sessions.specs.Workers.{Received, Why, SentUntil, both_of}
 use Rattle.hx_sessions.specs.Served.{Side, Brings, Wrote, WroteSome, EndsAs, Converses, acceptance, rejection, Admits, BreaksOff, Dismisses, Serves}
@@ -69,7 +69,7 @@ until_some first replies d a b (stop.Faulted f) (rest, inr (is, t)) = some_of_cu
 
 why_some : (left : Option (List ℕ)) (packets : List SoupPacket) (done : List (List ℕ)) (s : Stop) → Why left packets done s → IsPrefix done (asked packets)
 why_some left packets done stop.Told w = ([], append-nil done ∙ w)
-why_some left packets done (stop.Ended ended.Logout) w = ([], append-nil done ∙ w)
+why_some left packets done (stop.Ended ended.Logout) w = ([], append-nil done ∙ w.0)
 why_some left packets done (stop.Ended ended.ReaderEnd) w = ([], append-nil done ∙ w.0)
 why_some left packets done (stop.Ended ended.DayEnd) w = absurd w
 why_some left packets done (stop.Faulted f) w = w
@@ -81,7 +81,7 @@ ends_as first replies packets done left d a b (stop.Faulted f) out r w s is othe
     subst (EndsAs [] first replies packets done left a b) is (why_some left packets done (stop.Faulted f) w, until_some first replies d a b out s)
 ends_as first replies packets done left d a b (stop.Ended e) (stop.Faulted f) r w s is other =
     subst (EndsAs [] first replies packets done left a b) is (why_some left packets done (stop.Ended e) w, until_some first replies d a b (stop.Faulted f) s)
-ends_as first replies packets done left d a b (stop.Ended ended.Logout) (stop.Ended ended.DayEnd) r w (e, over, t) is other = subst (EndsAs [] first replies packets done left a b) is (w, wrote_of first replies [] d true a b over t)
+ends_as first replies packets done left d a b (stop.Ended ended.Logout) (stop.Ended ended.DayEnd) r w (e, over, t) is other = subst (EndsAs [] first replies packets done left a b) is (w.0, wrote_of first replies [] d true a b over t)
 ends_as first replies packets done left d a b (stop.Ended ended.ReaderEnd) (stop.Ended ended.DayEnd) r w (e, over, t) is other = subst (EndsAs [] first replies packets done left a b) is (w.0, wrote_of first replies [] d true a b over t)
 ends_as first replies packets done left d a b (stop.Ended ended.DayEnd) (stop.Ended ended.DayEnd) r w (e, over, t) is other = absurd w
 ends_as first replies packets done left d a b (stop.Ended x) (stop.Ended ended.Logout) r w (e, over, t) is other = absurd (cc e)
@@ -123,6 +123,7 @@ converses setup member first old new d inn out r number got sent is other = reco
 -- what is known where both ended so
 pub record LogsOut (first : ℕ) (replies : List (List ℕ)) (packets : List SoupPacket) (done : List (List ℕ)) (d : Delivery) (a b : Option (List ℕ)) : Type 0 where
   pub all : done ≡ asked packets
+  pub has : HasLogout packets
   pub live : d.over ≡ false
   pub rest : List (List ℕ)
   pub sent : Sent first replies rest d a b
@@ -132,7 +133,7 @@ pub logs_out : (first : ℕ) (replies : List (List ℕ)) (packets : List SoupPac
 logs_out first replies packets done left d a b (stop.Faulted f) out w s is = absurd (cc is)
 logs_out first replies packets done left d a b (stop.Ended e) (stop.Faulted f) w s is = absurd (cc is)
 logs_out first replies packets done left d a b (stop.Ended e) (stop.Ended x) w (is_end, over, t) is = absurd (cc (is, is_end))
-logs_out first replies packets done left d a b (stop.Ended ended.Logout) stop.Told w (over, rest, t) is = record { all = w; live = over; rest = rest; sent = t }
+logs_out first replies packets done left d a b (stop.Ended ended.Logout) stop.Told w (over, rest, t) is = record { all = w.0; has = w.1; live = over; rest = rest; sent = t }
 logs_out first replies packets done left d a b (stop.Ended ended.ReaderEnd) stop.Told w s is = absurd (cc is)
 logs_out first replies packets done left d a b (stop.Ended ended.DayEnd) stop.Told w s is = absurd (cc is)
 logs_out first replies packets done left d a b stop.Told (stop.Faulted f) w s is = absurd (cc is)
@@ -165,7 +166,7 @@ converses_then setup member first old new middle known d inn out r number got se
 pub after_all : (setup : Setup) (member first : ℕ) (known longer : Entries Entry) (d e : Delivery) (left a b c : Option (List ℕ)) → IsPrefix known longer → e.over ≡ false → Sent d.next (known_replies setup member longer) [] e b c
     → (packets : List SoupPacket) (done : List (List ℕ)) → LogsOut first (known_replies setup member known) packets done d a b → EndsAs [] first (known_replies setup member longer) packets done left a c (Ok ended.Logout)
 after_all setup member first known longer d e left a b c p live t packets done lo =
-    (lo.all, wrote_of first (known_replies setup member longer) [] e false a c live (sent_join first (known_replies setup member known) (known_replies setup member longer) lo.rest [] d e a b c (known_grows setup member known longer p) lo.sent lo.live t))
+    (lo.all, lo.has, wrote_of first (known_replies setup member longer) [] e false a c live (sent_join first (known_replies setup member known) (known_replies setup member longer) lo.rest [] d e a b c (known_grows setup member known longer p) lo.sent lo.live t))
 
 pub after_end : (setup : Setup) (member first : ℕ) (known longer : Entries Entry) (d e : Delivery) (left a b c : Option (List ℕ)) (x : Ended) → IsPrefix known longer → SentUntil d.next (known_replies setup member longer) e b c (stop.Ended x)
     → (packets : List SoupPacket) (done : List (List ℕ)) → LogsOut first (known_replies setup member known) packets done d a b → EndsAs [] first (known_replies setup member longer) packets done left a c (Ok x)
@@ -208,7 +209,7 @@ answered_some answer first replies a b c wrote w = record {
 
 answered_end : (answer : List ℕ) (first : ℕ) (replies : List (List ℕ)) (packets : List SoupPacket) (done : List (List ℕ)) (left a b c : Option (List ℕ)) (r : Result Ended Fault) → Appends a b answer
     → EndsAs [] first replies packets done left b c r → EndsAs answer first replies packets done left a c r
-answered_end answer first replies packets done left a b c (Ok ended.Logout) wrote e = (e.0, answered_wrote answer first replies [] false a b c wrote e.1)
+answered_end answer first replies packets done left a b c (Ok ended.Logout) wrote e = (e.0, e.1, answered_wrote answer first replies [] false a b c wrote e.2)
 answered_end answer first replies packets done left a b c (Ok ended.ReaderEnd) wrote e = (e.0, e.1, e.2, answered_wrote answer first replies e.2 false a b c wrote e.3)
 answered_end answer first replies packets done left a b c (Ok ended.DayEnd) wrote e = (e.0, answered_wrote answer first replies [] true a b c wrote e.1)
 answered_end answer first replies packets done left a b c (Err f) wrote e = (e.0, answered_some answer first replies a b c wrote e.1)
@@ -248,7 +249,7 @@ kept_some answer first replies a b c k w = record {
 
 kept_end : (answer : List ℕ) (first : ℕ) (replies : List (List ℕ)) (packets : List SoupPacket) (done : List (List ℕ)) (left a b c : Option (List ℕ)) (r : Result Ended Fault) → Keeps b c
     → EndsAs answer first replies packets done left a b r → EndsAs answer first replies packets done left a c r
-kept_end answer first replies packets done left a b c (Ok ended.Logout) k e = (e.0, kept_wrote answer first replies [] false a b c k e.1)
+kept_end answer first replies packets done left a b c (Ok ended.Logout) k e = (e.0, e.1, kept_wrote answer first replies [] false a b c k e.2)
 kept_end answer first replies packets done left a b c (Ok ended.ReaderEnd) k e = (e.0, e.1, e.2, kept_wrote answer first replies e.2 false a b c k e.3)
 kept_end answer first replies packets done left a b c (Ok ended.DayEnd) k e = (e.0, kept_wrote answer first replies [] true a b c k e.1)
 kept_end answer first replies packets done left a b c (Err f) k e = (e.0, kept_some answer first replies a b c k e.1)

@@ -1,5 +1,5 @@
 -- How packets are acted on.
-use Rattle.std.proofs.Common.{◌≡◌, ℕ, ◌+◌, ◌<◌, ◌≤◌, List, [], ◌∷◌, ◌++◌, length, get_or, drop, Option, Some, Result, Ok, Err, refl, sym, ap, ◌∙◌, subst, inl, inr, arith, append_assoc, append-nil}
+use Rattle.std.proofs.Common.{◌≡◌, ℕ, ◌+◌, ◌<◌, ◌≤◌, List, [], ◌∷◌, ◌++◌, length, get_or, take, drop, Option, Some, Result, Ok, Err, refl, sym, ap, ◌∙◌, subst, inl, inr, arith, append_assoc, append-nil, take-append-drop}
 use Rattle.std.specs.Io.KnownBytes.{Consumes, Keeps, IsAtEnd}
 use Rattle.hx_soup.specs.Framers.{Takes as Gives, StopsAt}
 use Rattle.std.proofs.KnownBytes.{Consumes-trans, Consumes-nil, Consumes-kept}
@@ -14,7 +14,7 @@ use Rattle.hx_session_core.specs.declared.intake.Action.{Action}
 use Rattle.hx_session_core.specs.declared.intake.Action.TheVariants as action
 use Rattle.hx_rules.specs.declared.event.Event.{Event}
 use Rattle.hx_rules.specs.declared.event.Event.TheVariants.{Message}
-use Rattle.hx_sessions.specs.Asked.{asked, asked_by, AreMessages, Submits, IsStream}
+use Rattle.hx_sessions.specs.Asked.{HasLogout, asked, asked_by, AreMessages, Submits, IsStream}
 use Rattle.hx_sessions.specs.declared.ending.Ended.TheVariants as ended
 use Rattle.hx_sessions.specs.declared.ending.Fault.{Fault}
 use Rattle.hx_sessions.specs.declared.ending.Fault.TheVariants as fault
@@ -70,6 +70,24 @@ upto_ignore packets i done p u h is acts = record { asks = λ later. step packet
 pub upto_closed : (packets : List SoupPacket) (i : ℕ) (done : List (List ℕ)) (p : SoupPacket) (a : Action) → Upto packets i done → i < length packets → p ≡ get_or packets i p → later_action p ≡ a
     → ((text : List ℕ) (more : List (List ℕ)) → asked_by a text more ≡ []) → Closed packets done
 upto_closed packets i done p a u h is acts none = record { asks = λ later. step packets i done p a u h is acts later ∙ (ap (λ l. done ++ l) (none p.payload.items (asked (drop (i + 1) packets ++ later))) ∙ append-nil done) }
+
+pub has_at : (packets : List SoupPacket) (i : ℕ) (p : SoupPacket) → i < length packets → p ≡ get_or packets i p → later_action p ≡ action.Logout → HasLogout packets
+has_at packets i p h is acts = record {
+  before = take i packets;
+  logout = p;
+  after = drop (i + 1) packets;
+  splits = sym (take-append-drop i packets) ∙ ap (λ l. take i packets ++ l) (at packets i p h is);
+  is = acts;
+}
+
+has_behind : (ps qs : List SoupPacket) → HasLogout qs → HasLogout (ps ++ qs)
+has_behind ps qs h = record {
+  before = ps ++ h.before;
+  logout = h.logout;
+  after = h.after;
+  splits = ap (λ l. ps ++ l) h.splits ∙ sym (append_assoc ps h.before (h.logout ∷ h.after));
+  is = h.is;
+}
 
 pub upto_cut : (packets : List SoupPacket) (i : ℕ) (done : List (List ℕ)) → Upto packets i done → Cut packets done
 upto_cut packets i done u = record { asks = λ later. (asked (drop i packets ++ later), sym (u.asks later)) }
@@ -131,9 +149,9 @@ cut_some ps qs ds es a c =
 
 pub why_join : (left : Option (List ℕ)) (ps qs : List SoupPacket) (ds es : List (List ℕ)) (s : Stop) → Acting ps ds → ActedUntil qs es s → Why left (ps ++ qs) (ds ++ es) s
 why_join left ps qs ds es stop.Told a u = absurd u
-why_join left ps qs ds es (stop.Ended ended.Logout) a (is, c) = closed_all ps qs ds es a c
-why_join left ps qs ds es (stop.Ended ended.ReaderEnd) a (is, c) = absurd (cc is)
-why_join left ps qs ds es (stop.Ended ended.DayEnd) a (is, c) = absurd (cc is)
+why_join left ps qs ds es (stop.Ended ended.Logout) a (is, has, c) = (closed_all ps qs ds es a c, has_behind ps qs has)
+why_join left ps qs ds es (stop.Ended ended.ReaderEnd) a (is, has, c) = absurd (cc is)
+why_join left ps qs ds es (stop.Ended ended.DayEnd) a (is, has, c) = absurd (cc is)
 why_join left ps qs ds es (stop.Faulted f) a (inl (is, c)) = ([], append-nil (ds ++ es) ∙ closed_all ps qs ds es a c)
 why_join left ps qs ds es (stop.Faulted f) a (inr c) = cut_some ps qs ds es a c
 

@@ -21,6 +21,14 @@ abbrev pub asked : List SoupPacket → List (List ℕ)
 asked [] = []
 asked (p ∷ ps) = asked_by (later_action p) p.payload.items (asked ps)
 
+-- A logout is among the packets.
+pub record HasLogout (packets : List SoupPacket) : Type 0 where
+  pub before : List SoupPacket
+  pub logout : SoupPacket
+  pub after : List SoupPacket
+  pub splits : packets ≡ before ++ logout ∷ after
+  pub is : later_action logout ≡ action.Logout
+
 -- the packets of all bytes that were read: they are cut into these and less than a whole one, or a fault stands behind these
 abbrev pub IsStream : List ℕ → List SoupPacket → Type 0
 IsStream bytes packets =

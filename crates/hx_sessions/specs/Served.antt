@@ -20,7 +20,7 @@ use Rattle.hx_sessions.specs.declared.ending.Ended.{Ended}
 use Rattle.hx_sessions.specs.declared.ending.Ended.TheVariants as ended
 use Rattle.hx_sessions.specs.declared.ending.Fault.{Fault}
 use Rattle.hx_sessions.specs.declared.ending.Fault.TheVariants as fault
-use Rattle.hx_sessions.specs.Asked.{asked, IsStream, Submits}
+use Rattle.hx_sessions.specs.Asked.{asked, HasLogout, IsStream, Submits}
 use Rattle.hx_sessions.specs.Frames.{Writes, AreFrames}
 use Rattle.hx_sessions.specs.Logins.{LogsIn, Opens}
 
@@ -76,7 +76,8 @@ pub record WroteSome
 
 -- ---- how a session ends
 
--- After a logout all that was asked for before it is submitted, and all replies went out. At the end of
+-- After a logout, which is among the packets, all that was asked for before it is submitted, and all
+-- replies went out. At the end of
 -- the input all is read and submitted. At the end of the day all replies went out, and the end of the
 -- session. After a fault a beginning is submitted, and a beginning was written.
 abbrev pub EndsAs :
@@ -84,7 +85,7 @@ abbrev pub EndsAs :
     (done : List (List ℕ)) (unread : Option (List ℕ)) (old new : Option (List ℕ))
     → Result Ended Fault → Type 0
 EndsAs answer first replies packets done unread old new (Ok ended.Logout) =
-    (done ≡ asked packets) × Wrote answer first replies [] false old new
+    (done ≡ asked packets) × HasLogout packets × Wrote answer first replies [] false old new
 EndsAs answer first replies packets done unread old new (Ok ended.ReaderEnd) =
     (done ≡ asked packets) × IsAtEnd unread
     × (rest : List (List ℕ)) × Wrote answer first replies rest false old new

@@ -12,7 +12,7 @@ use Rattle.hx_sessions.specs.declared.ending.Fault.{Fault}
 use Rattle.hx_sessions.specs.declared.ending.Fault.TheVariants as fault
 use Rattle.hx_sessions.specs.declared.ending.Stop.{Stop}
 use Rattle.hx_sessions.specs.declared.ending.Stop.TheVariants as stop
-use Rattle.hx_sessions.specs.Asked.{asked, IsStream, Submits}
+use Rattle.hx_sessions.specs.Asked.{asked, HasLogout, IsStream, Submits}
 use Rattle.hx_sessions.specs.Frames.{Sent, SentSome}
 
 -- How both ended, as one: a fault before an ending, the inbound fault first, and the end of the day before the other
@@ -64,7 +64,8 @@ pub record Cut (packets : List SoupPacket) (done : List (List ℕ)) : Type 0 whe
 
 abbrev pub ActedUntil : List SoupPacket → List (List ℕ) → Stop → Type 0
 ActedUntil packets done stop.Told = ⊥
-ActedUntil packets done (stop.Ended e) = (e ≡ ended.Logout) × Closed packets done
+ActedUntil packets done (stop.Ended e) =
+    (e ≡ ended.Logout) × HasLogout packets × Closed packets done
 ActedUntil packets done (stop.Faulted f) =
     ((f ≡ fault.Framing) × Closed packets done) ⊎ Cut packets done
 
@@ -88,10 +89,11 @@ pub record Receiving (member : ℕ) (old new : Option (List ℕ)) (framer : Opti
   pub submits : Submits member before after done
   pub acting : Acting packets done
 
--- All that the packets ask was submitted; where the input has ended, all bytes were read; a refusal cuts the rest off.
+-- All that the packets ask was submitted; where the client has logged out, a logout is among them; where the input
+-- has ended, all bytes were read; a refusal cuts the rest off.
 abbrev pub Why : Option (List ℕ) → List SoupPacket → List (List ℕ) → Stop → Type 0
 Why left packets done stop.Told = done ≡ asked packets
-Why left packets done (stop.Ended ended.Logout) = done ≡ asked packets
+Why left packets done (stop.Ended ended.Logout) = (done ≡ asked packets) × HasLogout packets
 Why left packets done (stop.Ended ended.ReaderEnd) = (done ≡ asked packets) × IsAtEnd left
 Why left packets done (stop.Ended ended.DayEnd) = ⊥
 Why left packets done (stop.Faulted f) = IsPrefix done (asked packets)

@@ -1,10 +1,10 @@
 use Rattle.hx_rules.specs.declared.event.Event.{Event}
-use Rattle.std.proofs.Common.{◌≡◌, ℕ, List, [], ◌∷◌, ◌++◌, ap, sym, ◌∙◌, subst, inr}
+use Rattle.std.proofs.Common.{◌≡◌, ℕ, List, [], ◌∷◌, ◌++◌, ap, sym, ◌∙◌, subst, inr, refl}
 use Rattle.hx_engine.specs.Passes.{PassState}
 use Rattle.hx_session_core.specs.Intakes.{later_action, Means, after as then_at}
 use Rattle.hx_session_core.specs.declared.intake.Action.TheVariants as action
 use Rattle.hx_sessions.specs.Asked.{Submits}
-use Rattle.hx_sessions.proofs.Taking.{upto_cut, upto_submit, upto_ignore, submits_join}
+use Rattle.hx_sessions.proofs.Taking.{has_at, upto_closed, upto_cut, upto_submit, upto_ignore, submits_join}
 use Rattle.hx_sessions.proofs.inbound.act.Goals as goal
 use Rattle.hx_sessions.proofs.inbound.act.Goals.{in-Submit+in-Ok, in-Ignore}
 
@@ -38,3 +38,13 @@ loop-packet-preserved g c =
             upto = (u.0, subst (λ (k : PassState). Submits m before k.sent u.0) (sym w.pass-is) u.1, upto_ignore packets i u.0 p u.2 c.loop-packet-test.true c.packet-item.is acts);
           }
     ]
+
+pub returns-in-Logout-clause-acted : goal.returns-in-Logout-clause-acted
+returns-in-Logout-clause-acted g c =
+    let inv = c.loop-packet.invariant in
+    let packets = c.args.packets.now in
+    let i = c.loop-packet.packet-index in
+    let p = c.packet-item.result in
+    let u = inv.upto in
+    let acts : later_action p ≡ action.Logout = sym (subst (λ x. Means x p c.packet.result) inv.live c.packet.ensures.means) ∙ c.in-Logout.is in
+    (u.0, u.1, (refl, has_at packets i p c.loop-packet-test.true c.packet-item.is acts, upto_closed packets i u.0 p action.Logout u.2 c.loop-packet-test.true c.packet-item.is acts (λ text more. refl)))

@@ -9,7 +9,8 @@ use Rattle.hx_desk.specs.Known.{known_replies}
 use Rattle.hx_sessions.specs.declared.ending.Stop.{Stop}
 use Rattle.hx_sessions.specs.Workers.{SentUntil}
 use Rattle.hx_sessions.specs.Served.{Side, Converses}
-use Rattle.hx_sessions.proofs.Courses.{converses, converses_then, after_all, after_stop}
+use Rattle.hx_sessions.proofs.Courses.{converses, converses_then, after_all, after_stop, logs_out}
+use Rattle.hx_sessions.proofs.Going.{sent_bounds}
 use Rattle.hx_sessions.proofs.session.converse.Goals as goal
 
 pub returns-in-Err-clause-converses : goal.returns-in-Err-clause-converses
@@ -60,3 +61,13 @@ returns-in-Err-last-clause-converses g c =
     subst (λ (p : PassState). Converses setup m first [] old (record new { pass = p }) r) (sym same)
     (converses_then setup m first old new middle known w.2.delivery w.1 w.3 r c.work-inbox.ensures.number c.work-inbox.ensures.received c.work-inbox.ensures.sent (sym c.both.ensures ∙ is) (λ e. told)
     (after_stop setup m first known f.0.reader.known w.2.delivery f.0.delivery left old.output middle out c.in-Err-last.stop r (sym c.both-in-Err-last.ensures) c.finish-outbox.ensures.known err))
+
+pub finish-outbox-requires-clause-next : goal.finish-outbox-requires-clause-next
+finish-outbox-requires-clause-next g c =
+    let w = c.work-inbox.result in
+    let got = c.work-inbox.ensures.received in
+    let first = c.args.outbox.delivery.next in
+    let replies = known_replies g.V.Venue.setup c.args.member w.2.reader.known in
+    let is : c.both.result ≡ Ok ended.Logout = c.in-Ok-Logout.is ∙ ap Ok c.in-Ok-Logout.field-0-is in
+    let lo = logs_out first replies got.packets got.done (g.R.Read.remaining w.0.input) w.2.delivery (g.W.Write.contents c.args.outbox.output) (g.W.Write.contents w.2.output) w.1 w.3 got.why c.work-inbox.ensures.sent (sym c.both.ensures ∙ is) in
+    sent_bounds first replies lo.rest w.2.delivery (g.W.Write.contents c.args.outbox.output) (g.W.Write.contents w.2.output) lo.sent
