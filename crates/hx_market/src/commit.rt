@@ -104,9 +104,7 @@ pub fn commit_effect<B: Book>(
     match effect {
         Effect::Nothing => {}
         Effect::Reject(effect) => reject(tokens, out, &effect),
-        Effect::Accept(effect) => {
-            accept(book, tokens, refs, trading, out, &effect, fills, left)
-        }
+        Effect::Accept(effect) => { accept(book, tokens, refs, trading, out, &effect, fills, left) }
         Effect::Fail(effect) => fail(book, tokens, out, &effect),
         Effect::Replace(effect) => {
             replace(book, tokens, refs, trading, out, &effect, fills, left)

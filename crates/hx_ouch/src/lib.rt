@@ -9,6 +9,6 @@ mod outbound;
 
 pub use inbound::{Cancel, Enter, Inbound, Replace, decode_in, encode_in};
 pub use outbound::{
-    Accepted, BrokenTrade, Canceled, Executed, Outbound, Rejected, Replaced, SystemEvent, decode_out,
-    encode_out,
+    Accepted, BrokenTrade, Canceled, Executed, Outbound, Rejected, Replaced, SystemEvent,
+    decode_out, encode_out,
 };

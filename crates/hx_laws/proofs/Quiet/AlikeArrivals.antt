@@ -79,9 +79,9 @@ settled_alike s a b r time immediate x y p e ma mb q h =
         counts = r.counts;
         private = r.private;
         rest = ap (λ (z : Market). record z {
-              numbers = record z.numbers { matches = z.numbers.matches + length ma.fills };
-              executions = z.executions ++ matches_of x.member x.token ma.fills;
-            }) r.rest
+          numbers = record z.numbers { matches = z.numbers.matches + length ma.fills };
+          executions = z.executions ++ matches_of x.member x.token ma.fills;
+        }) r.rest
             ∙ ap (λ (n : ℕ). record (rest_of b) {
               numbers = record b.numbers { private = []; matches = b.numbers.matches + n };
               executions = b.executions ++ matches_of x.member x.token ma.fills;

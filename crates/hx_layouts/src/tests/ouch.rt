@@ -214,8 +214,7 @@ fn canceled_executed_and_rejected(rt: HostRuntime) {
 // An execution is broken.
 #[test]
 fn broken_trade(rt: HostRuntime) {
-    let bytes =
-        b"B\x00\x00\x00\x00\x00\x00\x00ZT1            \x00\x00\x00\x00\x00\x00\x00\x01S";
+    let bytes = b"B\x00\x00\x00\x00\x00\x00\x00ZT1            \x00\x00\x00\x00\x00\x00\x00\x01S";
     let message = BrokenTrade {
         time: 90,
         token: token(*b"T1"),

@@ -26,14 +26,13 @@ pub fn set_state(trading: &mut Trading, out: &mut Output, effect: &StateChange)
     ensures replies { out.new.replies.items ≡ out.old.replies.items }
 {
     trading.set_halted(effect.locate, effect.state == b'H');
-    out.feed
-        .push_reserved(Feed::StockTradingAction(StockTradingAction {
-            locate: effect.locate,
-            time: effect.time,
-            stock: effect.stock,
-            trading_state: effect.state,
-            reason: effect.reason,
-        }));
+    out.feed.push_reserved(Feed::StockTradingAction(StockTradingAction {
+        locate: effect.locate,
+        time: effect.time,
+        stock: effect.stock,
+        trading_state: effect.state,
+        reason: effect.reason,
+    }));
 }
 
 // Tells a member that the execution of his order is broken.
