@@ -88,8 +88,14 @@ impl<'a, V: Venue> Publishing<'a, V> {
         }
     }
 
-    // Sends the next packet, where there is one. Answers whether there was.
-    fn publish<T: Clock>(&mut self, rt: &T, socket: &UdpSocket, now: u64) -> bool {
+    // Sends the next packet, where there is one. Answers whether there was: where there was none, all that the
+    // publisher knows of is sent.
+    fn publish<T: Clock>(&mut self, rt: &T, socket: &UdpSocket, now: u64) -> bool
+        ensures known { IsPrefix self.old.publisher.messages.known
+            self.new.publisher.messages.known }
+        ensures all { result ≡ false →
+            KnowsNoMore self.new.publisher.messages self.new.publisher.sent }
+    {
         let Some(packet) = self.publisher.turn(now) else {
             return false;
         };
@@ -151,21 +157,42 @@ impl<'a, V: Venue> Publishing<'a, V> {
     /// Adds what a receipt knows: all its messages are sent before the end.
     pub fn learn(&mut self, receipt: Receipt<Entry>)
         requires { receipt.log ≡ V.log }
+        ensures known { IsPrefix self.old.publisher.messages.known
+            self.new.publisher.messages.known }
+        ensures told { IsPrefix receipt.known self.new.publisher.messages.known }
     {
         self.publisher.learn(receipt);
     }
 
-    /// Sends what is left, and the packet that ends the session. Answers whether no datagram failed.
-    pub fn finish<T: Clock>(self, rt: &T, socket: &UdpSocket) -> bool {
-        let mut publishing = self;
-        let now = DayClock { rt }.time_of_day();
+    // Sends what is left. Answers whether all that the publisher knows of is sent.
+    fn drain<T: Clock>(&mut self, rt: &T, socket: &UdpSocket, now: u64) -> bool
+        ensures known { IsPrefix self.old.publisher.messages.known
+            self.new.publisher.messages.known }
+        ensures all { result ≡ true →
+            KnowsNoMore self.new.publisher.messages self.new.publisher.sent }
+    {
         for _ in 0..u64::MAX {
-            if !publishing.publish(rt, socket, now) {
-                break;
+            if !self.publish(rt, socket, now) {
+                return true;
             }
         }
-        let packet = publishing.publisher.end();
-        publishing.send_feed(rt, socket, packet.as_slice());
-        !publishing.failed
+        false
+    }
+
+    /// Sends what is left, and the packet that ends the session. Answers whether no datagram failed: then all that the
+    /// publisher knows of is sent.
+    pub fn finish<T: Clock>(&mut self, rt: &T, socket: &UdpSocket) -> bool
+        ensures known { IsPrefix self.old.publisher.messages.known
+            self.new.publisher.messages.known }
+        ensures all { result ≡ true →
+            KnowsNoMore self.new.publisher.messages self.new.publisher.sent }
+    {
+        let now = DayClock { rt }.time_of_day();
+        if !self.drain(rt, socket, now) {
+            return false;
+        }
+        let packet = self.publisher.end();
+        self.send_feed(rt, socket, packet.as_slice());
+        !self.failed
     }
 }

@@ -1,4 +1,4 @@
-use Rattle.std.proofs.Common.{◌≡◌, ◌++◌, length}
+use Rattle.std.proofs.Common.{◌++◌, length}
 use Rattle.hx_serve.specs.Operator.{Conducts}
 use Rattle.hx_serve.proofs.operator.Operator.take_piece.Given as goal
 
