@@ -43,7 +43,8 @@ ConductsOn r s before after old new false =
 abbrev pub BreaksOff :
     (r s : Option (List ℕ)) → (before : List ℕ) → (old new : List (ℕ × Event)) → Type 0
 BreaksOff r s before old new =
-    (piece : List ℕ) × Consumes r s piece × (rest : List ℕ) × Conducts (before ++ piece) old new rest
+    (piece : List ℕ) × Consumes r s piece
+    × (rest : List ℕ) × Conducts (before ++ piece) old new rest
 
 -- All of the input was read, it is lines of the operator, and their events were sent.
 abbrev pub ConductsAll : (r s : Option (List ℕ)) → (old new : List (ℕ × Event)) → Type 0
