@@ -90,7 +90,7 @@ entry_back e k = at (is_operator e) refl k.known
     at true m h = of_bytes e.time e.member e.bytes k.entry.are_bytes (eqb-true e.member 0 m) h
     at false m h = refl
 
-entries_back : (es : List Entry) → AllByRecursion IsKnown es → map entry_of_event (map event_of es) ≡ es
+pub entries_back : (es : List Entry) → AllByRecursion IsKnown es → map entry_of_event (map event_of es) ≡ es
 entries_back [] h = refl
 entries_back (e ∷ es) h = ap (λ (x : Entry). x ∷ map entry_of_event (map event_of es)) (entry_back e h.0) ∙ ap (λ (l : List Entry). e ∷ l) (entries_back es h.1)
 

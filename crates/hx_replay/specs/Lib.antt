@@ -7,3 +7,4 @@ pub mod Whole
 pub mod Struck
 pub mod Quiet
 pub mod Operators
+pub mod Histories

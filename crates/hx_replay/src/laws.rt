@@ -7,7 +7,10 @@ ghost use Rattle.hx_replay.specs.Text.{Entry, IsEntry};
 ghost use Rattle.hx_replay.specs.Output.{told_lines};
 ghost use Rattle.hx_rules.specs.declared.event.Event.{Event};
 ghost use Rattle.hx_replay.specs.Seen.{LeavesNoTrace};
+ghost use Rattle.hx_audit.specs.Recording.{AreRecorded};
+ghost use Rattle.hx_replay.specs.Struck.{entry_of_event, IsKnown};
 ghost use Rattle.hx_replay.specs.Quiet.{TellsNothing, TextsTellNothing};
+ghost use Rattle.hx_replay.specs.Histories.{IsReplayed};
 ghost use Rattle.hx_replay.specs.Run.{tape, start, event_of, output_all, after_all, AreEvents};
 
 /// A text is the tape of one list of entries.
@@ -44,4 +47,12 @@ pub fn tells_nothing()
 pub fn texts_tell_nothing()
     ensures { (setup : Setup) (es : List Entry) → AreEvents (start setup) es
         → TextsTellNothing setup es }
+{}
+
+/// A recorded history of events that lines say is a tape, which `replay` takes, and what it writes for it is the text of
+/// what the market told, numbers included.
+pub fn a_history_is_a_tape()
+    ensures { (setup : Setup) (es : List Entry) → AllByRecursion IsKnown es
+        → AreRecorded setup (map event_of es)
+        → IsReplayed setup (map event_of es) (map entry_of_event (map event_of es)) }
 {}
