@@ -11,7 +11,8 @@ Another one runs this client, which plays both members and a vendor who listens 
 
 It logs in (SoupBinTCP 3.00), enters a hidden and a displayed order (OUCH 4.2), sells into both, and prints every reply
 and every message of the feed (TotalView-ITCH 5.0 in MoldUDP64 1.00 packets) in words. The vendor throws one packet away
-and asks for its messages again. With --pcap it writes all that went over the wires as a capture that Wireshark opens.
+and asks for its messages again. With --pcap it writes all that went over the wires as a capture that Wireshark opens,
+with --lines the feed as the lines that a replay of the day's history writes.
 """
 import argparse
 import socket
@@ -204,8 +205,9 @@ class Member:
 class Vendor(threading.Thread):
     """Listens to the feed (MoldUDP64 1.00), and asks for what it misses."""
 
-    def __init__(self, feed, requests, capture, lose):
+    def __init__(self, feed, requests, capture, lose, lines):
         super().__init__(daemon=True)
+        self.lines = lines
         self.feed, self.requests, self.capture, self.lose = feed, requests, capture, lose
         self.socket = socket.socket(socket.AF_INET, socket.SOCK_DGRAM)
         self.socket.bind((HOST, feed))
@@ -227,6 +229,7 @@ class Vendor(threading.Thread):
         for number, message in enumerate(self.messages(packet), sequence):
             if number == self.next:
                 print(f"feed {number}{how}: {feed_in_words(message)}")
+                self.lines.append(f"F {number} {message.hex()}")
                 self.next += 1
 
     def ask(self, session, count):
@@ -261,9 +264,11 @@ def main():
     for name in ("port", "feed", "requests"):
         reader.add_argument(f"--{name}", type=int, required=True)
     reader.add_argument("--pcap", help="the file of a capture")
+    reader.add_argument("--lines", help="the file of the feed's messages, as `hx_tape replay` writes them")
     words = reader.parse_args()
     capture = Capture(words.pcap)
-    vendor = Vendor(words.feed, words.requests, capture, lose=True)
+    lines = []
+    vendor = Vendor(words.feed, words.requests, capture, lose=True, lines=lines)
     vendor.start()
     alpha = Member(words.port, "ALPHA", "PWALPHA", capture)
     bravo = Member(words.port, "BRAVO", "PWBRAVO", capture)
@@ -279,6 +284,9 @@ def main():
     bravo.log_out()
     print("both have logged out; the day ends once the operator's input has ended")
     vendor.ended.wait()
+    if words.lines:
+        with open(words.lines, "w", encoding="ascii") as file:
+            file.writelines(f"{line}\n" for line in lines)
 
 
 if __name__ == "__main__":

@@ -18,7 +18,9 @@ mod workers;
 
 pub use args::ServeArgs;
 pub use clock::DayClock;
+pub use ending::{fault_of_day, write_last_line};
 pub use fault::ServeError;
 pub use history::write_history;
 pub use notices::Notices;
+pub use operator::operate;
 pub use serving::{Day, serve, serve_day};

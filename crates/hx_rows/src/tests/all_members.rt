@@ -66,11 +66,12 @@ fn a_bad_line_is_named(rt: HostRuntime) -> Result<(), Fail> {
 fn times(alloc: Global, events: &[Event]) -> Result<Vec<u64>, Fail> {
     let mut times = Vec::new(alloc);
     for event in events {
-        times.push(match event {
-            Event::Message { time, .. } => *time,
-            Event::Tick { time } => *time,
-            Event::Hours { time, .. } => *time,
-        })?;
+        let (Event::Message { time, .. }
+        | Event::Tick { time }
+        | Event::Hours { time, .. }
+        | Event::Halt { time, .. }
+        | Event::Break { time, .. }) = event;
+        times.push(*time)?;
     }
     Ok(times)
 }
