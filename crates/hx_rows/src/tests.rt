@@ -3,6 +3,7 @@
 mod all_members;
 mod books;
 mod events;
+mod feed_book;
 mod generated;
 mod halts;
 mod histories;

@@ -1,4 +1,5 @@
-//! A day of 2,000 random lines: hidden and displayed orders, Replaces, Cancels, minimums and ticks of three members.
+//! A day of 2,000 random lines: hidden and displayed orders, Replaces, Cancels and minimums of three members, ticks, and
+//! halts of one of the two stocks.
 
 use super::lines::split_line;
 use super::replaying::{replayed, standard};
@@ -100,16 +101,26 @@ fn message(line: u64, number: u64) -> Inbound {
     }
 }
 
-// The day's tape. The lines of a number between 12 and 24 are of one member, so that most messages name his own tokens.
-fn tape(alloc: Global) -> Result<Vec<u8>, Fail> {
+// What the operator says: a tick, that WXYZ is halted for T1, or that it trades again.
+fn operator_said(number: u64) -> &'static str {
+    match number {
+        0 => "4b",
+        1 => "485758595a202020204854312020",
+        _ => "485758595a202020205454312020",
+    }
+}
+
+/// The day's tape. The lines of a number between 12 and 24 are of one member, so that most messages name his own tokens.
+pub fn tape(alloc: Global) -> Result<Vec<u8>, Fail> {
     let mut text = Vec::new(alloc);
     let mut state = 88_172_645_463_325_252;
     for line in 100..2_100u64 {
         let time = line * 100_000_000;
         let number = next_number(&mut state);
-        if number % 64 == 0 {
-            let tick = format!(in alloc; "{time} 0 4b\n")?;
-            text.extend_from_slice(tick.as_bytes())?;
+        if number % 64 < 3 {
+            let said = operator_said(number % 64);
+            let sent = format!(in alloc; "{time} 0 {said}\n")?;
+            text.extend_from_slice(sent.as_bytes())?;
         } else {
             let member = 1 + line / 16 % 3;
             let digits = hex::encode(alloc, encode_in(&message(line, number)).as_slice())?;
