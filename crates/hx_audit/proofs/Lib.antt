@@ -1,7 +1,8 @@
 pub mod Led
 pub mod Goes
 pub mod Recorded
-pub mod Bearing
+pub mod Taken
+pub mod QuietTokens
 pub mod Grouping
 pub mod Uses
 pub mod Rooted

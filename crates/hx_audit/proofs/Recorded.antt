@@ -82,3 +82,16 @@ pub explained_or : (setup : Setup) (events : List Event) (i : ℕ) (a : Market) 
     → IsErrorAt i (refusal setup a.recorded x) error → Explains setup events error
 explained_or setup events i a x error h e t (inl p) = subst (Explains setup events) (sym p) tt
 explained_or setup events i a x error h e t (inr p) = subst (Explains setup events) (sym p) (explained setup events i a x h e t)
+
+-- a history and one event more
+
+pub one_more : (setup : Setup) (events : List Event) (a b : Market) (x : Event) → AreRecorded setup events → a ≡ run setup events
+    → refusal setup a.recorded x ≡ None → b ≡ (step setup a x).market → AreRecorded setup (events ++ x ∷ []) × (b ≡ run setup (events ++ x ∷ []))
+unfolding run
+one_more setup events a b x r m p s = (
+  accepted_push setup (opening setup) events x r (ap (λ (k : Market). refusal setup k.recorded x) (sym m) ∙ p),
+  s ∙ ap (λ (k : Market). (step setup k x).market) m ∙ sym (after_push setup (opening setup) events x),
+)
+
+pub next_of : (events : List Event) (i : ℕ) (x : Event) → i < length events → x ≡ get_or events i x → take (i + 1) events ≡ take i events ++ x ∷ []
+next_of events i x h e = taken events i x h e

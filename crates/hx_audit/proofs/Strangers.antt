@@ -1,5 +1,5 @@
 -- A number that the setup has not sends no recorded message: it has no chains, and nothing is struck for it.
-use Rattle.std.proofs.Common.{◌≡◌, ℕ, arith, Bool, true, false, cond, not, eqb, leb, ◌&&◌, refl, sym, ap, ◌∙◌, subst, List, [], ◌∷◌, map, Option, Some, None}
+use Rattle.std.proofs.Common.{◌≡◌, ℕ, arith, Bool, true, false, cond, not, eqb, leb, ◌&&◌, ◌||◌, refl, sym, ap, ◌∙◌, subst, List, [], ◌∷◌, map, Option, Some, None}
 use Rattle.std.specs.Prelude.{is_none, is_some}
 use Rattle.std.specs.Map.{lookup}
 use Rattle.hx_units.specs.Names.{is_token}
@@ -14,11 +14,17 @@ use Rattle.hx_rules.specs.declared.fault.PrepareError.TheVariants.{NoMember, Bad
 use Rattle.hx_market.specs.Refusals.{known_member, refusal}
 use Rattle.hx_market.specs.Markets.{Market, opening}
 use Rattle.hx_market.specs.Steps.{step, market_after, run}
-use Rattle.hx_market.specs.QuietChains.{quiet_of_one, bears, strike, strike_one}
+use Rattle.hx_market.specs.QuietChains.{is_quiet, quiet_of_one, bears, strike, strike_one}
 use Rattle.hx_audit.specs.Listing.{Use, uses_of, chains_of, grouped, told_chain}
 use Rattle.hx_audit.specs.Finding.{named}
 use Rattle.hx_audit.specs.Recording.{AreAccepted, AreRecorded}
-use Rattle.hx_audit.proofs.Bearing.{of_another}
+use Rattle.hx_audit.specs.Auditing.{Audit, HasTaken, IsStranger, choice_of, is_chosen, is_borne}
+use Rattle.hx_audit.specs.declared.bearing.Bearing.{Bearing}
+use Rattle.hx_audit.specs.declared.auditor.Whose.{Whose}
+use Rattle.hx_audit.specs.declared.auditor.Whose.TheVariants.{Of, OfAll}
+use Rattle.hx_units.specs.declared.names.Token.{Token}
+use Rattle.hx_members.specs.Chains.{is_used, is_loud, entered_of}
+use Rattle.hx_audit.proofs.QuietTokens.{of_another}
 use Rattle.hx_audit.proofs.Rooted.{none_listed}
 use Rattle.hx_audit.proofs.Uses.{Lists, step_lists, has_used}
 use Rattle.hx_audit.specs.Facts.{AreOfMembers}
@@ -106,3 +112,32 @@ users_are_members setup events r m t used = at (is_none (known_member setup m)) 
     at true e =
         let none = uses_none setup m e (opening setup) events r (none_listed setup (opening setup) m refl) in
         absurd (let z : true ≡ false = sym used ∙ sym (has_used (run setup events).tokens m t) ∙ ap (λ (us : List Use). is_some (lookup (is_token t) us)) none in cc)
+
+-- a stranger has no quiet tokens
+
+not_quiet : (setup : Setup) (m : ℕ) (events : List Event) → AreRecorded setup events → member_of setup m ≡ None → (n : ℕ) (t : Token) → quiet_of_one m (run setup events) n t ≡ false
+unfolding quiet_of_one is_quiet run
+not_quiet setup m events r h n t = at (eqb n m) refl
+  where
+    none : uses_of (market_after setup (opening setup) events).tokens m ≡ []
+    none = uses_none setup m (unknown setup m h) (opening setup) events r (none_listed setup (opening setup) m refl)
+
+    unused : is_used (market_after setup (opening setup) events).tokens m t ≡ false
+    unused = sym (has_used (market_after setup (opening setup) events).tokens m t) ∙ ap (λ (us : List Use). is_some (lookup (is_token t) us)) none
+
+    at : (b : Bool) → eqb n m ≡ b → (b && is_quiet (market_after setup (opening setup) events) n t) ≡ false
+    at false e = refl
+    at true e =
+        rw ((Decides-eqb n m).0 e)
+        (ap (λ (b : Bool). b && not (is_loud (market_after setup (opening setup) events).chains m (entered_of (market_after setup (opening setup) events).tokens m t))) unused)
+
+pub none_borne : (a : Audit) (events : List Event) → HasTaken a events → IsStranger a.setup a.whose → (b : Bearing) → is_borne (choice_of a.whose a.market) b ≡ false
+none_borne a events taken h b = at a.whose refl h
+  where
+    of_token : (m : ℕ) → member_of a.setup m ≡ None → (o : Option Token) → is_chosen (quiet_of_one m a.market) b.member o ≡ false
+    of_token m g None = refl
+    of_token m g (Some t) = ap (λ (k : Market). quiet_of_one m k b.member t) taken.market_is ∙ not_quiet a.setup m events taken.recorded g b.member t
+
+    at : (w : Whose) → a.whose ≡ w → IsStranger a.setup w → is_borne (choice_of w a.market) b ≡ false
+    at (Of m) e g = ap (λ (x : Bool). x || is_chosen (quiet_of_one m a.market) b.member b.second) (of_token m g b.first) ∙ of_token m g b.second
+    at OfAll e g = absurd g

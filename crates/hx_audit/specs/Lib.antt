@@ -1,4 +1,5 @@
 pub mod Recording
+pub mod Auditing
 pub mod Facts
 pub mod Listing
 pub mod Finding

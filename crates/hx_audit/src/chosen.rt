@@ -34,10 +34,6 @@ struct InChains {
 impl Selection for InChains {
     ghost chosen = { λ s. in_chains s.member s.listing.uses.entries s.chosen.entries };
 
-    fn concerns(&self, member: u16) -> bool {
-        member == self.member.get()
-    }
-
     fn has(&self, member: u16, token: &Token) -> bool {
         if member != self.member.get() {
             return false;

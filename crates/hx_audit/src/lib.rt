@@ -2,6 +2,8 @@
 //! without the messages of his quiet chains. Each call runs one market over the events.
 #![tactic(auto)]
 
+mod auditor;
+mod bearing;
 mod chain;
 mod chaining;
 mod chosen;
@@ -11,6 +13,8 @@ mod playing;
 mod selection;
 mod striking;
 
+pub use auditor::{Auditor, Whose};
+pub use bearing::Bearing;
 pub use chain::{Chain, ChainTokens};
 pub use chaining::chains;
 pub use chosen::strike_chains;

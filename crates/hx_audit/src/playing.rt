@@ -1,9 +1,9 @@
 //! A market that takes a history.
-ghost use Rattle.std.specs.Prelude.{◌≡◌, None, IfOk, OnOk, IfErr};
+ghost use Rattle.std.specs.Prelude.{◌≡◌, None, IfOk, OnOk, OnErr, IfErr};
 ghost use Rattle.hx_market.specs.Refusals.{refusal, or_no_memory};
 ghost use Rattle.hx_market.specs.Markets.{opening};
-ghost use Rattle.hx_market.specs.Steps.{step, run};
-ghost use Rattle.hx_audit.specs.Recording.{AreRecorded, Explains, error_at};
+ghost use Rattle.hx_market.specs.Steps.{step};
+ghost use Rattle.hx_audit.specs.Recording.{error_at};
 
 use crate::fault::StrikeError;
 use hx_levels::LevelBook;
@@ -20,8 +20,8 @@ pub(crate) fn open(alloc: Global, setup: &Setup) -> Result<Market<LevelBook>, No
     Ok(Market::new(alloc, setup.copy(alloc)?, LevelBook::new(alloc))?)
 }
 
-// The error of a refusal at an index.
-fn error_at(index: u64, error: PrepareError) -> StrikeError
+/// The error of a refusal at an index.
+pub(crate) fn error_at(index: u64, error: PrepareError) -> StrikeError
     ensures { result ≡ error_at index error }
 {
     match error {
@@ -30,7 +30,23 @@ fn error_at(index: u64, error: PrepareError) -> StrikeError
     }
 }
 
-/// The market takes the event of this index: one step.
+/// The market takes an event: one step.
+pub(crate) fn take(market: &mut Market<LevelBook>, event: &Event) -> Result<(), PrepareError>
+    ensures setup { market.new.setup ≡ market.old.setup }
+    ensures passes { OnOk result
+        (refusal market.old.setup market.old.market.recorded event.now ≡ None) }
+    ensures market { OnOk result
+        (market.new.market ≡ (step market.old.setup market.old.market event.now).market) }
+    ensures kept { OnErr result (market.new.market ≡ market.old.market) }
+    ensures refused { IfErr result (λ e.
+        e ≡ or_no_memory (refusal market.old.setup market.old.market.recorded event.now)) }
+{
+    let prepared = market.prepare(event)?;
+    let _ = market.commit(prepared);
+    Ok(())
+}
+
+/// The market takes the event of this index.
 pub(crate) fn take_event(
     market: &mut Market<LevelBook>,
     index: u64,
@@ -45,28 +61,8 @@ pub(crate) fn take_event(
         e ≡ error_at index (or_no_memory
         (refusal market.old.setup market.old.market.recorded event.now))) }
 {
-    match market.prepare(event) {
-        Ok(prepared) => {
-            let _ = market.commit(prepared);
-            Ok(())
-        }
+    match take(market, event) {
+        Ok(()) => Ok(()),
         Err(error) => Err(error_at(index, error)),
     }
-}
-
-/// The market after a history.
-pub(crate) fn replay(
-    alloc: Global,
-    setup: &Setup,
-    events: &[Event],
-) -> Result<Market<LevelBook>, StrikeError>
-    ensures market { IfOk result (λ m. m.market ≡ run setup.now events.now) }
-    ensures recorded { OnOk result (AreRecorded setup.now events.now) }
-    ensures refused { IfErr result (Explains setup.now events.now) }
-{
-    let mut market = open(alloc, setup)?;
-    for (index, event) in events.iter().enumerate() {
-        take_event(&mut market, index as u64, event)?;
-    }
-    Ok(market)
 }

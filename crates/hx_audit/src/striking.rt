@@ -4,9 +4,9 @@ ghost use Rattle.hx_members.specs.Setups.{member_of};
 ghost use Rattle.hx_market.specs.QuietChains.{strike_one, strike_all};
 ghost use Rattle.hx_audit.specs.Recording.{AreRecorded, Explains};
 
+use crate::auditor::{Auditor, Whose};
 use crate::fault::StrikeError;
-use crate::playing::replay;
-use crate::selection::{QuietOfAll, QuietOfOne, keep};
+use crate::selection::keep;
 use hx_market::Event;
 use hx_members::Setup;
 use hx_units::MemberNo;
@@ -30,9 +30,8 @@ pub fn strike(
         member_of setup.now member ≡ None → kept.items ≡ events.now) }
     ensures refused { IfErr result (Explains setup.now events.now) }
 {
-    let market = replay(alloc, setup, events)?;
-    let quiet = QuietOfOne { market, member };
-    Ok(keep(alloc, &quiet, events)?)
+    let auditor = Auditor::of(alloc, setup, Whose::Of(member), events)?;
+    Ok(keep(alloc, &auditor, events)?)
 }
 
 /// The history without each message that bears a quiet token of its own member, whoever he is. The others are copied,
@@ -45,7 +44,6 @@ pub fn strike_all(alloc: Global, setup: &Setup, events: &[Event]) -> Result<Vec<
     ensures again { IfOk result (λ kept. AreRecorded setup.now kept.items) }
     ensures refused { IfErr result (Explains setup.now events.now) }
 {
-    let market = replay(alloc, setup, events)?;
-    let quiet = QuietOfAll { market };
-    Ok(keep(alloc, &quiet, events)?)
+    let auditor = Auditor::of(alloc, setup, Whose::OfAll, events)?;
+    Ok(keep(alloc, &auditor, events)?)
 }

@@ -6,7 +6,9 @@ ghost use Rattle.hx_levels.specs.Book.{terms_of, has_key, order_of, KeysDiffer, 
 ghost use Rattle.std.specs.Option.{option_copied, option_map, is_some};
 
 use crate::book::Book;
-use crate::levels::{Level, Rung, drop_empty, ends_at, first_from, make_level, set_ends};
+use crate::levels::{
+    Level, Rung, drop_empty, drop_if_empty, ends_at, first_from, make_level, set_ends,
+};
 use crate::nodes::{Ends, Node, link_last, take_shares, unlink};
 use crate::order::{Key, Order, Terms};
 use hx_units::{NoMemory, Price, Side};
@@ -25,7 +27,7 @@ pub struct LevelBook {
     levels: BTreeMap<Rung, Level>,
     time: Ends,
     place: Option<Terms>,
-    // The level that was reserved last. It stays also where it is empty.
+    // The level of the reserved place. It stays also where it is empty.
     kept: Option<Rung>,
 }
 
@@ -89,6 +91,7 @@ impl LevelBook {
         set_ends(&mut self.levels, rung, order.shown, ends.with(key));
         self.time = self.time.with(key);
         self.place = None;
+        self.kept = None;
         Key(key)
     }
 }
@@ -208,8 +211,9 @@ impl LevelBook {
         let rung = rung_of(&node.order);
         let shown = node.order.shown;
         let ends = ends_at(&self.levels, rung, shown);
-        set_ends(&mut self.levels, rung, shown, ends.without(node.queue));
-        drop_empty(&mut self.levels, rung, self.kept);
+        let left = ends.without(node.queue);
+        set_ends(&mut self.levels, rung, shown, left);
+        drop_if_empty(&mut self.levels, rung, self.kept, shown, left);
         self.time = self.time.without(node.time);
         node.order
     }

@@ -8,3 +8,4 @@ pub mod Rejections
 pub mod PreparedCounts
 pub mod BookWalks
 pub mod FeedTimes
+pub mod Expiries

@@ -5,7 +5,7 @@ use Rattle.hx_units.specs.Limits.{day, most_shares}
 use Rattle.hx_units.specs.declared.names.Token.{Token}
 use Rattle.hx_levels.specs.declared.order.Live.{Live}
 use Rattle.hx_levels.specs.declared.order.Terms.{Terms}
-use Rattle.hx_levels.specs.Book.{order_of, is_under, KeysDiffer}
+use Rattle.hx_levels.specs.Book.{order_of, is_under, KeysDiffer, lives}
 use Rattle.hx_match.specs.declared.fills.Incoming.{Incoming}
 use Rattle.hx_members.specs.Setups.{Setup, locate_of}
 use Rattle.hx_members.specs.Chains.{Used, Chain, is_used, entered_of, executed_by}
@@ -17,7 +17,7 @@ use Rattle.hx_market.specs.declared.effect.Expiry.{Expiry}
 use Rattle.hx_market.specs.declared.effect.AcceptedEnter.{AcceptedEnter}
 use Rattle.hx_market.specs.declared.effect.Replacement.{Replacement}
 use Rattle.hx_market.specs.declared.effect.Reduction.{Reduction}
-use Rattle.hx_rules.specs.Orders.{Order, side_of, is_shown, is_called}
+use Rattle.hx_rules.specs.Orders.{Order, side_of, is_shown, is_called, life_of}
 use Rattle.hx_rules.specs.Markets.{Market}
 use Rattle.hx_itch.specs.Message.{feed_time}
 use Rattle.hx_rules.specs.Outputs.{Outcome, nothing}
@@ -27,6 +27,7 @@ use Rattle.hx_rules.specs.Cancel.{take_off}
 use Rattle.hx_rules.specs.Hours.{is_over, ends_by_code}
 use Rattle.hx_rules.specs.Halts.{set_state}
 use Rattle.hx_rules.specs.Breaks.{break_execution}
+use Rattle.hx_day.specs.Expiries.{NoneEndsBefore, or_end_of}
 
 -- An Enter that is accepted.
 
@@ -130,10 +131,11 @@ abbrev pub is_due : Due → ℕ → Order → Bool
 is_due Over time x = is_over time x.life
 is_due (ByCode code) time x = ends_by_code code x
 
--- they are the due ones of the live orders
+-- they are the due ones of the live orders, and none of the others ends before the next time
 pub record IsExpiry (orders : List Live) (e : Expiry) : Type 0 where
   pub due : e.orders.items ≡ filter (λ live. is_due e.due e.time live.order) orders
   pub differ : KeysDiffer orders
+  pub next : NoneEndsBefore e.next (filter (λ x. not (is_due e.due e.time x)) (lives orders))
 
 -- the orders end, so many hours codes are past, and this is told
 abbrev pub ended_by : Market → Expiry → Outcome
@@ -239,3 +241,15 @@ hours_after (Cancel a) hours = hours
 hours_after (End e) hours = e.hours
 hours_after (Halt h) hours = hours
 hours_after (Break b) hours = hours
+
+-- the time before which no order ends once the effect is done, if none ends before this one
+abbrev pub earliest_after : Effect → (earliest : ℕ) → ℕ
+earliest_after Nothing earliest = earliest
+earliest_after (Reject r) earliest = earliest
+earliest_after (Accept a) earliest = or_end_of earliest (life_of a.time a.enter.time_in_force)
+earliest_after (Fail a) earliest = earliest
+earliest_after (Replace a) earliest = or_end_of earliest (life_of a.time a.replace.time_in_force)
+earliest_after (Cancel a) earliest = earliest
+earliest_after (End e) earliest = e.next
+earliest_after (Halt h) earliest = earliest
+earliest_after (Break b) earliest = earliest

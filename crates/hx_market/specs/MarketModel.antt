@@ -1,5 +1,5 @@
 -- What contracts see of a market over its book, and of what it prepared.
-use Rattle.std.specs.Prelude.{ℕ, Bool, List, [], ◌∷◌, Option, Some, None, if◌then◌else◌}
+use Rattle.std.specs.Prelude.{ℕ, List, [], ◌∷◌, Option, Some, None, if◌then◌else◌}
 use Rattle.hx_units.specs.declared.names.Token.{Token}
 use Rattle.hx_levels.specs.declared.order.Live.{Live}
 use Rattle.hx_levels.specs.Book.{lives}
@@ -10,8 +10,8 @@ use Rattle.hx_members.specs.Tokens.{TokenList, facts_of}
 use Rattle.hx_members.specs.declared.name.ChainFacts.{ChainFacts}
 use Rattle.hx_members.specs.declared.name.Name.{Name}
 use Rattle.hx_refs.specs.Numbers.{Numbers}
+use Rattle.hx_day.specs.Day.{TradingState}
 use Rattle.hx_rules.specs.declared.event.Event.{Event}
-use Rattle.hx_rules.specs.declared.matches.Match.{Match}
 use Rattle.hx_market.specs.declared.effect.Effect.{Effect}
 use Rattle.hx_rules.specs.Orders.{Order}
 use Rattle.hx_rules.specs.Markets.{Market}
@@ -48,12 +48,6 @@ abbrev pub chain_facts : List Used → List Chain → (member : ℕ) → Token �
 chain_facts tokens chains member token =
     if is_used tokens member token
     then Some (facts_of chains member (entered_of tokens member token)) else None
-
--- which stocks are halted, and the executions; and for how many more of these there is room
-pub record TradingState : Type 0 where
-  pub halted : List Bool
-  pub executions : List Match
-  pub room : ℕ
 
 -- the market of a book, its tokens and its numbers
 abbrev pub market_of :

@@ -1,9 +1,7 @@
 -- What stands between prepare and commit: counts, places, and room for an effect.
-use Rattle.std.specs.Prelude.{◌≡◌, ℕ, ◌+◌, ◌*◌, ◌<◌, ◌≤◌, Bool, List, [], ◌∷◌, ◌++◌, length, map, Option, Some, slice_index, nat_lt, ◌&&◌, if◌then◌else◌, ⊤}
+use Rattle.std.specs.Prelude.{◌≡◌, ℕ, ◌+◌, ◌*◌, ◌<◌, ◌≤◌, Bool, false, List, [], ◌∷◌, ◌++◌, length, map, Option, Some, nat_lt, ◌&&◌, if◌then◌else◌, ⊤}
 use Rattle.std.specs.Option.{option_map_or}
 use Rattle.std.specs.Vec.{vec_len, vec_capacity}
-use Rattle.hx_units.specs.Limits.{member_numbers}
-use Rattle.hx_rules.specs.Limits.{operator_limit}
 use Rattle.hx_units.specs.declared.names.Token.{Token}
 use Rattle.hx_levels.specs.declared.order.Live.{Live}
 use Rattle.hx_levels.specs.declared.order.Terms.{Terms}
@@ -17,7 +15,8 @@ use Rattle.hx_members.specs.Tokens.{TokenList}
 use Rattle.hx_members.specs.declared.name.Name.{Name}
 use Rattle.hx_refs.specs.Numbers.{Numbers}
 use Rattle.hx_market.specs.Bounds.{CanAccept}
-use Rattle.hx_market.specs.MarketModel.{Planned, TradingState, name_of, market_of}
+use Rattle.hx_day.specs.Day.{MayRecord, TradingState}
+use Rattle.hx_market.specs.MarketModel.{Planned, name_of, market_of}
 use Rattle.hx_rules.specs.declared.output.Output.{Output}
 use Rattle.hx_market.specs.declared.effect.Effect.{Effect}
 use Rattle.hx_market.specs.declared.effect.Effect.TheVariants.{Nothing, Reject, Accept, Fail, Replace, Cancel, End, Halt, Break}
@@ -59,11 +58,6 @@ HasRoomToReplace market a =
 abbrev pub IsChainOf : List Used → ℕ → Token → ℕ → Type 0
 IsChainOf tokens member token chain =
     IsEnteredAt tokens member (entered_of tokens member token) chain
-
--- an event of this number may be recorded
-pub record MayRecord (recorded : List ℕ) (number : ℕ) : Type 0 where
-  pub in_range : number < member_numbers
-  pub limit : slice_index recorded number < operator_limit
 
 -- The members of the replies of an order that arrives, as the fills' keys tell them.
 
@@ -125,20 +119,20 @@ effect_members (Halt h) orders fills left = []
 effect_members (Break b) orders fills left = b.execution.maker ∷ b.execution.taker ∷ []
 
 -- the places and the plan that an effect needs: a place for the token that it uses, one for the
--- order that may rest, and the executions
+-- order where it may rest, and the executions
 abbrev pub HasPlaces : List Live → Option Terms → Option Name → List Fill → ℕ → Effect → Type 0
 HasPlaces orders book_place name_place fills left Nothing = ⊤
 HasPlaces orders book_place name_place fills left (Reject r) =
     name_place ≡ Some (name_of r.member r.token)
 HasPlaces orders book_place name_place fills left (Accept a) =
     (name_place ≡ Some (name_of a.member a.enter.token))
-    × (book_place ≡ Some (terms_of_enter a))
+    × (is_immediate a.enter.time_in_force ≡ false → book_place ≡ Some (terms_of_enter a))
     × AreFills (incoming_of_enter a) orders fills left × KeysDiffer orders
 HasPlaces orders book_place name_place fills left (Fail a) =
     name_place ≡ Some (name_of a.member a.replacement)
 HasPlaces orders book_place name_place fills left (Replace a) =
     (name_place ≡ Some (name_of a.member a.replace.replacement_token))
-    × (book_place ≡ Some (terms_of_replacement a))
+    × (is_immediate a.replace.time_in_force ≡ false → book_place ≡ Some (terms_of_replacement a))
     × AreFills (incoming_of_replacement a) (without a.old.key.0 orders) fills left
 HasPlaces orders book_place name_place fills left (Cancel a) = ⊤
 HasPlaces orders book_place name_place fills left (End e) = ⊤

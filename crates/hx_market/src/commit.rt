@@ -23,7 +23,7 @@ use crate::commit::expire::end;
 use crate::commit::replace::{fail, replace};
 use crate::commit::trading::{break_match, set_state};
 use crate::effect::{Effect, RejectedEnter};
-use crate::trading::Trading;
+use hx_day::Trading;
 use hx_levels::Book;
 use hx_match::Fill;
 use hx_members::Tokens;

@@ -8,7 +8,9 @@ ghost use Rattle.hx_market.specs.OrderKeys.{AreKeyed};
 ghost use Rattle.hx_market.specs.MarketModel.{market_of};
 ghost use Rattle.hx_rules.specs.Steps.{receive, happens, sender, time_of};
 ghost use Rattle.hx_rules.specs.Refusals.{is_from_stranger};
+ghost use Rattle.hx_levels.specs.Book.{lives};
 ghost use Rattle.hx_market.specs.Effects.{outcome_of, IsEffect, IsOf, SuitsTokens, IsAbout};
+ghost use Rattle.hx_day.specs.Expiries.{NoneEndsBefore};
 
 mod break_trade;
 mod cancel;
@@ -26,7 +28,7 @@ use crate::decision::halt::halt_effect;
 use crate::decision::hours::hours_effect;
 use crate::decision::replace::replace_effect;
 use crate::effect::Effect;
-use crate::trading::Trading;
+use hx_day::Trading;
 use hx_levels::Book;
 use hx_members::{Setup, Tokens};
 use hx_ouch::{Inbound, decode_in};
@@ -70,12 +72,13 @@ fn message_effect<B: Book>(
     }
 }
 
-/// What an event does that is not refused, at so many hours codes past. `NoMemory` where the orders that end, and
-/// what they tell, find no room.
+/// What an event does that is not refused, at so many hours codes past, where no live order ends before a time.
+/// `NoMemory` where the orders that end, and what they tell, find no room.
 pub fn effect_of<B: Book>(
     alloc: Global,
     setup: &Setup,
     hours: u8,
+    earliest: u64,
     trading: &Trading,
     tokens: &Tokens,
     book: &B,
@@ -84,6 +87,7 @@ pub fn effect_of<B: Book>(
     requires known { is_from_stranger setup.now event.now ≡ false }
     requires time { time_of event.now < day }
     requires keyed { AreKeyed tokens.now.tokens tokens.now.keys (B.orders book.now) }
+    requires earliest { NoneEndsBefore earliest (lives (B.orders book.now)) }
     ensures does { IfOk result (λ a. (n : Numbers) (counts : List ℕ)
         → happens setup.now
         (market_of (B.orders book.now) tokens.now n hours counts trading.now) event.now
@@ -111,8 +115,10 @@ pub fn effect_of<B: Book>(
                 bytes.as_slice(),
             ))
         }
-        Event::Tick { time } => tick_effect(alloc, hours, book, *time),
-        Event::Hours { time, code } => hours_effect(alloc, setup, hours, book, *time, *code),
+        Event::Tick { time } => tick_effect(alloc, hours, earliest, book, *time),
+        Event::Hours { time, code } => {
+            hours_effect(alloc, setup, hours, earliest, book, *time, *code)
+        }
         Event::Halt {
             time,
             stock,

@@ -4,16 +4,14 @@
 
 mod commit;
 mod decision;
+mod earliest;
 mod effect;
-mod event_counts;
 mod known;
 mod live_orders;
 mod market;
 mod messages;
 mod order_by_token;
 mod prepare;
-mod refuse;
-mod trading;
 
 pub use hx_laws as laws;
 pub use hx_rules::{Bytes, Event, Output, PrepareError, decode_operator};

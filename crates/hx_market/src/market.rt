@@ -9,12 +9,12 @@ ghost use Rattle.hx_market.specs.Effects.{hours_after};
 ghost use Rattle.hx_market.specs.MarketModel.{chain_facts};
 
 use crate::commit::commit_effect;
+use crate::earliest::earliest_after;
 use crate::effect::Effect;
-use crate::event_counts::EventCounts;
 use crate::known::Known;
 use crate::live_orders::list_orders;
 use crate::prepare::{Prepared, make};
-use crate::trading::Trading;
+use hx_day::{EventCounts, Trading};
 use hx_levels::{Book, Order};
 use hx_members::{ChainFacts, Setup, Tokens};
 use hx_refs::Refs;
@@ -31,6 +31,8 @@ pub struct Market<B: Book> {
     refs: Refs,
     // How many of the hours codes are past.
     hours: u8,
+    // A time before which no live order ends.
+    earliest: u64,
     recorded: EventCounts,
     trading: Trading,
     // What the last `prepare` gave, known to contracts alone.
@@ -47,6 +49,7 @@ impl<B: Book + Drop> Drop for Market<B> {
             tokens: _,
             refs: _,
             hours: _,
+            earliest: _,
             recorded: _,
             trading: _,
             ready: _,
@@ -59,6 +62,8 @@ impl<B: Book> Model for Market<B> {
     ghost use Rattle.std.specs.Prelude.{◌≡◌, Some};
     ghost use Rattle.hx_market.specs.OrderKeys.{AreKeyed};
     ghost use Rattle.hx_market.specs.Bounds.{IsSound};
+    ghost use Rattle.hx_day.specs.Expiries.{NoneEndsBefore};
+    ghost use Rattle.hx_levels.specs.Book.{lives};
     ghost use Rattle.hx_market.specs.MarketModel.{Planned, Seen, market_of};
     ghost use Rattle.hx_market.specs.Prepared.{IsPlanned};
 
@@ -77,7 +82,8 @@ impl<B: Book> Model for Market<B> {
         × ((p : Planned) → m.ready ≡ Some p
         → IsPlanned m.setup
         (market_of (B.orders m.book) m.tokens m.refs m.hours m.recorded m.trading)
-        (B.orders m.book) (B.place m.book) m.tokens.place m.trading.room p) };
+        (B.orders m.book) (B.place m.book) m.tokens.place m.trading.room p)
+        × NoneEndsBefore m.earliest (lives (B.orders m.book)) };
 }
 
 // How many of the hours codes are past as the day begins.
@@ -120,6 +126,7 @@ impl<B: Book + Drop> Market<B> {
             tokens: Tokens::new(alloc),
             refs: Refs::new(alloc)?,
             hours,
+            earliest: u64::MAX,
             recorded: EventCounts::new(alloc)?,
             trading: Trading::new(alloc, stocks)?,
             ready: Known::none(alloc),
@@ -151,6 +158,7 @@ impl<B: Book + Drop> Market<B> {
             self.alloc,
             &self.setup,
             self.hours,
+            self.earliest,
             &self.recorded,
             &mut self.trading,
             &mut self.book,
@@ -187,6 +195,7 @@ impl<B: Book + Drop> Market<B> {
         } = prepared;
         self.recorded.raise(number);
         self.hours = hours_after(&effect, self.hours);
+        self.earliest = earliest_after(&effect, self.earliest);
         commit_effect(
             &mut self.book,
             &mut self.tokens,

@@ -3,6 +3,8 @@ ghost use Rattle.std.specs.Prelude.{◌≡◌, None, IfOk, OnOk, IfErr, length};
 ghost use Rattle.hx_refs.specs.Numbers.{Numbers};
 ghost use Rattle.hx_rules.specs.Refusals.{refusal, or_no_memory};
 ghost use Rattle.hx_market.specs.OrderKeys.{AreKeyed};
+ghost use Rattle.hx_levels.specs.Book.{lives};
+ghost use Rattle.hx_day.specs.Expiries.{NoneEndsBefore};
 ghost use Rattle.hx_market.specs.MarketModel.{market_of};
 ghost use Rattle.hx_market.specs.Prepared.{HasRoom, IsPlanned};
 
@@ -10,10 +12,8 @@ mod draft;
 
 use crate::decision::effect_of;
 use crate::effect::Effect;
-use crate::event_counts::EventCounts;
 use crate::prepare::draft::{draft_effect, room_for};
-use crate::refuse::admit;
-use crate::trading::Trading;
+use hx_day::{EventCounts, Trading, admit};
 use hx_levels::Book;
 use hx_match::Fill;
 use hx_members::{Setup, Tokens};
@@ -75,12 +75,13 @@ impl Prepared {
     }
 }
 
-/// What is prepared for an event, with all growths that its commit needs. What contracts see of book, tokens and
-/// executions stays, but for their reserved places.
+/// What is prepared for an event, where no live order ends before a time, with all growths that its commit needs. What
+/// contracts see of book, tokens and executions stays, but for their reserved places.
 pub fn make<B: Book>(
     alloc: Global,
     setup: &Setup,
     hours: u8,
+    earliest: u64,
     recorded: &EventCounts,
     trading: &mut Trading,
     book: &mut B,
@@ -88,6 +89,7 @@ pub fn make<B: Book>(
     event: &Event,
 ) -> Result<Prepared, PrepareError>
     requires keyed { AreKeyed tokens.old.tokens tokens.old.keys (B.orders book.old) }
+    requires earliest { NoneEndsBefore earliest (lives (B.orders book.old)) }
     ensures orders { B.orders book.new ≡ B.orders book.old }
     ensures tokens { tokens.new.tokens ≡ tokens.old.tokens }
     ensures keys { tokens.new.keys ≡ tokens.old.keys }
@@ -104,7 +106,7 @@ pub fn make<B: Book>(
         ≡ or_no_memory (refusal setup.now recorded.now event.now)) }
 {
     let number = admit(setup, recorded, event)?;
-    let effect = effect_of(alloc, setup, hours, trading, tokens, book, event)?;
+    let effect = effect_of(alloc, setup, hours, earliest, trading, tokens, book, event)?;
     let draft = draft_effect(alloc, book, tokens, &effect)?;
     trading.reserve_for(&draft.fills)?;
     let out = room_for(alloc, draft.fills.len())?;

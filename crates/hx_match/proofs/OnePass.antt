@@ -1,6 +1,6 @@
 -- One pass over the orders by rank gives the fills: what was passed over never reaches later, as r only
 -- falls, and what was executed is used up, or ends the plan.
-use Rattle.std.proofs.Common.{◌≡◌, ℕ, ◌+◌, ◌-◌, ◌<◌, ◌≤◌, Bool, true, false, ◌||◌, cond, min, suc, zero, ltb, List, [], ◌∷◌, ◌++◌, append_assoc, length, Option, Some, None, refl, sym, ap, ◌∙◌, subst, arith, eq-eqb}
+use Rattle.std.proofs.Common.{◌≡◌, ℕ, ◌+◌, ◌-◌, ◌<◌, ◌≤◌, Bool, true, false, ◌||◌, cond, min, max, suc, zero, ltb, List, [], ◌∷◌, ◌++◌, append_assoc, length, Option, Some, None, refl, sym, ap, ◌∙◌, subst, arith, eq-eqb}
 use Rattle.std.specs.List.{AllByRecursion, find, filter}
 use Rattle.std.specs.Option.{IfSome, option_map}
 use Rattle.std.proofs.lemmas.Bool.{or_left, true_from_ne_false, cond_both, eqb-true, cond-true, cond-false, true≢false, false_from_ne_true, ltb-true}
@@ -33,6 +33,14 @@ never_later r less k x h = grind (arith, nat_tests)
 
 pub none_for_zero : (k : ℕ) (x : Order) → reaches 0 k x ≡ false
 none_for_zero k x = grind (arith, nat_tests)
+
+none_for_few : (r k : ℕ) (x : Order) → r < max 1 k → reaches r k x ≡ false
+none_for_few r k x l = grind (arith, nat_tests)
+
+-- fewer shares than the minimum, or none, execute nothing
+pub pass-few : (k r : ℕ) (xs : List Live) → r < max 1 k → pass k r xs ≡ []
+pass-few k r [] l = refl
+pass-few k r (x ∷ xs) l = cond-false (reaches r k x.order) _ _ (none_for_few r k x.order l) ∙ pass-few k r xs l
 
 pub pass-zero : (k : ℕ) (xs : List Live) → pass k 0 xs ≡ []
 pass-zero k [] = refl

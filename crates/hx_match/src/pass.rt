@@ -1,5 +1,5 @@
 //! The one pass over the orders that cross.
-ghost use Rattle.std.specs.Prelude.{◌≡◌, IfOk, MatchOption, true, false, min};
+ghost use Rattle.std.specs.Prelude.{◌≡◌, IfOk, MatchOption, true, false, min, max};
 ghost use Rattle.hx_levels.specs.Book.{KeysDiffer, lives};
 ghost use Rattle.hx_match.specs.Matching.{qualifies, matched, matched_live};
 ghost use Rattle.hx_match.specs.Executing.{fills_of, AreGood, done_by, left_by};
@@ -27,10 +27,11 @@ pub fn plan<B: Book>(alloc: Global, book: &B, incoming: &Incoming) -> Result<Pla
     ensures keys { KeysDiffer (B.orders book.now) }
 {
     let mut fills = Vec::new(alloc);
+    let least = least_fill(incoming);
     let mut left = incoming.shares;
     let mut next = book.next_contra(incoming.locate, incoming.side, incoming.price, None);
     while let Some(key) = next {
-        if left == 0 {
+        if left < least {
             break;
         }
         let order = book.get(key).unwrap();
@@ -41,6 +42,13 @@ pub fn plan<B: Book>(alloc: Global, book: &B, incoming: &Incoming) -> Result<Pla
         next = book.next_contra(incoming.locate, incoming.side, incoming.price, Some(key));
     }
     Ok(Plan { fills, left })
+}
+
+// The fewest shares for which an order may be executed: no order qualifies where fewer are left.
+fn least_fill(incoming: &Incoming) -> u32
+    ensures { result ≡ max 1 incoming.now.minimum }
+{
+    1.max(incoming.minimum)
 }
 
 // The execution of a resting order, where it qualifies for the shares that are left.

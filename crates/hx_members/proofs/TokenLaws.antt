@@ -8,7 +8,8 @@ use Rattle.hx_members.specs.declared.name.ChainFacts.{ChainFacts}
 use Rattle.hx_members.specs.declared.name.TokenState.{TokenState}
 use Rattle.hx_members.specs.declared.rows.UsedToken.{UsedToken}
 use Rattle.hx_members.specs.Chains.{Used, Chain, is_use, is_used, entered_of, entered_at, place_of, is_chain, executed_by, entered_used, replacing_used, IsEnteredAt}
-use Rattle.hx_members.specs.Rows.{Row, name_of, row_place, IsUnused, row_state, told_of, used_of, tokens_of, places_of, live_keys_of, is_entered, chain_of, chains_of, AreDistinct, IsSound}
+use Rattle.hx_members.specs.declared.name.Name.{Name}
+use Rattle.hx_members.specs.Rows.{Row, is_name, name_of, row_place, IsUnused, row_state, told_of, used_of, tokens_of, places_of, live_keys_of, is_entered, chain_of, chains_of, AreDistinct, IsSound}
 use Rattle.hx_members.specs.Tokens.{facts_of, key_at, state_of}
 use Rattle.hx_members.proofs.ChainLaws.{is_same-flip, is_same-parts, is_same-itself, is_token-itself, slice_get-place_of, is_used-at}
 
@@ -64,6 +65,22 @@ place_of-distinct (v ∷ vs) (suc i) u d h = at (is_use u.member u.token v) refl
         let p = is_same-parts v.member v.token u.member u.token e in
         absurd (true≢false (sym (is_used-at vs i u h) ∙ (λ j. is_used vs (sym p.0 j) (sym p.1 j)) ∙ d.0))
     at false e ih = omega arith
+
+pub slice_get-tokens_of : (rows : List Row) (i : ℕ) (r : Row) → slice_get rows i ≡ Some r → slice_get (tokens_of rows) i ≡ Some (used_of r)
+slice_get-tokens_of [] i r h = absurd cc
+slice_get-tokens_of (e ∷ es) zero r h = ap (λ (x : Row). Some (used_of x)) (some_same e r h)
+slice_get-tokens_of (e ∷ es) (suc i) r h = slice_get-tokens_of es i r h
+
+-- the row that has the name is at its place
+pub row_place-at : (n : Name) (rows : List Row) (i : ℕ) (r : Row) → AreDistinct (tokens_of rows) → slice_get rows i ≡ Some r → is_name n r.0 ≡ true → row_place n rows ≡ Some i
+row_place-at n rows i r d h e =
+    let u : Used = used_of r in
+    let at : slice_get (tokens_of rows) i ≡ Some u = slice_get-tokens_of rows i r h in
+    let p = is_same-parts n.member n.token r.0.member r.0.token e in
+    ap (λ m. row_place (name_of m n.token) rows) p.0 ∙ ap (λ (t : Token). row_place (name_of u.member t) rows) p.1
+    ∙ row_place-place_of u.member u.token rows
+    ∙ ap (λ b. cond b (Some (place_of (tokens_of rows) u.member u.token)) None) (is_used-at (tokens_of rows) i u at)
+    ∙ ap Some (place_of-distinct (tokens_of rows) i u d at)
 
 -- what is told of a token
 

@@ -1,8 +1,8 @@
 //! The rows of the used tokens, in order of use.
-ghost use Rattle.std.specs.Prelude.{◌≡◌, ◌+◌, ◌<◌, ◌^◌, ◌++◌, [], ◌∷◌, length, Some, None, OnOk, OnErr, slice_get};
+ghost use Rattle.std.specs.Prelude.{◌≡◌, ◌+◌, ◌<◌, ◌^◌, ◌++◌, [], ◌∷◌, length, Some, None, OnOk, OnErr, slice_get, true};
 ghost use Rattle.std.specs.Option.{option_map};
 ghost use Rattle.hx_members.specs.Chains.{entered_at};
-ghost use Rattle.hx_members.specs.Rows.{Row, IsUnused, tokens_of, row_place, row_state, noted_rows, settled_rows};
+ghost use Rattle.hx_members.specs.Rows.{Row, IsUnused, AreDistinct, is_name, tokens_of, row_place, row_state, noted_rows, settled_rows};
 
 use crate::name::{ChainFacts, Name, TokenState};
 use hx_units::{NoMemory, Token};
@@ -105,6 +105,29 @@ impl Rows {
         ensures { result ≡ row_place name self.now.rows }
     {
         self.map.get_index_of(&name)
+    }
+
+    // Whether the row at a place has the name.
+    fn is_at(&self, place: usize, name: &Name) -> bool
+        ensures { result ≡ true → (row : Row) × (slice_get self.now.rows place ≡ Some row)
+            × (is_name name.now row.0 ≡ true) }
+    {
+        match self.map.get_index(place) {
+            Some((other, _)) => *name == *other,
+            None => false,
+        }
+    }
+
+    /// The place of a name. The last row is looked at first: where it has the name nothing is hashed.
+    pub(crate) fn last_or_place(&self, name: &Name) -> Option<usize>
+        requires { AreDistinct (tokens_of self.now.rows) }
+        ensures { result ≡ row_place name.now self.now.rows }
+    {
+        let last = self.map.len().saturating_sub(1);
+        if self.is_at(last, name) {
+            return Some(last);
+        }
+        self.place(*name)
     }
 
     /// The row at a place, without its name.

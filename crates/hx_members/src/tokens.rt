@@ -134,7 +134,7 @@ impl Tokens {
             member,
             token: *token,
         };
-        if let Some(place) = self.kept.place(name) {
+        if let Some(place) = self.kept.last_or_place(&name) {
             self.kept.settle(place, key);
         }
     }

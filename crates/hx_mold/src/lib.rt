@@ -11,4 +11,4 @@ mod request;
 pub use blocks::Blocks;
 pub use messages::{Messages, answer, cut, gather};
 pub use packet::{MoldPacket, decode_packet, end_of_session, heartbeat};
-pub use request::{Request, decode_request};
+pub use request::{Request, decode_request, encode_request};

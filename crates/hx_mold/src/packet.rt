@@ -45,6 +45,7 @@ pub enum MoldPacket<'a> {
 pub fn decode_packet(bytes: &[u8]) -> Option<MoldPacket<'_>>
     ensures found { IfSome result (λ p. SpellsPacket bytes.now p) }
     ensures only { (p : MoldPacket) → SpellsPacket bytes.now p → result ≡ Some p }
+    ensures exact { result ≡ packet_of bytes.now }
 {
     read(bytes)
 }

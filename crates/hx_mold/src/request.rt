@@ -4,6 +4,8 @@ ghost use Rattle.hx_mold.specs.declared.request.Request.{Request};
 ghost use Rattle.hx_mold.specs.Packets.{SpellsRequest};
 ghost use Rattle.hx_mold.specs.Reading.{request_of};
 
+use crate::packet::write_header;
+use arrayvec::ArrayVec;
 use hx_units::fields::{array_at, u16_at, u64_at};
 
 /// A request for messages again, 20 bytes (MoldUDP64 1.00, Request Packet).
@@ -38,4 +40,11 @@ fn read(bytes: &[u8]) -> Option<Request>
         sequence: u64_at(bytes, 10),
         count: u16_at(bytes, 18),
     })
+}
+
+/// The bytes of a request (MoldUDP64 1.00, Request Packet). It takes no memory.
+pub fn encode_request(request: Request) -> ArrayVec<u8, 20>
+    ensures { SpellsRequest result.items request }
+{
+    write_header(request.session, request.sequence, request.count)
 }

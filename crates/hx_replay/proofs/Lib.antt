@@ -10,6 +10,8 @@ pub mod OneReading
 pub mod OutputIsTold
 pub mod NoTrace
 pub mod Strikes
+pub mod Taken
+pub mod Leaving
 pub mod Texts
 pub mod StruckTapes
 pub mod Operators

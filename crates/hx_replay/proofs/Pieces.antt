@@ -23,7 +23,7 @@ pub record SoFar (setup : Setup) (r s w v : Option (List ℕ)) (counts : Progres
   pub read : Consumes r s text
   pub plays : Replays (start setup) counts text w v pending
   pub no_feed : Lacks 10 pending
-  pub short : length text ≤ 8192 * turn
+  pub short : length text ≤ 65536 * turn
 
 -- ---- joined replays
 
@@ -84,7 +84,7 @@ starts_so setup copied c pending r w copy i is none =
     let start_is : start setup ≡ c = ap start (sym copy) ∙ sym is in
     subst (λ (x : List ℕ). SoFar setup r r w w c x 0) (sym none) (subst (λ (x : Progress). SoFar setup r r w w x [] 0) start_is (so_far_none setup r w i))
 
-pub so_far_more : (setup : Setup) (r s s' w v u : Option (List ℕ)) (c c' : Progress) (pending piece pending' : List ℕ) (turn : ℕ) → SoFar setup r s w v c pending turn → Consumes s s' piece → length piece ≤ 8192
+pub so_far_more : (setup : Setup) (r s s' w v u : Option (List ℕ)) (c c' : Progress) (pending piece pending' : List ℕ) (turn : ℕ) → SoFar setup r s w v c pending turn → Consumes s s' piece → length piece ≤ 65536
     → Replays c c' (pending ++ piece) v u pending' → Lacks 10 pending' → SoFar setup r s' w u c' pending' (turn + 1)
 so_far_more setup r s s' w v u c c' pending piece pending' turn h took small plays none = record {
   is_setup = h.is_setup;
@@ -106,7 +106,7 @@ so_far_kept setup r s s' w v c pending turn h kept = record {
 }
 
 -- how large the counts are
-pub so_far_counts : (setup : Setup) (r s w v : Option (List ℕ)) (c : Progress) (pending : List ℕ) (turn : ℕ) → SoFar setup r s w v c pending turn → (c.events + length pending ≤ 8192 * turn) × IsFew c
+pub so_far_counts : (setup : Setup) (r s w v : Option (List ℕ)) (c : Progress) (pending : List ℕ) (turn : ℕ) → SoFar setup r s w v c pending turn → (c.events + length pending ≤ 65536 * turn) × IsFew c
 unfolding start
 so_far_counts setup r s w v c pending turn h =
     let counted = replays_counts (start setup) c h.text w v pending h.plays (few-start setup h.is_setup) in
@@ -154,7 +154,7 @@ stops_at_start setup r w = record {
 
 -- ---- the end
 
-read_on : (r s s' : Option (List ℕ)) (text : List ℕ) → Consumes r s text → Consumes s s' [] → Consumes r s' text
+pub read_on : (r s s' : Option (List ℕ)) (text : List ℕ) → Consumes r s text → Consumes s s' [] → Consumes r s' text
 read_on r s s' text p q = subst (Consumes r s') (append-nil text) (Consumes-trans r s s' text [] p q)
 
 pub ends_well : (setup : Setup) (r s s' w v : Option (List ℕ)) (c : Progress) (pending : List ℕ) (turn : ℕ) → SoFar setup r s w v c pending turn → Consumes s s' [] → IsAtEnd s' → length pending ≡ 0 → ReplaysAll setup (counts_of c) r s' w v

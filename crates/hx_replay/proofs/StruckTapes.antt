@@ -16,7 +16,7 @@ use Rattle.hx_replay.specs.Text.{Entry}
 use Rattle.hx_replay.specs.Run.{Progress, start, event_of, is_unknown, kind_of, check_of, after, output_all, AreEvents}
 use Rattle.hx_replay.specs.Seen.{texts_of, output_lines}
 use Rattle.hx_replay.specs.Grep.{lines_except, lines_of_feed}
-use Rattle.hx_replay.specs.Struck.{unchosen, struck, struck_all, IsKnown}
+use Rattle.hx_replay.specs.Struck.{without_chosen, struck, struck_all, IsKnown}
 use Rattle.hx_replay.specs.Quiet.{TextsTellNothing}
 use Rattle.hx_replay.proofs.NoTrace.{texts_are, no_trace, tells_nothing}
 use Rattle.hx_replay.proofs.Strikes.{filter-events, recorded}
@@ -67,17 +67,17 @@ all_recorded setup es h = all_accepted (start setup) es h
 
 -- What is left is events again.
 
-left_events : (s : Choice) (es : List Entry) → strike s (map event_of es) ≡ map event_of (unchosen s es)
+left_events : (s : Choice) (es : List Entry) → strike s (map event_of es) ≡ map event_of (without_chosen s es)
 unfolding strike
 left_events s es = filter-events s es
 
-left_taken : (setup : Setup) (s : Choice) (es : List Entry) → AreEvents (start setup) es → AreEvents (start setup) (unchosen s es)
+left_taken : (setup : Setup) (s : Choice) (es : List Entry) → AreEvents (start setup) es → AreEvents (start setup) (without_chosen s es)
 left_taken setup s es h =
-    recorded setup (unchosen s es) (all_filtered IsKnown (λ e. not (bears s (event_of e))) es (all_known (start setup) es h))
+    recorded setup (without_chosen s es) (all_filtered IsKnown (λ e. not (bears s (event_of e))) es (all_known (start setup) es h))
     (subst (λ (events : List Event). AreRecorded setup events) (left_events s es) (struck_recorded setup s (map event_of es) (all_recorded setup es h)))
 
-left_output : (setup : Setup) (s : Choice) (es : List Entry) → output_all (start setup) (unchosen s es) ≡ texts_of (output_lines setup (strike s (map event_of es)))
-left_output setup s es = texts_are setup (unchosen s es) ∙ ap (λ (events : List Event). texts_of (output_lines setup events)) (sym (left_events s es))
+left_output : (setup : Setup) (s : Choice) (es : List Entry) → output_all (start setup) (without_chosen s es) ≡ texts_of (output_lines setup (strike s (map event_of es)))
+left_output setup s es = texts_are setup (without_chosen s es) ∙ ap (λ (events : List Event). texts_of (output_lines setup events)) (sym (left_events s es))
 
 -- The texts show the same.
 

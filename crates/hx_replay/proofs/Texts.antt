@@ -13,7 +13,7 @@ use Rattle.hx_ouch.specs.Outbound.{outbound_bytes}
 use Rattle.hx_replay.specs.Grep.{lines_in, begins_with, of_feed, of_member, lines_except, lines_of_feed}
 use Rattle.hx_replay.specs.Seen.Numbered.{OfFeed, OfMember}
 use Rattle.hx_replay.specs.Seen.{Numbered, text_of, texts_of, not_to, is_to}
-use Rattle.hx_replay.specs.Quiet.{is_of_feed, feed_of}
+use Rattle.hx_replay.specs.Quiet.{is_of_feed, feed_among}
 
 -- ---- texts without a byte
 
@@ -203,7 +203,7 @@ in_feed (OfFeed number message) = refl
 in_feed (OfMember member number reply) = refl
 
 -- the lines of the feed
-pub feed_texts : (lines : List Numbered) → lines_of_feed (texts_of lines) ≡ texts_of (feed_of lines)
+pub feed_texts : (lines : List Numbered) → lines_of_feed (texts_of lines) ≡ texts_of (feed_among lines)
 feed_texts lines =
     ap (λ (ls : List (List ℕ)). concat (filter (λ l. begins_with of_feed l) ls)) (lines_are lines)
     ∙ chosen_texts (λ l. begins_with of_feed l) is_of_feed in_feed lines

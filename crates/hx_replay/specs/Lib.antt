@@ -5,6 +5,7 @@ pub mod Seen
 pub mod Grep
 pub mod Whole
 pub mod Struck
+pub mod Taking
 pub mod Quiet
 pub mod Operators
 pub mod Histories

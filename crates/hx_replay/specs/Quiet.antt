@@ -21,8 +21,8 @@ is_of_feed (OfFeed number message) = true
 is_of_feed (OfMember member number reply) = false
 
 -- the messages of the feed
-abbrev pub feed_of : List Numbered → List Numbered
-feed_of lines = filter is_of_feed lines
+abbrev pub feed_among : List Numbered → List Numbered
+feed_among lines = filter is_of_feed lines
 
 -- the lines that a member gets: the feed, and the replies to him
 abbrev pub seen_by : (p : ℕ) → List Numbered → List Numbered
@@ -37,7 +37,8 @@ pub record TellsNothing (setup : Setup) (events : List Event) : Type 0 where
       ≡ not_to m (output_lines setup (strike (listed m tokens) events))
   -- those of all members, struck at once, tell nothing in the feed
   pub all :
-      feed_of (output_lines setup events) ≡ feed_of (output_lines setup (strike_all setup events))
+      feed_among (output_lines setup events)
+      ≡ feed_among (output_lines setup (strike_all setup events))
   -- and those of all others tell a member nothing, neither in the feed nor in his replies
   pub all_but_one :
       (p : ℕ) → seen_by p (output_lines setup events)

@@ -1,9 +1,9 @@
 -- A tape without the messages of a member's quiet chains.
-use Rattle.std.specs.Prelude.{◌≡◌, ◌≢◌, ◌⊎◌, ℕ, ◌+◌, ◌<◌, Bool, true, false, not, List, [], ◌∷◌, ◌++◌, map, length, Option, None}
-use Rattle.std.specs.List.{AllByRecursion, filter}
+use Rattle.std.specs.Prelude.{◌≡◌, ◌≢◌, ◌⊎◌, ℕ, ◌+◌, true, false, not, List, [], ◌∷◌, ◌++◌, map, length, Option}
+use Rattle.std.specs.List.{filter}
 use Rattle.std.specs.Io.KnownBytes.{Consumes, Appends, IsAtEnd}
 use Rattle.hx_units.specs.Letters.{line_feed}
-use Rattle.hx_members.specs.Setups.{Setup, member_of}
+use Rattle.hx_members.specs.Setups.{Setup}
 use Rattle.hx_rules.specs.declared.event.Event.{Event}
 use Rattle.hx_rules.specs.declared.event.Event.TheVariants.{Message, Tick, Hours, Halt, Break}
 use Rattle.hx_market.specs.OperatorMessages.{halt_bytes, break_bytes}
@@ -14,38 +14,31 @@ use Rattle.hx_replay.specs.declared.fault.Kind.{Kind}
 use Rattle.hx_replay.specs.declared.fault.TapeError.{TapeError}
 use Rattle.hx_replay.specs.declared.fault.TapeError.TheVariants as fault
 use Rattle.hx_replay.specs.declared.run.Counts.{Counts}
-use Rattle.hx_replay.specs.declared.striking.Whose.{Whose}
-use Rattle.hx_replay.specs.declared.striking.Whose.TheVariants.{Of, OfAll}
+use Rattle.hx_audit.specs.declared.auditor.Whose.{Whose}
+use Rattle.hx_audit.specs.Auditing.{choice_of}
 use Rattle.hx_text.specs.Cuts.{Lacks}
 use Rattle.hx_replay.specs.Text.{Entry, IsEntry, line}
 use Rattle.hx_replay.specs.Run.{start, event_of, is_unknown, tape, after_all, AreEvents, BeginsBadly, IsFront}
 
 -- the lines whose event is no message that bears a chosen token
-abbrev pub unchosen : Choice → List Entry → List Entry
-unchosen chosen entries = filter (λ e. not (bears chosen (event_of e))) entries
-
--- whose quiet chains are struck: one member's, or those of all
-abbrev pub choice_of : Whose → Market → Choice
-choice_of (Of m) market = quiet_of_one m market
-choice_of OfAll market = is_quiet market
+abbrev pub without_chosen : Choice → List Entry → List Entry
+without_chosen chosen entries = filter (λ e. not (bears chosen (event_of e))) entries
 
 -- the lines that stay then
 abbrev pub left_by : Setup → Whose → List Entry → List Entry
-left_by setup whose entries = unchosen (choice_of whose (run setup (map event_of entries))) entries
-
--- one member, whom the setup has not
-abbrev pub IsStranger : Setup → Whose → Type 0
-IsStranger setup (Of m) = member_of setup m ≡ None
-IsStranger setup OfAll = ⊥
+left_by setup whose entries =
+    without_chosen (choice_of whose (run setup (map event_of entries))) entries
 
 -- the lines that stay: those whose event is no message that bears a token of the member's chains that
 -- the whole tape never displayed and never traded
 unfoldable pub struck : Setup → ℕ → List Entry → List Entry
-struck setup m entries = unchosen (quiet_of_one m (run setup (map event_of entries))) entries
+struck setup m entries =
+    without_chosen (quiet_of_one m (run setup (map event_of entries))) entries
 
 -- those that stay where the quiet chains of all members are struck
 unfoldable pub struck_all : Setup → List Entry → List Entry
-struck_all setup entries = unchosen (is_quiet (run setup (map event_of entries))) entries
+struck_all setup entries =
+    without_chosen (is_quiet (run setup (map event_of entries))) entries
 
 -- the entry of an event
 abbrev pub entry_of_event : Event → Entry
@@ -77,60 +70,17 @@ IsNoLine text =
     ((e : Entry) → IsEntry e → text ≢ line e)
     ⊎ ((e : Entry) × IsEntry e × (text ≡ line e) × (is_unknown e ≡ true))
 
--- it begins with a line of no event, or it is the beginning of a line
-abbrev pub BreaksOff : List ℕ → Type 0
-BreaksOff rest =
-    ((bad : List ℕ) × (more : List ℕ) × (rest ≡ bad ++ line_feed ∷ more) × Lacks line_feed bad
-    × IsNoLine bad)
-    ⊎ (Lacks line_feed rest × (0 < length rest))
-
--- the text is the lines of these events, and a rest
-pub record Collects (text : List ℕ) (events : List Event) (rest : List ℕ) : Type 0 where
-  pub entries : List Entry
-  pub are_known : AllByRecursion IsKnown entries
-  pub events_are : events ≡ map event_of entries
-  pub text_is : text ≡ tape entries ++ rest
-
--- and all of it, or the rest breaks off
-abbrev pub CollectsAll : List ℕ → List Event → Bool → Type 0
-CollectsAll text events true = Collects text events []
-CollectsAll text events false = (rest : List ℕ) × Collects text events rest × BreaksOff rest
-
 -- ---- what is written
 
--- reading ends for want of memory, by a failed read, or after too many
-abbrev pub IsOfReading : TapeError → Type 0
-IsOfReading (fault.Line n k) = ⊥
-IsOfReading fault.NoMemory = Unit {0}
-IsOfReading fault.Read = Unit {0}
-IsOfReading fault.Write = ⊥
-IsOfReading fault.Turns = Unit {0}
-
--- the first line of a text that fails a check
-pub record FirstFault (setup : Setup) (n : ℕ) (k : Kind) (text : List ℕ) : Type 0 where
+-- the first line of a text that fails a check; the end of the text is the end of the tape where End holds
+pub record FirstFault (End : Type 0) (setup : Setup) (n : ℕ) (k : Kind) (text : List ℕ)
+    : Type 0 where
   pub events : List Entry
   pub are_events : AreEvents (start setup) events
   pub rest : List ℕ
   pub text_is : text ≡ tape events ++ rest
   pub number : n ≡ length events + 1
-  pub why : BeginsBadly (Unit {0}) (after_all (start setup) events) k rest
-
--- the text is a tape, whose lines that stay are those of these events
-pub record IsStruck (setup : Setup) (left : List Entry → List Entry) (text : List ℕ)
-    (kept : List Event) : Type 0 where
-  pub events : List Entry
-  pub are_events : AreEvents (start setup) events
-  pub text_is : text ≡ tape events
-  pub kept_are : kept ≡ map event_of (left events)
-  pub lines_are : tape (map entry_of_event kept) ≡ tape (left events)
-
--- why a text is not struck: the first line that fails a check, or want of memory
-abbrev pub IsFaultOf : Setup → List ℕ → TapeError → Type 0
-IsFaultOf setup text (fault.Line n k) = FirstFault setup n k text
-IsFaultOf setup text fault.NoMemory = Unit {0}
-IsFaultOf setup text fault.Read = ⊥
-IsFaultOf setup text fault.Write = ⊥
-IsFaultOf setup text fault.Turns = ⊥
+  pub why : BeginsBadly End (after_all (start setup) events) k rest
 
 -- so many lines, and nothing else
 abbrev pub counts_of_lines : ℕ → Counts
@@ -158,12 +108,11 @@ pub record StrikesSome (setup : Setup) (left : List Entry → List Entry)
   pub is_front : IsFront front (tape (left events))
   pub wrote : Appends w v front
 
--- all was read, and this line is the first that fails a check
+-- in what was read this line is the first that fails a check
 pub record StopsBefore (setup : Setup) (n : ℕ) (k : Kind) (r s : Option (List ℕ)) : Type 0 where
   pub text : List ℕ
   pub read : Consumes r s text
-  pub at_end : IsAtEnd s
-  pub fault : FirstFault setup n k text
+  pub fault : FirstFault (IsAtEnd s) setup n k text
 
 -- what was read is a beginning of what there was, which may be all of it
 abbrev pub ReadsSome : Option (List ℕ) → Option (List ℕ) → Type 0

@@ -9,10 +9,13 @@ mod line;
 mod operator;
 mod replaying;
 mod run;
+mod spelling;
 mod striking;
+mod taking;
 
 pub use fault::{Kind, TapeError};
 pub use operator::read_operator_line;
 pub use replaying::{replay, replay_on};
 pub use run::Counts;
-pub use striking::{strike_all_tape, strike_tape, write_event};
+pub use spelling::write_event;
+pub use striking::{strike_all_tape, strike_tape};

@@ -1,6 +1,6 @@
 //! A tape from its lines to its output lines.
 ghost use Rattle.std.specs.Prelude.{List, ℕ, ◌≡◌, ◌≤◌, ◌<◌, ◌^◌, ◌+◌, ◌*◌, ◌++◌, [], OnOk, OnErr, IfOk, IfErr, length};
-ghost use Rattle.std.specs.Io.KnownBytes.{Appends};
+ghost use Rattle.std.specs.Io.KnownBytes.{Appends, Keeps};
 ghost use Rattle.hx_text.specs.Cuts.{Lacks};
 ghost use Rattle.hx_replay.specs.Run.{Writes, Replays, Stops, IsFew, counts_of};
 ghost use Rattle.hx_replay.specs.Whole.{ReplaysAll, StopsAt};
@@ -40,7 +40,25 @@ pub fn write_whole<W: Write>(writer: &mut W, bytes: &[u8]) -> Result<(), TapeErr
     Err(TapeError::Write)
 }
 
-// Plays the whole lines of the text, and answers the bytes behind them.
+// Has the writer send out what it holds back.
+fn send_out<W: Write>(writer: &mut W) -> Result<(), TapeError>
+    ensures kept { Keeps (W.contents writer.old) (W.contents writer.new) }
+    ensures write { IfErr result (λ e. e ≡ fault.Write) }
+{
+    for _ in 0..u64::MAX {
+        match writer.flush() {
+            Ok(()) => return Ok(()),
+            Err(e) => {
+                if e.kind() != ErrorKind::Interrupted {
+                    return Err(TapeError::Write);
+                }
+            }
+        }
+    }
+    Err(TapeError::Write)
+}
+
+// Plays the whole lines of the text, has their output sent out, and answers the bytes behind them.
 fn play_lines<'a, B: Book + Drop, W: Write>(
     alloc: Global,
     run: &mut Run<B>,
@@ -62,16 +80,18 @@ fn play_lines<'a, B: Book + Drop, W: Write>(
         write_whole(writer, &output)?;
         rest = others;
     }
+    send_out(writer)?;
     Ok(rest)
 }
 
 pub const READS: u64 = 1_000_000_000;
 
-// The greatest line, without its line feed.
-const LONGEST: usize = 2066;
+/// The greatest line, without its line feed.
+pub(crate) const LONGEST: usize = 2066;
 
-/// Replays a tape over the market of a setup: reads it to its end, and writes the output lines of each event
-/// before it takes the next line. A read is one call of the reader, and 1,000,000,000 of them are too many.
+/// Replays a tape over the market of a setup: reads it to its end, writes the output lines of each event before it takes
+/// the next line, and flushes the writer before it reads on, so that who types into a pipe is answered line by line. A
+/// read is one call of the reader, and 1,000,000,000 of them are too many.
 pub fn replay<R: Read, W: Write>(
     alloc: Global,
     setup: &Setup,
@@ -104,7 +124,7 @@ pub fn replay_on<B: Book + Drop, R: Read, W: Write>(
 {
     let mut run = Run::new(alloc, setup.copy(alloc)?, book)?;
     let mut pending = Vec::new(alloc);
-    let mut chunk = [0; 8192];
+    let mut chunk = [0; 65536];
     for _ in 0..READS {
         match reader.read(&mut chunk) {
             Ok(0) => return finish(run.counts(), &pending),

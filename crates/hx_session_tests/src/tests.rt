@@ -6,7 +6,6 @@ mod day;
 mod failing;
 mod fresh;
 mod logins;
-mod memory;
 mod overlap;
 mod packets;
 mod parting;

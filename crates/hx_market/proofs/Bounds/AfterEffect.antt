@@ -19,7 +19,8 @@ use Rattle.hx_rules.specs.Enter.{next_reference}
 use Rattle.hx_market.specs.Bounds.{IsSound}
 use Rattle.hx_market.specs.Effects.{IsEffect, SuitsTokens, IsAbout, IsOnly, SuitsReplacement, IsReplacement, IsOf, IsInRange, is_due, hours_after, order_of_enter, replacement_order, outcome_of}
 use Rattle.hx_market.specs.declared.effect.Replacement.{Replacement}
-use Rattle.hx_market.specs.Prepared.{FitsEffect, MayRecord}
+use Rattle.hx_day.specs.Day.{MayRecord}
+use Rattle.hx_market.specs.Prepared.{FitsEffect}
 use Rattle.hx_market.proofs.Bounds.AfterEnter.{recording, can_accept, sound_recorded, sound_rejected, sound_accepted}
 
 -- without hours and counts, which no effect reads

@@ -13,7 +13,7 @@ use Rattle.hx_rules.specs.Orders.{is_immediate}
 use Rattle.hx_rules.specs.Markets.{Market, opening}
 use Rattle.hx_rules.specs.Executions.{chains_after, incoming_of, resting_of, displays, arrive}
 use Rattle.hx_rules.specs.Enter.{consumed, drawn, accept_order, reject, after_draw}
-use Rattle.hx_market.specs.Prepared.{MayRecord}
+use Rattle.hx_day.specs.Day.{MayRecord}
 use Rattle.hx_market.specs.Bounds.{own, is_name, open_in, IsPlaced, ArePlaced, CanNote, chains_by, total, AreLone, IsSound, CanAccept}
 use Rattle.hx_market.proofs.Bounds.ChainShares.{open-append, IsWithin, Counted, counted, executed-noted, can, placed-append}
 use Rattle.hx_market.proofs.Bounds.UsedTokens.{placed-more, open-more, open-unused, executed-unused, executed-fresh, chained-more, chained-append, chained-noted, entered-last, used-last, get-last, same-name}

@@ -16,7 +16,7 @@ use Rattle.hx_rules.specs.Markets.{Market}
 use Rattle.hx_rules.specs.Enter.{drawn, after_draw}
 use Rattle.hx_rules.specs.Removal.{others, less, lessened}
 use Rattle.hx_rules.specs.Replace.{handed_over, replace_order}
-use Rattle.hx_market.specs.Prepared.{MayRecord}
+use Rattle.hx_day.specs.Day.{MayRecord}
 use Rattle.hx_rules.specs.Executions.{arrive, chains_after}
 use Rattle.hx_market.specs.Bounds.{chains_by, own, is_name, open_in, IsPlaced, ArePlaced, total, IsSound, CanAccept}
 use Rattle.hx_market.proofs.Bounds.ChainShares.{IsWithin, open-append, placed-append, placed-shares, own-le}

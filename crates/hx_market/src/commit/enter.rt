@@ -4,6 +4,7 @@ ghost use Rattle.hx_units.specs.Limits.{day};
 ghost use Rattle.hx_levels.specs.Book.{lives};
 ghost use Rattle.hx_members.specs.Chains.{is_used};
 ghost use Rattle.hx_rules.specs.Enter.{accepted_of};
+ghost use Rattle.hx_rules.specs.Orders.{is_immediate};
 ghost use Rattle.hx_match.specs.Rules.{AreFills};
 ghost use Rattle.hx_market.specs.Effects.{incoming_of_enter, terms_of_enter, order_of_enter};
 ghost use Rattle.hx_market.specs.declared.effect.Effect.TheVariants.{Accept};
@@ -15,7 +16,7 @@ use crate::commit::execute::Taker;
 use crate::commit::incoming::{arrive, draw};
 use crate::effect::AcceptedEnter;
 use crate::messages::publish;
-use crate::trading::Trading;
+use hx_day::Trading;
 use hx_levels::{Book, Order};
 use hx_match::Fill;
 use hx_members::Tokens;
@@ -109,7 +110,8 @@ pub fn accept<B: Book>(
     requires unused { is_used tokens.old.tokens effect.now.member effect.now.enter.token ≡ false }
     requires token_place { tokens.old.place
         ≡ Some (name_of effect.now.member effect.now.enter.token) }
-    requires place { B.place book.old ≡ Some (terms_of_enter effect.now) }
+    requires place { is_immediate effect.now.enter.time_in_force ≡ false
+        → B.place book.old ≡ Some (terms_of_enter effect.now) }
     requires executions { AreFills (incoming_of_enter effect.now)
         (B.orders book.old) fills.now left }
     requires keyed { AreKeyed tokens.old.tokens tokens.old.keys (B.orders book.old) }

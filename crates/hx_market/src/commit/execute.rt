@@ -6,7 +6,7 @@ ghost use Rattle.hx_match.specs.Executing.{taken, done_by, left_by, AreGood};
 ghost use Rattle.hx_rules.specs.Executions.{match_of, matches_of, feed_of_execution, feed_of_executions, to_maker, to_taker, replies_of_executions};
 ghost use Rattle.hx_market.specs.Bounds.{CanNoteAll, chains_by};
 
-use crate::trading::Trading;
+use hx_day::Trading;
 use hx_itch::{Feed, OrderExecuted, Trade};
 use hx_levels::{Book, Order};
 use hx_match::Fill;

@@ -1,5 +1,5 @@
 //! An incoming order, done: it gets its reference, executes, and rests or is cancelled.
-ghost use Rattle.std.specs.Prelude.{◌≡◌, ◌+◌, ◌-◌, ◌<◌, ◌≤◌, ◌^◌, slice_index, Some, [], true, length, ◌++◌, ◌∷◌, ◌*◌};
+ghost use Rattle.std.specs.Prelude.{◌≡◌, ◌+◌, ◌-◌, ◌<◌, ◌≤◌, ◌^◌, slice_index, Some, [], true, false, length, ◌++◌, ◌∷◌, ◌*◌};
 ghost use Rattle.hx_levels.specs.Book.{lives, terms_of};
 ghost use Rattle.hx_members.specs.Chains.{is_used, place_of};
 ghost use Rattle.hx_rules.specs.Enter.{next_reference, after_draw};
@@ -12,7 +12,7 @@ ghost use Rattle.hx_rules.specs.Executions.{matches_of, feed_of_executions, repl
 
 use crate::commit::execute::{Taker, execute};
 use crate::messages::tell_canceled;
-use crate::trading::Trading;
+use hx_day::Trading;
 use hx_levels::{Book, Order};
 use hx_match::Fill;
 use hx_members::Tokens;
@@ -85,7 +85,7 @@ fn rest_of<B: Book>(book: &mut B, tokens: &mut Tokens, order: &Order, left: u32)
     rest
 }
 
-/// Carries out the plan of an order whose place is reserved, and gives what rests of it. What is left of an immediate
+/// Carries out the plan of an order, and gives what rests of it, whose place is reserved. What is left of an immediate
 /// one is cancelled.
 pub fn arrive<B: Book>(
     book: &mut B,
@@ -100,7 +100,7 @@ pub fn arrive<B: Book>(
     left: u32,
 ) -> Option<Order>
     requires good { AreGood fills.now (B.orders book.old) }
-    requires place { B.place book.old ≡ Some (terms_of order.now) }
+    requires place { immediate ≡ false → B.place book.old ≡ Some (terms_of order.now) }
     requires used { is_used tokens.old.tokens order.now.member order.now.token ≡ true }
     requires before { AreBefore tokens.old.tokens
         (place_of tokens.old.tokens order.now.member order.now.token) (B.orders book.old) }

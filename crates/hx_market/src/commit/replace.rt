@@ -9,6 +9,7 @@ ghost use Rattle.hx_units.specs.declared.names.Token.{Token as EnteredToken};
 ghost use Rattle.hx_itch.specs.declared.message.Feed.TheVariants.{OrderReplace as ToReplace};
 ghost use Rattle.hx_market.specs.declared.effect.Effect.TheVariants.{Replace as ToReplaceBy};
 ghost use Rattle.hx_rules.specs.Executions.{published, shown_of};
+ghost use Rattle.hx_rules.specs.Orders.{is_immediate};
 ghost use Rattle.hx_rules.specs.Removal.{others, deleted, canceled};
 ghost use Rattle.hx_rules.specs.Replace.{replaced_of, is_one_display};
 ghost use Rattle.hx_market.specs.OrderKeys.{AreKeyed, AreBefore};
@@ -20,7 +21,7 @@ use crate::commit::execute::Taker;
 use crate::commit::incoming::{arrive, draw};
 use crate::effect::{FailedReplace, Replacement, is_one_display};
 use crate::messages::{delete, publish, tell_canceled};
-use crate::trading::Trading;
+use hx_day::Trading;
 use hx_itch::{Feed, OrderReplace};
 use hx_levels::{Book, Key, Order};
 use hx_match::Fill;
@@ -253,7 +254,8 @@ pub fn replace<B: Book>(
         effect.now.old }
     requires token_place { tokens.old.place
         ≡ Some (name_of effect.now.member effect.now.replace.replacement_token) }
-    requires place { B.place book.old ≡ Some (terms_of_replacement effect.now) }
+    requires place { is_immediate effect.now.replace.time_in_force ≡ false
+        → B.place book.old ≡ Some (terms_of_replacement effect.now) }
     requires executions { AreFills (incoming_of_replacement effect.now)
         (without effect.now.old.key.0 (B.orders book.old)) fills.now left }
     requires keyed { AreKeyed tokens.old.tokens tokens.old.keys (B.orders book.old) }

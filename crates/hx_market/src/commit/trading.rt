@@ -6,7 +6,7 @@ ghost use Rattle.hx_rules.specs.Halts.{trading_action};
 ghost use Rattle.hx_rules.specs.Breaks.{broken_of, to_broken, with_execution};
 
 use crate::effect::{BrokenMatch, StateChange};
-use crate::trading::Trading;
+use hx_day::Trading;
 use hx_itch::{BrokenTrade, Feed, StockTradingAction};
 use hx_ouch::Outbound;
 use hx_rules::Output;

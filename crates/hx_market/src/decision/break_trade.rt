@@ -9,7 +9,7 @@ ghost use Rattle.hx_rules.specs.Breaks.{break_trade};
 ghost use Rattle.hx_market.specs.Effects.{outcome_of, IsEffect, IsOf, SuitsTokens, IsAbout};
 
 use crate::effect::{BrokenMatch, Effect};
-use crate::trading::Trading;
+use hx_day::Trading;
 
 /// What a break does: nothing for a match number that was never drawn, or whose execution is broken.
 pub fn break_effect(trading: &Trading, time: u64, number: u64) -> Effect

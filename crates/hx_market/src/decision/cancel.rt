@@ -6,7 +6,8 @@ ghost use Rattle.hx_refs.specs.Numbers.{Numbers};
 ghost use Rattle.hx_rules.specs.Cancel.{cancel, cancelled_shares};
 ghost use Rattle.hx_market.specs.OrderKeys.{AreKeyed};
 ghost use Rattle.hx_market.specs.Effects.{IsEffect, IsOf, SuitsTokens, IsAbout, outcome_of};
-ghost use Rattle.hx_market.specs.MarketModel.{TradingState, market_of};
+ghost use Rattle.hx_day.specs.Day.{TradingState};
+ghost use Rattle.hx_market.specs.MarketModel.{market_of};
 
 use crate::effect::{Effect, Reduction};
 use crate::order_by_token::{Found, find_order};

@@ -13,7 +13,7 @@ ghost use Rattle.hx_market.specs.MarketModel.{market_of};
 
 use crate::effect::{Effect, FailedReplace, Replacement};
 use crate::order_by_token::{Found, find_order};
-use crate::trading::Trading;
+use hx_day::Trading;
 use hx_levels::Book;
 use hx_members::{Setup, Tokens};
 use hx_ouch::Replace;

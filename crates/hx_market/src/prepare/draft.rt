@@ -1,5 +1,5 @@
 //! The plan of an effect: its executions, how many messages it gives, and all growths.
-ghost use Rattle.std.specs.Prelude.{◌≡◌, ◌<◌, ◌^◌, [], Some, IfOk, OnOk, length, map};
+ghost use Rattle.std.specs.Prelude.{◌≡◌, ◌<◌, ◌^◌, [], Some, IfOk, OnOk, length, map, false};
 ghost use Rattle.hx_levels.specs.Book.{order_of, without, KeysDiffer};
 ghost use Rattle.hx_match.specs.Matching.{terms, matched_live};
 ghost use Rattle.hx_match.specs.Executing.{fills_of};
@@ -43,10 +43,16 @@ fn incoming_by(effect: &Replacement) -> Incoming
     }
 }
 
-// The plan of an order, and a place for what rests of it.
-fn plan_order<B: Book>(alloc: Global, book: &mut B, incoming: &Incoming) -> Result<Plan, NoMemory>
+// The plan of an order, and a place for what rests of it: none of an immediate one does.
+fn plan_order<B: Book>(
+    alloc: Global,
+    book: &mut B,
+    incoming: &Incoming,
+    immediate: bool,
+) -> Result<Plan, NoMemory>
     ensures orders { B.orders book.new ≡ B.orders book.old }
-    ensures place { OnOk result (B.place book.new ≡ Some (terms incoming.now)) }
+    ensures place { OnOk result (immediate ≡ false
+        → B.place book.new ≡ Some (terms incoming.now)) }
     ensures fills { IfOk result (λ plan. plan.fills.items
         ≡ fills_of incoming.now (B.orders book.new)) }
     ensures left { IfOk result (λ plan. plan.left
@@ -55,7 +61,9 @@ fn plan_order<B: Book>(alloc: Global, book: &mut B, incoming: &Incoming) -> Resu
         (λ plan. AreFills incoming.now (B.orders book.new) plan.fills.items plan.left) }
     ensures keys { OnOk result (KeysDiffer (B.orders book.new)) }
 {
-    book.reserve(incoming.locate, incoming.side, incoming.price)?;
+    if !immediate {
+        book.reserve(incoming.locate, incoming.side, incoming.price)?;
+    }
     plan(alloc, book, incoming)
 }
 
@@ -150,7 +158,8 @@ fn draft_order<B: Book>(
     effect: &AcceptedEnter,
 ) -> Result<Draft, NoMemory>
     ensures orders { B.orders book.new ≡ B.orders book.old }
-    ensures place { OnOk result (B.place book.new ≡ Some (terms_of_enter effect.now)) }
+    ensures place { OnOk result (is_immediate effect.now.enter.time_in_force ≡ false
+        → B.place book.new ≡ Some (terms_of_enter effect.now)) }
     ensures executions { IfOk result
         (λ d. AreFills (incoming_of_enter effect.now) (B.orders book.new) d.fills.items d.left) }
     ensures keys { OnOk result (KeysDiffer (B.orders book.new)) }
@@ -161,8 +170,8 @@ fn draft_order<B: Book>(
         ≡ arrival_members effect.now.member (is_immediate effect.now.enter.time_in_force)
         (B.orders book.new) d.fills.items d.left) }
 {
-    let plan = plan_order(alloc, book, &incoming_of(effect))?;
     let immediate = effect.enter.time_in_force == 0;
+    let plan = plan_order(alloc, book, &incoming_of(effect), immediate)?;
     let reply_members = members_of(alloc, book, effect.member, immediate, &plan)?;
     let shown = is_shown(effect.enter.display, effect.enter.time_in_force);
     let feed_count = arrival_count(shown, &plan);
@@ -183,7 +192,8 @@ fn draft_replacement<B: Book>(
     requires is_replacement { IsReplacement effect.now }
     requires old { order_of effect.now.old.key.0 (B.orders book.old) ≡ Some effect.now.old.order }
     ensures orders { B.orders book.new ≡ B.orders book.old }
-    ensures place { OnOk result (B.place book.new ≡ Some (terms_of_replacement effect.now)) }
+    ensures place { OnOk result (is_immediate effect.now.replace.time_in_force ≡ false
+        → B.place book.new ≡ Some (terms_of_replacement effect.now)) }
     ensures executions { IfOk result
         (λ d. AreFills (incoming_of_replacement effect.now)
         (without effect.now.old.key.0 (B.orders book.new)) d.fills.items d.left) }
@@ -194,8 +204,8 @@ fn draft_replacement<B: Book>(
         ≡ arrival_members effect.now.member (is_immediate effect.now.replace.time_in_force)
         (B.orders book.new) d.fills.items d.left) }
 {
-    let plan = plan_order(alloc, book, &incoming_by(effect))?;
     let immediate = effect.replace.time_in_force == 0;
+    let plan = plan_order(alloc, book, &incoming_by(effect), immediate)?;
     let reply_members = members_of(alloc, book, effect.member, immediate, &plan)?;
     let feed_count = replaced_count(effect, &plan);
     Ok(Draft {

@@ -1,12 +1,12 @@
 //! A day whose quiet chains are those of several members.
 
-use super::histories::events_of;
-use super::lines::{first_lines, last_lines};
-use super::replaying::{expect_output, replayed, standard};
-use super::words::Day;
+use super::replaying::{expect_output, replayed};
 use hx_audit::{StrikeError, strike_all, strike_chains};
 use hx_market::{Event, PrepareError};
 use hx_replay::{Kind, TapeError, strike_all_tape};
+use hx_testing::Day;
+use hx_testing::lines::{events_of, first_lines, last_lines};
+use hx_testing::setups::standard;
 use hx_units::{MemberNo, Token};
 use std::alloc::Global;
 use std::process::Abort;

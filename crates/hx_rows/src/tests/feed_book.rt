@@ -1,11 +1,11 @@
 //! The book that a reader of the feed builds over a random day with halts, beside the shown live orders.
 
 use super::generated::tape;
-use super::lines::split_line;
 use hx_itch::Feed;
 use hx_levels::LevelBook;
-use hx_market::{Bytes, Event, Market, decode_operator};
+use hx_market::Market;
 use hx_members::Setup;
+use hx_testing::lines::{event_of, split_line};
 use std::alloc::Global;
 use std::test::Fail;
 
@@ -56,24 +56,6 @@ fn shown(alloc: Global, market: &Market<LevelBook>) -> Result<Vec<Shown>, Fail> 
         }
     }
     Ok(orders)
-}
-
-// The event of a line.
-fn event_of(alloc: Global, line: &[u8]) -> Result<Event, Fail> {
-    let text = str::from_utf8(line)?;
-    let (time, others) = text.split_once(' ').ok_or("no time")?;
-    let (member, digits) = others.split_once(' ').ok_or("no member")?;
-    let time = time.parse::<u64>()?;
-    let member = member.parse::<u16>()?;
-    let bytes = hex::decode(alloc, digits)?;
-    if member == 0 {
-        return Ok(decode_operator(time, &bytes).ok_or("no event")?);
-    }
-    Ok(Event::Message {
-        member,
-        time,
-        bytes: Bytes::of(bytes),
-    })
 }
 
 #[test]

@@ -1,10 +1,11 @@
 //! A day of 2,000 random lines: hidden and displayed orders, Replaces, Cancels and minimums of three members, ticks, and
 //! halts of one of the two stocks.
 
-use super::lines::split_line;
-use super::replaying::{replayed, standard};
+use super::replaying::replayed;
 use hx_ouch::{Cancel, Enter, Inbound, Replace, encode_in};
 use hx_replay::{strike_all_tape, strike_tape};
+use hx_testing::lines::lines_that;
+use hx_testing::setups::standard;
 use hx_units::{Firm, MemberNo, Symbol, Token};
 use std::alloc::Global;
 use std::process::Abort;
@@ -129,23 +130,6 @@ pub fn tape(alloc: Global) -> Result<Vec<u8>, Fail> {
         }
     }
     Ok(text)
-}
-
-// The lines of a text that begin so, or those that do not.
-fn lines_that(alloc: Global, text: &[u8], beginning: &[u8], begin: bool) -> Result<Vec<u8>, Fail> {
-    let mut chosen = Vec::new(alloc);
-    let mut rest = text;
-    for _ in 0..u64::MAX {
-        let Some((line, others)) = split_line(rest) else {
-            break;
-        };
-        if line.starts_with(beginning) == begin {
-            chosen.extend_from_slice(line)?;
-            chosen.push(b'\n')?;
-        }
-        rest = others;
-    }
-    Ok(chosen)
 }
 
 // What a replay writes.

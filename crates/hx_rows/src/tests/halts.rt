@@ -3,8 +3,8 @@
 
 use super::replaying::{expect_bad, expect_day, expect_output, replayed};
 use super::striking::{expect_kept, struck};
-use super::words::Day;
 use hx_replay::Kind;
+use hx_testing::Day;
 use std::test::Fail;
 
 /// A halt, its end, and executions that are broken.

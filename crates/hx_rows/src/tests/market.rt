@@ -1,11 +1,11 @@
 //! The market's own calls over a worked day.
 
-use super::lines::{event_of, split_line};
-use super::words::Day;
-use super::worked::REPLACES_THAT_TRADE;
 use hx_levels::ListBook;
 use hx_market::{Event, Market};
 use hx_members::Setup;
+use hx_testing::Day;
+use hx_testing::lines::{event_of, split_line};
+use hx_testing::worked::REPLACES_THAT_TRADE;
 use hx_units::{MemberNo, Token};
 use std::alloc::Global;
 use std::process::Abort;

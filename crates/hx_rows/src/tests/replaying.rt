@@ -1,63 +1,14 @@
 //! Days as tapes, replayed over both books.
 
-use super::lines::front;
-use super::words::Day;
-use super::worked;
 use hx_levels::ListBook;
-use hx_members::{Setup, SetupError};
 use hx_replay::{Counts, Kind, TapeError, replay, replay_on};
-use hx_units::NoMemory;
+use hx_testing::lines::count_lines;
+use hx_testing::setups::{CLOSED, TWO_MESSAGES, setup_of, standard};
+use hx_testing::{Day, worked};
 use std::alloc::Global;
-use std::io::{self, ErrorKind, Read, Write};
+use std::io::{Read, Write};
 use std::process::Abort;
 use std::test::Fail;
-
-/// Gives its bytes in small pieces, and then fails.
-#[derive(Drop)]
-pub struct Faulty<'a> {
-    pub text: &'a [u8],
-}
-
-impl Read for Faulty<'_> {
-    fn read(&mut self, buf: &mut [u8]) -> io::Result<usize> {
-        let count = self.text.len().min(buf.len()).min(7);
-        if count == 0 {
-            return Err(io::Error::from(ErrorKind::ConnectionReset));
-        }
-        let (front, others) = self.text.split_at(count);
-        buf[..count].copy_from_slice(front);
-        self.text = others;
-        Ok(count)
-    }
-}
-
-/// Takes so many bytes, in small pieces, and then fails.
-#[derive(Drop)]
-pub struct Full {
-    pub taken: Vec<u8>,
-    pub room: usize,
-}
-
-impl Write for Full {
-    fn write(&mut self, buf: &[u8]) -> io::Result<usize> {
-        let count = buf.len().min(self.room).min(11);
-        if count == 0 {
-            return Err(io::Error::from(ErrorKind::StorageFull));
-        }
-        self.taken.extend_from_slice(&buf[..count])?;
-        self.room -= count;
-        Ok(count)
-    }
-
-    fn flush(&mut self) -> io::Result<()> {
-        Ok(())
-    }
-}
-
-// The standard setup, of which callers know nothing.
-pub fn standard(alloc: Global) -> Result<Setup, NoMemory> {
-    Setup::standard(alloc)
-}
 
 // A replay over the standard setup, of which callers know nothing.
 fn play<R: Read, W: Write>(
@@ -96,25 +47,12 @@ fn replayed_on_list(alloc: Global, text: &[u8]) -> Replayed {
     (output, result)
 }
 
-// How many lines begin with this byte.
-fn lines_of(text: &[u8], kind: u8) -> u64 {
-    let mut count = 0;
-    let mut begins = true;
-    for byte in text {
-        if begins && *byte == kind && count < u64::MAX {
-            count += 1;
-        }
-        begins = *byte == b'\n';
-    }
-    count
-}
-
 pub fn expect_output<R: Abort>(rt: &R, day: &Day, replayed: Replayed) -> Result<(), Fail> {
     let (output, result) = replayed;
     assert_eq!(rt; output.as_slice(), day.output.as_slice());
     let counts = result?;
-    assert_eq!(rt; counts.feed, lines_of(&day.output, b'F'));
-    assert_eq!(rt; counts.replies, lines_of(&day.output, b'M'));
+    assert_eq!(rt; counts.feed, count_lines(&day.output, b"F "));
+    assert_eq!(rt; counts.replies, count_lines(&day.output, b"M "));
     Ok(())
 }
 
@@ -124,33 +62,8 @@ pub fn expect_day<R: AllocGlobal + Abort>(rt: &R, day: &Day) -> Result<(), Fail>
     expect_output(rt, day, replayed_on_list(rt.alloc(), &day.tape))
 }
 
-// A day that begins closed.
-const CLOSED: &[u8] = b"session HX00000002
-start closed
-stock ABCD 5120000000644e435a20502020314e000000004e
-member 1 FMA1 ALPHA PWALPHA 1000
-member 2 FMB2 BRAVO PWBRAVO 1000
-";
-
-// A member who may send two messages.
-const TWO_MESSAGES: &[u8] = b"session HX00000003
-start open
-stock ABCD 5120000000644e435a20502020314e000000004e
-member 1 FMA1 ALPHA PWALPHA 2
-member 2 FMB2 BRAVO PWBRAVO 1000
-";
-
-// The setup of a text, of which callers know nothing.
-fn setup_of(alloc: Global, text: &[u8]) -> Result<Setup, TapeError> {
-    match Setup::read(alloc, text) {
-        Ok(setup) => Ok(setup),
-        Err(SetupError::NoMemory) => Err(TapeError::NoMemory),
-        Err(SetupError::Bad { .. }) => Err(TapeError::Read),
-    }
-}
-
 // A day by this setup, over price levels.
-fn replayed_by(alloc: Global, setup: &[u8], text: &[u8]) -> Result<Replayed, TapeError> {
+fn replayed_by(alloc: Global, setup: &[u8], text: &[u8]) -> Result<Replayed, Fail> {
     let setup = setup_of(alloc, setup)?;
     let mut output = Vec::new(alloc);
     let mut reader = text;
@@ -159,7 +72,7 @@ fn replayed_by(alloc: Global, setup: &[u8], text: &[u8]) -> Result<Replayed, Tap
 }
 
 // The same over a plain list of orders.
-fn replayed_by_on_list(alloc: Global, setup: &[u8], text: &[u8]) -> Result<Replayed, TapeError> {
+fn replayed_by_on_list(alloc: Global, setup: &[u8], text: &[u8]) -> Result<Replayed, Fail> {
     let setup = setup_of(alloc, setup)?;
     let mut output = Vec::new(alloc);
     let mut reader = text;
@@ -306,31 +219,6 @@ fn member_at_limit(rt: HostRuntime) -> Result<(), Fail> {
         Err(TapeError::Line { line, kind }) => assert_eq!(rt; (line, kind), (1001, Kind::Limit)),
         _ => panic!(&rt; "the member may send 1,000 messages"),
     }
-    Ok(())
-}
-
-#[test]
-fn reader_fails(rt: HostRuntime) -> Result<(), Fail> {
-    let day = Day::of(rt.alloc(), worked::TWO_LEVELS_TAKEN)?;
-    let mut output = Vec::new(rt.alloc());
-    let mut reader = Faulty { text: &day.tape };
-    let result = play(rt.alloc(), &mut reader, &mut output);
-    assert!(rt; matches!(result, Err(TapeError::Read)));
-    assert_eq!(rt; output.as_slice(), day.output.as_slice());
-    Ok(())
-}
-
-#[test]
-fn writer_fails(rt: HostRuntime) -> Result<(), Fail> {
-    let day = Day::of(rt.alloc(), worked::TWO_LEVELS_TAKEN)?;
-    let mut output = Full {
-        taken: Vec::new(rt.alloc()),
-        room: 400,
-    };
-    let mut text = day.tape.as_slice();
-    let result = play(rt.alloc(), &mut text, &mut output);
-    assert!(rt; matches!(result, Err(TapeError::Write)));
-    assert_eq!(rt; output.taken.as_slice(), front(&day.output, 400));
     Ok(())
 }
 

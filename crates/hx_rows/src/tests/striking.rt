@@ -1,13 +1,13 @@
 //! Tapes without the messages of a member's quiet chains.
 
-use super::lines::{first_lines, front};
-use super::replaying::{Faulty, Full, Replayed, expect_output, replayed, standard};
-use super::words::Day;
-use super::worked;
+use super::replaying::{Replayed, expect_output, replayed};
 use hx_replay::{Counts, Kind, TapeError, strike_tape};
+use hx_testing::lines::first_lines;
+use hx_testing::setups::standard;
+use hx_testing::{Day, worked};
 use hx_units::MemberNo;
 use std::alloc::Global;
-use std::io::{Read, Write};
+use std::io::{self, Read, Write};
 use std::process::Abort;
 use std::test::Fail;
 
@@ -142,27 +142,38 @@ fn lines_at_fault(rt: HostRuntime) -> Result<(), Fail> {
     Ok(())
 }
 
-#[test]
-fn reader_fails_before_anything_is_written(rt: HostRuntime) -> Result<(), Fail> {
-    let day = Day::of(rt.alloc(), worked::TWO_LEVELS_TAKEN)?;
+/// Gives one text again and again, without an end.
+#[derive(Drop)]
+struct Endless<'a> {
+    text: &'a [u8],
+}
+
+impl Read for Endless<'_> {
+    fn read(&mut self, buf: &mut [u8]) -> io::Result<usize> {
+        let count = self.text.len().min(buf.len());
+        buf[..count].copy_from_slice(&self.text[..count]);
+        Ok(count)
+    }
+}
+
+// The first line of the endless text is bad, and the strike ends there.
+fn expect_end<R: AllocGlobal + Abort>(rt: &R, text: &[u8]) -> Result<(), Fail> {
     let mut output = Vec::new(rt.alloc());
-    let mut reader = Faulty { text: &day.tape };
-    let result = strike(rt.alloc(), &mut reader, &mut output, 1);
-    assert!(rt; matches!(result, Err(TapeError::Read)));
+    let mut reader = Endless { text };
+    match strike(rt.alloc(), &mut reader, &mut output, 1) {
+        Err(TapeError::Line { line, kind }) => assert_eq!(rt; (line, kind), (1, Kind::Bad)),
+        _ => panic!(rt; "the first line is at fault"),
+    }
     assert_eq!(rt; output.len(), 0);
     Ok(())
 }
 
 #[test]
-fn writer_fails_within_the_lines_that_stay(rt: HostRuntime) -> Result<(), Fail> {
-    let day = Day::of(rt.alloc(), worked::TWO_LEVELS_TAKEN)?;
-    let mut output = Full {
-        taken: Vec::new(rt.alloc()),
-        room: 150,
-    };
-    let mut text = day.tape.as_slice();
-    let result = strike(rt.alloc(), &mut text, &mut output, 1);
-    assert!(rt; matches!(result, Err(TapeError::Write)));
-    assert_eq!(rt; output.taken.as_slice(), front(&day.tape, 150));
-    Ok(())
+fn a_bad_line_ends_an_endless_tape(rt: HostRuntime) -> Result<(), Fail> {
+    expect_end(&rt, b"20 1 zz\n")
+}
+
+#[test]
+fn bytes_without_a_line_feed_end(rt: HostRuntime) -> Result<(), Fail> {
+    expect_end(&rt, b"20 1 41")
 }

@@ -1,8 +1,8 @@
 //! A client, and what must come of his session.
 
-use super::memory::{Input, Output};
 use super::stage::{Day, play};
 use hx_sessions::{Ended, Fault};
+use hx_testing::memory::{Input, Output};
 use std::alloc::Global;
 use std::process::Abort;
 use std::sync::Wait;

@@ -1,11 +1,11 @@
 //! A stream of packets that comes in pieces, whatever they are, and goes out in pieces.
 
 use super::client::{Client, End, Want, alone};
-use super::memory::{Input, Output};
 use super::packets::{
     ACCEPTED, ALPHA, HIDDEN, LOGOUT, SHOWN, first_private, put_accepted, put_order,
 };
 use super::stage::{Day, play};
+use hx_testing::memory::{Input, Output};
 use hx_units::NoMemory;
 use std::alloc::Global;
 use std::sync::atomic::AtomicU64;

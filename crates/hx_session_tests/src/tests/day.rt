@@ -1,9 +1,9 @@
 //! The end of the day ends a session, once all replies have gone out.
 
 use super::client::{Client, End, Want};
-use super::memory::{Behind, Input, Output};
 use super::packets::{ALPHA, END_OF_SESSION, SHOWN, one_reply, put_end_of_hours, put_timed_out};
 use super::stage::{Day, play};
+use hx_testing::memory::{Behind, Input, Output};
 use std::io::ErrorKind;
 use std::sync::atomic::AtomicU64;
 use std::test::Fail;

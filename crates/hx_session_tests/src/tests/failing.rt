@@ -2,9 +2,9 @@
 
 use super::client::{Client, End, Want};
 use super::cutting::{two_orders, two_replies};
-use super::memory::{Bad, Input, NONE_BAD, Output};
 use super::packets::ACCEPTED;
 use super::stage::{Day, play};
+use hx_testing::memory::{Bad, Input, NONE_BAD, Output};
 use std::io::ErrorKind;
 use std::process::Abort;
 use std::sync::Wait;

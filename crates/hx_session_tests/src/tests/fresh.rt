@@ -1,11 +1,11 @@
 //! A session sends replies as soon as they are there, and not at its end.
 
 use super::client::{Client, End, Want};
-use super::memory::{Behind, Input, Output};
 use super::packets::{
     ACCEPTED, BRAVO, CHARLI, HIDDEN, LOGOUT, SALE, SHOWN, put_accepted, put_executed, put_order,
 };
 use super::stage::{Day, play};
+use hx_testing::memory::{Behind, Input, Output};
 use std::sync::atomic::AtomicU64;
 use std::test::Fail;
 

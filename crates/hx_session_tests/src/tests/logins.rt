@@ -1,13 +1,13 @@
 //! Logins that are taken, rejected or broken, and what is no login.
 
 use super::client::{Client, End, Want, alone};
-use super::memory::{Behind, Input, Output};
 use super::packets::{
     ACCEPTED, ALPHA, HIDDEN, LOGOUT, SHOWN, first_private, put_accepted, put_order, put_packet,
 };
 use super::stage::{Day, play};
 use arrayvec::ArrayVec;
 use hx_soup::SoupPacket;
+use hx_testing::memory::{Behind, Input, Output};
 use std::sync::atomic::AtomicU64;
 use std::test::Fail;
 

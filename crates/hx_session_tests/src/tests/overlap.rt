@@ -1,10 +1,10 @@
 //! Sessions run at the same time: each member's first submit waits for the other's.
 
 use super::client::{Client, End, Want};
-use super::memory::{Input, Output, wait_for};
 use super::packets::{ALPHA, BRAVO, HIDDEN, SHOWN, first_private, one_order, one_reply};
 use super::stage::{Day, play};
 use hx_sessions::Gate;
+use hx_testing::memory::{Input, Output, wait_for};
 use hx_units::MemberNo;
 use std::sync::atomic::{AtomicU64, Ordering};
 use std::test::Fail;

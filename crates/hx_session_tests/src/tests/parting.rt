@@ -1,11 +1,11 @@
 //! Two members at once, one of whom fails; and the exchange behind them.
 
 use super::client::{Client, End, Want};
-use super::memory::{Behind, Input, Output};
 use super::packets::{
     ACCEPTED, ALPHA, BRAVO, HIDDEN, SHOWN, first_private, one_order, one_reply, put_order,
 };
 use super::stage::{Day, play};
+use hx_testing::memory::{Behind, Input, Output};
 use std::io::ErrorKind;
 use std::sync::atomic::AtomicU64;
 use std::test::Fail;

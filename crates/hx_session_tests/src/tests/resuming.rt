@@ -1,12 +1,12 @@
 //! A member who comes again, who comes twice at once, and who comes to thousands of replies.
 
 use super::client::{Client, End, Want};
-use super::memory::{Behind, Input, Output};
 use super::packets::{
     ACCEPTED, ALPHA, LOGOUT, Order, SHOWN, one_order, one_reply, put_accepted, put_order,
 };
 use super::stage::{Day, play, play_by};
 use hx_members::Setup;
+use hx_testing::memory::{Behind, Input, Output};
 use hx_units::NoMemory;
 use std::alloc::Global;
 use std::sync::atomic::AtomicU64;

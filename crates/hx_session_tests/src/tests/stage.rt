@@ -2,7 +2,6 @@
 ghost use Rattle.std.specs.Prelude.{◌≡◌, ◌≤◌, []};
 
 use super::client::{Client, Want};
-use super::memory::{Input, Output};
 use super::overlap::Meeting;
 use super::packets::{Order, enter};
 use hx_blog::{Log, Reader, Writer};
@@ -10,6 +9,7 @@ use hx_engine::{Entry, Exchange, FinishError, Pass, Venue};
 use hx_market::{Bytes, Event};
 use hx_members::Setup;
 use hx_sessions::{Clock, Part, serve_all};
+use hx_testing::memory::{Input, Output};
 use hx_units::NoMemory;
 use std::alloc::Global;
 use std::marker::Brand;

@@ -1,5 +1,5 @@
 use Rattle.std.proofs.Common.{◌≡◌, Bool, true, false, ◌||◌, not, refl, ◌∙◌}
-use Rattle.hx_audit.proofs.Bearing.{told_quiet, untold_quiet}
+use Rattle.hx_audit.proofs.QuietTokens.{told_quiet, untold_quiet}
 use Rattle.hx_audit.proofs.selection.is_quiet.Goals as goal
 
 not_first : (d t : Bool) → not d ≡ true → not t ≡ not (d || t)

@@ -1,8 +1,8 @@
 use Rattle.std.proofs.Common.{[], ◌∷◌, ◌++◌, ap, sym, ◌∙◌}
 use Rattle.hx_rules.specs.declared.event.Event.{Event}
-use Rattle.hx_audit.proofs.Bearing.{kept_more, left_out, all_kept}
+use Rattle.hx_audit.proofs.QuietTokens.{kept_more, left_out, all_kept}
 use Rattle.hx_audit.proofs.selection.keep.Goals as goal
-use Rattle.hx_audit.proofs.selection.keep.Goals.{then-not-bears+in_ok-copy+in_ok-push, else-not-bears}
+use Rattle.hx_audit.proofs.selection.keep.Goals.{then-not-is_borne+in_ok-copy+in_ok-push, else-not-is_borne}
 
 pub loop-event-preserved : goal.loop-event-preserved
 loop-event-preserved g c =
@@ -10,14 +10,14 @@ loop-event-preserved g c =
     let xs = c.args.events.now in
     let i = c.loop-event.event-index in
     let x = c.event-item.result in
-    elim c.if-not-bears.branch [
-      | then-not-bears+in_ok-copy+in_ok-push w ↦
+    elim c.if-not-is_borne.branch [
+      | then-not-is_borne+in_ok-copy+in_ok-push w ↦
           let new = w.in_ok-push.ensures.items ∙ ap (λ (y : Event). c.loop-event.kept.items ++ y ∷ []) w.in_ok-copy.ensures in
           rw (w.kept-is, new)
-          (kept_more s xs i x c.loop-event.kept.items _ c.loop-event-test.true c.event-item.is (sym c.bears.ensures ∙ w.if-not-bears.true) c.loop-event.invariant)
-      | else-not-bears w ↦
+          (kept_more s xs i x c.loop-event.kept.items _ c.loop-event-test.true c.event-item.is (sym (c.is_borne.ensures ∙ c.of.ensures s) ∙ w.if-not-is_borne.true) c.loop-event.invariant)
+      | else-not-is_borne w ↦
           rw w.kept-is
-          (left_out s xs i x c.loop-event.kept.items _ c.loop-event-test.true c.event-item.is (sym c.bears.ensures ∙ w.if-not-bears.false) c.loop-event.invariant)
+          (left_out s xs i x c.loop-event.kept.items _ c.loop-event-test.true c.event-item.is (sym (c.is_borne.ensures ∙ c.of.ensures s) ∙ w.if-not-is_borne.false) c.loop-event.invariant)
     ]
 
 pub returns : goal.returns

@@ -12,7 +12,8 @@ use Rattle.hx_rules.specs.declared.matches.Match.{Match}
 use Rattle.hx_rules.specs.Markets.{Market}
 use Rattle.hx_rules.specs.Steps.{happens, sender, with_record}
 use Rattle.hx_market.specs.Effects.{SuitsTokens, IsOf, IsAbout, outcome_of}
-use Rattle.hx_market.specs.MarketModel.{Planned, TradingState, market_of}
+use Rattle.hx_day.specs.Day.{TradingState}
+use Rattle.hx_market.specs.MarketModel.{Planned, market_of}
 use Rattle.hx_market.specs.Prepared.{IsPlanned}
 use Rattle.hx_market.proofs.PreparedCounts.{tells}
 use Rattle.hx_market.proofs.prepare.make.Goals as goal

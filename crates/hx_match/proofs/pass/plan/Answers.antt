@@ -1,4 +1,4 @@
-use Rattle.std.proofs.Common.{ℕ, min, append-nil, ◌≡◌, ◌+◌, ◌-◌, ◌++◌, ◌∷◌, [], List, length, true, false, Option, Some, None, sym, refl, ap, ◌∙◌, subst, arith}
+use Rattle.std.proofs.Common.{ℕ, min, max, append-nil, ◌≡◌, ◌+◌, ◌-◌, ◌<◌, ◌++◌, ◌∷◌, [], List, length, true, false, Option, Some, None, sym, refl, ap, ◌∙◌, subst, arith}
 use Rattle.std.specs.Option.{IfSome, IsSome, option_copied, option_map}
 use Rattle.hx_levels.specs.declared.order.Key.{Key}
 use Rattle.hx_levels.specs.declared.order.Order.{Order}
@@ -11,10 +11,10 @@ use Rattle.hx_match.specs.declared.fills.Incoming.{Incoming}
 use Rattle.hx_match.specs.Matching.{terms, qualifies, matched_live}
 use Rattle.hx_match.specs.Executing.{fills_of, AreGood, done_by, left_by}
 use Rattle.hx_match.proofs.Steps.{fill, shares_of, steps_of}
-use Rattle.hx_match.proofs.OnePass.{pass, pass-zero, rest_from, AtKey, at_key, told_taken, told_passed, steps_of-pass}
+use Rattle.hx_match.proofs.OnePass.{pass, pass-few, rest_from, AtKey, at_key, told_taken, told_passed, steps_of-pass}
 use Rattle.hx_match.proofs.Carried.{Carried, carried, steps_of-fills, steps_of-left}
 use Rattle.hx_match.proofs.pass.plan.Goals as goal
-use Rattle.hx_match.proofs.pass.plan.Goals.{in-Some-execution+in_ok-push, in_default-execution, in-Some+then-left-eq0, in_default}
+use Rattle.hx_match.proofs.pass.plan.Goals.{in-Some-execution+in_ok-push, in_default-execution, in-Some+then-left-least, in_default}
 
 is_some_of : {A B : Type 0} (f : A → B) (r : Option A) (y : B) → option_map f r ≡ Some y → IsSome r
 is_some_of f None y h = cc
@@ -35,9 +35,9 @@ taken_total left after all live front now f e a h t =
     let m : f.shares ≡ min left live.order.shares = ap (λ (fill : Fill). fill.shares) h in
     omega arith
 
-ended : (k left : ℕ) (front all : List Fill) (xs : List Live) → left ≡ 0 → front ++ pass k left xs ≡ all → front ≡ all
+ended : (k left : ℕ) (front all : List Fill) (xs : List Live) → left < max 1 k → front ++ pass k left xs ≡ all → front ≡ all
 ended k left front all xs z t =
-    sym (append-nil front) ∙ ap (λ r. front ++ r) (sym (pass-zero k xs)) ∙ ap (λ n. front ++ pass k n xs) (sym z) ∙ t
+    sym (append-nil front) ∙ ap (λ r. front ++ r) (sym (pass-few k left xs z)) ∙ t
 
 pub unwrap-order-requires : goal.unwrap-order-requires
 unwrap-order-requires g c =
@@ -119,7 +119,7 @@ both g c =
     let line = ranked (terms inc) orders in
     told_at_end inc orders c.loop-next.left c.loop-next.fills.items c.next_contra-next.ensures.keys
     (elim c.match-next.branch [
-      | in-Some+then-left-eq0 w ↦ ended inc.minimum c.loop-next.left c.loop-next.fills.items (pass inc.minimum inc.shares line) (rest_from c.loop-next.next line) w.if-left-eq0.true c.loop-next.invariant.told
+      | in-Some+then-left-least w ↦ ended inc.minimum c.loop-next.left c.loop-next.fills.items (pass inc.minimum inc.shares line) (rest_from c.loop-next.next line) (subst (λ n. c.loop-next.left < n) c.least_fill-least.ensures w.if-left-least.true) c.loop-next.invariant.told
       | in_default w ↦ run_out inc.minimum c.loop-next.left c.loop-next.fills.items (pass inc.minimum inc.shares line) line c.loop-next.next w.in_default.is c.loop-next.invariant.told
     ])
     c.loop-next.invariant.total

@@ -1,11 +1,12 @@
 //! The chains of a member.
 
-use super::super::words::Day;
-use super::super::worked::{CHAIN_THAT_TRADED, FAILED_REPLACE};
-use super::{events_of, with_second};
+use super::with_second;
 use hx_audit::{Chain, StrikeError, chains};
 use hx_market::{Event, PrepareError};
 use hx_members::{ChainFacts, Setup};
+use hx_testing::Day;
+use hx_testing::lines::events_of;
+use hx_testing::worked::{CHAIN_THAT_TRADED, FAILED_REPLACE};
 use hx_units::{MemberNo, Token};
 use std::alloc::Global;
 use std::process::Abort;

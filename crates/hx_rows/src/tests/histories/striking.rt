@@ -1,12 +1,12 @@
 //! Histories without the messages of quiet chains.
 
-use super::super::lines::{first_lines, last_lines, split_line};
-use super::super::words::Day;
-use super::super::worked::{CHAIN_THAT_TRADED, DISPLAY_CHANGES, HIDDEN_THEN_DISPLAYED};
-use super::{events_of, with_second};
+use super::with_second;
 use hx_audit::{StrikeError, strike};
 use hx_market::{Event, PrepareError};
 use hx_members::Setup;
+use hx_testing::Day;
+use hx_testing::lines::{events_of, first_lines, last_lines, split_line};
+use hx_testing::worked::{CHAIN_THAT_TRADED, DISPLAY_CHANGES, HIDDEN_THEN_DISPLAYED};
 use hx_units::MemberNo;
 use std::alloc::Global;
 use std::process::Abort;

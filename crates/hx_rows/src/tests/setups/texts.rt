@@ -1,20 +1,5 @@
 use super::*;
-
-const STANDARD: &[u8] = b"session HX00000001
-start open
-stock ABCD 5120000000644e435a20502020314e000000004e
-stock WXYZ 5120000000644e435a20502020314e000000004e
-member 1 FMA1 ALPHA PWALPHA 1000
-member 2 FMB2 BRAVO PWBRAVO 1000
-member 3 FMC3 CHARLI PWCHARLI 1000
-";
-
-const CLOSED: &[u8] = b"session HX00000002
-start closed
-stock ABCD 5120000000644e435a20502020314e000000004e
-member 1 FMA1 ALPHA PWALPHA 1000
-member 2 FMB2 BRAVO PWBRAVO 1000
-";
+use hx_testing::setups::{CLOSED, STANDARD, setup_of, widest};
 
 const TWO_LINES: &[u8] = b"session HX00000002
 start closed
@@ -46,14 +31,6 @@ member 1 FMA1 ALPHA PWALPHA 1000
 member 2 FMB2 alpha PWBRAVO 1000
 ";
 
-fn read(alloc: Global, text: &[u8]) -> Result<Setup, Fail> {
-    match Setup::read(alloc, text) {
-        Ok(setup) => Ok(setup),
-        Err(SetupError::Bad { .. }) => Err(Fail::new("a bad line")),
-        Err(SetupError::NoMemory) => Err(Fail::new("no memory")),
-    }
-}
-
 // The number of the bad line, if there is one.
 fn bad_line(alloc: Global, text: &[u8]) -> Result<Option<u64>, NoMemory> {
     match Setup::read(alloc, text) {
@@ -84,7 +61,7 @@ fn a_user_in_another_case(rt: HostRuntime) -> Result<(), Fail> {
 
 #[test]
 fn standard_text(rt: HostRuntime) -> Result<(), Fail> {
-    let setup = read(rt.alloc(), STANDARD)?;
+    let setup = setup_of(rt.alloc(), STANDARD)?;
     expect_day(&rt, &setup);
     expect_locates(&rt, &setup);
     expect_stocks(&rt, &setup);
@@ -102,24 +79,9 @@ fn expect_closed<R: Abort>(rt: &R, setup: &Setup) {
 
 #[test]
 fn closed_text(rt: HostRuntime) -> Result<(), Fail> {
-    let setup = read(rt.alloc(), CLOSED)?;
+    let setup = setup_of(rt.alloc(), CLOSED)?;
     expect_closed(&rt, &setup);
     Ok(())
-}
-
-// The text of as many stocks and members as may be.
-fn widest(alloc: Global) -> Result<Vec<u8>, AllocError> {
-    let mut text = Vec::from_slice(alloc, TWO_LINES)?;
-    for n in 1..=1000 {
-        let tail = "5120000000644e435a20502020314e000000004e";
-        let line = format!(in alloc; "stock S{n} {tail}\n")?;
-        text.extend_from_slice(line.as_bytes())?;
-    }
-    for n in 1..=4095 {
-        let line = format!(in alloc; "member {n} FMA1 U{n} P 4294967295\n")?;
-        text.extend_from_slice(line.as_bytes())?;
-    }
-    Ok(text)
 }
 
 fn expect_widest<R: Abort>(rt: &R, setup: &Setup) {
@@ -134,7 +96,7 @@ fn expect_widest<R: Abort>(rt: &R, setup: &Setup) {
 fn widest_text(rt: HostRuntime) -> Result<(), Fail> {
     let alloc = rt.alloc();
     let mut text = widest(alloc)?;
-    let setup = read(alloc, &text)?;
+    let setup = setup_of(alloc, &text)?;
     expect_widest(&rt, &setup);
     text.extend_from_slice(b"member 4096 FMA1 U4096 P 1\n")?;
     assert_eq!(rt; bad_line(alloc, &text)?, Some(5098));

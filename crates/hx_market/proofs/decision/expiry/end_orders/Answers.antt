@@ -18,7 +18,7 @@ pub returns-clause-does : goal.returns-clause-does
 returns-clause-does g c = λ t n before counts r.
     let a = c.args in
     let orders = g.B.Book.orders a.book.now in
-    let due : lives c.deref.result.now ≡ filter (λ x. is_due a.due a.time x) (lives orders) = ap lives (c.deref.ensures.value ∙ c.in_ok-orders.ensures.due) ∙ lives-filter (λ x. is_due a.due a.time x) orders in
+    let due : lives c.deref.result.now ≡ filter (λ x. is_due a.due a.time x) (lives orders) = ap lives (c.deref.ensures.value ∙ c.in_ok-ending.ensures.due) ∙ lives-filter (λ x. is_due a.due a.time x) orders in
     let m : Market = record (market_of orders t n a.hours counts r) { live = filter (λ x. Rattle.std.proofs.Common.not (is_due a.due a.time x)) (lives orders) } in
     let feed : a.first.feed.items ++ all_deleted a.time (filter (λ x. is_due a.due a.time x) (lives orders)) ≡ c.tell_ended.new.out.feed.items =
     ap (λ (l : List Order). a.first.feed.items ++ all_deleted a.time l) (sym due) ∙ sym c.in_ok-tell_ended.ensures.feed in
@@ -34,4 +34,4 @@ returns-clause-is_effect g c = λ s.
     (both_in c.args.first.feed.items (all_deleted c.args.time (lives c.deref.result.now)) c.requires.times (all_deleted_in c.args.time (lives c.deref.result.now) l))
 
 pub returns-clause-about : goal.returns-clause-about
-returns-clause-about g c = record { due = c.in_ok-orders.ensures.due; differ = c.in_ok-orders.ensures.differ }
+returns-clause-about g c = record { due = c.in_ok-ending.ensures.due; differ = c.in_ok-ending.ensures.differ; next = c.in_ok-ending.ensures.next }

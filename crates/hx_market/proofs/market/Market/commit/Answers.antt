@@ -16,6 +16,9 @@ use Rattle.hx_market.specs.Prepared.{IsPlanned, HasPlaces}
 use Rattle.hx_market.proofs.Bounds.AfterEnter.{recording}
 use Rattle.hx_market.proofs.PreparedCounts.{step_is}
 use Rattle.hx_market.proofs.FeedTimes.{fits_feed}
+use Rattle.hx_day.specs.Expiries.{NoneEndsBefore}
+use Rattle.hx_market.specs.Effects.{earliest_after}
+use Rattle.hx_market.proofs.Expiries.{earliest_outcome}
 use Rattle.hx_itch.specs.Message.{feed_time}
 use Rattle.std.specs.List.{AllByRecursion}
 use Rattle.hx_market.proofs.Bounds.AfterEffect.{bare, parts, told_same, in_range, fits_effect, sound_outcome}
@@ -43,6 +46,16 @@ raise-requires g c =
     let i : IsPlanned s.setup m (g.B.Book.orders s.book) (g.B.Book.place s.book) s.tokens.place s.trading.room p =
     c.self.invariant.2 p (ap (λ (v : Seen). v.ready) c.self.view_is ∙ c.requires.ready ∙ ap (λ (z : Planned). Some z) (sym c.prepared.view_is)) in
     i.may_record
+
+pub earliest_after-self-inside-requires : goal.earliest_after-self-inside-requires
+earliest_after-self-inside-requires g c =
+    let s = c.self.inside in
+    let q = c.prepared.inside in
+    let p : Planned = record { event = q.event.value; feed_count = q.feed_count; reply_members = q.reply_members.items; number = q.number; effect = q.effect; fills = q.fills.items; left = q.left } in
+    let m : Market = market_of (g.B.Book.orders s.book) s.tokens s.refs s.hours s.recorded s.trading in
+    let i : IsPlanned s.setup m (g.B.Book.orders s.book) (g.B.Book.place s.book) s.tokens.place s.trading.room p =
+    c.self.invariant.2 p (ap (λ (v : Seen). v.ready) c.self.view_is ∙ c.requires.ready ∙ ap (λ (z : Planned). Some z) (sym c.prepared.view_is)) in
+    in_range s.setup q.effect i.is_effect
 
 pub commit_effect-requires-clause-range : goal.commit_effect-requires-clause-range
 commit_effect-requires-clause-range g c =
@@ -120,8 +133,13 @@ invariant_of-self g c =
     let is : n ≡ (outcome_of (recording m q.number) q.effect).market =
     whole (lives (g.B.Book.orders c.commit_effect.new.book)) k.live c.commit_effect.new.tokens.tokens k.tokens c.commit_effect.new.tokens.chains k.chains c.commit_effect.new.refs k.numbers c.hours_after-self-inside.result (hours_after q.effect s.hours) c.commit_effect.new.trading.halted k.halted c.commit_effect.new.trading.executions k.executions c.raise.new.self (raised s.recorded q.number)
     c.commit_effect.ensures.live c.commit_effect.ensures.tokens c.commit_effect.ensures.chains c.commit_effect.ensures.numbers c.hours_after-self-inside.ensures c.commit_effect.ensures.halted c.commit_effect.ensures.executions c.raise.ensures
-    ∙ sym (parts (recording m q.number) q.effect) in
-    (subst IsSound (sym is) (sound_outcome s.setup m q.number q.effect (g.B.Book.orders s.book) refl c.self.invariant.0 i.may_record i.is_effect i.suits i.about i.sender), c.commit_effect.ensures.keyed, λ p h. cc)
+    ∙ sym (parts (recording m q.number) q.effect) in (
+      subst IsSound (sym is) (sound_outcome s.setup m q.number q.effect (g.B.Book.orders s.book) refl c.self.invariant.0 i.may_record i.is_effect i.suits i.about i.sender),
+      c.commit_effect.ensures.keyed,
+      λ p h. cc,
+      subst (λ t. NoneEndsBefore t (lives (g.B.Book.orders c.commit_effect.new.book))) (sym c.earliest_after-self-inside.ensures)
+          (subst (NoneEndsBefore (earliest_after q.effect s.earliest)) (sym c.commit_effect.ensures.live) (earliest_outcome (bare m) q.effect (g.B.Book.orders s.book) s.earliest refl i.about c.self.invariant.3)),
+    )
 
 pub returns-clause-market : goal.returns-clause-market
 returns-clause-market g c =

@@ -10,6 +10,7 @@ use Rattle.hx_rules.specs.declared.matches.Match.{Match}
 use Rattle.hx_rules.specs.Markets.{Market, opening, opening_hours, none_halted, no_counts}
 use Rattle.hx_market.specs.OrderKeys.{AreKeyed}
 use Rattle.hx_market.specs.Bounds.{IsSound}
+use Rattle.hx_day.specs.Expiries.{NoneEndsBefore}
 use Rattle.hx_market.proofs.Bounds.AfterEnter.{sound_opening}
 use Rattle.hx_market.proofs.market.Market.new.Goals as goal
 
@@ -43,4 +44,5 @@ invariant_of-result g c = (
       c.requires c.new.ensures.tokens c.new.ensures.chains c.in_ok-new.ensures c.opening_hours-hours.ensures (c.in_ok-new-3.ensures.halted ∙ ap (λ (xs : List Stock). replicate (suc (length xs)) false) c.stocks.ensures.stocks) c.in_ok-new-3.ensures.executions c.in_ok-new-2.ensures)) (sound_opening c.args.setup),
   keyed_none c.new.result.tokens c.new.result.keys (g.B.Book.orders c.args.book) c.new.ensures.tokens c.new.ensures.keys c.requires,
   λ p h. cc,
+  subst (λ (xs : List Live). NoneEndsBefore 18446744073709551615 (lives xs)) (sym c.requires) tt,
 )

@@ -1,0 +1,9 @@
+pub mod Windows
+pub mod Orders
+pub mod Repeats
+pub mod RungLaws
+pub mod LevelLaws
+pub mod Tables
+pub mod Found
+pub mod Fits
+pub mod PriceLaws

@@ -1,0 +1,9 @@
+pub mod Readings
+pub mod Runs
+pub mod Faults
+pub mod Prices
+pub mod Levels
+pub mod Rungs
+pub mod Tables
+pub mod Depth
+pub mod Screens

@@ -1,0 +1,99 @@
+//! A desk is given an event again where it lacks memory for it: nothing of the first time is left.
+//!
+//! Here it has all the memory that it needs. `tests/refusals` refuses each growth of this test in turn.
+ghost use Rattle.std.specs.Prelude.{◌≡◌};
+
+use super::days::{DAYS, Worked};
+use hx_blog::{Log, Reader};
+use hx_desk::{Desk, DeskError, Done, Entry};
+use hx_market::Event;
+use hx_testing::Day;
+use hx_testing::lines::{events_of, lines_that};
+use hx_testing::setups::setup_of;
+use hx_units::MemberNo;
+use std::alloc::Global;
+use std::process::Abort;
+use std::test::*;
+
+// The event is submitted, and again where there was no memory for it.
+fn submit_again(desk: &mut Desk, log: &Log<Entry>, event: &Event) -> Result<Done, DeskError>
+    requires { desk.old.log ≡ log.now }
+    ensures { desk.new.log ≡ desk.old.log }
+{
+    match desk.submit(log, 1, event) {
+        Err(DeskError::NoMemory) => desk.submit(log, 1, event),
+        answer => answer,
+    }
+}
+
+// All events are recorded, each in its place.
+fn submit_all<R: Abort>(rt: &R, desk: &mut Desk, log: &Log<Entry>, events: &[Event])
+    requires { desk.old.log ≡ log.now }
+    ensures { desk.new.log ≡ desk.old.log }
+{
+    for event in events {
+        assert!(rt; submit_again(desk, log, event).is_ok());
+    }
+    assert_eq!(rt; desk.history_len(), events.len() as u64);
+}
+
+// The feed, as lines.
+fn feed_of(alloc: Global, log: &Log<Entry>, reader: &mut Reader<Entry>) -> Result<Vec<u8>, Fail>
+    requires { reader.old.log ≡ log.now }
+{
+    let mut lines = Vec::new(alloc);
+    let count = reader.look(log);
+    for number in 1..=count {
+        let message = reader.at(log, number).ok_or("a message")?;
+        let digits = hex::encode(alloc, message.as_slice())?;
+        let line = format!(in alloc; "F {number} {digits}\n")?;
+        lines.extend_from_slice(line.as_bytes())?;
+    }
+    Ok(lines)
+}
+
+// The replies to a member, as lines.
+fn replies_of(alloc: Global, desk: &Desk, number: u16) -> Result<Vec<u8>, Fail> {
+    let member = MemberNo::of(number).ok_or("a member")?;
+    let mut lines = Vec::new(alloc);
+    for (place, reply) in desk.replies_from(member, 0)?.iter().enumerate() {
+        let digits = hex::encode(alloc, reply.as_slice())?;
+        let line = format!(in alloc; "M {number} {} {digits}\n", place as u64 + 1)?;
+        lines.extend_from_slice(line.as_bytes())?;
+    }
+    Ok(lines)
+}
+
+// Each member's replies are the lines to him.
+fn expect_replies<R: AllocGlobal + Abort>(rt: &R, desk: &Desk, day: &Day) -> Result<(), Fail> {
+    for (number, beginning) in [(1, b"M 1 "), (2, b"M 2 "), (3, b"M 3 ")] {
+        let replies = replies_of(rt.alloc(), desk, number)?;
+        let lines = lines_that(rt.alloc(), &day.output, beginning, true)?;
+        assert_eq!(rt; replies.as_slice(), lines.as_slice());
+    }
+    Ok(())
+}
+
+// A worked day by a desk.
+fn expect_day<R: AllocGlobal + Abort>(rt: &R, worked: &Worked) -> Result<(), Fail> {
+    let alloc = rt.alloc();
+    let day = Day::of(alloc, worked.words)?;
+    let events = events_of(alloc, &day.tape)?;
+    let (log, writer, mut reader) = Log::<Entry>::new(alloc, 20)?;
+    let mut desk = Desk::new(alloc, setup_of(alloc, worked.setup)?, writer)?;
+    submit_all(rt, &mut desk, &log, &events);
+    let feed = feed_of(alloc, &log, &mut reader)?;
+    assert_eq!(rt;
+        feed.as_slice(),
+        lines_that(alloc, &day.output, b"F ", true)?.as_slice()
+    );
+    expect_replies(rt, &desk, &day)
+}
+
+#[test]
+fn days_by_a_desk(rt: HostRuntime) -> Result<(), Fail> {
+    for worked in &DAYS {
+        expect_day(&rt, worked)?;
+    }
+    Ok(())
+}

@@ -1,0 +1,38 @@
+//! A framer is fed a piece again where it lacks memory for it: nothing of the first time is left.
+//!
+//! Here it has all the memory that it needs. `tests/refusals` refuses each growth of this test in turn.
+
+use hx_soup::{Framer, FramerError, SoupPacket};
+use std::alloc::Global;
+use std::test::Fail;
+
+// A login as ALPHA, an order's first bytes, two heartbeats, and a logout with a payload.
+const STREAM: [u8; 64] =
+    *b"\0\x2fLalpha pwalpha                                3\0\x03UO1\0\x01R\0\x01R\0\x02Ox";
+
+// The piece is fed, and again where there was no memory for its packets.
+fn feed_again(
+    alloc: Global,
+    framer: &mut Framer,
+    piece: &[u8],
+) -> Result<Vec<SoupPacket>, FramerError> {
+    match framer.feed(alloc, piece) {
+        Err(FramerError::NoMemory) => framer.feed(alloc, piece),
+        answer => answer,
+    }
+}
+
+#[test]
+fn a_stream_in_pieces(rt: HostRuntime) -> Result<(), Fail> {
+    for size in [1, 3, 10, 64] {
+        let mut framer = Framer::new();
+        let mut kinds = Vec::new(rt.alloc());
+        for piece in STREAM.chunks(size) {
+            for packet in feed_again(rt.alloc(), &mut framer, piece)? {
+                kinds.push(packet.kind)?;
+            }
+        }
+        assert_eq!(rt; kinds.as_slice(), b"LURRO".as_slice());
+    }
+    Ok(())
+}

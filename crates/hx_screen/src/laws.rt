@@ -1,0 +1,30 @@
+//! The laws that join the venue and a reader of its feed. Each function is a proved statement, and
+//! does nothing.
+ghost use Rattle.hx_screen.specs.Screens.{AtAnEvent, WithinAnEvent, IsTheBook, IsAllOfIt};
+
+/// A reader that has applied the feed of a beginning of the venue's history, and nothing else, shows
+/// the shown live orders after that beginning; and the feed of a beginning is a beginning of the feed.
+pub fn at_an_event()
+    ensures { AtAnEvent }
+{}
+
+/// A reader that has applied any beginning of the feed shows the shown live orders after some
+/// beginning of the history, with a beginning of what the next event tells applied to them.
+pub fn within_an_event()
+    ensures { WithinAnEvent }
+{}
+
+/// What a screen shows is the venue's book. Whatever datagrams come, lost, repeated, reordered,
+/// malformed or of another session, as long as those of the session carry the venue's feed: the
+/// messages that a reader hands out can be read and are a beginning of the feed; where that ends with
+/// an event, their book is the venue's shown orders then, and no shown buy of a stock has a price at
+/// or above a shown sell of it.
+pub fn is_the_book()
+    ensures { IsTheBook }
+{}
+
+/// And where the reader says that it is whole, they are all of the feed, and their book is the venue's
+/// shown orders in the end.
+pub fn is_all_of_it()
+    ensures { IsAllOfIt }
+{}

@@ -1,0 +1,11 @@
+//! What tests share: worked days in words, lines of a tape, and inputs and outputs in memory whose calls go wrong where a
+//! test says so. No contract speaks of it: what it gives is compared where a test runs.
+#![tactic(auto)]
+
+pub mod lines;
+pub mod memory;
+pub mod setups;
+mod words;
+pub mod worked;
+
+pub use words::Day;

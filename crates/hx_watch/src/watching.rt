@@ -1,0 +1,248 @@
+//! A watch: the feed's datagrams come in, what is missing is asked for, and changes are told.
+
+use crate::fault::WatchError;
+use crate::quotes::Quotes;
+use crate::requests::Requests;
+use crate::text::{Depth, Name};
+use hx_itch::Feed;
+use hx_mold::{MoldPacket, decode_packet, encode_request};
+use hx_reader::Screen;
+use hx_units::Symbol;
+use std::alloc::Global;
+use std::io;
+use std::io::{ErrorKind, Write};
+use std::net::{Ipv4Addr, Net, UdpSocket};
+use std::time::{Clock, Duration, Instant};
+
+// The most bytes of a datagram.
+const DATAGRAM: usize = 65_536;
+
+// A datagram is waited for so many milliseconds.
+const WAIT: u64 = 5;
+
+// A feed that is silent for so many seconds has no sender: it would send heartbeats.
+const SILENCE: u64 = 5;
+
+// How many messages ahead of a missing one are kept.
+const PLACES: usize = 65_536;
+
+/// What is watched.
+#[derive(Clone, Copy)]
+pub struct WatchArgs {
+    /// The UDP port, at 127.0.0.1, that the feed comes to.
+    pub feed: u16,
+    /// The UDP port, at 127.0.0.1, of requests.
+    pub requests: u16,
+    /// The one stock whose depth is told; else the best prices of all are.
+    pub stock: Option<Symbol>,
+}
+
+// A socket of the feed, which waits for a short time.
+fn bind<R: Net>(rt: &R, port: u16) -> io::Result<UdpSocket> {
+    let socket = UdpSocket::bind(rt, (Ipv4Addr::new(127, 0, 0, 1), port))?;
+    socket.set_read_timeout(Some(Duration::from_millis(WAIT)))?;
+    Ok(socket)
+}
+
+// The length of the next datagram, or none where none came in time.
+fn next_datagram(socket: &UdpSocket, buffer: &mut [u8]) -> Result<Option<usize>, WatchError> {
+    match socket.recv_from(buffer) {
+        Ok((count, _)) => Ok(Some(count)),
+        Err(error) => match error.kind() {
+            // Refused is the answer to an earlier request: nobody listens there.
+            ErrorKind::WouldBlock
+            | ErrorKind::TimedOut
+            | ErrorKind::Interrupted
+            | ErrorKind::ConnectionRefused => Ok(None),
+            _ => Err(WatchError::Network),
+        },
+    }
+}
+
+// The session of a datagram, where it is a packet.
+fn session_of(datagram: &[u8]) -> Option<[u8; 10]> {
+    match decode_packet(datagram)? {
+        MoldPacket::Blocks { session, .. } => Some(session),
+        MoldPacket::Heartbeat { session, .. } => Some(session),
+        MoldPacket::EndOfSession { session, .. } => Some(session),
+    }
+}
+
+// A watch of a session that was heard of.
+#[derive(Drop)]
+struct Watching {
+    screen: Screen,
+    quotes: Quotes,
+    requests: Requests,
+    heard: Instant,
+}
+
+impl Watching {
+    // Tells what a message has changed.
+    fn tell<W: Write>(
+        &mut self,
+        writer: &mut W,
+        stock: Option<Symbol>,
+        message: &Feed,
+    ) -> Result<(), WatchError> {
+        let Some(change) = self.quotes.note(message, &self.screen.book)? else {
+            return Ok(());
+        };
+        let told = match stock {
+            Some(stock) if stock == change.stock => {
+                let depth = Depth {
+                    book: &self.screen.book,
+                    locate: change.locate,
+                };
+                writeln!(writer, "{}{depth}", Name(stock))
+            }
+            None if change.is_new => writeln!(writer, "{change}"),
+            _ => Ok(()),
+        };
+        match told {
+            Ok(()) => Ok(()),
+            Err(_) => Err(WatchError::Write),
+        }
+    }
+
+    // Hands out all messages that have come, and tells what they have changed.
+    fn show<W: Write>(&mut self, writer: &mut W, stock: Option<Symbol>) -> Result<(), WatchError> {
+        for _ in 0..u64::MAX {
+            let (number, _) = self.screen.reader.progress();
+            match self.screen.step() {
+                Ok(Some(message)) => self.tell(writer, stock, &message)?,
+                Ok(None) => break,
+                Err(fault) => return Err(WatchError::Screen { number, fault }),
+            }
+        }
+        match writer.flush() {
+            Ok(()) => Ok(()),
+            Err(_) => Err(WatchError::Write),
+        }
+    }
+
+    // Asks for what is missing, where that is due.
+    fn ask(&mut self, socket: &UdpSocket, port: u16, now: Instant) -> Result<(), WatchError> {
+        let Some(request) = self.screen.reader.request() else {
+            return Ok(());
+        };
+        if !self.requests.is_due(&request, now) {
+            return Ok(());
+        }
+        self.requests.note(&request, now);
+        let bytes = encode_request(request);
+        match socket.send_to(bytes.as_slice(), (Ipv4Addr::new(127, 0, 0, 1), port)) {
+            Ok(_) => Ok(()),
+            Err(error) => match error.kind() {
+                ErrorKind::WouldBlock | ErrorKind::Interrupted | ErrorKind::ConnectionRefused => {
+                    Ok(())
+                }
+                _ => Err(WatchError::Network),
+            },
+        }
+    }
+
+    // Whether nothing more is to come: all was handed out, or the feed has been silent for too long.
+    fn is_over(&self, now: Instant) -> bool {
+        self.screen.reader.is_whole()
+            || now.saturating_duration_since(self.heard) >= Duration::from_secs(SILENCE)
+    }
+}
+
+// The last line: how many messages were handed out, how many of all were asked for, and whether any
+// is missing.
+fn write_end<W: Write>(writer: &mut W, watching: &Watching) -> Result<(), WatchError> {
+    let reader = &watching.screen.reader;
+    let (next, told) = reader.progress();
+    let handed = next.saturating_sub(1);
+    let missing = told.saturating_sub(next);
+    let asked = watching.requests.count;
+    let written = if reader.is_whole() {
+        writeln!(writer, "messages {handed}, asked for {asked}, none missing")
+    } else if missing > 0 {
+        writeln!(
+            writer,
+            "messages {handed}, asked for {asked}, missing {missing}"
+        )
+    } else {
+        writeln!(
+            writer,
+            "messages {handed}, asked for {asked}, the end was not heard"
+        )
+    };
+    match written {
+        Ok(()) => match writer.flush() {
+            Ok(()) => Ok(()),
+            Err(_) => Err(WatchError::Write),
+        },
+        Err(_) => Err(WatchError::Write),
+    }
+}
+
+// The time that has passed on the machine's clock.
+fn now<R: Clock>(rt: &R) -> Result<Instant, WatchError> {
+    match Instant::now(rt) {
+        Ok(now) => Ok(now),
+        Err(_) => Err(WatchError::Network),
+    }
+}
+
+// Waits for the first packet: the watch of its session, which has taken it.
+fn first_heard<R: Clock>(
+    rt: &R,
+    alloc: Global,
+    socket: &UdpSocket,
+    buffer: &mut [u8],
+) -> Result<Watching, WatchError> {
+    for _ in 0..u64::MAX {
+        let Some(count) = next_datagram(socket, buffer)? else {
+            continue;
+        };
+        let Some(datagram) = buffer.get(..count) else {
+            continue;
+        };
+        let Some(session) = session_of(datagram) else {
+            continue;
+        };
+        let mut screen = Screen::new(alloc, session, PLACES)?;
+        screen.receive(datagram);
+        return Ok(Watching {
+            screen,
+            quotes: Quotes::new(alloc),
+            requests: Requests::new(),
+            heard: now(rt)?,
+        });
+    }
+    Err(WatchError::Network)
+}
+
+/// Watches a feed until its session has ended and nothing is missing, or until it has been silent for
+/// five seconds, and tells what changes as lines of text. It waits for the first packet, of whichever
+/// session, for as long as none comes.
+pub fn watch<R: AllocGlobal + Net + Clock, W: Write>(
+    rt: &R,
+    args: &WatchArgs,
+    writer: &mut W,
+) -> Result<(), WatchError> {
+    let alloc = rt.alloc();
+    let Ok(socket) = bind(rt, args.feed) else {
+        return Err(WatchError::Network);
+    };
+    let mut buffer = vec![in alloc; 0u8; DATAGRAM]?;
+    let mut watching = first_heard(rt, alloc, &socket, &mut buffer)?;
+    for _ in 0..u64::MAX {
+        watching.show(writer, args.stock)?;
+        let time = now(rt)?;
+        if watching.is_over(time) {
+            break;
+        }
+        watching.ask(&socket, args.requests, time)?;
+        if let Some(count) = next_datagram(&socket, &mut buffer)? {
+            if let Some(datagram) = buffer.get(..count) {
+                watching.screen.receive(datagram);
+            }
+            watching.heard = now(rt)?;
+        }
+    }
+    write_end(writer, &watching)
+}

@@ -1,0 +1,64 @@
+"""Tapes in words, for scripts: the lines of the members and of the operator as `replay` reads them (OUCH 4.2)."""
+
+DAY, MARKET, NOW = 99_999, 99_998, 0
+
+
+def number(value, size):
+    return value.to_bytes(size, 'big')
+
+
+def name(word, size):
+    return word.encode().ljust(size)
+
+
+def line(time, member, payload):
+    return b'%d %d %s\n' % (time, member, payload.hex().encode())
+
+
+def enter(token, side, shares, stock, price, life=DAY, display='Y', minimum=0):
+    """An Enter Order Message; the price in 1/10,000 dollar."""
+    return (b'O' + name(token, 14) + side.encode() + number(shares, 4) + name(stock, 8) + number(price, 4)
+            + number(life, 4) + name('', 4) + display.encode() + b'ON' + number(minimum, 4) + b'NR')
+
+
+def replace(token, by, shares, price, life=DAY, display='Y', minimum=0):
+    """A Replace Order Message."""
+    return (b'U' + name(token, 14) + name(by, 14) + number(shares, 4) + number(price, 4) + number(life, 4)
+            + display.encode() + b'N' + number(minimum, 4))
+
+
+def cancel(token, shares=0):
+    """A Cancel Order Message: what is to be left of the order."""
+    return b'X' + name(token, 14) + number(shares, 4)
+
+
+def tape(*events):
+    """A tape of such events: time, member and payload each."""
+    return b''.join(line(*event) for event in events)
+
+
+# A hidden order has fewer shares than the minimum of the incoming one, and is passed over.
+MINIMUM_PASSED_OVER = tape(
+    (10, 1, enter('H1', 'B', 200, 'ABCD', 100_000, display='N')),
+    (20, 2, enter('G1', 'B', 500, 'ABCD', 100_000, display='N', minimum=500)),
+    (30, 3, enter('S1', 'S', 500, 'ABCD', 100_000, display='N', minimum=500)))
+
+# A chain of Replaces trades once; a Replace to what it has executed fails.
+CHAIN_THAT_TRADED = tape(
+    (10, 1, enter('H1', 'B', 100, 'ABCD', 100_000, display='N')),
+    (20, 1, replace('H1', 'H2', 100, 100_100, display='N')),
+    (30, 1, replace('H2', 'H3', 100, 100_200, display='N')),
+    (40, 1, replace('H3', 'H4', 100, 100_300, display='N')),
+    (50, 2, enter('S1', 'S', 1, 'ABCD', 100_300, NOW, 'N')),
+    (60, 1, replace('H4', 'H5', 1, 100_300, display='N')))
+
+# Replaces after executions, Replaces that trade, and messages that name no live order or a used token.
+REPLACES_THAT_TRADE = tape(
+    (10, 1, enter('T1', 'B', 100, 'ABCD', 100_000)),
+    (20, 2, enter('S1', 'S', 30, 'ABCD', 100_000, NOW, 'N')),
+    (30, 1, replace('T1', 'T2', 150, 100_100)),
+    (40, 2, enter('S2', 'S', 200, 'ABCD', 100_200)),
+    (50, 1, replace('T2', 'T3', 100, 100_200)),
+    (60, 1, replace('T2', 'T4', 100, 100_000)),
+    (70, 2, replace('S2', 'S1', 300, 100_200)),
+    (80, 1, cancel('T2')))
