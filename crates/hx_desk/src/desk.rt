@@ -16,7 +16,7 @@ use arrayvec::ArrayVec;
 use hx_blog::{Log, Reader, Receipt, Writer};
 use hx_levels::LevelBook;
 use hx_market::{Event, Market};
-use hx_members::Setup;
+use hx_members::{Seed, Setup};
 use hx_units::{MemberNo, NoMemory};
 use std::alloc::Global;
 use std::marker::Model;
@@ -50,14 +50,28 @@ impl Model for Desk {
 }
 
 impl Desk {
-    /// A desk at its start, for a log to which nothing was written. `NoMemory` where the market or the rows find no
-    /// room.
+    /// A desk at its start, for a log to which nothing was written, with the fixed seed. `NoMemory` where the market or
+    /// the rows find no room.
     pub fn new(alloc: Global, setup: Setup, writer: Writer<Entry>) -> Result<Desk, NoMemory>
         requires { (writer.published ≡ []) × (writer.staged ≡ []) }
         ensures { IfOk result (λ desk. desk ≡ start_of writer.log setup) }
     {
+        Desk::seeded(alloc, setup, writer, Seed::Fixed)
+    }
+
+    /// A desk at its start, for a log to which nothing was written, whose table of tokens has this seed. `NoMemory`
+    /// where the market or the rows find no room.
+    pub fn seeded(
+        alloc: Global,
+        setup: Setup,
+        writer: Writer<Entry>,
+        seed: Seed,
+    ) -> Result<Desk, NoMemory>
+        requires { (writer.published ≡ []) × (writer.staged ≡ []) }
+        ensures { IfOk result (λ desk. desk ≡ start_of writer.log setup) }
+    {
         Ok(Desk {
-            market: Market::new(alloc, setup, LevelBook::new(alloc))?,
+            market: Market::seeded(alloc, setup, LevelBook::new(alloc), seed)?,
             writer,
             history: Vec::new(alloc),
             rows: Rows::new(alloc)?,

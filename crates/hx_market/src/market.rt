@@ -16,7 +16,7 @@ use crate::live_orders::list_orders;
 use crate::prepare::{Prepared, make};
 use hx_day::{EventCounts, Trading};
 use hx_levels::{Book, Order};
-use hx_members::{ChainFacts, Setup, Tokens};
+use hx_members::{ChainFacts, Seed, Setup, Tokens};
 use hx_refs::Refs;
 use hx_rules::{Event, Output, PrepareError};
 use hx_units::{MemberNo, NoMemory, Token};
@@ -111,8 +111,20 @@ fn hours_after(effect: &Effect, hours: u8) -> u8
 }
 
 impl<B: Book + Drop> Market<B> {
-    /// The opening market of a setup, over an empty book. `NoMemory` where its counts find no room.
+    /// The opening market of a setup, over an empty book, with the fixed seed. `NoMemory` where its counts find no
+    /// room.
     pub fn new(alloc: Global, setup: Setup, book: B) -> Result<Self, NoMemory>
+        requires { B.orders book ≡ [] }
+        ensures setup { IfOk result (λ m. m.setup ≡ setup) }
+        ensures market { IfOk result (λ m. m.market ≡ opening setup) }
+        ensures ready { IfOk result (λ m. m.ready ≡ None) }
+    {
+        Market::seeded(alloc, setup, book, Seed::Fixed)
+    }
+
+    /// The opening market of a setup, over an empty book, whose table of tokens has this seed. `NoMemory` where its
+    /// counts find no room.
+    pub fn seeded(alloc: Global, setup: Setup, book: B, seed: Seed) -> Result<Self, NoMemory>
         requires { B.orders book ≡ [] }
         ensures setup { IfOk result (λ m. m.setup ≡ setup) }
         ensures market { IfOk result (λ m. m.market ≡ opening setup) }
@@ -123,7 +135,7 @@ impl<B: Book + Drop> Market<B> {
         Ok(Market {
             setup,
             book,
-            tokens: Tokens::new(alloc),
+            tokens: Tokens::seeded(alloc, seed),
             refs: Refs::new(alloc)?,
             hours,
             earliest: u64::MAX,

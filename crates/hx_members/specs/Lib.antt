@@ -1,6 +1,7 @@
 pub mod Chains
 pub mod Rows
 pub mod Tokens
+pub mod Seeds
 pub mod Setups
 pub mod SetupText
 pub mod Reading

@@ -8,12 +8,14 @@ mod lines;
 mod name;
 mod reading;
 mod rows;
+mod seed;
 mod setup;
 mod stock;
 mod tokens;
 
 pub use fault::SetupError;
 pub use name::{ChainFacts, Name, TokenState};
+pub use seed::Seed;
 pub use setup::Setup;
 pub use stock::{Member, Stock};
 pub use tokens::Tokens;

@@ -5,6 +5,7 @@ ghost use Rattle.hx_members.specs.Chains.{entered_at};
 ghost use Rattle.hx_members.specs.Rows.{Row, IsUnused, AreDistinct, is_name, tokens_of, row_place, row_state, noted_rows, settled_rows};
 
 use crate::name::{ChainFacts, Name, TokenState};
+use crate::seed::Seed;
 use hx_units::{NoMemory, Token};
 use indexmap::IndexMap;
 use std::alloc::Global;
@@ -43,7 +44,7 @@ impl UsedToken {
 /// The rows, and the name for which a place is reserved.
 #[derive(Drop)]
 pub(crate) struct Rows {
-    map: IndexMap<Name, UsedToken>,
+    map: IndexMap<Name, UsedToken, Seed>,
     place: Option<Name>,
 }
 
@@ -60,13 +61,13 @@ impl Model for Rows {
 }
 
 impl Rows {
-    /// No rows, and no reserved place. It takes no memory.
-    pub(crate) fn new(alloc: Global) -> Self
+    /// No rows, and no reserved place, in a table of this seed. It takes no memory.
+    pub(crate) fn new(alloc: Global, seed: Seed) -> Self
         ensures rows { result.rows ≡ [] }
         ensures place { result.place ≡ None }
     {
         Rows {
-            map: IndexMap::new(alloc),
+            map: IndexMap::with_hasher(alloc, seed),
             place: None,
         }
     }

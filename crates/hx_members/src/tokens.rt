@@ -7,6 +7,7 @@ ghost use Rattle.hx_members.specs.Tokens.{state_of};
 
 use crate::name::{Name, TokenState};
 use crate::rows::{Rows, UsedToken};
+use crate::seed::Seed;
 use hx_units::{MemberNo, NoMemory, Token};
 use std::alloc::Global;
 use std::marker::Model;
@@ -38,15 +39,25 @@ impl Model for Tokens {
 }
 
 impl Tokens {
-    /// No token is used, and no place is reserved.
+    /// No token is used, and no place is reserved; the table has the fixed seed.
     pub fn new(alloc: Global) -> Self
         ensures tokens { result.tokens ≡ [] }
         ensures chains { result.chains ≡ [] }
         ensures keys { result.keys ≡ [] }
         ensures place { result.place ≡ None }
     {
+        Tokens::seeded(alloc, Seed::Fixed)
+    }
+
+    /// No token is used, and no place is reserved; the table has this seed.
+    pub fn seeded(alloc: Global, seed: Seed) -> Self
+        ensures tokens { result.tokens ≡ [] }
+        ensures chains { result.chains ≡ [] }
+        ensures keys { result.keys ≡ [] }
+        ensures place { result.place ≡ None }
+    {
         Tokens {
-            kept: Rows::new(alloc),
+            kept: Rows::new(alloc, seed),
         }
     }
 

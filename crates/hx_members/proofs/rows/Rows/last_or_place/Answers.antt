@@ -1,5 +1,4 @@
-use Rattle.std.proofs.Common.{ap, sym, ◌∙◌}
-use Rattle.hx_members.specs.Rows.{row_place}
+use Rattle.std.proofs.Common.{sym}
 use Rattle.hx_members.proofs.TokenLaws.{row_place-at}
 use Rattle.hx_members.proofs.rows.Rows.last_or_place.Goals as goal
 

@@ -12,7 +12,7 @@ use Rattle.hx_market.specs.OrderKeys.{AreKeyed}
 use Rattle.hx_market.specs.Bounds.{IsSound}
 use Rattle.hx_day.specs.Expiries.{NoneEndsBefore}
 use Rattle.hx_market.proofs.Bounds.AfterEnter.{sound_opening}
-use Rattle.hx_market.proofs.market.Market.new.Goals as goal
+use Rattle.hx_market.proofs.market.Market.seeded.Goals as goal
 
 -- the parts of the opening market
 opens : (setup : Setup) (orders : List Live) (ts : List Used) (cs : List Chain) (n : Numbers) (hours : ℕ) (hs : List Bool) (es : List Match) (counts : List ℕ) → orders ≡ [] → ts ≡ [] → cs ≡ [] → n ≡ opening_numbers → hours ≡ opening_hours setup → hs ≡ none_halted setup → es ≡ [] → counts ≡ no_counts
@@ -35,14 +35,14 @@ keyed_none ts ks xs t k x =
 
 pub returns-clause-market : goal.returns-clause-market
 returns-clause-market g c =
-    opens c.args.setup (g.B.Book.orders c.args.book) c.new.result.tokens c.new.result.chains c.in_ok-new.field-0 c.opening_hours-hours.result c.in_ok-new-3.field-0.halted c.in_ok-new-3.field-0.executions c.in_ok-new-2.field-0
-    c.requires c.new.ensures.tokens c.new.ensures.chains c.in_ok-new.ensures c.opening_hours-hours.ensures (c.in_ok-new-3.ensures.halted ∙ ap (λ (xs : List Stock). replicate (suc (length xs)) false) c.stocks.ensures.stocks) c.in_ok-new-3.ensures.executions c.in_ok-new-2.ensures
+    opens c.args.setup (g.B.Book.orders c.args.book) c.seeded.result.tokens c.seeded.result.chains c.in_ok-new.field-0 c.opening_hours-hours.result c.in_ok-new-3.field-0.halted c.in_ok-new-3.field-0.executions c.in_ok-new-2.field-0
+    c.requires c.seeded.ensures.tokens c.seeded.ensures.chains c.in_ok-new.ensures c.opening_hours-hours.ensures (c.in_ok-new-3.ensures.halted ∙ ap (λ (xs : List Stock). replicate (suc (length xs)) false) c.stocks.ensures.stocks) c.in_ok-new-3.ensures.executions c.in_ok-new-2.ensures
 
 pub invariant_of-result : goal.invariant_of-result
 invariant_of-result g c = (
-  subst IsSound (sym (opens c.args.setup (g.B.Book.orders c.args.book) c.new.result.tokens c.new.result.chains c.in_ok-new.field-0 c.opening_hours-hours.result c.in_ok-new-3.field-0.halted c.in_ok-new-3.field-0.executions c.in_ok-new-2.field-0
-      c.requires c.new.ensures.tokens c.new.ensures.chains c.in_ok-new.ensures c.opening_hours-hours.ensures (c.in_ok-new-3.ensures.halted ∙ ap (λ (xs : List Stock). replicate (suc (length xs)) false) c.stocks.ensures.stocks) c.in_ok-new-3.ensures.executions c.in_ok-new-2.ensures)) (sound_opening c.args.setup),
-  keyed_none c.new.result.tokens c.new.result.keys (g.B.Book.orders c.args.book) c.new.ensures.tokens c.new.ensures.keys c.requires,
+  subst IsSound (sym (opens c.args.setup (g.B.Book.orders c.args.book) c.seeded.result.tokens c.seeded.result.chains c.in_ok-new.field-0 c.opening_hours-hours.result c.in_ok-new-3.field-0.halted c.in_ok-new-3.field-0.executions c.in_ok-new-2.field-0
+      c.requires c.seeded.ensures.tokens c.seeded.ensures.chains c.in_ok-new.ensures c.opening_hours-hours.ensures (c.in_ok-new-3.ensures.halted ∙ ap (λ (xs : List Stock). replicate (suc (length xs)) false) c.stocks.ensures.stocks) c.in_ok-new-3.ensures.executions c.in_ok-new-2.ensures)) (sound_opening c.args.setup),
+  keyed_none c.seeded.result.tokens c.seeded.result.keys (g.B.Book.orders c.args.book) c.seeded.ensures.tokens c.seeded.ensures.keys c.requires,
   λ p h. cc,
   subst (λ (xs : List Live). NoneEndsBefore 18446744073709551615 (lives xs)) (sym c.requires) tt,
 )
