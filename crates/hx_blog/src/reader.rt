@@ -1,7 +1,7 @@
 //! Readers.
 ghost use Rattle.std.specs.Prelude.{◌≡◌, ◌⊎◌, ◌+◌, ◌-◌, ◌*◌, ◌<◌, ◌≤◌, [], ◌∷◌, ◌++◌, length, slice_get, Some, MatchOption, IfSome, IfNone};
 ghost use mathlib.Core.List.{IsPrefix};
-ghost use Rattle.hx_blog.specs.Ends.{got};
+ghost use Rattle.hx_blog.specs.Ends.{got, room_of};
 ghost use Rattle.hx_blog.specs.Feed.{feed};
 
 use crate::loads::{load_count, load_message, load_next_message};
@@ -40,7 +40,8 @@ impl<E> Model for Reader<E> {
 }
 
 impl<E> Reader<E> {
-    /// Loads the count, and gives it: the number of messages published, at most 1,000,000.
+    /// Loads the count, and gives it: the number of messages published, at most as many as the log has room for, and
+    /// 1,000,000.
     pub fn look(&mut self, log: &Log<E>) -> u64
         requires { self.old.log ≡ log.now }
         ensures same { (self.new.log ≡ self.old.log) × (self.new.read ≡ self.old.read) }
@@ -49,6 +50,7 @@ impl<E> Reader<E> {
         ensures got { got self.new ≡ got self.old }
         ensures loaded { self.new.loads ≡ self.old.loads + 1 }
         ensures few { result ≤ 1000000 }
+        ensures room { result ≤ room_of log.now }
     {
         self.seen = load_count(&log.table, &mut self.seat);
         self.seen

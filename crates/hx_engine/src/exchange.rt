@@ -14,7 +14,7 @@ use crate::venue::Venue;
 use hx_blog::{Log, Reader, Writer};
 use hx_desk::{Desk, DeskError, Done, Entry};
 use hx_market::Event;
-use hx_members::Setup;
+use hx_members::{Seed, Setup};
 use hx_units::NoMemory;
 use std::alloc::Global;
 use std::sync::ledger::Blank;
@@ -33,7 +33,8 @@ pub struct Exchange<V: Venue> {
 }
 
 impl<V: Venue> Exchange<V> {
-    /// An exchange over a new log, with so many passes, 1 to 64. What it was given is gone after `NoMemory`.
+    /// An exchange over a new log, with so many passes, 1 to 64, and the fixed seed. What it was given is gone after
+    /// `NoMemory`.
     pub fn new(
         alloc: Global,
         setup: Setup,
@@ -49,10 +50,31 @@ impl<V: Venue> Exchange<V> {
         requires passes { (1 ≤ passes) × (passes ≤ 64) × (passes ≡ V.parts) }
         ensures { IfOk result (λ made. made.1.items ≡ new_passes passes) }
     {
+        Exchange::seeded(alloc, setup, log, writer, blank, passes, Seed::Fixed)
+    }
+
+    /// An exchange over a new log, with so many passes, 1 to 64, whose table of tokens has this seed: members choose
+    /// their tokens, so where strangers trade it should be drawn. What it was given is gone after `NoMemory`.
+    pub fn seeded(
+        alloc: Global,
+        setup: Setup,
+        log: Log<Entry>,
+        writer: Writer<Entry>,
+        blank: Blank,
+        passes: u16,
+        seed: Seed,
+    ) -> Result<(Exchange<V>, Vec<Pass<V>>), NoMemory>
+        requires log { log ≡ V.log }
+        requires of_setup { setup ≡ V.setup }
+        requires writer { writer ≡ record { log = V.log; published = []; staged = [] } }
+        requires blank { (blank.name ≡ V.name) × (blank.parts ≡ V.parts) }
+        requires passes { (1 ≤ passes) × (passes ≤ 64) × (passes ≡ V.parts) }
+        ensures { IfOk result (λ made. made.1.items ≡ new_passes passes) }
+    {
         let mut writer = writer;
         let (book, mut spare) = blank.open::<V>();
         let made = make_passes(alloc, &log, &mut writer, &mut spare, passes)?;
-        let desk = Desk::new(alloc, setup, writer)?;
+        let desk = Desk::seeded(alloc, setup, writer, seed)?;
         let exchange = Exchange {
             log,
             desk: Mutex::new(Held::new(desk, book, spare)),

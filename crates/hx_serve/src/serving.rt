@@ -12,7 +12,7 @@ use crate::sockets::Doors;
 use crate::workers::work;
 use hx_blog::{Log, Reader, Writer};
 use hx_engine::{Entry, Exchange, Finished, Pass, Venue};
-use hx_members::Setup;
+use hx_members::{Seed, Setup};
 use hx_sessions::Gate;
 use log::Log as Logs;
 use std::alloc::Global;
@@ -156,6 +156,7 @@ fn run<
     pen: Writer<Entry>,
     reader: Reader<Entry>,
     blank: Blank,
+    seed: Seed,
     input: R,
     output: &mut W,
 ) -> Result<Day, ServeError>
@@ -167,15 +168,15 @@ fn run<
     requires passes { args.now.sessions + 1 ≡ V.parts }
 {
     let count = args.sessions + 1;
-    let (exchange, passes) = Exchange::<V>::new(alloc, own, log, pen, blank, count)?;
+    let (exchange, passes) = Exchange::<V>::seeded(alloc, own, log, pen, blank, count, seed)?;
     let outcome = attend(
         rt, alloc, &exchange, setup, args, gate, doors, passes, reader, input,
     )?;
     conclude(alloc, exchange, outcome, output)
 }
 
-/// Serves a day, and answers what it leaves; or why its sessions never began. The gate is called round each submit and
-/// at each login. The last line goes to the output.
+/// Serves a day, and answers what it leaves; or why its sessions never began. Its table of tokens has this seed. The
+/// gate is called round each submit and at each login. The last line goes to the output.
 pub fn serve_day<
     G: Gate + Sync,
     T: Net<Listener = TcpListener, Stream = TcpStream> + Threads + Wait + Clock + Logs + Sync,
@@ -186,6 +187,7 @@ pub fn serve_day<
     alloc: Global,
     setup: &Setup,
     args: &ServeArgs,
+    seed: Seed,
     gate: &G,
     input: R,
     output: &mut W,
@@ -195,13 +197,13 @@ pub fn serve_day<
     let doors = Doors::open(rt, args)?;
     let blank = Blank::new(u64::from(args.sessions) + 1);
     run::<Brand, G, T, R, W>(
-        rt, alloc, setup, own, args, gate, &doors, log, pen, reader, blank, input, output,
+        rt, alloc, setup, own, args, gate, &doors, log, pen, reader, blank, seed, input, output,
     )
 }
 
 /// Serves a day over sockets at 127.0.0.1: so many sessions of members by TCP, the packets of the feed and the answers
-/// to requests by UDP, and the operator's lines from the input. When all have ended, it writes the last line to the
-/// output.
+/// to requests by UDP, and the operator's lines from the input. Its table of tokens has this seed. When all have ended,
+/// it writes the last line to the output.
 pub fn serve<
     T: Net<Listener = TcpListener, Stream = TcpStream> + Threads + Wait + Clock + Logs + Sync,
     R: Read + Drop,
@@ -211,10 +213,12 @@ pub fn serve<
     alloc: Global,
     setup: &Setup,
     args: &ServeArgs,
+    seed: Seed,
     input: R,
     output: &mut W,
 ) -> Result<(), ServeError> {
-    match serve_day(rt, alloc, setup, args, &Notices { rt }, input, output)?.fault {
+    let gate = Notices { rt };
+    match serve_day(rt, alloc, setup, args, seed, &gate, input, output)?.fault {
         None => Ok(()),
         Some(fault) => Err(fault),
     }

@@ -15,6 +15,9 @@ pub enum Failure {
     /// A word of the command line that is no text, which `clap` does not take.
     #[error("error: invalid UTF-8 was detected in one or more arguments")]
     NoText,
+    /// The system gave no random keys for the table of tokens.
+    #[error("no randomness")]
+    NoRandomness,
     #[error(transparent)]
     Setup(SetupError),
     #[error(transparent)]
@@ -34,6 +37,7 @@ impl Failure {
             Failure::Setup(SetupError::NoMemory)
             | Failure::Tape(TapeError::NoMemory)
             | Failure::Serve(ServeError::NoMemory) => 3,
+            Failure::NoRandomness => 4,
             Failure::Tape(TapeError::Read | TapeError::Write | TapeError::Turns) => 4,
             Failure::Serve(
                 ServeError::Read

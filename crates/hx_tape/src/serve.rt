@@ -3,13 +3,16 @@
 use crate::failure::Failure;
 use crate::setups::read_setup;
 use clap::ArgMatches;
+use hx_members::Seed;
 use hx_serve::{Day, Notices, ServeArgs, ServeError, serve_day, write_history};
 use log::Log;
 use std::alloc::Global;
 use std::fs::File;
+use std::hash::RandomState;
 use std::io;
 use std::io::{BufWriter, Write};
 use std::net::{Net, TcpListener, TcpStream};
+use std::random::RandomSource;
 use std::rt::{Clock, Files};
 use std::sync::Wait;
 use std::thread::Threads;
@@ -54,6 +57,7 @@ pub fn serve_input<
         + Log
         + Net<Listener = TcpListener, Stream = TcpStream>
         + Clock
+        + RandomSource
         + Threads
         + Wait
         + Sync,
@@ -63,6 +67,10 @@ pub fn serve_input<
         return Err(Failure::CommandLine);
     };
     let setup = read_setup(rt, matches)?;
+    let Ok(keys) = RandomState::new(rt) else {
+        return Err(Failure::NoRandomness);
+    };
+    let seed = Seed::Drawn(keys);
     let gate = Notices { rt };
     let Some(path) = matches.get_str("history") else {
         let day = serve_day(
@@ -70,6 +78,7 @@ pub fn serve_input<
             alloc,
             &setup,
             &args,
+            seed,
             &gate,
             rt.reader(),
             &mut io::writer(rt),
@@ -84,6 +93,7 @@ pub fn serve_input<
         alloc,
         &setup,
         &args,
+        seed,
         &gate,
         rt.reader(),
         &mut io::writer(rt),

@@ -2,9 +2,10 @@
 
 use super::client::{ALPHA, BOUGHT, BRAVO, BUY, Client, HID, HIDDEN, WELCOME, free_ports};
 use super::vendor::{ADDED, END, Vendor};
-use hx_members::Setup;
+use hx_members::{Seed, Setup};
 use hx_serve::{ServeArgs, serve};
 use std::alloc::Global;
+use std::hash::RandomState;
 use std::net::{Net, TcpListener, TcpStream};
 use std::process::Abort;
 use std::test::*;
@@ -94,7 +95,15 @@ fn one_session(rt: HostRuntime) -> Result<(), Fail> {
     let mut output = Vec::new(alloc);
     let (served, played) = join(
         &rt,
-        || serve(&rt, alloc, &setup, &args, &b""[..], &mut output),
+        || serve(
+            &rt,
+            alloc,
+            &setup,
+            &args,
+            Seed::Fixed,
+            &b""[..],
+            &mut output,
+        ),
         || one_member(&rt, alloc, ports.0, &vendor),
     );
     played?;
@@ -136,10 +145,19 @@ fn two_sessions_with_both_endings(rt: HostRuntime) -> Result<(), Fail> {
     let ports = free_ports(&rt)?;
     let args = args_of(ports, vendor.port()?, 2, 100)?;
     let setup = Setup::standard(alloc)?;
+    let seed = Seed::Drawn(RandomState::new(&rt)?);
     let mut output = Vec::new(alloc);
     let (served, played) = join(
         &rt,
-        || serve(&rt, alloc, &setup, &args, &b"5 0 4b\n"[..], &mut output),
+        || serve(
+            &rt,
+            alloc,
+            &setup,
+            &args,
+            seed,
+            &b"5 0 4b\n"[..],
+            &mut output,
+        ),
         || two_members(&rt, alloc, ports.0, &vendor),
     );
     played?;

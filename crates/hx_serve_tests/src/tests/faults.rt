@@ -3,7 +3,7 @@
 use super::client::{ALPHA, BOUGHT, BUY, free_ports};
 use super::days::{args_of, expect_added, expect_end, log_in, send_order};
 use super::vendor::Vendor;
-use hx_members::Setup;
+use hx_members::{Seed, Setup};
 use hx_replay::Kind;
 use hx_serve::{ServeError, serve};
 use log::Log;
@@ -58,7 +58,7 @@ fn answers<
     let mut output = Vec::new(alloc);
     let (served, played) = join(
         rt,
-        || serve(rt, alloc, &setup, &args, lines, &mut output),
+        || serve(rt, alloc, &setup, &args, Seed::Fixed, lines, &mut output),
         || trades(rt, alloc, ports.0, &vendor),
     );
     played?;
@@ -127,7 +127,7 @@ fn a_full_feed_and_a_broken_session(rt: HostRuntime) -> Result<(), Fail> {
         let mut output = Vec::new(alloc);
         let (served, played) = join(
             &rt,
-            || serve(&rt, alloc, &setup, &args, text, &mut output),
+            || serve(&rt, alloc, &setup, &args, Seed::Fixed, text, &mut output),
             || breaks_off(&rt, alloc, ports.0),
         );
         played?;
@@ -145,7 +145,15 @@ fn a_port_in_use(rt: HostRuntime) -> Result<(), Fail> {
     let args = args_of((taken.local_addr()?.port(), ports.1), 9, 1, 10)?;
     let setup = Setup::standard(alloc)?;
     let mut output = Vec::new(alloc);
-    let served = serve(&rt, alloc, &setup, &args, &b""[..], &mut output);
+    let served = serve(
+        &rt,
+        alloc,
+        &setup,
+        &args,
+        Seed::Fixed,
+        &b""[..],
+        &mut output,
+    );
     assert!(rt; served == Err(ServeError::Network));
     assert!(rt; output.is_empty());
     Ok(())

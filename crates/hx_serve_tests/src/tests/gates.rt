@@ -4,7 +4,7 @@
 use super::client::{ALPHA, BOUGHT, BRAVO, BUY, Client, HIDDEN, free_ports};
 use super::days::{args_of, expect_added, expect_end, send_order};
 use super::vendor::Vendor;
-use hx_members::Setup;
+use hx_members::{Seed, Setup};
 use hx_replay::replay;
 use hx_serve::{serve_day, write_history};
 use hx_sessions::Gate;
@@ -100,7 +100,16 @@ fn a_held_submit_holds_nobody_else(rt: HostRuntime) -> Result<(), Fail> {
     let mut output = Vec::new(alloc);
     let (served, played) = join(
         &rt,
-        || serve_day(&rt, alloc, &setup, &args, &gate, &b""[..], &mut output),
+        || serve_day(
+            &rt,
+            alloc,
+            &setup,
+            &args,
+            Seed::Fixed,
+            &gate,
+            &b""[..],
+            &mut output,
+        ),
         || while_held(&rt, alloc, ports, &vendor, &gate),
     );
     played?;

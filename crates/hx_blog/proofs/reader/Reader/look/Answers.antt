@@ -2,7 +2,7 @@ use Rattle.std.proofs.Common.{ap, sym, ◌∙◌, arith}
 use Rattle.hx_blog.specs.Ends.{got}
 use Rattle.hx_blog.proofs.Prefixes.{prefix_length}
 use Rattle.hx_blog.proofs.Feeds.{feed-prefix, same_front}
-use Rattle.hx_blog.proofs.Settled.{is_reading}
+use Rattle.hx_blog.proofs.Settled.{is_reading, room_is}
 use Rattle.hx_blog.proofs.reader.Reader.look.Goals as goal
 
 pub invariant_of-self : goal.invariant_of-self
@@ -24,3 +24,8 @@ invariant_of-self g c =
 
 pub returns-clause-got : goal.returns-clause-got
 returns-clause-got g c = let i = c.self.invariant in let e = c.load_count-self-inside.ensures in same_front c.self.inside.read _ _ e.known (omega (arith, i.in_order, i.known)) ∙ ap got c.self.view_is
+
+pub returns-clause-room : goal.returns-clause-room
+returns-clause-room g c =
+    let words = sym (ap (λ l. l.words) c.requires) ∙ sym (ap (λ r. r.log.words) c.self.view_is) ∙ c.self.invariant.words in
+    omega (arith, room_is _ _ words, c.load_count-self-inside.ensures.within)
