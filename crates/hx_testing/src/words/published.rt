@@ -13,9 +13,17 @@ use std::test::Fail;
 // What the standard setup says of each of its stocks, as the feed tells it.
 const TAIL: [u8; 20] = *b"Q \x00\x00\x00dNCZ P  1N\x00\x00\x00\x00N";
 
-// The places of the two stocks in the setup.
+// The place of a stock in its setup: WXYZ is the second one, S1 to S1000 stand by their numbers.
 fn locate_of(stock: Symbol) -> u16 {
-    if stock == Symbol(*b"WXYZ    ") { 2 } else { 1 }
+    if stock == Symbol(*b"WXYZ    ") {
+        return 2;
+    }
+    number_of(&stock).unwrap_or(1)
+}
+
+fn number_of(stock: &Symbol) -> Option<u16> {
+    let name = str::from_utf8(&stock.0).ok()?;
+    name.strip_prefix("S")?.trim_end().parse().ok()
 }
 
 /// The message of the feed that these words are.

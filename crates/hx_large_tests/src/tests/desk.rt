@@ -1,0 +1,147 @@
+//! The day by a desk: its feed as a publisher sends it out of the log, and each member's replies.
+ghost use Rattle.std.specs.Prelude.{◌≡◌};
+
+use super::day::{SETUP, day};
+use super::packets::SESSION;
+use hx_blog::{Log, Reader};
+use hx_desk::{Desk, Entry};
+use hx_market::Event;
+use hx_mold::{MoldPacket, decode_packet};
+use hx_retransmit::{LogMessages, Publisher};
+use hx_testing::Day;
+use hx_testing::lines::{events_of, lines_that};
+use hx_testing::setups::setup_of;
+use hx_units::MemberNo;
+use std::alloc::Global;
+use std::process::Abort;
+use std::test::Fail;
+
+// All events are recorded.
+fn submit_all<R: Abort>(rt: &R, desk: &mut Desk, log: &Log<Entry>, events: &[Event])
+    requires { desk.old.log ≡ log.now }
+    ensures { desk.new.log ≡ desk.old.log }
+{
+    for event in events {
+        assert!(rt; desk.submit(log, 1, event).is_ok());
+    }
+    assert_eq!(rt; desk.history_len(), events.len() as u64);
+}
+
+/// Lines of messages, which count from 1, behind a beginning that all have.
+#[derive(Drop)]
+struct Lines<'a> {
+    alloc: Global,
+    beginning: &'a str,
+    text: Vec<u8>,
+    count: u64,
+}
+
+impl<'a> Lines<'a> {
+    fn new(alloc: Global, beginning: &'a str) -> Lines<'a> {
+        Lines {
+            alloc,
+            beginning,
+            text: Vec::new(alloc),
+            count: 0,
+        }
+    }
+
+    // The next message.
+    fn add(&mut self, message: &[u8]) -> Result<(), Fail> {
+        self.count = self.count.saturating_add(1);
+        let (beginning, number) = (self.beginning, self.count);
+        let digits = hex::encode(self.alloc, message)?;
+        let line = format!(in self.alloc; "{beginning}{number} {digits}\n")?;
+        self.text.extend_from_slice(line.as_bytes())?;
+        Ok(())
+    }
+
+    // The messages of a packet, whose number is that of the next message.
+    fn add_packet(&mut self, packet: &[u8]) -> Result<(), Fail> {
+        let Some(
+            MoldPacket::Blocks {
+                session: SESSION,
+                sequence,
+                messages,
+            },
+        ) = decode_packet(packet)
+        else {
+            return Err("messages".into());
+        };
+        if sequence != self.count.saturating_add(1) {
+            return Err("another number".into());
+        }
+        for message in messages {
+            self.add(message)?;
+        }
+        Ok(())
+    }
+}
+
+// The feed is what the day tells, out of the packets that a publisher sends. How many these are.
+fn expect_feed<R: AllocGlobal + Abort>(
+    rt: &R,
+    log: &Log<Entry>,
+    reader: Reader<Entry>,
+    day: &Day,
+) -> Result<u64, Fail>
+    requires { reader.log ≡ log.now }
+{
+    let mut publisher = Publisher::new(SESSION, LogMessages::new(log, reader), 0);
+    let mut feed = Lines::new(rt.alloc(), "F ");
+    let mut packets = 0;
+    for turn in 0..u64::MAX {
+        let Some(packet) = publisher.turn(0) else {
+            packets = turn;
+            break;
+        };
+        feed.add_packet(packet.as_slice())?;
+    }
+    let told = lines_that(rt.alloc(), &day.output, b"F ", true)?;
+    assert!(rt; feed.text.as_slice() == told.as_slice());
+    Ok(packets)
+}
+
+// The replies to a member are what the day tells him.
+fn expect_replies<R: AllocGlobal + Abort>(
+    rt: &R,
+    desk: &Desk,
+    number: u16,
+    day: &Day,
+) -> Result<(), Fail> {
+    let member = MemberNo::of(number).ok_or("a member")?;
+    let beginning = format!(in rt.alloc(); "M {number} ")?;
+    let mut replies = Lines::new(rt.alloc(), &beginning);
+    for reply in &desk.replies_from(member, 1)? {
+        replies.add(reply.as_slice())?;
+    }
+    let told = lines_that(rt.alloc(), &day.output, beginning.as_bytes(), true)?;
+    assert!(rt; replies.text.as_slice() == told.as_slice());
+    Ok(())
+}
+
+// A page in the midst of the first member's replies is the same part of all of them.
+fn expect_page<R: AllocGlobal + Abort>(rt: &R, desk: &Desk) -> Result<(), Fail> {
+    let member = MemberNo::of(1).ok_or("a member")?;
+    let all = desk.replies_from(member, 1)?;
+    // 20 times 150 offers accepted and executed, 1,000 orders accepted and canceled, and code E.
+    assert_eq!(rt; all.len(), 20 * 300 + 2 * 1_000 + 1);
+    let page = desk.replies_page(member, 4_001, 1_000)?;
+    assert_eq!(rt; page.len(), 1_000);
+    assert!(rt; all.get(4_000..5_000) == Some(page.as_slice()));
+    Ok(())
+}
+
+#[test]
+fn the_day_by_a_desk(rt: HostRuntime) -> Result<(), Fail> {
+    let alloc = rt.alloc();
+    let day = day(alloc)?;
+    let (log, writer, reader) = Log::<Entry>::new(alloc, 25_000)?;
+    let mut desk = Desk::new(alloc, setup_of(alloc, SETUP)?, writer)?;
+    submit_all(&rt, &mut desk, &log, &events_of(alloc, &day.tape)?);
+    assert!(rt; expect_feed(&rt, &log, reader, &day)? > 70);
+    for number in 1..=6 {
+        expect_replies(&rt, &desk, number, &day)?;
+    }
+    expect_page(&rt, &desk)
+}
