@@ -1,0 +1,146 @@
+//! A screen that follows a feed of datagrams, and asks for what it missed.
+
+use super::network::Network;
+use arrayvec::ArrayVec;
+use hx_itch::decode;
+use hx_mold::{answer, cut, end_of_session};
+use hx_reader::{FeedBook, Screen};
+use hx_retransmit::ListMessages;
+use std::alloc::Global;
+use std::process::Abort;
+use std::test::*;
+
+pub type Message = ArrayVec<u8, 44>;
+
+pub type Packet = ArrayVec<u8, 1400>;
+
+const SESSION: [u8; 10] = *b"HX00000001";
+
+// How many messages a screen keeps that came too early.
+const PLACES: usize = 256;
+
+// How many stocks there are.
+const STOCKS: u16 = 2;
+
+/// A feed, and its packets.
+#[derive(Drop)]
+pub struct Sent {
+    /// Its messages.
+    pub feed: Vec<Message>,
+    packets: Vec<Packet>,
+    server: ListMessages,
+}
+
+// The packets of a feed, each of so many messages but for the last.
+fn packets_of(alloc: Global, feed: &[Message], size: usize) -> Result<Vec<Packet>, Fail> {
+    let mut packets = Vec::new(alloc);
+    for place in (0..feed.len()).step_by(size.max(1)) {
+        let end = feed.len().min(place.saturating_add(size));
+        for packet in cut(alloc, SESSION, place as u64 + 1, &feed[place..end])? {
+            packets.push(packet)?;
+        }
+    }
+    Ok(packets)
+}
+
+impl Sent {
+    /// A feed in packets of so many messages, but for the last.
+    pub fn of(alloc: Global, feed: Vec<Message>, size: usize) -> Result<Sent, Fail> {
+        let packets = packets_of(alloc, &feed, size)?;
+        let mut server = ListMessages::new(alloc);
+        server.append(&feed)?;
+        Ok(Sent {
+            feed,
+            packets,
+            server,
+        })
+    }
+
+    /// How many packets there are.
+    pub fn count(&self) -> usize {
+        self.packets.len()
+    }
+}
+
+// Hands out what has come: the next messages of the feed, behind so many. It answers how many were handed out in all.
+fn hand_out<R: Abort>(
+    rt: &R,
+    screen: &mut Screen,
+    feed: &[Message],
+    given: usize,
+) -> Result<usize, Fail> {
+    for place in given..usize::MAX {
+        let Some(message) = screen.step()? else {
+            return Ok(place);
+        };
+        let wanted = feed.get(place).ok_or("no such message of the feed")?;
+        assert!(rt; decode(wanted.as_slice()) == Some(message));
+    }
+    Ok(usize::MAX)
+}
+
+// Asks for what is missing until nothing is.
+fn ask<R: Abort>(
+    rt: &R,
+    screen: &mut Screen,
+    feed: &[Message],
+    server: &mut ListMessages,
+    given: usize,
+) -> Result<usize, Fail> {
+    let mut given = given;
+    for _ in 0..u64::MAX {
+        let Some(request) = screen.reader.request() else {
+            break;
+        };
+        let packet = answer(SESSION, server, &request).ok_or("an answer")?;
+        screen.receive(packet.as_slice());
+        given = hand_out(rt, screen, feed, given)?;
+    }
+    Ok(given)
+}
+
+// The book of all messages, applied one by one.
+fn book_of(alloc: Global, feed: &[Message]) -> Result<FeedBook, Fail> {
+    let mut book = FeedBook::new(alloc);
+    for message in feed {
+        book.apply(&decode(message.as_slice()).ok_or("a message")?)?;
+    }
+    Ok(book)
+}
+
+// Both books have the same best prices of each stock.
+fn expect_best<R: Abort>(rt: &R, book: &FeedBook, wanted: &FeedBook) {
+    for locate in 1..=STOCKS {
+        assert!(rt; book.bid(locate, None) == wanted.bid(locate, None));
+        assert!(rt; book.offer(locate, None) == wanted.offer(locate, None));
+    }
+}
+
+/// The feed comes over the network to a screen, which asks for what it missed after each so many packets and in the
+/// end. All messages were handed out then, in order, each once, and the book is that of the feed.
+pub fn expect_all<R: AllocGlobal + Abort>(
+    rt: &R,
+    sent: &mut Sent,
+    network: Network,
+    often: usize,
+) -> Result<(), Fail> {
+    let mut screen = Screen::new(rt.alloc(), SESSION, PLACES)?;
+    let mut given = 0;
+    for place in 0..sent.packets.len() + 1 {
+        for at in network.pass(place) {
+            if let Some(packet) = at.and_then(|at| sent.packets.get(at)) {
+                screen.receive(packet.as_slice());
+            }
+        }
+        given = hand_out(rt, &mut screen, &sent.feed, given)?;
+        if place % often.max(1) == 0 {
+            given = ask(rt, &mut screen, &sent.feed, &mut sent.server, given)?;
+        }
+    }
+    screen.receive(end_of_session(SESSION, sent.feed.len() as u64 + 1).as_slice());
+    given = ask(rt, &mut screen, &sent.feed, &mut sent.server, given)?;
+    assert!(rt; screen.reader.is_whole());
+    assert_eq!(rt; given, sent.feed.len());
+    expect_best(rt, &screen.book, &book_of(rt.alloc(), &sent.feed)?);
+    Ok(())
+}
