@@ -1,0 +1,51 @@
+//! The words of a line: numbers in decimal, and bytes in hexadecimal.
+ghost use Rattle.std.specs.Prelude.{◌≡◌, Some, None, IfSome, IfNone, IfOk, List, ℕ};
+ghost use Rattle.hx_show.specs.Lines.{cut, number_of, bytes_of};
+
+use hex::FromHexError;
+use hx_text::{read_number, split_once};
+use hx_units::NoMemory;
+use std::alloc::Global;
+
+// The most digits of a message: those of 1,023 bytes.
+const MOST_DIGITS: usize = 2046;
+
+/// What stands before the first space, and behind it.
+pub fn cut(text: &[u8]) -> Option<(&[u8], &[u8])>
+    ensures some { IfSome result (λ p. cut 32 text.now ≡ Some (p.0.now, p.1.now)) }
+    ensures none { IfNone result (cut 32 text.now ≡ None) }
+{
+    split_once(text, b' ')
+}
+
+/// The number below 10^14 that a text is in decimal, without noughts in front.
+pub fn number_of(text: &[u8]) -> Option<u64>
+    ensures { result ≡ number_of text.now }
+{
+    read_number(text)
+}
+
+/// The 1 to 1,023 bytes that a text is in lower case hexadecimal. It takes memory.
+pub fn bytes_of(alloc: Global, digits: &[u8]) -> Result<Option<Vec<u8>>, NoMemory>
+    ensures some { IfOk result (λ o. IfSome o (λ v. bytes_of digits.now ≡ Some v.items)) }
+    ensures none { IfOk result (λ o. IfNone o (bytes_of digits.now ≡ None)) }
+{
+    if digits.is_empty() {
+        return Ok(None);
+    }
+    if digits.len() > MOST_DIGITS {
+        return Ok(None);
+    }
+    if digits.iter().any(u8::is_ascii_uppercase) {
+        return Ok(None);
+    }
+    match hex::decode(alloc, digits) {
+        Ok(bytes) => Ok(Some(bytes)),
+        Err(FromHexError::OutOfMemory) => Err(NoMemory),
+        Err(
+            FromHexError::InvalidHexCharacter { .. }
+            | FromHexError::OddLength
+            | FromHexError::InvalidStringLength,
+        ) => Ok(None),
+    }
+}
