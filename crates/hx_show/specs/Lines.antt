@@ -1,13 +1,12 @@
 -- A line of a tape, or of the output of a replay, and its words.
-use Rattle.std.specs.Prelude.{◌≡◌, ℕ, ◌^◌, ◌%◌, ◌==◌, ◌&&◌, nat_lt, nat_le, not, Bool, true, false, if◌then◌else◌, List, [], ◌∷◌, ◌++◌, length, Option, Some, None, bytes_eq, codes}
-use Rattle.std.specs.List.{list_any}
+use Rattle.std.specs.Prelude.{◌≡◌, ℕ, ◌^◌, ◌%◌, ◌==◌, ◌&&◌, ◌||◌, nat_lt, nat_le, Bool, true, false, if◌then◌else◌, List, [], ◌∷◌, ◌++◌, length, Option, Some, None, bytes_eq, codes}
+use Rattle.std.specs.List.{list_all}
 use Rattle.std.specs.Option.{option_map, option_and_then, option_map_or}
 use Rattle.std.specs.Result.{result_ok}
-use Rattle.std.specs.Char.{is_ascii_uppercase}
 use Rattle.std.specs.Fmt.{decimal}
 use Rattle.std.specs.Str.Parse.{digits_value}
 use Rattle.hex.specs.Hex.{decode_of}
-use Rattle.hx_units.specs.Letters.{space, line_feed}
+use Rattle.hx_units.specs.Letters.{letter, space, line_feed}
 use Rattle.hx_text.specs.Spaces.{spaces}
 use Rattle.hx_ouch.specs.Inbound.{inbound_of}
 use Rattle.hx_ouch.specs.Outbound.{outbound_of}
@@ -40,11 +39,16 @@ number_of text =
     let n = digits_value 10 text in
     if nat_lt n (10 ^ 14) && bytes_eq text (decimal n) then Some n else None
 
+-- whether a letter is a hexadecimal digit in lower case
+abbrev pub is_digit : ℕ → Bool
+is_digit c =
+    (nat_le (letter "0") c && nat_le c (letter "9"))
+    || (nat_le (letter "a") c && nat_le c (letter "f"))
+
 -- the 1 to 1,023 bytes that a text is in lower case hexadecimal
 abbrev pub bytes_of : List ℕ → Option (List ℕ)
 bytes_of digits =
-    if nat_lt 0 (length digits) && nat_le (length digits) 2046
-      && not (list_any is_ascii_uppercase digits)
+    if nat_lt 0 (length digits) && nat_le (length digits) 2046 && list_all is_digit digits
     then result_ok (decode_of digits)
     else None
 

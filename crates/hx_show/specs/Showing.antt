@@ -1,8 +1,11 @@
 -- A whole text in words.
-use Rattle.std.specs.Prelude.{◌≡◌, ℕ, ◌==◌, if◌then◌else◌, List, [], ◌∷◌, ◌++◌, Option}
+use Rattle.std.specs.Prelude.{◌≡◌, ℕ, ◌==◌, Bool, if◌then◌else◌, List, [], ◌∷◌, ◌++◌, Option, IfSome}
 use Rattle.std.specs.List.{flat_map}
-use Rattle.std.specs.Io.KnownBytes.{Consumes, Appends, IsAtEnd}
+use Rattle.std.specs.Io.{StopsAt}
+use Rattle.std.specs.Io.BufRead.{take_through}
+use Rattle.std.specs.Io.KnownBytes.{Consumes, Appends}
 use Rattle.hx_units.specs.Letters.{line_feed}
+use Rattle.hx_text.specs.Cuts.{Lacks}
 use Rattle.hx_show.specs.declared.choice.Choice.{Choice}
 use Rattle.hx_show.specs.Lines.{shown_line}
 
@@ -20,11 +23,26 @@ lines_in (b ∷ text) = if b == line_feed then [] ∷ lines_in text else in_fron
 abbrev pub shown : Choice → List ℕ → List ℕ
 shown choice text = flat_map (shown_line choice) (lines_in text)
 
+-- these are all the bytes, where they are known
+abbrev pub IsAllOf : Option (List ℕ) → List ℕ → Type 0
+IsAllOf known bytes = IfSome known (λ xs. xs ≡ bytes)
+
+-- a line was read, with its line feed if it has one; it is empty where nothing was left
+pub record ReadsLine (r s : Option (List ℕ)) (line : List ℕ) : Type 0 where
+  pub stops : StopsAt line line_feed
+  pub read : Consumes r s line
+  pub line_is : IfSome r (λ xs. line ≡ take_through line_feed xs)
+
+-- a line cut before its line feed, if it has one
+pub record IsCut (line front : List ℕ) (fed : Bool) : Type 0 where
+  pub line_is : line ≡ (if fed then front ++ line_feed ∷ [] else front)
+  pub lacks : Lacks line_feed front
+
 -- all was read, and its words were written
 pub record ShowsAll (choice : Choice) (r s w v : Option (List ℕ)) : Type 0 where
   pub text : List ℕ
   pub read : Consumes r s text
-  pub at_end : IsAtEnd s
+  pub all : IsAllOf r text
   pub wrote : Appends w v (shown choice text)
 
 -- a beginning of the words of what was read was written

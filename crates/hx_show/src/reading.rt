@@ -1,6 +1,7 @@
 //! The words of a line: numbers in decimal, and bytes in hexadecimal.
 ghost use Rattle.std.specs.Prelude.{◌≡◌, Some, None, IfSome, IfNone, IfOk, List, ℕ};
-ghost use Rattle.hx_show.specs.Lines.{cut, number_of, bytes_of};
+ghost use Rattle.std.specs.List.{list_all};
+ghost use Rattle.hx_show.specs.Lines.{cut, number_of, is_digit, bytes_of};
 
 use hex::FromHexError;
 use hx_text::{read_number, split_once};
@@ -25,6 +26,13 @@ pub fn number_of(text: &[u8]) -> Option<u64>
     read_number(text)
 }
 
+// Whether all are hexadecimal digits in lower case.
+fn are_digits(text: &[u8]) -> bool
+    ensures { result ≡ list_all is_digit text.now }
+{
+    text.iter().all(|b| matches!(b, b'0'..=b'9' | b'a'..=b'f'))
+}
+
 /// The 1 to 1,023 bytes that a text is in lower case hexadecimal. It takes memory.
 pub fn bytes_of(alloc: Global, digits: &[u8]) -> Result<Option<Vec<u8>>, NoMemory>
     ensures some { IfOk result (λ o. IfSome o (λ v. bytes_of digits.now ≡ Some v.items)) }
@@ -36,7 +44,7 @@ pub fn bytes_of(alloc: Global, digits: &[u8]) -> Result<Option<Vec<u8>>, NoMemor
     if digits.len() > MOST_DIGITS {
         return Ok(None);
     }
-    if digits.iter().any(u8::is_ascii_uppercase) {
+    if !are_digits(digits) {
         return Ok(None);
     }
     match hex::decode(alloc, digits) {

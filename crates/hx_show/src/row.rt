@@ -136,11 +136,11 @@ fn put_line(
 fn show_parsed(
     alloc: Global,
     out: &mut Vec<u8>,
-    choice: Choice,
+    choice: &Choice,
     line: &Parsed<'_>,
 ) -> Result<(), NoMemory>
     ensures { OnOk result (out.new.items ≡ out.old.items
-        ++ shown_parsed choice (record { head = line.now.head; digits = line.now.digits.now })) }
+        ++ shown_parsed choice.now (record { head = line.now.head; digits = line.now.digits.now })) }
 {
     if !choice.has(line.head) {
         return Ok(());
@@ -157,10 +157,10 @@ fn show_parsed(
 pub fn show_line(
     alloc: Global,
     out: &mut Vec<u8>,
-    choice: Choice,
+    choice: &Choice,
     line: &[u8],
 ) -> Result<(), NoMemory>
-    ensures { OnOk result (out.new.items ≡ out.old.items ++ shown_line choice line.now) }
+    ensures { OnOk result (out.new.items ≡ out.old.items ++ shown_line choice.now line.now) }
 {
     match line_of(line) {
         Some(line) => show_parsed(alloc, out, choice, &line),

@@ -1,6 +1,8 @@
 //! A whole text in words.
-ghost use Rattle.std.specs.Prelude.{OnOk, OnErr};
-ghost use Rattle.hx_show.specs.Showing.{ShowsAll, ShowsSome};
+ghost use Rattle.std.specs.Prelude.{List, ℕ, OnOk, OnErr};
+ghost use Rattle.std.specs.Io.{StopsAt};
+ghost use Rattle.std.specs.Io.KnownBytes.{Consumes};
+ghost use Rattle.hx_show.specs.Showing.{ReadsLine, IsCut, ShowsAll, ShowsSome};
 
 use crate::choice::Choice;
 use crate::fault::ShowError;
@@ -9,15 +11,35 @@ use crate::writing::write_whole;
 use std::alloc::Global;
 use std::io::{BufRead, ErrorKind, Write};
 
-// Reads the next line into the place of what stood in `line`, with its line feed if it has one. Nothing is left to
-// read where it is empty.
-fn read_line<R: BufRead>(reader: &mut R, line: &mut Vec<u8>) -> Result<(), ShowError> {
+// Reads the next line into the place of what stood in `line`, with its line feed if it has one.
+fn read_line<R: BufRead>(reader: &mut R, line: &mut Vec<u8>) -> Result<(), ShowError>
+    ensures ok { OnOk result (ReadsLine (R.remaining reader.old) (R.remaining reader.new)
+        line.new.items) }
+    ensures err { OnErr result ((part : List ℕ)
+        × Consumes (R.remaining reader.old) (R.remaining reader.new) part) }
+{
     line.clear();
-    match reader.read_until(b'\n', line) {
-        Ok(_) => Ok(()),
-        Err(e) if e.kind() == ErrorKind::OutOfMemory => Err(ShowError::NoMemory),
-        Err(_) => Err(ShowError::Read),
+    if let Err(e) = reader.read_until(b'\n', line) {
+        return Err(match e.kind() {
+            ErrorKind::OutOfMemory => ShowError::NoMemory,
+            _ => ShowError::Read,
+        });
     }
+    Ok(())
+}
+
+// A line without its line feed, and whether it had one.
+fn without_feed(line: &[u8]) -> (&[u8], bool)
+    requires { StopsAt line.now 10 }
+    ensures { IsCut line.now result.0.now result.1 }
+{
+    let Some((last, front)) = line.split_last() else {
+        return (line, false);
+    };
+    if *last == b'\n' {
+        return (front, true);
+    }
+    (line, false)
 }
 
 /// Shows a tape, or the output of a replay, in words: reads it to its end, and writes for each line that is chosen when
@@ -40,16 +62,16 @@ pub fn show<R: BufRead, W: Write>(
     let mut words = Vec::new(alloc);
     for _ in 0..u64::MAX {
         read_line(reader, &mut line)?;
-        let Some((last, front)) = line.split_last() else {
+        if line.is_empty() {
             return Ok(());
-        };
-        words.clear();
-        if *last != b'\n' {
-            show_line(alloc, &mut words, choice, &line)?;
-            return write_whole(writer, &words);
         }
-        show_line(alloc, &mut words, choice, front)?;
+        let (front, fed) = without_feed(&line);
+        words.clear();
+        show_line(alloc, &mut words, &choice, front)?;
         write_whole(writer, &words)?;
+        if !fed {
+            return Ok(());
+        }
     }
     Err(ShowError::Read)
 }
