@@ -17,7 +17,7 @@ use Rattle.hx_show.specs.Lines.{cut, number_of, is_digit, bytes_of}
 bytes_same : (xs ys : List ℕ) → xs ≡ ys → bytes_eq xs ys ≡ true
 bytes_same xs ys e = (bytes_eq-Decides xs ys).1 e
 
-same_bytes : (xs ys : List ℕ) → bytes_eq xs ys ≡ true → xs ≡ ys
+pub same_bytes : (xs ys : List ℕ) → bytes_eq xs ys ≡ true → xs ≡ ys
 same_bytes xs ys e = (bytes_eq-Decides xs ys).0 e
 
 -- a text is cut at its first such byte

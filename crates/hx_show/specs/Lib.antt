@@ -7,4 +7,5 @@ pub mod Outbound
 pub mod Feeds
 pub mod Operators
 pub mod Lines
+pub mod Spelling
 pub mod Showing

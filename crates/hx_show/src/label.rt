@@ -3,7 +3,7 @@ ghost use Rattle.std.specs.Prelude.{◌≡◌};
 ghost use Rattle.hx_show.specs.Parts.{label_words};
 
 /// What a field of a message is called (OUCH 4.2; TotalView-ITCH 5.0).
-#[derive(Clone, Copy, Debug, PartialEq, Eq)]
+#[derive(Clone, Copy)]
 pub enum Label {
     Token,
     ExistingToken,

@@ -7,6 +7,7 @@ mod fault;
 mod feed;
 mod inbound;
 mod label;
+pub mod laws;
 mod line;
 mod meaning;
 mod operator;

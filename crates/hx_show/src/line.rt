@@ -5,7 +5,7 @@ ghost use Rattle.hx_show.specs.Lines.{feed_line, reply_line, tape_line, line_of_
 use crate::reading::{cut, number_of};
 
 /// What a line is.
-#[derive(Clone, Copy, Debug, PartialEq, Eq)]
+#[derive(Clone, Copy)]
 pub enum Head {
     /// A line of a tape: when, in nanoseconds since midnight, and who; the operator has number 0.
     Sent { time: u64, member: u64 },

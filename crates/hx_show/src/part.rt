@@ -12,7 +12,7 @@ use hx_units::{Firm, Symbol, Token};
 use std::alloc::AllocError;
 
 /// A field of a message, as it is told in words.
-#[derive(Clone, Copy, Debug, PartialEq, Eq)]
+#[derive(Clone, Copy)]
 pub enum Part {
     /// A member's name of an order.
     Token(Label, Token),
