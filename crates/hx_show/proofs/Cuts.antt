@@ -48,7 +48,7 @@ pub number_none : (ds : List ℕ) → ((n : ℕ) → n < 10 ^ 14 → ds ≢ deci
 number_none ds none =
     let n : ℕ = digits_value 10 ds in
     let no : (ltb n (10 ^ 14) && bytes_eq ds (decimal n)) ≡ false =
-      false_from_ne_true _ (λ h. let p = and_parts (ltb n (10 ^ 14)) (bytes_eq ds (decimal n)) h in none n (ltb-true n (10 ^ 14) p.0) (same_bytes ds (decimal n) p.1)) in
+    false_from_ne_true _ (λ h. let p = and_parts (ltb n (10 ^ 14)) (bytes_eq ds (decimal n)) h in none n (ltb-true n (10 ^ 14) p.0) (same_bytes ds (decimal n) p.1)) in
     cond-false _ (Some n) None no
 
 pub number_reads : (ds : List ℕ) (r : Option ℕ) → IfSome r (λ n. (n < 10 ^ 14) × (ds ≡ decimal n)) → IfNone r ((n : ℕ) → n < 10 ^ 14 → ds ≢ decimal n) → r ≡ number_of ds

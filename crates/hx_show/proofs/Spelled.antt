@@ -1,5 +1,5 @@
 -- A line that is spelled as one is read as what it says.
-use Rattle.std.proofs.Common.{◌≡◌, ℕ, suc, ◌^◌, ◌<◌, ◌≤◌, ◌/◌, ◌%◌, ◌*◌, List, [], ◌∷◌, ◌++◌, length, get_or, Option, Some, true, false, refl, sym, ap, ◌∙◌, arith}
+use Rattle.std.proofs.Common.{◌≡◌, ℕ, suc, ◌^◌, ◌<◌, ◌/◌, ◌%◌, List, [], ◌∷◌, ◌++◌, get_or, Some, true, false, refl, ap, arith}
 use Rattle.std.specs.Prelude.{slice_index, bytes_eq, if◌then◌else◌}
 use Rattle.std.specs.List.{list_all}
 use Rattle.std.specs.Fmt.{decimal}
@@ -57,8 +57,15 @@ no_letter c n high lt = false_from_ne_true _ (λ h.
 pub line_read : (h : Head) (bytes : List ℕ) → IsHead h → line_of (spelling h bytes) ≡ Some (record { head = h; digits = encode_lower bytes })
 line_read (head.Sent t m) bytes fits =
     let digits = encode_lower bytes in
-    rw (number_cut t (decimal m ++ 32 ∷ digits) fits.0, number_cut m digits (omega (arith, fits.1)), no_letter 70 t (omega arith) fits.0, no_letter 77 t (omega arith) fits.0,
-      number_read t fits.0, number_read m (omega (arith, fits.1)), lt-ltb m (10 ^ 4) fits.1) refl
+    rw (
+      number_cut t (decimal m ++ 32 ∷ digits) fits.0,
+      number_cut m digits (omega (arith, fits.1)),
+      no_letter 70 t (omega arith) fits.0,
+      no_letter 77 t (omega arith) fits.0,
+      number_read t fits.0,
+      number_read m (omega (arith, fits.1)),
+      lt-ltb m (10 ^ 4) fits.1,
+    ) refl
 line_read (head.OfFeed n) bytes fits = rw (number_cut n (encode_lower bytes) fits, number_read n fits) refl
 line_read (head.ToMember m n) bytes fits =
     rw (number_cut m (decimal n ++ 32 ∷ encode_lower bytes) fits.0, number_cut n (encode_lower bytes) fits.1, number_read m fits.0, number_read n fits.1) refl

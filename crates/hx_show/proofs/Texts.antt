@@ -2,7 +2,7 @@
 use Rattle.std.proofs.Common.{◌≡◌, ℕ, ◌<◌, Bool, List, [], ◌∷◌, ◌++◌, length, take, ◌-◌, Option, Some, None, eqb, true, false, inl, inr, refl, sym, ap, ◌∙◌, subst, append_assoc, arith}
 use Rattle.std.specs.Prelude.{◌≢◌, IfSome, OnErr, Result, Ok, Err}
 use Rattle.std.specs.Io.{StopsAt}
-use Rattle.std.specs.Io.KnownBytes.{Consumes, Appends, Keeps}
+use Rattle.std.specs.Io.KnownBytes.{Consumes, Appends}
 use Rattle.std.specs.Io.BufRead.{take_through}
 use Rattle.std.proofs.KnownBytes.{Consumes-trans, Consumes-nil, Appends-trans, Appends-nil}
 use Rattle.std.proofs.lemmas.Bool.{ne_eqb, eqb-true, cond-true, cond-false, cases_Bool}
@@ -11,7 +11,7 @@ use Rattle.std.proofs.lemmas.List.Elements.{All-nil, All-head, All-tail, All-pus
 use Rattle.hx_text.specs.Cuts.{Lacks}
 use Rattle.hx_show.specs.declared.choice.Choice.{Choice}
 use Rattle.hx_show.specs.Lines.{shown_line}
-use Rattle.hx_show.specs.Showing.{in_front, lines_in, shown, IsAllOf, ReadsLine, IsCut, Writes, ShowsAll, ShowsSome}
+use Rattle.hx_show.specs.Showing.{lines_in, shown, IsAllOf, ReadsLine, IsCut, Writes, ShowsAll, ShowsSome}
 
 -- ---- the lines of a text
 
@@ -36,14 +36,14 @@ shown_last choice (b ∷ l) p some = rw (line_last b l p) (append-nil (shown_lin
 pub take_through_all : (xs : List ℕ) → Lacks 10 (take_through 10 xs) → xs ≡ take_through 10 xs
 take_through_all [] p = refl
 take_through_all (x ∷ xs) p = elim (cases_Bool (eqb x 10)) [
-    | inl e ↦
-        let p' : Lacks 10 (x ∷ []) = rw (cond-true (eqb x 10) (x ∷ []) (x ∷ take_through 10 xs) e) at p in
-        absurd (All-head (λ n. n ≢ 10) x [] p' (eqb-true x 10 e))
-    | inr e ↦
-        let p' : Lacks 10 (x ∷ take_through 10 xs) = rw (cond-false (eqb x 10) (x ∷ []) (x ∷ take_through 10 xs) e) at p in
-        let rest = take_through_all xs (All-tail (λ n. n ≢ 10) x (take_through 10 xs) p') in
-        ap (λ (ys : List ℕ). x ∷ ys) rest ∙ sym (cond-false (eqb x 10) (x ∷ []) (x ∷ take_through 10 xs) e)
-  ]
+  | inl e ↦
+      let p' : Lacks 10 (x ∷ []) = rw (cond-true (eqb x 10) (x ∷ []) (x ∷ take_through 10 xs) e) at p in
+      absurd (All-head (λ n. n ≢ 10) x [] p' (eqb-true x 10 e))
+  | inr e ↦
+      let p' : Lacks 10 (x ∷ take_through 10 xs) = rw (cond-false (eqb x 10) (x ∷ []) (x ∷ take_through 10 xs) e) at p in
+      let rest = take_through_all xs (All-tail (λ n. n ≢ 10) x (take_through 10 xs) p') in
+      ap (λ (ys : List ℕ). x ∷ ys) rest ∙ sym (cond-false (eqb x 10) (x ∷ []) (x ∷ take_through 10 xs) e)
+]
 
 -- ---- how far a text was shown
 

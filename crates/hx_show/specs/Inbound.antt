@@ -1,5 +1,5 @@
 -- Messages from a member, in words (OUCH 4.2, Inbound Messages).
-use Rattle.std.specs.Prelude.{ℕ, List, [], ◌∷◌, Option, Some, None, codes}
+use Rattle.std.specs.Prelude.{ℕ, List, [], ◌∷◌, codes}
 use Rattle.hx_ouch.specs.declared.inbound.Enter.{Enter}
 use Rattle.hx_ouch.specs.declared.inbound.Replace.{Replace}
 use Rattle.hx_ouch.specs.declared.inbound.Cancel.{Cancel}

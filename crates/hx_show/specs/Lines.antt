@@ -1,5 +1,5 @@
 -- A line of a tape, or of the output of a replay, and its words.
-use Rattle.std.specs.Prelude.{◌≡◌, ℕ, ◌^◌, ◌%◌, ◌==◌, ◌&&◌, ◌||◌, nat_lt, nat_le, Bool, true, false, if◌then◌else◌, List, [], ◌∷◌, ◌++◌, length, Option, Some, None, bytes_eq, codes}
+use Rattle.std.specs.Prelude.{ℕ, ◌^◌, ◌==◌, ◌&&◌, ◌||◌, nat_lt, nat_le, Bool, true, false, if◌then◌else◌, List, [], ◌∷◌, ◌++◌, length, Option, Some, None, bytes_eq, codes}
 use Rattle.std.specs.List.{list_all}
 use Rattle.std.specs.Option.{option_map, option_and_then, option_map_or}
 use Rattle.std.specs.Result.{result_ok}
@@ -7,7 +7,6 @@ use Rattle.std.specs.Fmt.{decimal}
 use Rattle.std.specs.Str.Parse.{digits_value}
 use Rattle.hex.specs.Hex.{decode_of}
 use Rattle.hx_units.specs.Letters.{letter, space, line_feed}
-use Rattle.hx_text.specs.Spaces.{spaces}
 use Rattle.hx_ouch.specs.Inbound.{inbound_of}
 use Rattle.hx_ouch.specs.Outbound.{outbound_of}
 use Rattle.hx_ouch.specs.declared.outbound.Outbound.{Outbound}
@@ -18,7 +17,7 @@ use Rattle.hx_show.specs.declared.choice.Choice.{Choice}
 use Rattle.hx_show.specs.declared.choice.Choice.TheVariants as choice
 use Rattle.hx_show.specs.declared.line.Head.{Head}
 use Rattle.hx_show.specs.declared.line.Head.TheVariants as head
-use Rattle.hx_show.specs.Columns.{column, gap, time_width, who_width}
+use Rattle.hx_show.specs.Columns.{column, time_width, who_width}
 use Rattle.hx_show.specs.Units.{time_of_day}
 use Rattle.hx_show.specs.Inbound.{inbound_message}
 use Rattle.hx_show.specs.Outbound.{outbound_message, outbound_time}
@@ -66,15 +65,15 @@ feed_line number digits =
 abbrev pub reply_line : (member number digits : List ℕ) → Option Parsed
 reply_line member number digits =
     option_and_then (λ m. option_map
-      (λ n. record { head = head.ToMember m n; digits = digits }) (number_of number))
+    (λ n. record { head = head.ToMember m n; digits = digits }) (number_of number))
     (number_of member)
 
 -- a line of a tape: the words time, member and digits; a member has at most 4 digits
 abbrev pub tape_line : (time member digits : List ℕ) → Option Parsed
 tape_line time member digits =
     option_and_then (λ t. option_and_then (λ m.
-      if nat_lt m (10 ^ 4) then Some (record { head = head.Sent t m; digits = digits }) else None)
-      (number_of member))
+    if nat_lt m (10 ^ 4) then Some (record { head = head.Sent t m; digits = digits }) else None)
+    (number_of member))
     (number_of time)
 
 -- a line of these three words, of which the last may be more
@@ -132,6 +131,10 @@ line_words (head.ToMember member number) bytes =
     reply_row (codes "member " ++ (decimal member ++ (codes " reply " ++ decimal number)))
     (outbound_of bytes)
 
+-- the words of a line with these digits
+abbrev pub digits_words : Head → List ℕ → List ℕ
+digits_words h digits = option_map_or (line_words h) (bytes_of digits) unreadable_line
+
 -- ---- Which lines are shown
 
 -- whether a line is chosen
@@ -148,7 +151,7 @@ is_chosen (choice.Member m) (head.ToMember member number) = member == m
 abbrev pub shown_parsed : Choice → Parsed → List ℕ
 shown_parsed c p =
     if is_chosen c p.head
-    then option_map_or (line_words p.head) (bytes_of p.digits) unreadable_line ++ line_feed ∷ []
+    then digits_words p.head p.digits ++ line_feed ∷ []
     else []
 
 -- what is written for a line that is none: it is neither of the feed nor of a member

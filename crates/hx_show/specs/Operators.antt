@@ -1,9 +1,8 @@
 -- What the operator does, in words.
-use Rattle.std.specs.Prelude.{ℕ, List, [], ◌∷◌, Option, Some, None, codes}
+use Rattle.std.specs.Prelude.{ℕ, List, [], ◌∷◌, codes}
 use Rattle.hx_rules.specs.declared.event.Event.{Event}
 use Rattle.hx_rules.specs.declared.event.Event.TheVariants.{Message, Tick, Hours, Halt, Break}
 use Rattle.hx_show.specs.declared.label.Label.TheVariants as label
-use Rattle.hx_show.specs.declared.part.Part.{Part}
 use Rattle.hx_show.specs.declared.part.Part.TheVariants.{Stock, Reason, Letter, Number}
 use Rattle.hx_show.specs.Parts.{message_words}
 

@@ -1,8 +1,9 @@
 -- The parts of a message in words: its fields, each with its label or its unit.
-use Rattle.std.specs.Prelude.{ℕ, ◌==◌, ◌||◌, ◌&&◌, nat_le, if◌then◌else◌, List, [], ◌∷◌, ◌++◌, length, codes}
+use Rattle.std.specs.Prelude.{ℕ, ◌==◌, nat_le, if◌then◌else◌, List, [], ◌∷◌, ◌++◌, length, codes}
 use Rattle.std.specs.List.{flat_map}
 use Rattle.std.specs.Fmt.{decimal}
 use Rattle.hx_rules.specs.Letters.{attributable}
+use Rattle.hx_rules.specs.Limits.{immediate, most_seconds, market_hours}
 use Rattle.hx_rules.specs.Orders.{is_shown, is_display}
 use Rattle.hx_show.specs.declared.label.Label.{Label}
 use Rattle.hx_show.specs.declared.label.Label.TheVariants as label
@@ -66,9 +67,9 @@ display_words display time_in_force =
 -- how long an order lives (OUCH 4.2, Enter Order: Time in Force)
 abbrev pub time_in_force_words : ℕ → List ℕ
 time_in_force_words n =
-    if n == 0 then codes "immediate or cancel"
-    else if nat_le n 86400 then decimal n ++ codes " seconds"
-    else if n == 99998 then codes "market hours"
+    if n == immediate then codes "immediate or cancel"
+    else if nat_le n most_seconds then decimal n ++ codes " seconds"
+    else if n == market_hours then codes "market hours"
     else codes "system hours"
 
 -- a field in words

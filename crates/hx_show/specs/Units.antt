@@ -1,7 +1,7 @@
 -- Numbers with their units, and names, in words.
-use Rattle.std.specs.Prelude.{ℕ, ◌-◌, ◌/◌, ◌%◌, ◌==◌, ◌&&◌, nat_le, if◌then◌else◌, List, [], ◌++◌, length, map, replicate, codes}
+use Rattle.std.specs.Prelude.{ℕ, ◌-◌, ◌/◌, ◌%◌, ◌==◌, ◌&&◌, nat_le, if◌then◌else◌, List, ◌++◌, length, map, replicate, codes}
 use Rattle.std.specs.Fmt.{decimal}
-use Rattle.hx_units.specs.Letters.{letter, space}
+use Rattle.hx_units.specs.Letters.{letter}
 use Rattle.hx_text.specs.Spaces.{trimmed}
 
 -- a number in decimal with so many digits or more, filled with noughts in front

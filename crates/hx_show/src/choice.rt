@@ -21,12 +21,14 @@ impl Choice {
     pub(crate) fn has(self, head: Head) -> bool
         ensures { result ≡ is_chosen self head }
     {
-        match (self, head) {
-            (Choice::All, _) | (Choice::Feed, Head::OfFeed { .. }) => true,
-            (Choice::Member(chosen), Head::Sent { member, .. } | Head::ToMember { member, .. }) => {
-                member == u64::from(chosen.get())
-            }
-            (Choice::Feed | Choice::Member(_), _) => false,
+        match self {
+            Choice::All => true,
+            Choice::Feed => matches!(head, Head::OfFeed { .. }),
+            Choice::Member(chosen) => match head {
+                Head::Sent { member, .. } => member == u64::from(chosen.get()),
+                Head::ToMember { member, .. } => member == u64::from(chosen.get()),
+                Head::OfFeed { .. } => false,
+            },
         }
     }
 }

@@ -55,10 +55,8 @@ impl Label {
             Label::CustomerType => "customer type",
             Label::OrderState => "order state",
             Label::Liquidity => "liquidity",
-            Label::CancelReason
-            | Label::RejectReason
-            | Label::BreakReason
-            | Label::HaltReason => "reason",
+            Label::CancelReason | Label::RejectReason | Label::BreakReason | Label::HaltReason =>
+                "reason",
             Label::DayEvent | Label::HoursEvent => "event",
             Label::TradingState => "state",
             Label::Locate => "locate",

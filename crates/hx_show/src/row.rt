@@ -1,9 +1,8 @@
 //! The words of a line: when, who, and what.
-ghost use Rattle.std.specs.Prelude.{◌≡◌, ◌++◌, OnOk, IfOk, option_map_or};
-ghost use Rattle.hx_ouch.specs.declared.outbound.Outbound.{Outbound};
+ghost use Rattle.std.specs.Prelude.{◌≡◌, ◌++◌, OnOk, IfOk};
 ghost use Rattle.hx_show.specs.Columns.{column, time_width};
 ghost use Rattle.hx_show.specs.Units.{time_of_day};
-ghost use Rattle.hx_show.specs.Lines.{sender, sent_message, feed_row, reply_row, line_words, shown_parsed, shown_unreadable, shown_line};
+ghost use Rattle.hx_show.specs.Lines.{sender, sent_message, feed_row, reply_row, line_words, digits_words, shown_parsed, shown_unreadable, shown_line};
 
 use crate::choice::Choice;
 use crate::columns::{TIME_WIDTH, WHO_WIDTH, put_column};
@@ -43,12 +42,7 @@ fn sender(alloc: Global, member: u64) -> Result<Vec<u8>, AllocError>
 }
 
 // Appends what was sent.
-fn put_sent(
-    out: &mut Vec<u8>,
-    time: u64,
-    member: u64,
-    bytes: &[u8],
-) -> Result<(), AllocError>
+fn put_sent(out: &mut Vec<u8>, time: u64, member: u64, bytes: &[u8]) -> Result<(), AllocError>
     ensures { OnOk result
         (out.new.items ≡ out.old.items ++ sent_message time member bytes.now) }
 {
@@ -103,12 +97,7 @@ fn put_reply_row(
 }
 
 // Appends the words of a line with these bytes.
-fn put_line(
-    alloc: Global,
-    out: &mut Vec<u8>,
-    head: Head,
-    bytes: &[u8],
-) -> Result<(), AllocError>
+fn put_line(alloc: Global, out: &mut Vec<u8>, head: Head, bytes: &[u8]) -> Result<(), AllocError>
     ensures { OnOk result (out.new.items ≡ out.old.items ++ line_words head bytes.now) }
 {
     match head {
@@ -132,6 +121,16 @@ fn put_line(
     }
 }
 
+// Appends the words of a line with these digits.
+fn put_digits(alloc: Global, out: &mut Vec<u8>, head: Head, digits: &[u8]) -> Result<(), NoMemory>
+    ensures { OnOk result (out.new.items ≡ out.old.items ++ digits_words head digits.now) }
+{
+    let Some(bytes) = bytes_of(alloc, digits)? else {
+        return Ok(out.extend_from_slice(b"unreadable line")?);
+    };
+    Ok(put_line(alloc, out, head, &bytes)?)
+}
+
 // Appends what is shown of a line that is one.
 fn show_parsed(
     alloc: Global,
@@ -145,10 +144,7 @@ fn show_parsed(
     if !choice.has(line.head) {
         return Ok(());
     }
-    match bytes_of(alloc, line.digits)? {
-        Some(bytes) => put_line(alloc, out, line.head, &bytes)?,
-        None => out.extend_from_slice(b"unreadable line")?,
-    }
+    put_digits(alloc, out, line.head, line.digits)?;
     out.push(b'\n')?;
     Ok(())
 }

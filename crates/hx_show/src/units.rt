@@ -61,7 +61,11 @@ pub fn put_dollars(out: &mut Vec<u8>, units: u32) -> Result<(), AllocError>
 fn printable(byte: u8) -> u8
     ensures { result ≡ printable byte }
 {
-    if (32..=126).contains(&byte) { byte } else { b'?' }
+    if (32..=126).contains(&byte) {
+        byte
+    } else {
+        b'?'
+    }
 }
 
 /// Appends a name without the spaces that fill it, or `blank`.
