@@ -16,7 +16,8 @@ event_message (Tick time) = message_words (codes "Tick") []
 event_message (Hours time code) =
     message_words (codes "Hours") (Letter label.HoursEvent code ∷ [])
 event_message (Halt time stock state reason) =
-    message_words (codes "Halt") (Stock stock ∷ Letter label.TradingState state ∷ Reason reason ∷ [])
+    message_words (codes "Halt")
+    (Stock stock ∷ Letter label.TradingState state ∷ Reason reason ∷ [])
 event_message (Break time number) =
     message_words (codes "Break") (Number label.MatchNumber number ∷ [])
 event_message (Message member time bytes) = unreadable_message

@@ -57,13 +57,15 @@ broken_trade_parts m =
 
 -- a reply, by its name in the standard
 abbrev pub outbound_message : Outbound → List ℕ
-outbound_message (variant.SystemEvent m) = message_words (codes "System Event") (system_event_parts m)
+outbound_message (variant.SystemEvent m) =
+    message_words (codes "System Event") (system_event_parts m)
 outbound_message (variant.Accepted m) = message_words (codes "Accepted") (accepted_parts m)
 outbound_message (variant.Replaced m) = message_words (codes "Replaced") (replaced_parts m)
 outbound_message (variant.Canceled m) = message_words (codes "Canceled") (canceled_parts m)
 outbound_message (variant.Executed m) = message_words (codes "Executed") (executed_parts m)
 outbound_message (variant.Rejected m) = message_words (codes "Rejected") (rejected_parts m)
-outbound_message (variant.BrokenTrade m) = message_words (codes "Broken Trade") (broken_trade_parts m)
+outbound_message (variant.BrokenTrade m) =
+    message_words (codes "Broken Trade") (broken_trade_parts m)
 
 -- when it was sent, in nanoseconds since midnight
 abbrev pub outbound_time : Outbound → ℕ
