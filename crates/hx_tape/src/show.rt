@@ -6,9 +6,9 @@ use hx_replay::TapeError;
 use hx_show::{Choice, show};
 use hx_units::MemberNo;
 use std::io;
-use std::io::{BufReader, BufWriter, Write};
+use std::io::BufReader;
 
-// How many bytes are read and written at once.
+// How many bytes are read at once.
 const BUFFER: usize = 1 << 16;
 
 // The lines that the command line chooses.
@@ -22,7 +22,7 @@ fn choice_of(matches: &ArgMatches<'_>) -> Choice {
     }
 }
 
-/// Shows the input in words. What was written before a fault is written out as well.
+/// Shows the input in words. Each line's words go out before the next line is read.
 pub fn show_input<R: AllocGlobal + Input + Print>(
     rt: &R,
     matches: &ArgMatches<'_>,
@@ -31,14 +31,6 @@ pub fn show_input<R: AllocGlobal + Input + Print>(
     let Ok(mut reader) = BufReader::with_capacity(alloc, BUFFER, rt.reader()) else {
         return Err(Failure::Tape(TapeError::NoMemory));
     };
-    let Ok(mut writer) = BufWriter::with_capacity(alloc, BUFFER, io::writer(rt)) else {
-        return Err(Failure::Tape(TapeError::NoMemory));
-    };
-    let run = show(alloc, &mut reader, &mut writer, choice_of(matches));
-    let written = writer.flush();
-    run?;
-    match written {
-        Ok(()) => Ok(()),
-        Err(_) => Err(Failure::Tape(TapeError::Write)),
-    }
+    show(alloc, &mut reader, &mut io::writer(rt), choice_of(matches))?;
+    Ok(())
 }
