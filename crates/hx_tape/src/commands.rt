@@ -17,13 +17,17 @@ fn replay_command<'a>(alloc: Global) -> Result<Command<'a>, AllocError> {
         .arg(setup_file(alloc))
 }
 
-// One member, or all: the one or the other.
-fn strike_command<'a>(alloc: Global) -> Result<Command<'a>, AllocError> {
-    let member = Arg::new(alloc, "member")
+// The number of a member.
+fn member<'a>(alloc: Global) -> Arg<'a> {
+    Arg::new(alloc, "member")
         .long("member")
         .value_name("N")
         .value_parser(value_parser!(u16).range(1..=4095))
-        .help("The number of the member");
+        .help("The number of the member")
+}
+
+// One member, or all: the one or the other.
+fn strike_command<'a>(alloc: Global) -> Result<Command<'a>, AllocError> {
     let all = Arg::new(alloc, "all")
         .long("all")
         .action(ArgAction::SetTrue)
@@ -34,10 +38,24 @@ fn strike_command<'a>(alloc: Global) -> Result<Command<'a>, AllocError> {
         .arg("all")?;
     Command::new(alloc, "strike")
         .about("Writes a tape without the messages of quiet chains, of a member or of all")
-        .arg(member)?
+        .arg(member(alloc))?
         .arg(all)?
         .group(whose)?
         .arg(setup_file(alloc))
+}
+
+// The feed or a member, or neither of them.
+fn show_command<'a>(alloc: Global) -> Result<Command<'a>, AllocError> {
+    let feed = Arg::new(alloc, "feed")
+        .long("feed")
+        .action(ArgAction::SetTrue)
+        .help("The messages of the feed alone");
+    let which = ArgGroup::new(alloc, "which").arg("member")?.arg("feed")?;
+    Command::new(alloc, "show")
+        .about("Writes a tape, or the output of replay, in words")
+        .arg(member(alloc))?
+        .arg(feed)?
+        .group(which)
 }
 
 // A port, 1 to 65,535.
@@ -91,5 +109,6 @@ pub fn command<'a>(alloc: Global) -> Result<Command<'a>, AllocError> {
         .subcommand_required(true)
         .subcommand(replay_command(alloc)?)?
         .subcommand(strike_command(alloc)?)?
+        .subcommand(show_command(alloc)?)?
         .subcommand(serve_command(alloc)?)
 }

@@ -3,6 +3,7 @@
 use hx_members::SetupError;
 use hx_replay::TapeError;
 use hx_serve::ServeError;
+use hx_show::ShowError;
 use hx_units::NoMemory;
 use std::alloc::AllocError;
 
@@ -71,5 +72,15 @@ impl From<TapeError> for Failure {
 impl From<ServeError> for Failure {
     fn from(e: ServeError) -> Failure {
         Failure::Serve(e)
+    }
+}
+
+impl From<ShowError> for Failure {
+    fn from(e: ShowError) -> Failure {
+        Failure::Tape(match e {
+            ShowError::NoMemory => TapeError::NoMemory,
+            ShowError::Read => TapeError::Read,
+            ShowError::Write => TapeError::Write,
+        })
     }
 }

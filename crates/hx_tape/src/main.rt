@@ -1,10 +1,12 @@
-//! Replays a tape, or writes it without quiet chains, from standard input to standard output; or serves a day.
+//! Replays a tape, writes it without quiet chains, or shows it in words, from standard input to standard output; or
+//! serves a day.
 #![tactic(auto)]
 
 mod commands;
 mod failure;
 mod serve;
 mod setups;
+mod show;
 
 use clap::error::ErrorKind;
 use clap::{ArgMatches, Error};
@@ -15,6 +17,7 @@ use hx_units::MemberNo;
 use log::Log;
 use serve::serve_input;
 use setups::read_setup;
+use show::show_input;
 use std::io::{BufWriter, Write};
 use std::net::{Net, TcpListener, TcpStream};
 use std::process::ExitCode;
@@ -116,6 +119,7 @@ fn perform<
     match matches.subcommand() {
         Some(("replay", matches)) => replay_input(rt, matches),
         Some(("strike", matches)) => strike_input(rt, matches),
+        Some(("show", matches)) => show_input(rt, matches),
         Some(("serve", matches)) => serve_input(rt, matches),
         _ => Err(Failure::CommandLine),
     }

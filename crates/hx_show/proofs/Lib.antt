@@ -1,0 +1,4 @@
+pub mod Cuts
+pub mod Writes
+pub mod Texts
+pub mod Spelled

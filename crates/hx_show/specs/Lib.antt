@@ -1,0 +1,11 @@
+pub mod Columns
+pub mod Units
+pub mod Meanings
+pub mod Parts
+pub mod Inbound
+pub mod Outbound
+pub mod Feeds
+pub mod Operators
+pub mod Lines
+pub mod Spelling
+pub mod Showing
