@@ -103,6 +103,18 @@ fn serve_command<'a>(alloc: Global) -> Result<Command<'a>, AllocError> {
         .arg(history)
 }
 
+fn watch_command<'a>(alloc: Global) -> Result<Command<'a>, AllocError> {
+    let stock = Arg::new(alloc, "stock")
+        .long("stock")
+        .value_name("NAME")
+        .help("The one stock whose depth is written, in place of the best prices of all");
+    Command::new(alloc, "watch")
+        .about("Writes the best bid and offer of each stock as the feed of a day changes them")
+        .arg(port(alloc, "feed", "The UDP port that the feed comes to"))?
+        .arg(port(alloc, "requests", "The UDP port of requests"))?
+        .arg(stock)
+}
+
 /// The program's command line.
 pub fn command<'a>(alloc: Global) -> Result<Command<'a>, AllocError> {
     Command::new(alloc, "hx_tape")
@@ -110,5 +122,6 @@ pub fn command<'a>(alloc: Global) -> Result<Command<'a>, AllocError> {
         .subcommand(replay_command(alloc)?)?
         .subcommand(strike_command(alloc)?)?
         .subcommand(show_command(alloc)?)?
-        .subcommand(serve_command(alloc)?)
+        .subcommand(serve_command(alloc)?)?
+        .subcommand(watch_command(alloc)?)
 }

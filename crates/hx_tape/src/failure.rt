@@ -5,6 +5,7 @@ use hx_replay::TapeError;
 use hx_serve::ServeError;
 use hx_show::ShowError;
 use hx_units::NoMemory;
+use hx_watch::WatchError;
 use std::alloc::AllocError;
 
 /// Why the program ends without success.
@@ -25,6 +26,8 @@ pub enum Failure {
     Tape(TapeError),
     #[error(transparent)]
     Serve(ServeError),
+    #[error(transparent)]
+    Watch(WatchError),
 }
 
 impl Failure {
@@ -34,10 +37,12 @@ impl Failure {
             Failure::CommandLine | Failure::NoText => 2,
             Failure::Setup(SetupError::Bad { .. })
             | Failure::Tape(TapeError::Line { .. })
-            | Failure::Serve(ServeError::Line { .. }) => 1,
+            | Failure::Serve(ServeError::Line { .. })
+            | Failure::Watch(WatchError::Screen { .. }) => 1,
             Failure::Setup(SetupError::NoMemory)
             | Failure::Tape(TapeError::NoMemory)
-            | Failure::Serve(ServeError::NoMemory) => 3,
+            | Failure::Serve(ServeError::NoMemory)
+            | Failure::Watch(WatchError::NoMemory) => 3,
             Failure::NoRandomness => 4,
             Failure::Tape(TapeError::Read | TapeError::Write | TapeError::Turns) => 4,
             Failure::Serve(
@@ -47,6 +52,7 @@ impl Failure {
                 | ServeError::Full
                 | ServeError::Turns,
             ) => 4,
+            Failure::Watch(WatchError::Network | WatchError::Write) => 4,
         }
     }
 }
@@ -72,6 +78,12 @@ impl From<TapeError> for Failure {
 impl From<ServeError> for Failure {
     fn from(e: ServeError) -> Failure {
         Failure::Serve(e)
+    }
+}
+
+impl From<WatchError> for Failure {
+    fn from(e: WatchError) -> Failure {
+        Failure::Watch(e)
     }
 }
 

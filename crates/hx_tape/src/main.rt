@@ -1,5 +1,5 @@
 //! Replays a tape, writes it without quiet chains, or shows it in words, from standard input to standard output; or
-//! serves a day.
+//! serves a day, or watches the feed of one.
 #![tactic(auto)]
 
 mod commands;
@@ -7,6 +7,7 @@ mod failure;
 mod serve;
 mod setups;
 mod show;
+mod watch;
 
 use clap::error::ErrorKind;
 use clap::{ArgMatches, Error};
@@ -26,6 +27,7 @@ use std::rt::{Clock, Env, Files};
 use std::sync::Wait;
 use std::thread::Threads;
 use std::{env, io};
+use watch::watch_feed;
 
 // How many bytes of output are written at once.
 const BUFFER: usize = 1 << 16;
@@ -121,6 +123,7 @@ fn perform<
         Some(("strike", matches)) => strike_input(rt, matches),
         Some(("show", matches)) => show_input(rt, matches),
         Some(("serve", matches)) => serve_input(rt, matches),
+        Some(("watch", matches)) => watch_feed(rt, matches),
         _ => Err(Failure::CommandLine),
     }
 }
