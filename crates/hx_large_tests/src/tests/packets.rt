@@ -50,9 +50,9 @@ fn seventy_packets(rt: HostRuntime) -> Result<(), Fail> {
     let mut publisher = Publisher::new(SESSION, ListMessages::new(alloc), 0);
     publisher.append(&list)?;
     let mut first = 1;
-    for cut in &packets {
+    for made in &packets {
         let want = packet(alloc, first, 36)?;
-        assert_eq!(rt; cut.as_slice(), want.as_slice());
+        assert_eq!(rt; made.as_slice(), want.as_slice());
         let sent = publisher.turn(0).ok_or("a packet")?;
         assert_eq!(rt; sent.as_slice(), want.as_slice());
         first = first.saturating_add(36);
