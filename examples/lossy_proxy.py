@@ -1,17 +1,16 @@
 #!/usr/bin/env python3
-"""examples/lossy_proxy.py FROM TO [EVERY]: passes datagrams that come to the UDP port FROM on to the port TO, both at
-127.0.0.1, but for each EVERY-th (the fifth, unless it is given), which it drops; and repeats each seventh that it passes
-on. So one sees what a reader of the feed makes of a network that loses and repeats."""
+"""examples/lossy_proxy.py FROM EVERY TO [TO ..]: passes datagrams that come to the UDP port FROM on to the ports TO, all at
+127.0.0.1, but for each EVERY-th, which it drops; and it sends each fourth that it passes on twice. So one sees what a reader
+of the feed makes of a network that loses and repeats. It ends at Control-C."""
 import socket
 import sys
 
 HOST = '127.0.0.1'
-source, target = int(sys.argv[1]), int(sys.argv[2])
-every = int(sys.argv[3]) if len(sys.argv) > 3 else 5
+source, every, *targets = map(int, sys.argv[1:])
 
 line = socket.socket(socket.AF_INET, socket.SOCK_DGRAM)
 line.bind((HOST, source))
-came = dropped = 0
+came = dropped = passed = 0
 try:
     while True:
         datagram = line.recv(65_535)
@@ -19,7 +18,9 @@ try:
         if came % every == 0:
             dropped += 1
             continue
-        for _ in range(2 if came % 7 == 0 else 1):
-            line.sendto(datagram, (HOST, target))
+        passed += 1
+        for target in targets:
+            for _ in range(2 if passed % 4 == 0 else 1):
+                line.sendto(datagram, (HOST, target))
 except KeyboardInterrupt:
     print(f'{came} datagrams, {dropped} dropped')
