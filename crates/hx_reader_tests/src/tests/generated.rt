@@ -1,4 +1,5 @@
 //! A generated feed of 20,000 messages, of which one packet in five is lost.
+ghost use Rattle.std.specs.Prelude.{◌<◌};
 
 use super::network::Network;
 use super::screens::{Message, Sent, expect_all};
