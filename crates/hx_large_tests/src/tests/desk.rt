@@ -60,7 +60,7 @@ impl<'a> Lines<'a> {
     fn add_packet(&mut self, packet: &[u8]) -> Result<(), Fail> {
         let Some(
             MoldPacket::Blocks {
-                session: SESSION,
+                session,
                 sequence,
                 messages,
             },
@@ -68,8 +68,8 @@ impl<'a> Lines<'a> {
         else {
             return Err("messages".into());
         };
-        if sequence != self.count.saturating_add(1) {
-            return Err("another number".into());
+        if session != SESSION || sequence != self.count.saturating_add(1) {
+            return Err("another session, or another number".into());
         }
         for message in messages {
             self.add(message)?;
