@@ -1,5 +1,5 @@
 //! Which stocks are halted, and the executions of the day.
-ghost use Rattle.std.specs.Prelude.{◌≡◌, ◌+◌, ◌<◌, ◌≤◌, ◌++◌, ◌∷◌, [], suc, IfOk, OnOk, length, replicate, slice_set, false, true};
+ghost use Rattle.std.specs.Prelude.{◌≡◌, ◌+◌, ◌<◌, ◌≤◌, ◌++◌, ◌∷◌, [], suc, IfOk, IsOk, OnOk, length, replicate, slice_set, false, true};
 ghost use Rattle.std.specs.Option.{option_map};
 ghost use Rattle.hx_rules.specs.Breaks.{execution_of, with_execution};
 
@@ -59,11 +59,13 @@ impl Trading {
         self.executions.get((number - 1) as usize).copied()
     }
 
-    /// Makes room for the executions of these fills. `NoMemory` where there is none; the executions stay.
+    /// Makes room for the executions of these fills, where there is not enough. `NoMemory` where there is none; the
+    /// executions stay.
     pub fn reserve_for(&mut self, fills: &[Fill]) -> Result<(), NoMemory>
         ensures halted { self.new.halted ≡ self.old.halted }
         ensures executions { self.new.executions ≡ self.old.executions }
         ensures room { OnOk result (length fills.now ≤ self.new.room) }
+        ensures outright { length fills.now ≤ self.old.room → IsOk result }
     {
         self.executions.reserve(fills.len())?;
         Ok(())

@@ -4,7 +4,8 @@ use Rattle.std.proofs.Common.{take, drop, min, length-drop}
 use Rattle.std.specs.List.{AllZip, AppendsClones}
 use Rattle.std.specs.Global.{Vec}
 use Rattle.std.specs.Vec.{vec_len, vec_capacity}
-use Rattle.std.proofs.lemmas.List.{map-append, map-set}
+use Rattle.std.specs.List.{take-map}
+use Rattle.std.proofs.lemmas.List.{map-append, map-set, length-map}
 use Rattle.arrayvec.specs.ArrayVec.{ArrayVec}
 use Rattle.hx_ouch.specs.declared.outbound.Outbound.{Outbound}
 use Rattle.hx_ouch.specs.Outbound.{outbound_bytes}
@@ -125,12 +126,13 @@ end_from xs n k e = whole (drop k xs) (length xs - k) (length-drop k xs) ∙ dro
     whole (y ∷ ys) zero h = absurd (omega arith)
     whole (y ∷ ys) (suc m) h = ap (λ z. y ∷ z) (whole ys m (omega arith))
 
--- so many from a place on, both cut where the list ends
-pub page_from : {A : Type 0} (xs : List A) (n k m c : ℕ) → k ≡ min n (length xs) → c ≡ min m (length xs - k) → take (k + c - k) (drop k xs) ≡ take m (drop n xs)
-page_from xs n k m c e f =
-    ap (λ (z : ℕ). take z (drop k xs)) (let same : k + c - k ≡ c = omega arith in same)
-    ∙ take_min (drop k xs) m c (f ∙ ap (min m) (sym (length-drop k xs)))
-    ∙ ap (take m) (drop_min xs n k e)
+-- so many of the replies from a place on, cut where they end
+pub page_end : (rows : List (List ℕ)) (end part : List (ArrayVec ℕ)) (n m c : ℕ) → texts end ≡ drop n rows → c ≡ min m (length end) → part ≡ take c end → texts part ≡ take m (drop n rows)
+page_end rows end part n m c is count cut =
+    ap texts cut
+    ∙ sym (take-map (λ (x : ArrayVec ℕ). x.items) c end)
+    ∙ take_min (texts end) m c (count ∙ ap (min m) (sym (length-map end (λ (x : ArrayVec ℕ). x.items))))
+    ∙ ap (take m) is
 
 -- the row of a member, where the list has it
 pub row_at : (rows : List (Vec (ArrayVec ℕ))) (i : ℕ) (x : Vec (ArrayVec ℕ)) → i < length rows → x ≡ get_or rows i x → row_of (map row_texts rows) i ≡ row_texts x

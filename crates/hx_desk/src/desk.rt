@@ -162,7 +162,8 @@ impl Desk {
         self.rows.count(member)
     }
 
-    /// The replies to a member from this number on, which count from 1; 0 is read as 1.
+    /// The replies to a member from this number on, which count from 1; 0 is read as 1. It takes memory where there
+    /// are any.
     pub fn replies_from(
         &self,
         member: MemberNo,
@@ -170,13 +171,15 @@ impl Desk {
     ) -> Result<Vec<ArrayVec<u8, 80>>, NoMemory>
         ensures replies { IfOk result (λ rows.
             AreRepliesAt self.now member (from_number from) (texts rows.items)) }
+        ensures outright { IfErr result (λ _.
+            0 < length (from_number from (row_of self.now.rows member))) }
         ensures few { length (row_of self.now.rows member) < 2 ^ 63 }
         ensures range { member < 4096 }
     {
         self.rows.from(member, from)
     }
 
-    /// At most so many replies to a member, from this number on.
+    /// At most so many replies to a member, from this number on. It takes memory where there are any.
     pub fn replies_page(
         &self,
         member: MemberNo,
@@ -185,6 +188,8 @@ impl Desk {
     ) -> Result<Vec<ArrayVec<u8, 80>>, NoMemory>
         ensures replies { IfOk result (λ rows.
             AreRepliesAt self.now member (page from most) (texts rows.items)) }
+        ensures outright { IfErr result (λ _.
+            0 < length (page from most (row_of self.now.rows member))) }
         ensures few { length (row_of self.now.rows member) < 2 ^ 63 }
         ensures range { member < 4096 }
     {

@@ -1,5 +1,5 @@
 //! The replies that were sent to each member.
-ghost use Rattle.std.specs.Prelude.{◌≡◌, ℕ, ◌<◌, ◌^◌, map, length, slice_index, IfOk, OnOk};
+ghost use Rattle.std.specs.Prelude.{◌≡◌, ℕ, ◌<◌, ◌^◌, map, length, slice_index, IfOk, IfErr, OnOk};
 ghost use Rattle.hx_units.specs.Fields.{texts};
 ghost use Rattle.hx_desk.specs.Rows.{AreZeroAt, row_texts, row_spare, row_of, row_count, no_rows, members_of, with_replies, HasRoomFor, from_number, page};
 
@@ -98,6 +98,19 @@ fn empty_rows(alloc: Global) -> Result<Vec<Row>, NoMemory>
     Ok(rows)
 }
 
+// A copy of replies.
+fn copy_of(alloc: Global, replies: &[ArrayVec<u8, 80>]) -> Result<Row, NoMemory>
+    ensures ok { IfOk result (λ row. texts row.items ≡ texts replies.now) }
+    ensures outright { IfErr result (λ _. 0 < length (texts replies.now)) }
+{
+    let mut row = Vec::new(alloc);
+    if replies.is_empty() {
+        return Ok(row);
+    }
+    row.extend_from_slice(replies)?;
+    Ok(row)
+}
+
 impl Rows {
     /// No reply to anybody. `NoMemory` where there is no place for the rows.
     pub fn new(alloc: Global) -> Result<Rows, NoMemory>
@@ -135,21 +148,31 @@ impl Rows {
         self.rows[member.get() as usize].len() as u64
     }
 
-    /// The replies to a member from this number on, which count from 1; 0 is read as 1.
-    pub fn from(&self, member: MemberNo, from: u64) -> Result<Vec<ArrayVec<u8, 80>>, NoMemory>
-        ensures replies { IfOk result (λ rows.
-            texts rows.items ≡ from_number from (row_of self.now.rows member)) }
+    // The replies to a member from this number on, where they stand.
+    fn end(&self, member: MemberNo, from: u64) -> &[ArrayVec<u8, 80>]
+        ensures replies { texts result.now ≡ from_number from (row_of self.now.rows member) }
         ensures few { length (row_of self.now.rows member) < 2 ^ 63 }
         ensures range { member < 4096 }
     {
         let row = &self.rows[member.get() as usize];
         let first = (from.saturating_sub(1) as usize).min(row.len());
-        let mut replies: Row = Vec::new(self.alloc);
-        replies.extend_from_slice(&row[first..])?;
-        Ok(replies)
+        &row[first..]
     }
 
-    /// At most so many replies to a member, from this number on.
+    /// The replies to a member from this number on, which count from 1; 0 is read as 1. It takes memory where there
+    /// are any.
+    pub fn from(&self, member: MemberNo, from: u64) -> Result<Vec<ArrayVec<u8, 80>>, NoMemory>
+        ensures replies { IfOk result (λ rows.
+            texts rows.items ≡ from_number from (row_of self.now.rows member)) }
+        ensures outright { IfErr result (λ _.
+            0 < length (from_number from (row_of self.now.rows member))) }
+        ensures few { length (row_of self.now.rows member) < 2 ^ 63 }
+        ensures range { member < 4096 }
+    {
+        copy_of(self.alloc, self.end(member, from))
+    }
+
+    /// At most so many replies to a member, from this number on. It takes memory where there are any.
     pub fn page(
         &self,
         member: MemberNo,
@@ -158,14 +181,13 @@ impl Rows {
     ) -> Result<Vec<ArrayVec<u8, 80>>, NoMemory>
         ensures replies { IfOk result (λ rows.
             texts rows.items ≡ page from most (row_of self.now.rows member)) }
+        ensures outright { IfErr result (λ _.
+            0 < length (page from most (row_of self.now.rows member))) }
         ensures few { length (row_of self.now.rows member) < 2 ^ 63 }
         ensures range { member < 4096 }
     {
-        let row = &self.rows[member.get() as usize];
-        let first = (from.saturating_sub(1) as usize).min(row.len());
-        let count = (most as usize).min(row.len() - first);
-        let mut replies: Row = Vec::new(self.alloc);
-        replies.extend_from_slice(&row[first..first + count])?;
-        Ok(replies)
+        let end = self.end(member, from);
+        let count = (most as usize).min(end.len());
+        copy_of(self.alloc, &end[..count])
     }
 }

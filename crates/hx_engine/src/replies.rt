@@ -1,8 +1,8 @@
 //! What an exchange tells of a member's replies, and of the end of the day.
-ghost use Rattle.std.specs.Prelude.{◌≡◌, IfOk};
+ghost use Rattle.std.specs.Prelude.{◌≡◌, ◌<◌, length, IfOk, IfErr};
 ghost use Rattle.hx_units.specs.Fields.{texts};
 ghost use Rattle.hx_desk.specs.Rows.{from_number, page};
-ghost use Rattle.hx_desk.specs.Known.{AreFew, CatchesUp, IsWhole};
+ghost use Rattle.hx_desk.specs.Known.{AreFew, CatchesUp, IsWhole, known_replies};
 ghost use Rattle.hx_engine.specs.Exchanges.{AreKnownReplies, IsNews};
 
 use crate::answers::News;
@@ -77,7 +77,7 @@ impl<V: Venue> Exchange<V> {
     }
 
     /// The replies to a member from this number on, which count from 1; 0 is read as 1. The reader knows from then on
-    /// the history to which they are.
+    /// the history to which they are. It takes memory where there are any.
     pub fn replies(
         &self,
         rt: &impl Wait,
@@ -88,6 +88,8 @@ impl<V: Venue> Exchange<V> {
         requires { reader.old.log ≡ V.log }
         ensures replies { IfOk result (λ rows.
             AreKnownReplies V.setup member reader.new.known (from_number from) (texts rows.items)) }
+        ensures outright { IfErr result (λ _.
+            0 < length (from_number from (known_replies V.setup member reader.new.known))) }
         ensures few { AreFew V.setup member reader.new.known }
         ensures whole { IsWhole V.setup reader.new.known }
         ensures reader { CatchesUp reader.old reader.new }
@@ -99,7 +101,8 @@ impl<V: Venue> Exchange<V> {
         held.desk.replies_from(member, from)
     }
 
-    /// At most so many replies to a member, from this number on: it holds the lock no longer than these take.
+    /// At most so many replies to a member, from this number on: it holds the lock no longer than these take. It takes
+    /// memory where there are any.
     pub fn replies_page(
         &self,
         rt: &impl Wait,
@@ -111,6 +114,8 @@ impl<V: Venue> Exchange<V> {
         requires { reader.old.log ≡ V.log }
         ensures replies { IfOk result (λ rows.
             AreKnownReplies V.setup member reader.new.known (page from most) (texts rows.items)) }
+        ensures outright { IfErr result (λ _.
+            0 < length (page from most (known_replies V.setup member reader.new.known))) }
         ensures few { AreFew V.setup member reader.new.known }
         ensures whole { IsWhole V.setup reader.new.known }
         ensures reader { CatchesUp reader.old reader.new }

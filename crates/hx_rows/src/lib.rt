@@ -1,6 +1,5 @@
-//! The worked rows: each day is computed on the definitions, and the exchange's calls are tested with it.
+//! The worked rows: the exchange's calls over worked days, books, setups and tapes. Nothing is called from here.
 #![tactic(auto)]
 
-pub mod days;
 #[cfg(test)]
 mod tests;

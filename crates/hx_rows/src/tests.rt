@@ -12,4 +12,5 @@ mod orders;
 mod plans;
 mod replaying;
 mod setups;
+mod showing;
 mod striking;

@@ -22,6 +22,3 @@ mod writing;
 pub use choice::Choice;
 pub use fault::ShowError;
 pub use showing::show;
-
-#[cfg(test)]
-mod tests;
