@@ -208,7 +208,8 @@ enter_order time member token side shares price time_in_force display minimum =
     }))
 
 abbrev pub accepted :
-    (member time : ℕ) (token : List ℕ) (side shares price time_in_force display reference minimum : ℕ)
+    (member time : ℕ) (token : List ℕ)
+    → (side shares price time_in_force display reference minimum : ℕ)
     → Reply
 accepted member time token side shares price time_in_force display reference minimum = (
   member,
@@ -258,7 +259,8 @@ rejected member time token reason =
 
 -- a Replace Order message, and a Cancel Order message
 abbrev pub replace_order :
-    (time member : ℕ) (existing replacement : List ℕ) (shares price time_in_force display minimum : ℕ)
+    (time member : ℕ) (existing replacement : List ℕ)
+    → (shares price time_in_force display minimum : ℕ)
     → Event
 replace_order time member existing replacement shares price time_in_force display minimum =
     Message member time
@@ -278,7 +280,8 @@ cancel_order time member token shares =
     Message member time (cancel_bytes (record { token = record { 0 = token }; shares = shares }))
 
 abbrev pub replaced :
-    (member time : ℕ) (token : List ℕ) (side shares price time_in_force display reference minimum : ℕ)
+    (member time : ℕ) (token : List ℕ)
+    → (side shares price time_in_force display reference minimum : ℕ)
     (previous : List ℕ) → Reply
 replaced member time token side shares price time_in_force display reference minimum previous = (
   member,

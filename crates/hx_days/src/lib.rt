@@ -25,7 +25,8 @@ pub fn display_beats_time()
 
 /// What the day tells: hidden executions on both sides.
 pub fn hidden_executions_on_both_sides()
-    ensures { told standard hidden_executions_on_both_sides ≡ hidden_executions_on_both_sides_tells }
+    ensures { told standard hidden_executions_on_both_sides
+        ≡ hidden_executions_on_both_sides_tells }
 {}
 
 /// What the day tells: an order is passed over for its minimum.

@@ -1,5 +1,5 @@
--- How the table of used tokens hashes. No answer depends on it: what it changes is who can tell which tokens fall
--- on one another.
+-- How the table of used tokens hashes. No answer depends on it: what it changes is who can tell which
+-- tokens fall on one another.
 use Rattle.std.specs.Prelude.{ℕ, ◌/◌, ◌%◌, List, [], ◌∷◌, slice_index}
 use Rattle.hx_units.specs.declared.names.Token.{Token}
 use Rattle.std.specs.Hash.FoldHasher as folding
@@ -15,8 +15,9 @@ abbrev pub bytes_of_name : (member : ℕ) → Token → List ℕ
 bytes_of_name member token =
     let t = token.0 in
     member / 256 ∷ member % 256 ∷ slice_index t 0 ∷ slice_index t 1 ∷ slice_index t 2
-    ∷ slice_index t 3 ∷ slice_index t 4 ∷ slice_index t 5 ∷ slice_index t 6 ∷ slice_index t 7 ∷ slice_index t 8 ∷ slice_index t 9
-    ∷ slice_index t 10 ∷ slice_index t 11 ∷ slice_index t 12 ∷ slice_index t 13 ∷ []
+    ∷ slice_index t 3 ∷ slice_index t 4 ∷ slice_index t 5 ∷ slice_index t 6 ∷ slice_index t 7
+    ∷ slice_index t 8 ∷ slice_index t 9 ∷ slice_index t 10 ∷ slice_index t 11 ∷ slice_index t 12
+    ∷ slice_index t 13 ∷ []
 
 -- the hasher of a seed, before anything is written
 abbrev pub hasher_of : Seed → TokenHasher
