@@ -65,7 +65,7 @@ impl Trading {
         ensures halted { self.new.halted ≡ self.old.halted }
         ensures executions { self.new.executions ≡ self.old.executions }
         ensures room { OnOk result (length fills.now ≤ self.new.room) }
-        ensures outright { length fills.now ≤ self.old.room → IsOk result }
+        ensures memory { length fills.now ≤ self.old.room → IsOk result }
     {
         self.executions.reserve(fills.len())?;
         Ok(())

@@ -171,7 +171,7 @@ impl Desk {
     ) -> Result<Vec<ArrayVec<u8, 80>>, NoMemory>
         ensures replies { IfOk result (λ rows.
             AreRepliesAt self.now member (from_number from) (texts rows.items)) }
-        ensures outright { IfErr result (λ _.
+        ensures memory { IfErr result (λ _.
             0 < length (from_number from (row_of self.now.rows member))) }
         ensures few { length (row_of self.now.rows member) < 2 ^ 63 }
         ensures range { member < 4096 }
@@ -188,7 +188,7 @@ impl Desk {
     ) -> Result<Vec<ArrayVec<u8, 80>>, NoMemory>
         ensures replies { IfOk result (λ rows.
             AreRepliesAt self.now member (page from most) (texts rows.items)) }
-        ensures outright { IfErr result (λ _.
+        ensures memory { IfErr result (λ _.
             0 < length (page from most (row_of self.now.rows member))) }
         ensures few { length (row_of self.now.rows member) < 2 ^ 63 }
         ensures range { member < 4096 }

@@ -101,7 +101,7 @@ fn empty_rows(alloc: Global) -> Result<Vec<Row>, NoMemory>
 // A copy of replies.
 fn copy_of(alloc: Global, replies: &[ArrayVec<u8, 80>]) -> Result<Row, NoMemory>
     ensures ok { IfOk result (λ row. texts row.items ≡ texts replies.now) }
-    ensures outright { IfErr result (λ _. 0 < length (texts replies.now)) }
+    ensures memory { IfErr result (λ _. 0 < length (texts replies.now)) }
 {
     let mut row = Vec::new(alloc);
     if replies.is_empty() {
@@ -164,7 +164,7 @@ impl Rows {
     pub fn from(&self, member: MemberNo, from: u64) -> Result<Vec<ArrayVec<u8, 80>>, NoMemory>
         ensures replies { IfOk result (λ rows.
             texts rows.items ≡ from_number from (row_of self.now.rows member)) }
-        ensures outright { IfErr result (λ _.
+        ensures memory { IfErr result (λ _.
             0 < length (from_number from (row_of self.now.rows member))) }
         ensures few { length (row_of self.now.rows member) < 2 ^ 63 }
         ensures range { member < 4096 }
@@ -181,7 +181,7 @@ impl Rows {
     ) -> Result<Vec<ArrayVec<u8, 80>>, NoMemory>
         ensures replies { IfOk result (λ rows.
             texts rows.items ≡ page from most (row_of self.now.rows member)) }
-        ensures outright { IfErr result (λ _.
+        ensures memory { IfErr result (λ _.
             0 < length (page from most (row_of self.now.rows member))) }
         ensures few { length (row_of self.now.rows member) < 2 ^ 63 }
         ensures range { member < 4096 }

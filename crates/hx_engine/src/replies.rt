@@ -88,7 +88,7 @@ impl<V: Venue> Exchange<V> {
         requires { reader.old.log ≡ V.log }
         ensures replies { IfOk result (λ rows.
             AreKnownReplies V.setup member reader.new.known (from_number from) (texts rows.items)) }
-        ensures outright { IfErr result (λ _.
+        ensures memory { IfErr result (λ _.
             0 < length (from_number from (known_replies V.setup member reader.new.known))) }
         ensures few { AreFew V.setup member reader.new.known }
         ensures whole { IsWhole V.setup reader.new.known }
@@ -114,7 +114,7 @@ impl<V: Venue> Exchange<V> {
         requires { reader.old.log ≡ V.log }
         ensures replies { IfOk result (λ rows.
             AreKnownReplies V.setup member reader.new.known (page from most) (texts rows.items)) }
-        ensures outright { IfErr result (λ _.
+        ensures memory { IfErr result (λ _.
             0 < length (page from most (known_replies V.setup member reader.new.known))) }
         ensures few { AreFew V.setup member reader.new.known }
         ensures whole { IsWhole V.setup reader.new.known }

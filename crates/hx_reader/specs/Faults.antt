@@ -1,5 +1,5 @@
 -- What is no message of a venue's feed.
-use Rattle.std.specs.Prelude.{◌≡◌, ℕ, ◌==◌, nat_lt, if◌then◌else◌, Bool, false, is_some, List, [], ◌∷◌, Option, Some, None}
+use Rattle.std.specs.Prelude.{◌≡◌, ℕ, ◌==◌, nat_lt, if◌then◌else◌, Bool, true, false, is_some, List, [], ◌∷◌, Option, Some, None}
 use Rattle.hx_itch.specs.declared.message.Feed.{Feed}
 use Rattle.hx_itch.specs.declared.message.Feed.TheVariants.{AddOrder, AddOrderWithAttribution, OrderExecuted, OrderCancel, OrderDelete, OrderReplace, Trade, SystemEvent, StockDirectory, StockTradingAction, BrokenTrade}
 use Rattle.hx_books.specs.declared.ShownOrder.{ShownOrder}
@@ -55,6 +55,20 @@ fault_of book (SystemEvent s) = None
 fault_of book (StockDirectory d) = None
 fault_of book (StockTradingAction h) = None
 fault_of book (BrokenTrade b) = None
+
+-- whether a message brings an order into the book: an order is added, or replaces another
+abbrev pub adds : Feed → Bool
+adds (AddOrder a) = true
+adds (AddOrderWithAttribution a) = true
+adds (OrderExecuted e) = false
+adds (OrderCancel c) = false
+adds (OrderDelete d) = false
+adds (OrderReplace r) = true
+adds (Trade t) = false
+adds (SystemEvent s) = false
+adds (StockDirectory d) = false
+adds (StockTradingAction h) = false
+adds (BrokenTrade b) = false
 
 -- an error names the fault; want of memory is told only where there is none
 abbrev pub IsCause : ApplyError → (fault : Option ApplyError) → Type 0

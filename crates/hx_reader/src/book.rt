@@ -1,10 +1,11 @@
 //! The book that the feed tells.
-ghost use Rattle.std.specs.Prelude.{◌≡◌, ◌++◌, List, [], ◌∷◌, OnOk, OnErr, IfErr, IfSome, None, option_copied, option_map};
+ghost use Rattle.std.specs.Prelude.{◌≡◌, ◌++◌, List, [], ◌∷◌, OnOk, OnErr, IfErr, IfSome, None, option_copied, option_map, true};
 ghost use Rattle.hx_units.specs.Letters.{letter};
 ghost use Rattle.hx_books.specs.declared.ShownOrder.{ShownOrder};
 ghost use Rattle.hx_itch.specs.declared.message.Feed.TheVariants as variant;
 ghost use Rattle.hx_books.specs.Books.{book_after, book_from};
-ghost use Rattle.hx_reader.specs.Faults.{order_of, fault_of, IsCause};
+ghost use Rattle.hx_reader.specs.Faults.{order_of, fault_of, adds, IsCause};
+ghost use Rattle.hx_reader.specs.declared.fault.ApplyError.TheVariants as errors;
 ghost use Rattle.hx_reader.specs.Prices.{prices, below, above, IsHighest, IsLowest};
 ghost use Rattle.hx_reader.specs.Depth.{level_of};
 
@@ -88,13 +89,15 @@ impl FeedBook {
         }
     }
 
-    /// Applies the feed's next message. It takes memory. A message that is none of a feed with this
-    /// book is an error, and so is want of memory; at an error the book is as it was.
+    /// Applies the feed's next message. It takes memory where the message adds an order. A message
+    /// that is none of a feed with this book is an error, and so is want of memory; at an error the
+    /// book is as it was.
     pub fn apply(&mut self, message: &Feed) -> Result<(), ApplyError>
         ensures ok { OnOk result (self.new ≡ book_after self.old message.now) }
         ensures fits { OnOk result (fault_of self.old message.now ≡ None) }
         ensures err { OnErr result (self.new ≡ self.old) }
         ensures cause { IfErr result (λ e. IsCause e (fault_of self.old message.now)) }
+        ensures memory { IfErr result (λ e. e ≡ errors.NoMemory → adds message.now ≡ true) }
     {
         match message {
             Feed::AddOrder(a) => add(&mut self.table, added(a)),

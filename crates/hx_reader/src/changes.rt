@@ -85,14 +85,14 @@ fn remove(table: &mut Table, reference: u64, number: u64)
     table.places.swap_remove(&reference);
 }
 
-/// An order leaves.
+/// An order leaves. It takes no memory.
 pub fn delete(table: &mut Table, reference: u64) -> Result<(), ApplyError>
     requires { IsTable table.old }
     ensures table { IsTable table.new }
     ensures ok { OnOk result (book_in table.new ≡ without reference (book_in table.old)) }
     ensures fits { OnOk result (if_unknown reference (book_in table.old) ≡ None) }
     ensures err { OnErr result (book_in table.new ≡ book_in table.old) }
-    ensures cause { IfErr result (λ e. IsCause e (if_unknown reference (book_in table.old))) }
+    ensures cause { IfErr result (λ e. if_unknown reference (book_in table.old) ≡ Some e) }
 {
     let Some(number) = number_of(table, reference) else {
         return Err(ApplyError::Unknown);
@@ -101,15 +101,15 @@ pub fn delete(table: &mut Table, reference: u64) -> Result<(), ApplyError>
     Ok(())
 }
 
-/// Shares are taken off an order, which leaves where none are left.
+/// Shares are taken off an order, which leaves where none are left. It takes no memory.
 pub fn take(table: &mut Table, reference: u64, shares: u32) -> Result<(), ApplyError>
     requires { IsTable table.old }
     ensures table { IsTable table.new }
     ensures ok { OnOk result (book_in table.new ≡ taken_from reference shares (book_in table.old)) }
     ensures fits { OnOk result (if_short shares (order_of reference (book_in table.old)) ≡ None) }
     ensures err { OnErr result (book_in table.new ≡ book_in table.old) }
-    ensures cause { IfErr result (λ e. IsCause e
-        (if_short shares (order_of reference (book_in table.old)))) }
+    ensures cause { IfErr result (λ e.
+        if_short shares (order_of reference (book_in table.old)) ≡ Some e) }
 {
     let Some(number) = number_of(table, reference) else {
         return Err(ApplyError::Unknown);

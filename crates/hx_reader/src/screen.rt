@@ -1,7 +1,10 @@
 //! A reader of the feed's datagrams, with the book of what it hands out.
-ghost use Rattle.std.specs.Prelude.{◌≡◌, [], None, OnErr, IfOk, is_some};
+ghost use Rattle.std.specs.Prelude.{◌≡◌, [], Some, None, OnErr, IfOk, IfErr, is_some, option_map, true};
 ghost use Rattle.std.specs.Option.{option_to_list};
 ghost use Rattle.hx_books.specs.Books.{book_from};
+ghost use Rattle.hx_reader.specs.Faults.{adds};
+ghost use Rattle.hx_reader.specs.declared.fault.ApplyError.TheVariants as errors;
+ghost use Rattle.hx_reader.specs.declared.fault.ScreenError.TheVariants as faults;
 ghost use Rattle.hx_reader.specs.Readings.{opening, received, ready, handed};
 ghost use Rattle.hx_reader.specs.Screens.{readable};
 
@@ -44,7 +47,8 @@ impl Screen {
 
     /// Hands out the next message, applied to the book, or none where it has not come. Bytes that are
     /// no message, and a message that is none of a feed with this book, are handed out as an error,
-    /// and so is want of memory; the book is then as it was. It takes memory.
+    /// and so is want of memory; the book is then as it was. It takes memory where the message adds
+    /// an order.
     pub fn step(&mut self) -> Result<Option<Feed>, ScreenError>
         ensures reader { self.new.reader ≡ handed self.old.reader (ready self.old.reader) }
         ensures some { IfOk result (λ m. is_some m ≡ is_some (ready self.old.reader)) }
@@ -52,6 +56,8 @@ impl Screen {
         ensures ok { IfOk result (λ m. self.new.book
             ≡ book_from self.old.book (option_to_list m)) }
         ensures err { OnErr result (self.new.book ≡ self.old.book) }
+        ensures memory { IfErr result (λ e. e ≡ faults.Apply errors.NoMemory
+            → option_map adds (readable (ready self.old.reader)) ≡ Some true) }
     {
         let Some(bytes) = self.reader.hand_out() else {
             return Ok(None);

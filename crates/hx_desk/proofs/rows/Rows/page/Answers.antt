@@ -10,8 +10,8 @@ returns-clause-replies c =
     (λ replies h. h ∙ page_end (row_of c.args.self.now.rows c.args.member) c.end-end.result.now _ (c.args.from - 1) c.args.most c.min-count.result c.end-end.ensures.replies c.min-count.ensures refl)
     c.copy_of.ensures.ok
 
-pub returns-clause-outright : goal.returns-clause-outright
-returns-clause-outright c =
+pub returns-clause-memory : goal.returns-clause-memory
+returns-clause-memory c =
     IfErr-weaker c.copy_of.result _ _
     (λ _ h. subst (λ (rows : List (List ℕ)). 0 < length rows) (page_end (row_of c.args.self.now.rows c.args.member) c.end-end.result.now _ (c.args.from - 1) c.args.most c.min-count.result c.end-end.ensures.replies c.min-count.ensures refl) h)
-    c.copy_of.ensures.outright
+    c.copy_of.ensures.memory

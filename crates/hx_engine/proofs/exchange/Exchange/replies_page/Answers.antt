@@ -34,14 +34,14 @@ returns-clause-few g c =
     (c.inform.ensures.known ∙ ap (λ (d : DeskState). d.published) (sym c.inform.ensures.same)) c.replies_page.ensures.range)
     c.replies_page.ensures.few
 
-pub returns-clause-outright : goal.returns-clause-outright
-returns-clause-outright g c =
+pub returns-clause-memory : goal.returns-clause-memory
+returns-clause-memory g c =
     let desk = c.inform.new.self in
     let held = c.deref_mut-held.result.now in
     subst (λ (rows : List (List ℕ)). IfErr c.replies_page.result (λ _. 0 < length (page c.args.from c.args.most rows)))
     (row_known g.V.Venue.setup desk c.inform.new.reader.known c.args.member c.stands.ensures.standing (ap (λ (d : DeskState). d.setup) c.inform.ensures.same ∙ held.of_setup)
     (c.inform.ensures.known ∙ ap (λ (d : DeskState). d.published) (sym c.inform.ensures.same)) c.replies_page.ensures.range)
-    c.replies_page.ensures.outright
+    c.replies_page.ensures.memory
 
 pub returns-clause-whole : goal.returns-clause-whole
 returns-clause-whole g c =
