@@ -1,16 +1,15 @@
 -- Entries that do not cross are not met: without them the executions are the same.
-use Rattle.std.proofs.Common.{◌≡◌, ℕ, zero, suc, ◌-◌, min, Bool, true, false, cond, ltb, not, ◌&&◌, ◌||◌, refl, sym, ap, ◌∙◌, subst, eqb-true, List, [], ◌∷◌, ◌++◌, map, Some, None, Option}
+use Rattle.std.proofs.Common.{◌≡◌, ℕ, zero, suc, ◌-◌, min, Bool, true, false, cond, ltb, not, ◌&&◌, refl, sym, ap, ◌∙◌, subst, eqb-true, List, [], ◌∷◌, ◌++◌, map, Some, None, Option}
 use Rattle.std.specs.List.{AllByRecursion, filter, find}
 use Rattle.std.specs.Option.{option_map}
 use Rattle.std.proofs.lemmas.Bool.{or_parts, and_parts}
 use Rattle.hx_levels.specs.declared.order.Order.{Order}
 use Rattle.hx_levels.specs.declared.order.Live.{Live}
-use Rattle.hx_levels.specs.Lists.{drop_first}
 use Rattle.hx_levels.specs.Book.{crosses, outranks, has_key, is_under, order_of, KeysDiffer, without, lives}
 use Rattle.hx_levels.proofs.Orders.{none_under}
 use Rattle.hx_match.specs.declared.fills.Incoming.{Incoming}
 use Rattle.hx_match.specs.declared.fills.Fill.{Fill}
-use Rattle.hx_match.specs.Matching.{terms, passes, qualifies, PlaceOf, behind, first_of_entries, first_entry, less_of, FillOf, MatchedOf, after_fill, matched_by, matched_entries, matched_live, with_shares, order_in, cut_live}
+use Rattle.hx_match.specs.Matching.{terms, passes, qualifies, PlaceOf, behind, first_of_entries, first_entry, less_of, FillOf, MatchedOf, matched_by, matched_entries, matched_live, order_in, cut_live}
 use Rattle.hx_match.specs.Executing.{fill_of, fills_of, AreGood, done_by, left_by}
 use Rattle.hx_match.specs.Rules.{AreFills}
 use Rattle.hx_match.proofs.First.{all_append}

@@ -1,5 +1,5 @@
 //! The one pass over the orders that cross.
-ghost use Rattle.std.specs.Prelude.{◌≡◌, IfOk, MatchOption, true, false, min, max};
+ghost use Rattle.std.specs.Prelude.{◌≡◌, ◌<◌, length, IfOk, IfErr, MatchOption, true, false, min, max};
 ghost use Rattle.hx_levels.specs.Book.{KeysDiffer, lives};
 ghost use Rattle.hx_match.specs.Matching.{qualifies, matched, matched_live};
 ghost use Rattle.hx_match.specs.Executing.{fills_of, AreGood, done_by, left_by};
@@ -11,7 +11,8 @@ use std::alloc::Global;
 
 /// The executions of an incoming order against a book, in one pass over the orders that cross, by rank.
 /// The book stays as it is. The fills can be carried out one after another: what they execute, and the
-/// orders that then stay, are those of the rules. `NoMemory` where the list of fills cannot grow.
+/// orders that then stay, are those of the rules. `NoMemory` where the list of fills cannot grow: with no
+/// fill it takes no memory.
 pub fn plan<B: Book>(alloc: Global, book: &B, incoming: &Incoming) -> Result<Plan, NoMemory>
     ensures fills { IfOk result (λ plan.
         plan.fills.items ≡ fills_of incoming.now (B.orders book.now)) }
@@ -24,6 +25,7 @@ pub fn plan<B: Book>(alloc: Global, book: &B, incoming: &Incoming) -> Result<Pla
         ≡ (matched incoming.now incoming.now.shares (lives (B.orders book.now))).rest) }
     ensures remains { IfOk result (λ plan. plan.left
         ≡ (matched incoming.now incoming.now.shares (lives (B.orders book.now))).left) }
+    ensures memory { IfErr result (λ _. 0 < length (fills_of incoming.now (B.orders book.now))) }
     ensures keys { KeysDiffer (B.orders book.now) }
 {
     let mut fills = Vec::new(alloc);

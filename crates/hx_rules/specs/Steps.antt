@@ -43,6 +43,14 @@ sender (Hours time code) = 0
 sender (Halt time stock state reason) = 0
 sender (Break time number) = 0
 
+-- the bytes of a member's message; the operator's events have none
+abbrev pub message_bytes : Event → List ℕ
+message_bytes (Message member time bytes) = bytes
+message_bytes (Tick time) = []
+message_bytes (Hours time code) = []
+message_bytes (Halt time stock state reason) = []
+message_bytes (Break time number) = []
+
 -- when the event was
 abbrev pub time_of : Event → ℕ
 time_of (Message member time bytes) = time

@@ -1,5 +1,6 @@
 //! Events: what the market is told, each with its time.
-ghost use Rattle.std.specs.Prelude.{◌≡◌, IfOk, List};
+ghost use Rattle.std.specs.Prelude.{◌≡◌, ◌<◌, length, IfOk, IfErr, List};
+ghost use Rattle.hx_rules.specs.Steps.{message_bytes};
 
 use hx_units::{NoMemory, Symbol};
 use std::alloc::Global;
@@ -39,6 +40,16 @@ impl Bytes {
         ensures { result.items ≡ self }
     {
         self.items
+    }
+
+    // Equal bytes. Where there are none it takes no memory.
+    fn copy(&self, alloc: Global) -> Result<Bytes, NoMemory>
+        ensures equal { IfOk result (λ bytes. bytes ≡ self.now) }
+        ensures memory { IfErr result (λ _. 0 < length self.now) }
+    {
+        let mut items = Vec::new(alloc);
+        items.extend_from_slice(&self.items)?;
+        Ok(Bytes { items })
     }
 }
 
@@ -88,9 +99,11 @@ pub enum Event {
 }
 
 impl Event {
-    /// An equal event. `NoMemory` where there is no room for its bytes.
+    /// An equal event. `NoMemory` where there is no room for the bytes of a message: one without bytes takes no
+    /// memory, nor do the other events.
     pub fn copy(&self, alloc: Global) -> Result<Event, NoMemory>
-        ensures { IfOk result (λ event. event ≡ self.now) }
+        ensures equal { IfOk result (λ event. event ≡ self.now) }
+        ensures memory { IfErr result (λ _. 0 < length (message_bytes self.now)) }
     {
         Ok(match self {
             Event::Message {
@@ -100,7 +113,7 @@ impl Event {
             } => Event::Message {
                 member: *member,
                 time: *time,
-                bytes: Bytes::of(bytes.items.clone()?),
+                bytes: bytes.copy(alloc)?,
             },
             Event::Tick { time } => Event::Tick { time: *time },
             Event::Hours { time, code } => Event::Hours {

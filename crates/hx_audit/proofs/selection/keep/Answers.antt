@@ -12,7 +12,7 @@ loop-event-preserved g c =
     let x = c.event-item.result in
     elim c.if-not-is_borne.branch [
       | then-not-is_borne+in_ok-copy+in_ok-push w ↦
-          let new = w.in_ok-push.ensures.items ∙ ap (λ (y : Event). c.loop-event.kept.items ++ y ∷ []) w.in_ok-copy.ensures in
+          let new = w.in_ok-push.ensures.items ∙ ap (λ (y : Event). c.loop-event.kept.items ++ y ∷ []) w.in_ok-copy.ensures.equal in
           rw (w.kept-is, new)
           (kept_more s xs i x c.loop-event.kept.items _ c.loop-event-test.true c.event-item.is (sym (c.is_borne.ensures ∙ c.of.ensures s) ∙ w.if-not-is_borne.true) c.loop-event.invariant)
       | else-not-is_borne w ↦

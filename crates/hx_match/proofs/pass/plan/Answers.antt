@@ -1,10 +1,11 @@
-use Rattle.std.proofs.Common.{ℕ, min, max, append-nil, ◌≡◌, ◌+◌, ◌-◌, ◌<◌, ◌++◌, ◌∷◌, [], List, length, true, false, Option, Some, None, sym, refl, ap, ◌∙◌, subst, arith}
+use Rattle.std.proofs.Common.{ℕ, min, max, append-nil, append_assoc, ◌≡◌, ◌+◌, ◌-◌, ◌<◌, ◌++◌, ◌∷◌, [], List, length, true, false, Option, Some, None, Result, Ok, Err, IfErr, sym, refl, ap, ◌∙◌, subst, arith}
 use Rattle.std.specs.Option.{IfSome, IsSome, option_copied, option_map}
 use Rattle.hx_levels.specs.declared.order.Key.{Key}
 use Rattle.hx_levels.specs.declared.order.Order.{Order}
 use Rattle.hx_levels.specs.declared.order.Live.{Live}
 use Rattle.hx_levels.specs.Lists.{behind_first}
 use Rattle.hx_levels.specs.Book.{ranked, has_key, is_under, lives, KeysDiffer}
+use Rattle.std.proofs.lemmas.List.{length-append}
 use Rattle.std.proofs.lemmas.List.Sums.{sum_by-append}
 use Rattle.hx_match.specs.declared.fills.Fill.{Fill}
 use Rattle.hx_match.specs.declared.fills.Incoming.{Incoming}
@@ -144,3 +145,34 @@ returns-clause-rest g c = ap (λ l. lives (left_by l (g.B.Book.orders c.args.boo
 
 pub returns-clause-remains : goal.returns-clause-remains
 returns-clause-remains g c = (both g c).1 ∙ (known g c).left
+
+some_among : (front more all : List Fill) (f : Fill) → front ++ f ∷ more ≡ all → 0 < length all
+some_among front more all f e = omega (arith, length-append front (f ∷ more), ap length e)
+
+if_err : {T E : Type 0} (P : Type 0) (r : Result T E) → P → IfErr r (λ _. P)
+if_err P (Ok x) h = tt
+if_err P (Err e) h = h
+
+-- where the list of fills cannot grow there is a fill
+pub returns-in_err-push-clause-memory : goal.returns-in_err-push-clause-memory
+returns-in_err-push-clause-memory g c =
+    let orders = g.B.Book.orders c.args.book.now in
+    let inc = c.args.incoming.now in
+    let line = ranked (terms inc) orders in
+    let k = inc.minimum in
+    let P : Option Key → Type 0 = λ n. IfSome n (λ key. has_key key.0 line ≡ true) in
+    let a : AtKey inc c.in-Some.key orders = at_key inc c.in-Some.key orders c.get.ensures.keys (subst P c.in-Some.is c.loop-next.invariant.live) in
+    let rest = behind_first (is_under c.in-Some.key.0) line in
+    let f = c.in-Some-execution.fill in
+    let all = pass k inc.shares line in
+    let told : c.loop-next.fills.items ++ pass k c.loop-next.left (a.live ∷ rest) ≡ all =
+    ap (λ r. c.loop-next.fills.items ++ pass k c.loop-next.left r) (sym (ap (λ n. rest_from n line) c.in-Some.is ∙ a.rest)) ∙ c.loop-next.invariant.told in
+    let order : c.unwrap-order.result.now ≡ a.live.order = some_same (sym (ap option_copied c.unwrap-order.ensures) ∙ c.get.ensures.exact ∙ a.order) in
+    let q : qualifies inc c.loop-next.left a.live.order ≡ true = subst (λ o. qualifies inc c.loop-next.left o ≡ true) order c.in-Some-execution.ensures.0 in
+    let same : f ≡ fill c.loop-next.left a.live = c.in-Some-execution.ensures.1 ∙ fill_is c.loop-next.left c.in-Some.key c.unwrap-order.result.now a.live order a.has in
+    let now : (c.loop-next.fills.items ++ f ∷ []) ++ pass k (c.loop-next.left - f.shares) rest ≡ all =
+    told_taken k c.loop-next.left a.live rest c.loop-next.fills.items all f told q same in
+    let fills : all ≡ fills_of inc orders = sym (steps_of-pass inc orders c.get.ensures.keys) ∙ steps_of-fills inc orders c.get.ensures.keys in
+    if_err (0 < length (fills_of inc orders)) c.from_residual.result
+    (some_among c.loop-next.fills.items (pass k (c.loop-next.left - f.shares) rest) (fills_of inc orders) f
+    (sym (append_assoc c.loop-next.fills.items (f ∷ []) (pass k (c.loop-next.left - f.shares) rest)) ∙ now ∙ fills))
