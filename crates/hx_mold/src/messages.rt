@@ -1,5 +1,5 @@
 //! Numbered messages, and packets of them.
-ghost use Rattle.std.specs.Prelude.{◌≡◌, ◌≤◌, ◌<◌, ◌+◌, ◌-◌, ◌^◌, ◌++◌, List, ℕ, [], true, false, length, option_map, IfSome, IfNone, IfOk};
+ghost use Rattle.std.specs.Prelude.{◌≡◌, ◌≤◌, ◌<◌, ◌+◌, ◌-◌, ◌^◌, ◌++◌, List, ℕ, [], true, false, length, option_map, IfSome, IfNone, IfOk, IfErr};
 ghost use Rattle.hx_mold.specs.Packets.{room, block, header, IsHeader};
 ghost use Rattle.hx_units.specs.Fields.{texts};
 ghost use Rattle.hx_mold.specs.Fronts.{Grows, message_at, wanted, CutsInto, Gathers, Answers, NoneThere};
@@ -87,7 +87,8 @@ fn fill(body: &mut ArrayVec<u8, 1380>, messages: &[ArrayVec<u8, 44>]) -> u16
 
 /// The packets of these messages, the first of which has the number `first`: the messages in order, each
 /// packet of at most 1,400 bytes and of as many messages as fit, and no packet where there is no message
-/// (MoldUDP64 1.00, Downstream Packet). It takes memory; its only error is that there is none.
+/// (MoldUDP64 1.00, Downstream Packet). It takes memory where there is a message, and fails only for want
+/// of it.
 pub fn cut(
     alloc: Global,
     session: [u8; 10],
@@ -95,8 +96,9 @@ pub fn cut(
     messages: &[ArrayVec<u8, 44>],
 ) -> Result<Vec<ArrayVec<u8, 1400>>, NoMemory>
     requires { first + length messages.now ≤ 2 ^ 64 }
-    ensures { IfOk result (λ packets.
+    ensures packets { IfOk result (λ packets.
         CutsInto session first (texts messages.now) (texts packets.items)) }
+    ensures memory { IfErr result (λ _. 0 < length messages.now) }
 {
     let mut packets = Vec::new(alloc);
     let mut done = 0;

@@ -1,5 +1,5 @@
 -- What a look at the log does to a reader.
-use Rattle.std.specs.Prelude.{ℕ, ◌≡◌, ◌+◌, length, take}
+use Rattle.std.specs.Prelude.{◌≡◌, ◌+◌, length, take}
 use mathlib.Core.List.{IsPrefix}
 use Rattle.hx_blog.specs.Feed.{feed}
 use Rattle.hx_blog.specs.Ends.{ReaderState}

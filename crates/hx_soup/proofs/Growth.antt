@@ -1,13 +1,13 @@
 -- A stream that grows by a byte.
 use Rattle.std.proofs.Common.{◌≡◌, ◌≢◌, ℕ, ◌+◌, ◌<◌, ◌≤◌, List, [], ◌∷◌, ◌++◌, length, take, drop, get_or, refl, sym, ap, ◌∙◌, append_assoc, add-one, drop-cons, arith}
-use Rattle.std.specs.List.{All}
+use Rattle.std.specs.List.{All, AllByRecursion}
 use Rattle.std.proofs.lemmas.List.{length-append, append-nil, take_more, take-append-drop}
 use Rattle.std.proofs.lemmas.Grind.{flat_map-append, common_steps}
-use Rattle.std.proofs.lemmas.List.Elements.{All-append}
+use Rattle.std.proofs.lemmas.List.Elements.{All-append, recursion_from_All}
 use Rattle.hx_units.specs.Fields.{number, number_at, byte_at, spelled, AreBytes}
 use Rattle.hx_units.proofs.FieldLaws.{spelled_at_2}
 use Rattle.hx_soup.specs.declared.packet.SoupPacket.{SoupPacket}
-use Rattle.hx_soup.specs.Packets.{framed, packet_bytes, stream_of, IsPacket, IsUnfinished, Cuts, HasFault}
+use Rattle.hx_soup.specs.Packets.{framed, packet_bytes, stream_of, IsPacket, IsUnfinished, HasPacket, Cuts, HasFault}
 use Rattle.hx_soup.specs.Steps.{IsFault}
 
 -- bytes as many as their length counts are a packet
@@ -73,3 +73,19 @@ stream_more k piece i h = ap (λ (x : List ℕ). k ++ x) (take_more piece i 0 h)
 pub stream_split : (k piece : List ℕ) (i : ℕ) → i < length piece → k ++ piece ≡ (k ++ take i piece) ++ get_or piece i 0 ∷ drop (i + 1) piece
 stream_split k piece i h = ap (λ (x : List ℕ). k ++ x) (sym (take-append-drop i piece) ∙ ap (λ (x : List ℕ). take i piece ++ x) (rw (add-one, drop-cons piece i 0) refl))
     ∙ sym (append_assoc k (take i piece) (get_or piece i 0 ∷ drop (i + 1) piece))
+
+-- packets, and one more behind them: the first of them begins the stream
+pub has_packet : (stream kept more : List ℕ) (byte : ℕ) (packets : List SoupPacket) (p : SoupPacket) → Cuts stream packets kept → (kept ++ byte ∷ [] ≡ packet_bytes p) × IsPacket p → HasPacket (stream ++ byte ∷ more)
+has_packet stream kept more byte packets p c adds =
+    first packets (recursion_from_All IsPacket packets c.each)
+    (ap (λ (x : List ℕ). x ++ byte ∷ more) c.whole ∙ append_assoc (stream_of packets) kept (byte ∷ more)
+    ∙ ap (λ (x : List ℕ). stream_of packets ++ x) (sym (append_assoc kept (byte ∷ []) more) ∙ ap (λ (x : List ℕ). x ++ more) adds.0))
+  where
+    first : (ps : List SoupPacket) → AllByRecursion IsPacket ps → stream ++ byte ∷ more ≡ stream_of ps ++ (packet_bytes p ++ more) → HasPacket (stream ++ byte ∷ more)
+    first [] each e = record { packet = p; more = more; whole = e; fits = adds.1 }
+    first (q ∷ ps) each e = record {
+      packet = q;
+      more = stream_of ps ++ (packet_bytes p ++ more);
+      whole = e ∙ append_assoc (packet_bytes q) (stream_of ps) (packet_bytes p ++ more);
+      fits = each.0;
+    }

@@ -4,7 +4,7 @@ use Rattle.std.specs.Prelude.{ℕ, ◌≡◌, ◌⊎◌, ◌<◌, List, [], ◌�
 use Rattle.hx_soup.specs.declared.packet.SoupPacket.{SoupPacket}
 use Rattle.hx_soup.specs.declared.framer.FramerError.{FramerError}
 use Rattle.hx_soup.specs.declared.framer.FramerError.TheVariants as fault
-use Rattle.hx_soup.specs.Packets.{longest, Cuts, HasFault}
+use Rattle.hx_soup.specs.Packets.{longest, HasPacket, Cuts, HasFault}
 
 -- The bytes kept before and the piece are these packets, then the bytes kept now.
 pub record Takes (old new : Option (List ℕ)) (piece : List ℕ) (packets : List SoupPacket)
@@ -23,18 +23,20 @@ pub record StopsAt (old new : Option (List ℕ)) (piece : List ℕ) (packets : L
   pub is : new ≡ None
   pub fault : HasFault (kept ++ piece) packets bad
 
--- A growth was refused: the framer had not failed, and is as it was.
-pub record Stays (old new : Option (List ℕ)) : Type 0 where
+-- A growth was refused: the framer had not failed, and is as it was. The bytes kept and the piece begin with a whole
+-- packet: where there is none, no memory is taken.
+pub record Stays (old new : Option (List ℕ)) (piece : List ℕ) : Type 0 where
   pub kept : List ℕ
   pub was : old ≡ Some kept
   pub is : new ≡ Some kept
+  pub some : HasPacket (kept ++ piece)
 
 -- what each error says, and which framer it leaves
 abbrev pub Fails : (old new : Option (List ℕ)) → (piece : List ℕ) → FramerError → Type 0
 Fails old new piece (fault.TooLong bad before) =
     (longest < bad) × StopsAt old new piece before.items bad
 Fails old new piece (fault.Empty before) = StopsAt old new piece before.items 0
-Fails old new piece fault.NoMemory = Stays old new
+Fails old new piece fault.NoMemory = Stays old new piece
 Fails old new piece fault.Failed = (old ≡ None) × (new ≡ None)
 
 -- what a piece gives where memory is ample: packets, those before a fault, or nothing once the framer has failed

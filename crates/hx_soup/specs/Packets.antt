@@ -40,6 +40,13 @@ IsUnfinished [] = Unit {0}
 IsUnfinished (a ∷ []) = a < 256
 IsUnfinished (a ∷ b ∷ bytes) = IsLength (number (a ∷ b ∷ [])) × (length bytes < number (a ∷ b ∷ []))
 
+-- A stream that begins with a whole packet.
+pub record HasPacket (stream : List ℕ) : Type 0 where
+  pub packet : SoupPacket
+  pub more : List ℕ
+  pub whole : stream ≡ packet_bytes packet ++ more
+  pub fits : IsPacket packet
+
 -- A stream without a fault: these packets, then less than a whole one.
 pub record Cuts (stream : List ℕ) (packets : List SoupPacket) (rest : List ℕ) : Type 0 where
   pub whole : stream ≡ stream_of packets ++ rest

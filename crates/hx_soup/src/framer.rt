@@ -26,7 +26,8 @@ pub enum FramerError {
         /// The packets of the piece that came before it.
         before: Vec<SoupPacket>,
     },
-    /// A growth was refused. The framer is as it was, and the piece may be fed again.
+    /// A growth was refused, for a packet that is whole with this piece. The framer is as it was, and the piece
+    /// may be fed again.
     NoMemory,
     /// The framer has failed before.
     Failed,
@@ -60,8 +61,8 @@ impl Framer {
     }
 
     /// The packets that are whole with this piece of the stream, in order. A length of 0 or above 1,024 is a
-    /// fault: the framer fails, and answers `Failed` from then on. It takes memory; where there is none, the
-    /// framer is as it was.
+    /// fault: the framer fails, and answers `Failed` from then on. It takes memory for these packets; where there
+    /// is none, the framer is as it was. A piece that completes no packet takes no memory.
     pub fn feed(&mut self, alloc: Global, piece: &[u8]) -> Result<Vec<SoupPacket>, FramerError>
         ensures ok { IfOk result (λ packets. Takes self.old self.new piece.now packets.items) }
         ensures err { IfErr result (Fails self.old self.new piece.now) }

@@ -28,7 +28,7 @@ loop-done-preserved c =
           subst (CutsInto c.args.session c.args.first ms) grown (c.loop-done.invariant.made (c.finish.result.items ∷ ps) one);
     }
 
-pub returns : goal.returns
-returns c =
+pub returns-clause-packets : goal.returns-clause-packets
+returns-clause-packets c =
     let none : drop c.loop-done.done (texts c.args.messages.now) ≡ [] = drop_all c.loop-done.done (texts c.args.messages.now) (omega (arith, c.loop-done-test.false, length-map c.args.messages.now (λ m. m.items))) in
     subst (CutsInto c.args.session c.args.first (texts c.args.messages.now)) (append-nil (map (λ p. p.items) c.loop-done.packets.items)) (c.loop-done.invariant.made [] none)

@@ -1,6 +1,6 @@
 use Rattle.std.proofs.Common.{◌∙◌, subst, inl, inr, ap}
 use Rattle.hx_soup.specs.Steps.{IsFault}
-use Rattle.hx_soup.proofs.Growth.{cuts_more, cuts_whole, has_fault, stream_more, stream_split}
+use Rattle.hx_soup.proofs.Growth.{cuts_more, cuts_whole, has_fault, has_packet, stream_more, stream_split}
 use Rattle.hx_soup.proofs.framer.take_piece.Goals.{in-More, in-Whole+in-Ok}
 use Rattle.hx_soup.proofs.framer.take_piece.Goals as goal
 
@@ -15,6 +15,11 @@ returns-in-Fault-clause-err c = (
   rw (stream_split c.args.kept.now.items c.args.piece.now c.loop-byte.byte-index c.loop-byte-test.true)
       (has_fault _ _ _ _ _ _ c.loop-byte.invariant c.in-Fault.ensures),
 )
+
+pub returns-in_default-clause-err : goal.returns-in_default-clause-err
+returns-in_default-clause-err c =
+    rw (stream_split c.args.kept.now.items c.args.piece.now c.loop-byte.byte-index c.loop-byte-test.true)
+    (has_packet _ _ _ _ _ _ c.loop-byte.invariant (c.in-Whole.ensures.0, c.in-Whole.ensures.1))
 
 pub loop-byte-preserved : goal.loop-byte-preserved
 loop-byte-preserved c =
