@@ -1,7 +1,6 @@
 -- Laws of the rows of replies.
 use Rattle.std.proofs.Common.{◌≡◌, ℕ, zero, suc, ◌+◌, ◌-◌, ◌<◌, ◌≤◌, ◌⊎◌, inl, inr, List, [], ◌∷◌, ◌++◌, map, length, get_or, set, slice_index, eqb, eqb-true, eq-eqb, Bool, true, false, cond, refl, ap, sym, ◌∙◌, subst, arith}
 use Rattle.std.proofs.Common.{take, drop, min, length-drop}
-use Rattle.std.specs.List.{AllZip, AppendsClones}
 use Rattle.std.specs.Global.{Vec}
 use Rattle.std.specs.Vec.{vec_len, vec_capacity}
 use Rattle.std.specs.List.{take-map}

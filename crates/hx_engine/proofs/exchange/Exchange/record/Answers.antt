@@ -34,7 +34,7 @@ invariant_of-pass-2 g c =
       i.3,
       i.4,
       one_more_sent g.V.Venue.setup before after inside.number inside.sent.items c.push_reserved.new.self.items inside.knows.known c.renew.new.receipt.known c.args.event.now copy done stood stands grows
-          c.in-Ok.ensures knew
+          c.in-Ok.ensures.equal knew
           i.5 items (ap (λ t. t.known) receipt),
     )
 
@@ -58,4 +58,4 @@ returns-clause-ok g c =
     (subst (λ (d : DeskState). IsPrefix c.again-known.result.known d.published) (sym c.confirm.ensures.same) c.confirm.ensures.begins) in
     subst (λ (p : PassState). Sends g.V.Venue.setup p new c.args.event.now done) c.pass.view_is
     (sent_one g.V.Venue.setup before after old new c.args.event.now copy done c.stands.ensures.standing c.stands-2.ensures.standing of_setup grows
-    c.in-Ok.ensures knew i.5 refl items (ap (λ t. t.known) receipt))
+    c.in-Ok.ensures.equal knew i.5 refl items (ap (λ t. t.known) receipt))
