@@ -1,4 +1,5 @@
-//! 200,070 bytes of a stream, from a reader that gives one at a time: 195 packets of as many bytes as may be.
+//! 200,070 bytes of a stream, from a reader that gives one at a time: 195 packets of as many bytes as may be. 70 of them
+//! in one piece.
 
 use hx_soup::{Framer, frame};
 use hx_testing::memory::Input;
@@ -41,5 +42,19 @@ fn byte_by_byte(rt: HostRuntime) -> Result<(), Fail> {
         }
     }
     assert_eq!(rt; number, PACKETS);
+    Ok(())
+}
+
+#[test]
+fn seventy_in_one_piece(rt: HostRuntime) -> Result<(), Fail> {
+    let bytes = stream(rt.alloc())?;
+    let mut framer = Framer::new();
+    let packets = framer.feed(rt.alloc(), &bytes[..70 * 1_026])?;
+    assert_eq!(rt; packets.len(), 70);
+    for (packet, number) in packets.iter().zip(0..70) {
+        assert_eq!(rt; packet.kind, b'U');
+        assert_eq!(rt; packet.payload.as_slice(), [number; 1_023].as_slice());
+    }
+    assert!(rt; framer.feed(rt.alloc(), &bytes[70 * 1_026..70 * 1_026 + 2])?.is_empty());
     Ok(())
 }
