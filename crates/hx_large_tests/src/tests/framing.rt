@@ -48,13 +48,15 @@ fn byte_by_byte(rt: HostRuntime) -> Result<(), Fail> {
 #[test]
 fn seventy_in_one_piece(rt: HostRuntime) -> Result<(), Fail> {
     let bytes = stream(rt.alloc())?;
+    let piece = bytes.get(..70 * 1_026).ok_or("70 packets")?;
     let mut framer = Framer::new();
-    let packets = framer.feed(rt.alloc(), &bytes[..70 * 1_026])?;
+    let packets = framer.feed(rt.alloc(), piece)?;
     assert_eq!(rt; packets.len(), 70);
     for (packet, number) in packets.iter().zip(0..70) {
         assert_eq!(rt; packet.kind, b'U');
         assert_eq!(rt; packet.payload.as_slice(), [number; 1_023].as_slice());
     }
-    assert!(rt; framer.feed(rt.alloc(), &bytes[70 * 1_026..70 * 1_026 + 2])?.is_empty());
+    let length = bytes.get(..2).ok_or("a length")?;
+    assert!(rt; framer.feed(rt.alloc(), length)?.is_empty());
     Ok(())
 }
