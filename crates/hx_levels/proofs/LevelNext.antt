@@ -10,13 +10,12 @@ use Rattle.hx_levels.specs.declared.order.Live.{Live}
 use Rattle.hx_levels.specs.declared.order.Terms.{Terms}
 use Rattle.hx_levels.specs.declared.nodes.Node.{Node}
 use Rattle.hx_levels.specs.declared.nodes.Ends.{Ends}
-use Rattle.hx_levels.specs.declared.levels.Rung.{Rung}
 use Rattle.hx_levels.specs.declared.levels.Level.{Level}
 use Rattle.hx_levels.specs.Lists.{head_of, behind_first}
 use Rattle.hx_levels.specs.Rank.{first_of}
 use Rattle.hx_levels.specs.Chain.{has}
 use Rattle.hx_levels.specs.Nodes.{queue_links, time_links}
-use Rattle.hx_levels.specs.Levels.{level_at, ends_in, first_at, IsFirstFrom}
+use Rattle.hx_levels.specs.Levels.{Rung, level_at, ends_in, first_at, IsFirstFrom}
 use Rattle.hx_units.specs.Side.{is_buy}
 use Rattle.hx_levels.specs.Book.{is_under, is_ahead, crosses, has_key, IsRanked, next_by_rank, next_by_time, is_candidate, is_equal, terms_of}
 use Rattle.hx_levels.specs.LevelBook.{keys_of, is_in, rung_of, contra, limit_of, to_key, IsBook}

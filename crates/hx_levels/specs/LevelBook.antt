@@ -9,11 +9,10 @@ use Rattle.hx_levels.specs.declared.order.Live.{Live}
 use Rattle.hx_levels.specs.declared.order.Terms.{Terms}
 use Rattle.hx_levels.specs.declared.nodes.Node.{Node}
 use Rattle.hx_levels.specs.declared.nodes.Ends.{Ends}
-use Rattle.hx_levels.specs.declared.levels.Rung.{Rung}
 use Rattle.hx_levels.specs.declared.levels.Level.{Level}
 use Rattle.hx_levels.specs.Chain.{IsLinked}
 use Rattle.hx_levels.specs.Nodes.{time_links, queue_links}
-use Rattle.hx_levels.specs.Levels.{level_at, ends_in, IsEmptyLevel}
+use Rattle.hx_levels.specs.Levels.{Rung, level_at, ends_in, IsEmptyLevel}
 use Rattle.hx_units.specs.Side.{is_buy}
 use Rattle.hx_units.specs.Limits.{greatest_price}
 use Rattle.hx_levels.specs.Book.{terms_of, order_of, KeysDiffer}

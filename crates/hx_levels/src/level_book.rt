@@ -7,10 +7,11 @@ ghost use Rattle.std.specs.Option.{option_copied, option_map, is_some};
 
 use crate::book::Book;
 use crate::levels::{
-    Level, Rung, drop_empty, drop_if_empty, ends_at, first_from, make_level, set_ends,
+    Level, drop_empty, drop_if_empty, ends_at, first_from, join_queue, leave_queue, make_level,
 };
 use crate::nodes::{Ends, Node, link_last, take_shares, unlink};
 use crate::order::{Key, Order, Terms};
+use crate::rung::Rung;
 use hx_units::{NoMemory, Price, Side};
 use slab::Slab;
 use std::alloc::Global;
@@ -86,9 +87,9 @@ impl LevelBook {
     {
         let _price = order.price.get();
         let rung = rung_of(&order);
-        let ends = ends_at(&self.levels, rung, order.shown);
-        let key = link_last(&mut self.nodes, order, ends.last, self.time.last);
-        set_ends(&mut self.levels, rung, order.shown, ends.with(key));
+        let key = self.nodes.vacant_key();
+        let last = join_queue(&mut self.levels, rung, order.shown, key);
+        let key = link_last(&mut self.nodes, order, last, self.time.last);
         self.time = self.time.with(key);
         self.place = None;
         self.kept = None;
@@ -103,11 +104,11 @@ fn rung_of(order: &Order) -> Rung
 {
     let buy = order.side.is_buy();
     let price = order.price.get();
-    Rung {
-        locate: order.locate,
+    Rung::of(
+        order.locate,
         buy,
-        distance: if buy { ABOVE_PRICES - price } else { price },
-    }
+        if buy { ABOVE_PRICES - price } else { price },
+    )
 }
 
 // The contra side of the terms: its rungs begin at this one, and go up to the distance.
@@ -118,11 +119,7 @@ fn contra_of(terms: &Terms) -> (Rung, u32)
 {
     let buy = terms.side.is_buy();
     let price = terms.price.get();
-    let rung = Rung {
-        locate: terms.locate,
-        buy: !buy,
-        distance: 0,
-    };
+    let rung = Rung::of(terms.locate, !buy, 0);
     (rung, if buy { price } else { ABOVE_PRICES - price })
 }
 
@@ -164,11 +161,7 @@ impl LevelBook {
             Some(next) if node.order.shown => Some(Key(next)),
             _ => {
                 let (_, limit) = contra_of(terms);
-                let from = Rung {
-                    locate: rung.locate,
-                    buy: rung.buy,
-                    distance: rung.distance + 1,
-                };
+                let from = rung.at(rung.distance() + 1);
                 match first_from(&self.levels, from, limit) {
                     Some(next) => Some(Key(next)),
                     None => None,
@@ -210,9 +203,7 @@ impl LevelBook {
         let node = unlink(&mut self.nodes, key.0);
         let rung = rung_of(&node.order);
         let shown = node.order.shown;
-        let ends = ends_at(&self.levels, rung, shown);
-        let left = ends.without(node.queue);
-        set_ends(&mut self.levels, rung, shown, left);
+        let left = leave_queue(&mut self.levels, rung, shown, node.queue);
         drop_if_empty(&mut self.levels, rung, self.kept, shown, left);
         self.time = self.time.without(node.time);
         node.order
@@ -249,11 +240,11 @@ fn rung_at(terms: &Terms) -> Rung
 {
     let buy = terms.side.is_buy();
     let price = terms.price.get();
-    Rung {
-        locate: terms.locate,
+    Rung::of(
+        terms.locate,
         buy,
-        distance: if buy { ABOVE_PRICES - price } else { price },
-    }
+        if buy { ABOVE_PRICES - price } else { price },
+    )
 }
 
 impl Book for LevelBook {

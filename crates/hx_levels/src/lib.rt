@@ -7,6 +7,7 @@ mod levels;
 mod list_book;
 mod nodes;
 mod order;
+mod rung;
 
 pub use book::Book;
 pub use level_book::LevelBook;

@@ -1,6 +1,7 @@
 -- Bytes and the pairs of their digits.
-use Rattle.std.proofs.Common.{◌≡◌, ℕ, zero, suc, ◌+◌, ◌*◌, ◌/◌, ◌%◌, ◌<◌, ◌≤◌, List, [], ◌∷◌, ◌++◌, length, take, drop, set, get_or, slice_index, refl, sym, ap, ◌∙◌, append_assoc, arith, Fits, w8}
-use Rattle.std.specs.Prelude.{◌≢◌}
+use Rattle.std.proofs.Common.{◌≡◌, ℕ, zero, suc, ◌+◌, ◌*◌, ◌/◌, ◌%◌, ◌<◌, ◌≤◌, List, [], ◌∷◌, ◌++◌, length, take, drop, set, get_or, slice_index, refl, sym, ap, ◌∙◌, append_assoc, arith, Fits, w8, inl, inr, ltb-true, ltb-false}
+use Rattle.std.specs.Prelude.{◌≢◌, ◌&&◌, ◌⊎◌, Bool, true, false, nat_lt}
+use Rattle.std.proofs.lemmas.Bool.{and_parts, and_cases}
 use Rattle.std.proofs.lemmas.List.{take_more_set, take_all}
 use Rattle.std.proofs.Math.Seq.{take-suc, take-append_seam}
 use Rattle.hex.specs.Hex.{encode_lower, encode_with, lower_digits, IsBytes}
@@ -26,7 +27,7 @@ take_two text i lt =
     ∙ append_assoc (take (2 * i) text) (get_or text (2 * i) 0 ∷ []) (get_or text (2 * i + 1) 0 ∷ [])
 
 -- one byte more is read
-pub read_more : (text bytes : List ℕ) (i b : ℕ) → length text ≡ 2 * length bytes → i < length bytes → encode_lower (take i bytes) ≡ take (2 * i) text → get_or text (2 * i) 0 ≡ high_digit b → get_or text (2 * i + 1) 0 ≡ low_digit b
+read_more : (text bytes : List ℕ) (i b : ℕ) → length text ≡ 2 * length bytes → i < length bytes → encode_lower (take i bytes) ≡ take (2 * i) text → get_or text (2 * i) 0 ≡ high_digit b → get_or text (2 * i + 1) 0 ≡ low_digit b
     → encode_lower (take (i + 1) (set bytes i b)) ≡ take (2 * (i + 1)) text
 read_more text bytes i b size lt so_far high low =
     ap encode_lower (take_more_set bytes i b lt) ∙ encode_more (take i bytes) b ∙ ap (λ (xs : List ℕ). xs ++ high_digit b ∷ low_digit b ∷ []) so_far
@@ -48,7 +49,7 @@ digits_at (x ∷ xs) (suc i) lt =
     (ap (λ (k : ℕ). get_or (encode_lower (x ∷ xs)) k 0) first ∙ more.0, ap (λ (k : ℕ). get_or (encode_lower (x ∷ xs)) k 0) second ∙ more.1)
 
 -- what is no pair of digits stands in no text of bytes
-pub read_none : (text others : List ℕ) (i : ℕ) → 2 * i + 1 < length text → ((b : ℕ) → b < 256 → get_or text (2 * i) 0 ≡ high_digit b → get_or text (2 * i + 1) 0 ≢ low_digit b) → IsBytes others → text ≡ encode_lower others → ⊥
+read_none : (text others : List ℕ) (i : ℕ) → 2 * i + 1 < length text → ((b : ℕ) → b < 256 → get_or text (2 * i) 0 ≡ high_digit b → get_or text (2 * i + 1) 0 ≢ low_digit b) → IsBytes others → text ≡ encode_lower others → ⊥
 read_none text others i lt none fits is =
     let size : length text ≡ 2 * length others = ap length is ∙ length-encode_with lower_digits others in
     let digits = digits_at others i (omega arith) in
@@ -63,6 +64,40 @@ set_bytes (x ∷ xs) (suc i) b h lt (suc k) = set_bytes xs i b (λ j. h (suc j))
 
 pub byte_fits : (b : ℕ) → Fits w8 b → b < 256
 byte_fits b h = omega (arith, h)
+
+-- the byte of two values
+pub byte_parts : (h l : ℕ) → h < 16 → l < 16 → ((h * 16 % 256 + l) % 256 / 16 ≡ h) × ((h * 16 % 256 + l) % 256 % 16 ≡ l)
+byte_parts h l hs ls = (omega (arith, hs, ls), omega (arith, hs, ls))
+
+-- two digits more are read, where all so far were digits
+pub digits_read : (text bytes : List ℕ) (i h l : ℕ) (so_far : Bool) → length text ≡ 2 * length bytes → i < length bytes
+    → (h < 16 → get_or text (2 * i) 0 ≡ slice_index lower_digits h) → (l < 16 → get_or text (2 * i + 1) 0 ≡ slice_index lower_digits l)
+    → (so_far ≡ true → encode_lower (take i bytes) ≡ take (2 * i) text) → (so_far && (nat_lt h 16 && nat_lt l 16)) ≡ true
+    → encode_lower (take (i + 1) (set bytes i ((h * 16 % 256 + l) % 256))) ≡ take (2 * (i + 1)) text
+digits_read text bytes i h l so_far size lt high low front all =
+    let first = and_parts so_far (nat_lt h 16 && nat_lt l 16) all in
+    let both = and_parts (nat_lt h 16) (nat_lt l 16) first.1 in
+    let hs : h < 16 = ltb-true h 16 both.0 in
+    let ls : l < 16 = ltb-true l 16 both.1 in
+    let parts = byte_parts h l hs ls in
+    read_more text bytes i ((h * 16 % 256 + l) % 256) size lt (front first.0)
+      (high hs ∙ ap (λ (d : ℕ). slice_index lower_digits d) (sym parts.0))
+      (low ls ∙ ap (λ (d : ℕ). slice_index lower_digits d) (sym parts.1))
+
+-- what is no digit, or stands behind one that is none, makes the text no text of bytes
+pub digits_unread : (text others : List ℕ) (i h l : ℕ) (so_far : Bool) → 2 * i + 1 < length text
+    → (16 ≤ h → (d : ℕ) → d < 16 → get_or text (2 * i) 0 ≢ slice_index lower_digits d)
+    → (16 ≤ l → (d : ℕ) → d < 16 → get_or text (2 * i + 1) 0 ≢ slice_index lower_digits d)
+    → (so_far ≡ false → text ≢ encode_lower others) → (so_far && (nat_lt h 16 && nat_lt l 16)) ≡ false
+    → IsBytes others → text ≢ encode_lower others
+digits_unread text others i h l so_far lt high low front unread fits = first (and_cases so_far (nat_lt h 16 && nat_lt l 16) unread)
+  where
+    second : (nat_lt h 16 ≡ false) ⊎ (nat_lt l 16 ≡ false) → text ≢ encode_lower others
+    second (inl which) = read_none text others i lt (λ b fit is _. high (ltb-false h 16 which) (b / 16) (omega (arith, fit)) is) fits
+    second (inr which) = read_none text others i lt (λ b fit _ is. low (ltb-false l 16 which) (b % 16) (omega (arith, fit)) is) fits
+    first : (so_far ≡ false) ⊎ ((nat_lt h 16 && nat_lt l 16) ≡ false) → text ≢ encode_lower others
+    first (inl which) = front which
+    first (inr which) = second (and_cases (nat_lt h 16) (nat_lt l 16) which)
 
 -- a slice that was written whole
 pub written_whole : (xs ys : List ℕ) (n : ℕ) → n ≡ length xs → take n (xs ++ drop (length xs) ys) ≡ xs

@@ -14,8 +14,32 @@ pub fn write_bytes(text: &mut Vec<u8>, bytes: &[u8]) -> Result<(), AllocError>
 {
     let mut digits = [0; 2 * LONGEST];
     let digits = &mut digits[..2 * bytes.len()];
-    hex::encode_to_slice(bytes, digits).unwrap();
+    write_digits(bytes, digits);
     text.extend_from_slice(digits)
+}
+
+// Writes the digits of the bytes. It has neither table nor branch, so that many are written at once.
+fn write_digits(bytes: &[u8], digits: &mut [u8])
+    requires { length digits.old ≡ 2 * length bytes.now }
+    ensures { digits.new ≡ encode_lower bytes.now }
+{
+    for i in 0..bytes.len() {
+        let byte = bytes[i];
+        digits[2 * i] = digit_of(byte / 16);
+        digits[2 * i + 1] = digit_of(byte % 16);
+    }
+}
+
+// The digit of a value.
+fn digit_of(value: u8) -> u8
+    requires { value < 16 }
+    ensures { result ≡ slice_index lower_digits value }
+{
+    if value < 10 {
+        b'0' + value
+    } else {
+        b'a' - 10 + value
+    }
 }
 
 /// The bytes of a text of such digits.
@@ -35,7 +59,8 @@ pub fn read_bytes(alloc: Global, text: &[u8]) -> Result<Option<Vec<u8>>, AllocEr
     Ok(Some(bytes))
 }
 
-// Reads the bytes of the digits, and answers whether all are digits.
+// Reads the bytes of the digits, and answers whether all are digits. It reads to the end in any case, so that many are
+// read at once.
 fn read_into(text: &[u8], bytes: &mut [u8]) -> bool
     requires { length text.now ≡ 2 * length bytes.old }
     ensures all { result ≡ true → text.now ≡ encode_lower bytes.new }
@@ -43,34 +68,24 @@ fn read_into(text: &[u8], bytes: &mut [u8]) -> bool
         → text.now ≢ encode_lower others }
     ensures are_bytes { IsBytes bytes.new }
 {
+    let mut are_digits = true;
     for i in 0..bytes.len() {
-        let Some(byte) = byte_of(text[2 * i], text[2 * i + 1]) else {
-            return false;
-        };
-        bytes[i] = byte;
+        let high = value_of(text[2 * i]);
+        let low = value_of(text[2 * i + 1]);
+        are_digits &= (high < 16) & (low < 16);
+        bytes[i] = high.wrapping_mul(16).wrapping_add(low);
     }
-    true
+    are_digits
 }
 
-// The byte of two digits.
-fn byte_of(high: u8, low: u8) -> Option<u8>
-    ensures some { IfSome result (λ b.
-        (b < 256) × (high ≡ slice_index lower_digits (b / 16))
-        × (low ≡ slice_index lower_digits (b % 16))) }
-    ensures none { IfNone result ((b : ℕ) → b < 256 → high ≡ slice_index lower_digits (b / 16)
-        → low ≢ slice_index lower_digits (b % 16)) }
-{
-    Some(digit_of(high)? * 16 + digit_of(low)?)
-}
-
-// The value of a digit.
-fn digit_of(code: u8) -> Option<u8>
-    ensures some { IfSome result (λ d. (d < 16) × (code ≡ slice_index lower_digits d)) }
-    ensures none { IfNone result ((d : ℕ) → d < 16 → code ≢ slice_index lower_digits d) }
+// The value of a digit, and 16 of what is none.
+fn value_of(code: u8) -> u8
+    ensures digit { result < 16 → code ≡ slice_index lower_digits result }
+    ensures none { 16 ≤ result → (d : ℕ) → d < 16 → code ≢ slice_index lower_digits d }
 {
     match code {
-        b'0'..=b'9' => Some(code - b'0'),
-        b'a'..=b'f' => Some(code - b'a' + 10),
-        _ => None,
+        b'0'..=b'9' => code - b'0',
+        b'a'..=b'f' => code - b'a' + 10,
+        _ => 16,
     }
 }

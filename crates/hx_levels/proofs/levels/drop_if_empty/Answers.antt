@@ -1,4 +1,4 @@
-use Rattle.std.proofs.Common.{◌≡◌, Bool, true, false, Option, Some, None, refl, sym, ap, ◌∙◌, inl}
+use Rattle.std.proofs.Common.{◌≡◌, Bool, true, false, refl, sym, ap, ◌∙◌, inl}
 use Rattle.std.specs.Option.{is_some}
 use Rattle.hx_levels.specs.declared.levels.Level.{Level}
 use Rattle.hx_levels.specs.declared.nodes.Ends.{Ends}

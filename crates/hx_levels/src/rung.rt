@@ -1,0 +1,112 @@
+//! Where a level of a book stands.
+ghost use Rattle.std.specs.Prelude.{◌≡◌, true, false};
+ghost use Rattle.std.proofs.Common.{rules};
+ghost use Rattle.std.specs.Ordering.{as_partial_cmp, eq_by_cmp};
+ghost use Rattle.std.specs.Cmp.{partial_equiv_from_equiv, partial_order_from_own_ties};
+ghost use Rattle.std.specs.Cmp.Rules.{comparing};
+ghost use Rattle.hx_levels.specs.Levels.{Rung, rung_cmp};
+
+use std::cmp::Ordering;
+use std::marker::Model;
+
+// How many distances there are on a side of a stock.
+const DISTANCES: u64 = 1 << 32;
+
+/// A stock, a side and how far a price is from the best, in one number, so that two of them compare at once: the number
+/// of the stock from bit 33 on, the side in bit 32, the distance below. Of one stock and side the better price comes first.
+#[derive(Clone, Copy, Debug)]
+pub struct Rung {
+    number: u64,
+}
+
+impl Model for Rung {
+    ghost use Rattle.hx_levels.specs.Levels.{Rung, rung_number, rung_of_number};
+
+    ghost Value = { Rung };
+
+    ghost view = { λ r. rung_of_number r.number };
+
+    ghost inverse = { λ at. record { number = rung_number at } };
+}
+
+impl Rung {
+    /// The rung of a stock, a side and a distance.
+    pub fn of(locate: u16, buy: bool, distance: u32) -> Rung
+        ensures { result ≡ record { locate = locate; buy = buy; distance = distance } }
+    {
+        let side = if buy { 1 } else { 0 };
+        Rung {
+            number: (u64::from(locate) * 2 + side) * DISTANCES + u64::from(distance),
+        }
+    }
+
+    /// Whether it is of the stock and the side of another.
+    pub fn is_beside(self, other: Rung) -> bool
+        ensures yes { result ≡ true → (self.locate ≡ other.locate) × (self.buy ≡ other.buy) }
+        ensures no { result ≡ false → self.locate ≡ other.locate → self.buy ≡ other.buy → ⊥ }
+    {
+        self.number / DISTANCES == other.number / DISTANCES
+    }
+
+    /// How far its price is from the best.
+    pub fn distance(self) -> u32
+        ensures { result ≡ self.distance }
+    {
+        (self.number % DISTANCES) as u32
+    }
+
+    /// The rung of the same stock and side at another distance.
+    pub fn at(self, distance: u32) -> Rung
+        ensures { result ≡ record self { distance = distance } }
+    {
+        Rung {
+            number: self.number / DISTANCES * DISTANCES + u64::from(distance),
+        }
+    }
+}
+
+impl PartialEq for Rung {
+    ghost eq = { eq_by_cmp rung_cmp };
+
+    ghost laws = { partial_equiv_from_equiv (Prim.search (comparing, rules)) };
+
+    fn eq(&self, other: &Rung) -> bool {
+        self.number == other.number
+    }
+}
+
+impl Eq for Rung {
+    ghost laws = { Prim.search (comparing, rules) };
+}
+
+impl Ord for Rung {
+    ghost cmp = { rung_cmp };
+
+    ghost total = { Prim.search (comparing, rules) };
+
+    ghost matches_partial_cmp = { Prim.search (comparing, rules) };
+
+    ghost matches_eq = { Prim.search (comparing, rules) };
+
+    // In this order, which a search over many keys is compiled best with.
+    fn cmp(&self, other: &Rung) -> Ordering {
+        if self.number > other.number {
+            Ordering::Greater
+        } else if self.number == other.number {
+            Ordering::Equal
+        } else {
+            Ordering::Less
+        }
+    }
+}
+
+impl PartialOrd for Rung {
+    ghost partial_cmp = { as_partial_cmp rung_cmp };
+
+    ghost laws = { partial_order_from_own_ties (Prim.search (comparing, rules))
+        (Prim.search (comparing, rules)) };
+
+    fn partial_cmp(&self, other: &Rung) -> Option<Ordering> {
+        Some(self.cmp(other))
+    }
+}
