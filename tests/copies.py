@@ -1,0 +1,26 @@
+"""Copies of crates, for what is proved or built beside the repository."""
+import os, shutil
+
+TOP = os.path.dirname(os.path.dirname(os.path.abspath(__file__)))
+
+
+def lines_of_crates():
+    """The lines of crates.txt, by the crate that they name."""
+    with open(os.path.join(TOP, 'crates.txt')) as file:
+        lines = [line for line in file if ':' in line and not line.startswith('#')]
+    return {line.split(':')[0].split()[0]: line for line in lines}
+
+
+def copy_crates(names, folder):
+    """Copies the crates and those below them, with what earlier checks kept of them, into a folder of their own."""
+    lines = lines_of_crates()
+    wanted = set(names)
+    for name in names:
+        wanted.update(lines[name].split(':')[1].split())
+    kept = [name for name in lines if name in wanted]
+    for name in kept:
+        crate = os.path.join('crates', name)
+        shutil.copytree(os.path.join(TOP, crate), os.path.join(folder, crate), symlinks=True)
+    with open(os.path.join(folder, 'crates.txt'), 'w') as file:
+        file.writelines(lines[name] for name in kept)
+    shutil.copy(os.path.join(TOP, 'HANDLES'), folder)
