@@ -81,8 +81,8 @@ digits_read text bytes i h l so_far size lt high low front all =
     let ls : l < 16 = ltb-true l 16 both.1 in
     let parts = byte_parts h l hs ls in
     read_more text bytes i ((h * 16 % 256 + l) % 256) size lt (front first.0)
-      (high hs ∙ ap (λ (d : ℕ). slice_index lower_digits d) (sym parts.0))
-      (low ls ∙ ap (λ (d : ℕ). slice_index lower_digits d) (sym parts.1))
+    (high hs ∙ ap (λ (d : ℕ). slice_index lower_digits d) (sym parts.0))
+    (low ls ∙ ap (λ (d : ℕ). slice_index lower_digits d) (sym parts.1))
 
 -- what is no digit, or stands behind one that is none, makes the text no text of bytes
 pub digits_unread : (text others : List ℕ) (i h l : ℕ) (so_far : Bool) → 2 * i + 1 < length text
@@ -95,6 +95,7 @@ digits_unread text others i h l so_far lt high low front unread fits = first (an
     second : (nat_lt h 16 ≡ false) ⊎ (nat_lt l 16 ≡ false) → text ≢ encode_lower others
     second (inl which) = read_none text others i lt (λ b fit is _. high (ltb-false h 16 which) (b / 16) (omega (arith, fit)) is) fits
     second (inr which) = read_none text others i lt (λ b fit _ is. low (ltb-false l 16 which) (b % 16) (omega (arith, fit)) is) fits
+
     first : (so_far ≡ false) ⊎ ((nat_lt h 16 && nat_lt l 16) ≡ false) → text ≢ encode_lower others
     first (inl which) = front which
     first (inr which) = second (and_cases (nat_lt h 16) (nat_lt l 16) which)

@@ -5,7 +5,7 @@ use Rattle.hx_replay.proofs.hexadecimal.read_into.Goals as goal
 
 pub loop-i-init : goal.loop-i-init
 unfolding encode_with
-loop-i-init c = record { so_far = λ _. refl; none = λ is. absurd (true≢false is); }
+loop-i-init c = record { so_far = λ _. refl; none = λ is. absurd (true≢false is) }
 
 pub loop-i-preserved : goal.loop-i-preserved
 loop-i-preserved c = record {
