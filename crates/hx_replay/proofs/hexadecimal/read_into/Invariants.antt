@@ -7,4 +7,5 @@ abbrev pub invariant-loop-i : goal.invariant-loop-i
 invariant-loop-i l = record {
   so_far : l.are_digits ≡ true → encode_lower (take l.i l.bytes) ≡ take (2 * l.i) l.text;
   none : l.are_digits ≡ false → (others : List ℕ) → IsBytes others → l.text ≢ encode_lower others;
+  are_bytes : IsBytes l.bytes;
 }
