@@ -42,7 +42,8 @@ pub(crate) fn take(market: &mut Market<LevelBook>, event: &Event) -> Result<(), 
         e ≡ or_no_memory (refusal market.old.setup market.old.market.recorded event.now)) }
 {
     let prepared = market.prepare(event)?;
-    let _ = market.commit(prepared);
+    let output = market.commit(prepared);
+    market.take_back(output);
     Ok(())
 }
 

@@ -65,4 +65,5 @@ pub(crate) fn commit_entry(
     writer.publish(log, &entry);
     history.push_reserved(entry);
     rows.add(&output.replies);
+    market.take_back(output);
 }

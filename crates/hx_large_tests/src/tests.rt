@@ -3,6 +3,7 @@
 mod chains;
 mod day;
 mod desk;
+mod ending;
 mod framing;
 mod packets;
 mod replaying;

@@ -8,4 +8,5 @@ pub mod Rejections
 pub mod PreparedCounts
 pub mod BookWalks
 pub mod FeedTimes
-pub mod Expiries
+pub mod Entered
+pub mod Ending

@@ -84,7 +84,7 @@ pub found_is : (ts : List Used) (ks : List (Option ℕ)) (m : ℕ) (t : Token) (
     → find (is_called m t) (lives orders) ≡ confirmed m t (order_of key orders)
 found_is ts ks m t orders key h d e = found_at m t key orders (subst (λ (o : Option ℕ). AreUnder m t o orders) e (called_under ts ks m t orders h.each)) d
 
-place-unused : (ts : List Used) (m : ℕ) (t : Token) → is_used ts m t ≡ false → place_of ts m t ≡ length ts
+pub place-unused : (ts : List Used) (m : ℕ) (t : Token) → is_used ts m t ≡ false → place_of ts m t ≡ length ts
 place-unused [] m t h = refl
 place-unused (u ∷ ts) m t h = at (is_use m t u) (place-unused ts m t) h
   where
@@ -204,7 +204,7 @@ key_place ks place key e = at (slice_get ks place) e
     at None e = absurd (let z : None ≡ Some key = e in cc)
     at (Some k) e = ap (λ z. Some z) e
 
-used_place : (ts : List Used) (m : ℕ) (t : Token) → place_of ts m t < length ts → is_used ts m t ≡ true
+pub used_place : (ts : List Used) (m : ℕ) (t : Token) → place_of ts m t < length ts → is_used ts m t ≡ true
 used_place ts m t h = at (is_used ts m t) refl
   where
     at : (b : Bool) → is_used ts m t ≡ b → b ≡ true
@@ -212,10 +212,10 @@ used_place ts m t h = at (is_used ts m t) refl
     at false e = absurd (let a = place-unused ts m t e in omega arith)
 
 -- the token of a live order stands among the used ones
-abbrev StandsUsed : List Used → Live → Type 0
+abbrev pub StandsUsed : List Used → Live → Type 0
 StandsUsed ts live = place_of ts live.order.member live.order.token < length ts
 
-stand_used : (ts : List Used) (ks : List (Option ℕ)) (xs : List Live) → AreKeyed ts ks xs → AllByRecursion (StandsUsed ts) xs
+pub stand_used : (ts : List Used) (ks : List (Option ℕ)) (xs : List Live) → AreKeyed ts ks xs → AllByRecursion (StandsUsed ts) xs
 stand_used ts ks xs h = all_weaker _ _ (λ x e. let a = slice_get_within ks (place_of ts x.order.member x.order.token) (Some x.key.0) (key_place ks _ x.key.0 e) in let b = h.as_many in omega arith) xs h.each
 
 length-one : {X : Type 0} (xs : List X) (x : X) → length (xs ++ x ∷ []) ≡ length xs + 1
@@ -264,7 +264,7 @@ all_pushed : (P : Live → Type 0) (xs : List Live) (x : Live) → AllByRecursio
 all_pushed P [] x h k = (k, tt)
 all_pushed P (y ∷ xs) x h k = (h.0, all_pushed P xs x h.1 k)
 
-place-used : (ts : List Used) (m : ℕ) (t : Token) → is_used ts m t ≡ true → place_of ts m t < length ts
+pub place-used : (ts : List Used) (m : ℕ) (t : Token) → is_used ts m t ≡ true → place_of ts m t < length ts
 place-used [] m t h = absurd (let z : false ≡ true = h in cc)
 place-used (u ∷ ts) m t h = at (is_use m t u) (place-used ts m t) h
   where

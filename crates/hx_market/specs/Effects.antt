@@ -27,7 +27,6 @@ use Rattle.hx_rules.specs.Cancel.{take_off}
 use Rattle.hx_rules.specs.Hours.{is_over, ends_by_code}
 use Rattle.hx_rules.specs.Halts.{set_state}
 use Rattle.hx_rules.specs.Breaks.{break_execution}
-use Rattle.hx_day.specs.Expiries.{NoneEndsBefore, or_end_of}
 
 -- An Enter that is accepted.
 
@@ -131,11 +130,10 @@ abbrev pub is_due : Due → ℕ → Order → Bool
 is_due Over time x = is_over time x.life
 is_due (ByCode code) time x = ends_by_code code x
 
--- they are the due ones of the live orders, and none of the others ends before the next time
+-- they are the due ones of the live orders
 pub record IsExpiry (orders : List Live) (e : Expiry) : Type 0 where
   pub due : e.orders.items ≡ filter (λ live. is_due e.due e.time live.order) orders
   pub differ : KeysDiffer orders
-  pub next : NoneEndsBefore e.next (filter (λ x. not (is_due e.due e.time x)) (lives orders))
 
 -- the orders end, so many hours codes are past, and this is told
 abbrev pub ended_by : Market → Expiry → Outcome
@@ -241,15 +239,3 @@ hours_after (Cancel a) hours = hours
 hours_after (End e) hours = e.hours
 hours_after (Halt h) hours = hours
 hours_after (Break b) hours = hours
-
--- the time before which no order ends once the effect is done, if none ends before this one
-abbrev pub earliest_after : Effect → (earliest : ℕ) → ℕ
-earliest_after Nothing earliest = earliest
-earliest_after (Reject r) earliest = earliest
-earliest_after (Accept a) earliest = or_end_of earliest (life_of a.time a.enter.time_in_force)
-earliest_after (Fail a) earliest = earliest
-earliest_after (Replace a) earliest = or_end_of earliest (life_of a.time a.replace.time_in_force)
-earliest_after (Cancel a) earliest = earliest
-earliest_after (End e) earliest = e.next
-earliest_after (Halt h) earliest = earliest
-earliest_after (Break b) earliest = earliest

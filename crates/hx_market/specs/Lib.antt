@@ -2,6 +2,7 @@ pub mod OrderKeys
 pub mod Bounds
 pub mod Effects
 pub mod MarketModel
+pub mod Expiries
 pub mod Prepared
 pub use Rattle.hx_rules.specs.Letters
 pub use Rattle.hx_rules.specs.Limits

@@ -28,6 +28,8 @@ use Rattle.hx_rules.specs.Outputs.{Outcome}
 use Rattle.hx_rules.specs.Removal.{others}
 use Rattle.hx_rules.specs.Replace.{is_one_display}
 use Rattle.hx_rules.specs.Steps.{happens, sender, with_record}
+use Rattle.hx_expiries.specs.declared.entry.Entry.{Entry}
+use Rattle.hx_market.specs.Expiries.{IsEndEntered}
 use Rattle.hx_market.specs.Effects.{IsEffect, IsOf, SuitsTokens, IsAbout, incoming_of_enter, terms_of_enter, open_shares, incoming_of_replacement, terms_of_replacement, replacement_order, outcome_of}
 
 -- what an effect does over a book, its tokens and its numbers, halts and executions: hours and
@@ -156,7 +158,7 @@ FitsEffect market (Break b) = ⊤
 -- it was made for this event, over this market: it does what the event does, and its growths are
 -- made
 pub record IsPlanned (setup : Setup) (market : Market) (orders : List Live)
-    (book_place : Option Terms) (name_place : Option Name) (room : ℕ)
+    (book_place : Option Terms) (name_place : Option Name) (room : ℕ) (entries : List Entry)
     (p : Planned) : Type 0 where
   pub number : p.number ≡ sender p.event
   pub may_record : MayRecord market.recorded p.number
@@ -170,6 +172,8 @@ pub record IsPlanned (setup : Setup) (market : Market) (orders : List Live)
   pub places : HasPlaces orders book_place name_place p.fills p.left p.effect
   -- each of its executions has a place among all executions
   pub has_room : length p.fills ≤ room
+  -- its order is entered where it ends at a time
+  pub end_entered : IsEndEntered entries (length market.tokens) p.effect
   pub feed_count :
       p.feed_count ≡ length (outcome_of (with_record p.event market) p.effect).told.feed
   pub reply_members :

@@ -10,10 +10,11 @@ ghost use Rattle.hx_rules.specs.Steps.{receive, happens, sender, time_of};
 ghost use Rattle.hx_rules.specs.Refusals.{is_from_stranger};
 ghost use Rattle.hx_levels.specs.Book.{lives};
 ghost use Rattle.hx_market.specs.Effects.{outcome_of, IsEffect, IsOf, SuitsTokens, IsAbout};
-ghost use Rattle.hx_day.specs.Expiries.{NoneEndsBefore};
+ghost use Rattle.hx_market.specs.Expiries.{AreEntered};
 
 mod break_trade;
 mod cancel;
+mod ending;
 mod enter;
 mod expiry;
 mod halt;
@@ -28,6 +29,7 @@ use crate::decision::halt::halt_effect;
 use crate::decision::hours::hours_effect;
 use crate::decision::replace::replace_effect;
 use crate::effect::Effect;
+use crate::ends::Ends;
 use hx_day::Trading;
 use hx_levels::Book;
 use hx_members::{Setup, Tokens};
@@ -72,13 +74,13 @@ fn message_effect<B: Book>(
     }
 }
 
-/// What an event does that is not refused, at so many hours codes past, where no live order ends before a time.
-/// `NoMemory` where the orders that end, and what they tell, find no room.
+/// What an event does that is not refused, at so many hours codes past. `NoMemory` where the orders that end, and what
+/// they tell, find no room.
 pub fn effect_of<B: Book>(
     alloc: Global,
     setup: &Setup,
     hours: u8,
-    earliest: u64,
+    ends: &Ends,
     trading: &Trading,
     tokens: &Tokens,
     book: &B,
@@ -87,7 +89,7 @@ pub fn effect_of<B: Book>(
     requires known { is_from_stranger setup.now event.now ≡ false }
     requires time { time_of event.now < day }
     requires keyed { AreKeyed tokens.now.tokens tokens.now.keys (B.orders book.now) }
-    requires earliest { NoneEndsBefore earliest (lives (B.orders book.now)) }
+    requires entered { AreEntered ends.now tokens.now.tokens (lives (B.orders book.now)) }
     ensures does { IfOk result (λ a. (n : Numbers) (counts : List ℕ)
         → happens setup.now
         (market_of (B.orders book.now) tokens.now n hours counts trading.now) event.now
@@ -115,10 +117,8 @@ pub fn effect_of<B: Book>(
                 bytes.as_slice(),
             ))
         }
-        Event::Tick { time } => tick_effect(alloc, hours, earliest, book, *time),
-        Event::Hours { time, code } => {
-            hours_effect(alloc, setup, hours, earliest, book, *time, *code)
-        }
+        Event::Tick { time } => tick_effect(alloc, hours, ends, tokens, book, *time),
+        Event::Hours { time, code } => { hours_effect(alloc, setup, hours, book, *time, *code) }
         Event::Halt {
             time,
             stock,

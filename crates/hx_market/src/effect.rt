@@ -109,8 +109,6 @@ pub struct Expiry {
     pub hours: u8,
     /// The orders that end, the earlier ones first.
     pub orders: Vec<Live>,
-    /// A time before which none of the others ends, in nanoseconds since midnight.
-    pub next: u64,
     /// What is told.
     pub told: Output,
 }

@@ -9,11 +9,12 @@ ghost use Rattle.hx_market.specs.Effects.{hours_after};
 ghost use Rattle.hx_market.specs.MarketModel.{chain_facts};
 
 use crate::commit::commit_effect;
-use crate::earliest::earliest_after;
 use crate::effect::Effect;
+use crate::ends::Ends;
 use crate::known::Known;
 use crate::live_orders::list_orders;
 use crate::prepare::{Prepared, make};
+use crate::room::Room;
 use hx_day::{EventCounts, Trading};
 use hx_levels::{Book, Order};
 use hx_members::{ChainFacts, Seed, Setup, Tokens};
@@ -31,12 +32,14 @@ pub struct Market<B: Book> {
     refs: Refs,
     // How many of the hours codes are past.
     hours: u8,
-    // A time before which no live order ends.
-    earliest: u64,
+    // When the live orders end.
+    ends: Ends,
     recorded: EventCounts,
     trading: Trading,
     // What the last `prepare` gave, known to contracts alone.
     ready: Known<Prepared>,
+    // Lists of earlier events, for the next one.
+    room: Room,
     alloc: Global,
 }
 
@@ -49,10 +52,11 @@ impl<B: Book + Drop> Drop for Market<B> {
             tokens: _,
             refs: _,
             hours: _,
-            earliest: _,
+            ends: _,
             recorded: _,
             trading: _,
             ready: _,
+            room: _,
             alloc: _,
         } = self;
     }
@@ -62,7 +66,7 @@ impl<B: Book> Model for Market<B> {
     ghost use Rattle.std.specs.Prelude.{◌≡◌, Some};
     ghost use Rattle.hx_market.specs.OrderKeys.{AreKeyed};
     ghost use Rattle.hx_market.specs.Bounds.{IsSound};
-    ghost use Rattle.hx_day.specs.Expiries.{NoneEndsBefore};
+    ghost use Rattle.hx_market.specs.Expiries.{AreEntered};
     ghost use Rattle.hx_levels.specs.Book.{lives};
     ghost use Rattle.hx_market.specs.MarketModel.{Planned, Seen, market_of};
     ghost use Rattle.hx_market.specs.Prepared.{IsPlanned};
@@ -82,8 +86,8 @@ impl<B: Book> Model for Market<B> {
         × ((p : Planned) → m.ready ≡ Some p
         → IsPlanned m.setup
         (market_of (B.orders m.book) m.tokens m.refs m.hours m.recorded m.trading)
-        (B.orders m.book) (B.place m.book) m.tokens.place m.trading.room p)
-        × NoneEndsBefore m.earliest (lives (B.orders m.book)) };
+        (B.orders m.book) (B.place m.book) m.tokens.place m.trading.room m.ends p)
+        × AreEntered m.ends m.tokens.tokens (lives (B.orders m.book)) };
 }
 
 // How many of the hours codes are past as the day begins.
@@ -138,10 +142,11 @@ impl<B: Book + Drop> Market<B> {
             tokens: Tokens::seeded(alloc, seed),
             refs: Refs::new(alloc)?,
             hours,
-            earliest: u64::MAX,
+            ends: Ends::new(alloc),
             recorded: EventCounts::new(alloc)?,
             trading: Trading::new(alloc, stocks)?,
             ready: Known::none(alloc),
+            room: Room::new(alloc),
             alloc,
         })
     }
@@ -166,11 +171,13 @@ impl<B: Book + Drop> Market<B> {
         ensures void { OnErr result (self.new.ready ≡ None) }
     {
         self.ready = Known::none(self.alloc);
+        self.ends.forget(self.tokens.count());
         let prepared = make(
             self.alloc,
+            &mut self.room,
             &self.setup,
             self.hours,
-            self.earliest,
+            &mut self.ends,
             &self.recorded,
             &mut self.trading,
             &mut self.book,
@@ -202,12 +209,13 @@ impl<B: Book + Drop> Market<B> {
             effect,
             fills,
             left,
+            reply_members,
             mut out,
             ..
         } = prepared;
         self.recorded.raise(number);
         self.hours = hours_after(&effect, self.hours);
-        self.earliest = earliest_after(&effect, self.earliest);
+        self.ends.done(&effect);
         commit_effect(
             &mut self.book,
             &mut self.tokens,
@@ -218,7 +226,18 @@ impl<B: Book + Drop> Market<B> {
             &fills,
             left,
         );
+        self.room.keep_plan(fills, reply_members);
         out
+    }
+
+    /// Takes back what a `commit` gave, once it is told: the lists are room for what comes. What contracts see of the
+    /// market stays.
+    pub fn take_back(&mut self, output: Output)
+        ensures setup { self.new.setup ≡ self.old.setup }
+        ensures market { self.new.market ≡ self.old.market }
+        ensures ready { self.new.ready ≡ self.old.ready }
+    {
+        self.room.keep_output(output);
     }
 
     /// How many of the hours codes `O`, `S`, `Q`, `M`, `E`, `C` are past.

@@ -1,10 +1,11 @@
 //! What the market prepares for an event.
-ghost use Rattle.std.specs.Prelude.{◌≡◌, None, IfOk, OnOk, IfErr, length};
+ghost use Rattle.std.specs.Prelude.{◌≡◌, ℕ, None, IfOk, OnOk, IfErr, length};
 ghost use Rattle.hx_refs.specs.Numbers.{Numbers};
 ghost use Rattle.hx_rules.specs.Refusals.{refusal, or_no_memory};
 ghost use Rattle.hx_market.specs.OrderKeys.{AreKeyed};
 ghost use Rattle.hx_levels.specs.Book.{lives};
-ghost use Rattle.hx_day.specs.Expiries.{NoneEndsBefore};
+ghost use Rattle.hx_expiries.specs.Expiries.{Holds};
+ghost use Rattle.hx_market.specs.Expiries.{AreEntered};
 ghost use Rattle.hx_market.specs.MarketModel.{market_of};
 ghost use Rattle.hx_market.specs.Prepared.{HasRoom, IsPlanned};
 
@@ -12,7 +13,9 @@ mod draft;
 
 use crate::decision::effect_of;
 use crate::effect::Effect;
-use crate::prepare::draft::{draft_effect, room_for};
+use crate::ends::Ends;
+use crate::prepare::draft::draft_effect;
+use crate::room::Room;
 use hx_day::{EventCounts, Trading, admit};
 use hx_levels::Book;
 use hx_match::Fill;
@@ -75,13 +78,14 @@ impl Prepared {
     }
 }
 
-/// What is prepared for an event, where no live order ends before a time, with all growths that its commit needs. What
-/// contracts see of book, tokens and executions stays, but for their reserved places.
+/// What is prepared for an event, with all growths that its commit needs. What contracts see of book, tokens and
+/// executions stays, but for their reserved places.
 pub fn make<B: Book>(
     alloc: Global,
+    room: &mut Room,
     setup: &Setup,
     hours: u8,
-    earliest: u64,
+    ends: &mut Ends,
     recorded: &EventCounts,
     trading: &mut Trading,
     book: &mut B,
@@ -89,7 +93,8 @@ pub fn make<B: Book>(
     event: &Event,
 ) -> Result<Prepared, PrepareError>
     requires keyed { AreKeyed tokens.old.tokens tokens.old.keys (B.orders book.old) }
-    requires earliest { NoneEndsBefore earliest (lives (B.orders book.old)) }
+    requires entered { AreEntered ends.old tokens.old.tokens (lives (B.orders book.old)) }
+    ensures ends { (e p : ℕ) → Holds ends.old e p → Holds ends.new e p }
     ensures orders { B.orders book.new ≡ B.orders book.old }
     ensures tokens { tokens.new.tokens ≡ tokens.old.tokens }
     ensures keys { tokens.new.keys ≡ tokens.old.keys }
@@ -100,16 +105,17 @@ pub fn make<B: Book>(
     ensures planned { IfOk result (λ p. (n : Numbers)
         → IsPlanned setup.now
         (market_of (B.orders book.new) tokens.new n hours recorded.now trading.new)
-        (B.orders book.new) (B.place book.new) tokens.new.place trading.new.room p) }
+        (B.orders book.new) (B.place book.new) tokens.new.place trading.new.room ends.new p) }
     ensures passes { OnOk result (refusal setup.now recorded.now event.now ≡ None) }
     ensures refused { IfErr result (λ e. e
         ≡ or_no_memory (refusal setup.now recorded.now event.now)) }
 {
     let number = admit(setup, recorded, event)?;
-    let effect = effect_of(alloc, setup, hours, earliest, trading, tokens, book, event)?;
-    let draft = draft_effect(alloc, book, tokens, &effect)?;
+    let effect = effect_of(alloc, setup, hours, ends, trading, tokens, book, event)?;
+    let draft = draft_effect(alloc, room, book, tokens, &effect)?;
+    ends.enter(tokens.count(), &effect)?;
     trading.reserve_for(&draft.fills)?;
-    let out = room_for(alloc, draft.fills.len())?;
+    let out = room.output(alloc, draft.fills.len())?;
     Ok(Prepared {
         event: Snapshot::of(event),
         number,

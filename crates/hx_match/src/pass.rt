@@ -3,6 +3,7 @@ ghost use Rattle.std.specs.Prelude.{◌≡◌, ◌<◌, length, IfOk, IfErr, Mat
 ghost use Rattle.hx_levels.specs.Book.{KeysDiffer, lives};
 ghost use Rattle.hx_match.specs.Matching.{qualifies, matched, matched_live};
 ghost use Rattle.hx_match.specs.Executing.{fills_of, AreGood, done_by, left_by};
+ghost use Rattle.hx_match.specs.Rules.{AreFills};
 
 use crate::fills::{Fill, Incoming, Plan};
 use hx_levels::{Book, Key, Order};
@@ -28,7 +29,22 @@ pub fn plan<B: Book>(alloc: Global, book: &B, incoming: &Incoming) -> Result<Pla
     ensures memory { IfErr result (λ _. 0 < length (fills_of incoming.now (B.orders book.now))) }
     ensures keys { KeysDiffer (B.orders book.now) }
 {
-    let mut fills = Vec::new(alloc);
+    plan_in(Vec::new(alloc), book, incoming)
+}
+
+/// The same in the room of an earlier plan: its list of fills takes memory only where it has to grow.
+pub fn plan_in<B: Book>(room: Vec<Fill>, book: &B, incoming: &Incoming) -> Result<Plan, NoMemory>
+    ensures fills { IfOk result (λ plan.
+        plan.fills.items ≡ fills_of incoming.now (B.orders book.now)) }
+    ensures left { IfOk result (λ plan.
+        plan.left ≡ (matched_live incoming.now (B.orders book.now)).left) }
+    ensures executions { IfOk result (λ plan.
+        AreFills incoming.now (B.orders book.now) plan.fills.items plan.left) }
+    ensures memory { IfErr result (λ _. 0 < length (fills_of incoming.now (B.orders book.now))) }
+    ensures keys { KeysDiffer (B.orders book.now) }
+{
+    let mut fills = room;
+    fills.clear();
     let least = least_fill(incoming);
     let mut left = incoming.shares;
     let mut next = book.next_contra(incoming.locate, incoming.side, incoming.price, None);

@@ -10,7 +10,7 @@ use Rattle.hx_members.specs.declared.rows.UsedToken.{UsedToken}
 use Rattle.hx_members.specs.Chains.{Used, Chain, is_use, is_used, entered_of, entered_at, place_of, is_chain, executed_by, entered_used, replacing_used, IsEnteredAt}
 use Rattle.hx_members.specs.declared.name.Name.{Name}
 use Rattle.hx_members.specs.Rows.{Row, is_name, name_of, row_place, IsUnused, row_state, told_of, used_of, tokens_of, places_of, live_keys_of, is_entered, chain_of, chains_of, AreDistinct, IsSound}
-use Rattle.hx_members.specs.Tokens.{facts_of, key_at, state_of}
+use Rattle.hx_members.specs.Tokens.{facts_of, key_at, state_of, name_at}
 use Rattle.hx_members.proofs.ChainLaws.{is_same-flip, is_same-parts, is_same-itself, is_token-itself, slice_get-place_of, is_used-at}
 
 pub some_same : {X : Type 0} (x y : X) → Some x ≡ Some y → x ≡ y
@@ -49,6 +49,12 @@ slice_get-live_keys_of [] i r h = absurd cc
 slice_get-live_keys_of (e ∷ es) zero r h = ap (λ (x : Row). Some x.1.key) (some_same e r h)
 slice_get-live_keys_of (e ∷ es) (suc i) r h = slice_get-live_keys_of es i r h
 
+-- the name of the used token at a place is that of its row
+pub name_at-row : (rows : List Row) (i : ℕ) → option_map (λ (row : Row). row.0) (slice_get rows i) ≡ name_at (tokens_of rows) i
+name_at-row [] i = refl
+name_at-row (e ∷ es) zero = refl
+name_at-row (e ∷ es) (suc i) = name_at-row es i
+
 pub length-tokens_of : (rows : List Row) → length (tokens_of rows) ≡ length rows
 length-tokens_of [] = refl
 length-tokens_of (e ∷ es) = ap suc (length-tokens_of es)
@@ -65,6 +71,14 @@ place_of-distinct (v ∷ vs) (suc i) u d h = at (is_use u.member u.token v) refl
         let p = is_same-parts v.member v.token u.member u.token e in
         absurd (true≢false (sym (is_used-at vs i u h) ∙ (λ j. is_used vs (sym p.0 j) (sym p.1 j)) ∙ d.0))
     at false e ih = omega arith
+
+-- a used token is at its place
+pub name_at-place : (tokens : List Used) (i : ℕ) → AreDistinct tokens → IfSome (name_at tokens i) (λ (name : Name). place_of tokens name.member name.token ≡ i)
+name_at-place tokens i d = at (slice_get tokens i) refl
+  where
+    at : (o : Option Used) → slice_get tokens i ≡ o → IfSome (option_map (λ u. name_of u.member u.token) o) (λ (name : Name). place_of tokens name.member name.token ≡ i)
+    at None h = tt
+    at (Some u) h = place_of-distinct tokens i u d h
 
 pub slice_get-tokens_of : (rows : List Row) (i : ℕ) (r : Row) → slice_get rows i ≡ Some r → slice_get (tokens_of rows) i ≡ Some (used_of r)
 slice_get-tokens_of [] i r h = absurd cc

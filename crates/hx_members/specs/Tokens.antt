@@ -1,12 +1,12 @@
 -- The used tokens of all members, their chains, and the keys of their live orders.
 use Rattle.std.specs.Prelude.{ℕ, List, [], ◌∷◌, Option, Some, None, slice_get, if◌then◌else◌}
-use Rattle.std.specs.Option.{option_map_or}
+use Rattle.std.specs.Option.{option_map, option_map_or}
 use Rattle.hx_units.specs.declared.names.Token.{Token}
 use Rattle.hx_members.specs.declared.name.Name.{Name}
 use Rattle.hx_members.specs.declared.name.ChainFacts.{ChainFacts}
 use Rattle.hx_members.specs.declared.name.TokenState.{TokenState}
 use Rattle.hx_members.specs.Chains.{Used, Chain, is_used, is_chain, place_of, entered_of}
-use Rattle.hx_members.specs.Rows.{RowList, no_facts, tokens_of, chains_of, live_keys_of}
+use Rattle.hx_members.specs.Rows.{RowList, name_of, no_facts, tokens_of, chains_of, live_keys_of}
 
 -- what contracts see of the tokens: the used tokens in order of use, the chains in order of their entered tokens' use,
 -- the key of each used token's live order, and the token for which a place is reserved
@@ -37,6 +37,10 @@ facts_of (c ∷ chains) member entered =
 -- the key at a place
 abbrev pub key_at : List (Option ℕ) → ℕ → Option ℕ
 key_at keys place = option_map_or (λ key. key) (slice_get keys place) None
+
+-- the name of the used token at a place
+abbrev pub name_at : List Used → ℕ → Option Name
+name_at tokens place = option_map (λ u. name_of u.member u.token) (slice_get tokens place)
 
 -- what is told of a used token
 abbrev pub state_of : List Used → List Chain → List (Option ℕ) → ℕ → Token → Option TokenState

@@ -139,6 +139,14 @@ impl Rows {
         Some(*used)
     }
 
+    /// The name of the row at a place.
+    pub(crate) fn name_at(&self, place: usize) -> Option<Name>
+        ensures { result ≡ option_map (λ (row : Row). row.0) (slice_get self.now.rows place) }
+    {
+        let (name, _) = self.map.get_index(place)?;
+        Some(*name)
+    }
+
     /// The entered token of the row at a place, or the given one where there is no row.
     pub(crate) fn entered(&self, place: usize, token: Token) -> Token
         ensures { result ≡ entered_at (tokens_of self.now.rows) place token }

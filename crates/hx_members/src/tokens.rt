@@ -3,7 +3,7 @@ ghost use Rattle.std.specs.Prelude.{◌≡◌, ℕ, ◌+◌, ◌<◌, ◌^◌, �
 ghost use Rattle.hx_units.specs.declared.names.Token.{Token as TokenName};
 ghost use Rattle.hx_members.specs.Chains.{is_used, place_of, entered_of, entered_used, entered_chain, replacing_used, entered_at, executed_at, noted_at, IsEnteredAt, IsChainAt};
 ghost use Rattle.hx_members.specs.Rows.{name_of};
-ghost use Rattle.hx_members.specs.Tokens.{state_of};
+ghost use Rattle.hx_members.specs.Tokens.{state_of, name_at};
 
 use crate::name::{Name, TokenState};
 use crate::rows::{Rows, UsedToken};
@@ -79,6 +79,15 @@ impl Tokens {
             member,
             token: *token,
         })
+    }
+
+    /// The used token at a place in the order of use.
+    pub fn name_at(&self, place: u64) -> Option<Name>
+        ensures name { result ≡ name_at self.now.tokens place }
+        ensures place { IfSome result (λ name.
+            place_of self.now.tokens name.member name.token ≡ place) }
+    {
+        self.kept.name_at(place as usize)
     }
 
     /// Makes a place for this token, which holds until it is used or another place is reserved. It fails only for want

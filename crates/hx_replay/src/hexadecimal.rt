@@ -2,7 +2,7 @@
 ghost use Rattle.std.specs.Prelude.{◌≡◌, ◌≢◌, ◌≤◌, ◌<◌, ◌*◌, ◌/◌, ◌%◌, ◌++◌, ℕ, List, true, false, length, IfSome, IfNone, IfOk, OnOk, slice_index};
 ghost use Rattle.hex.specs.Hex.{encode_lower, lower_digits, IsBytes};
 
-use std::alloc::{AllocError, Global};
+use std::alloc::AllocError;
 
 // The longest message that is written has 80 bytes.
 const LONGEST: usize = 80;
@@ -42,8 +42,8 @@ fn digit_of(value: u8) -> u8
     }
 }
 
-/// The bytes of a text of such digits.
-pub fn read_bytes(alloc: Global, text: &[u8]) -> Result<Option<Vec<u8>>, AllocError>
+/// The bytes of a text of such digits, in the room of others.
+pub fn read_bytes(room: Vec<u8>, text: &[u8]) -> Result<Option<Vec<u8>>, AllocError>
     ensures some { IfOk result (λ o. IfSome o (λ v.
         (text.now ≡ encode_lower v.items) × IsBytes v.items)) }
     ensures none { IfOk result (λ o.
@@ -52,7 +52,8 @@ pub fn read_bytes(alloc: Global, text: &[u8]) -> Result<Option<Vec<u8>>, AllocEr
     if text.len() % 2 != 0 {
         return Ok(None);
     }
-    let mut bytes = vec![in alloc; 0; text.len() / 2]?;
+    let mut bytes = room;
+    bytes.resize(text.len() / 2, 0)?;
     if !read_into(text, &mut bytes) {
         return Ok(None);
     }

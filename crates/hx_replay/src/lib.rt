@@ -8,6 +8,7 @@ pub mod laws;
 mod line;
 mod operator;
 mod replaying;
+mod room;
 mod run;
 mod spelling;
 mod striking;

@@ -29,10 +29,19 @@ pub fn read(alloc: Global, text: &[u8]) -> Result<Option<Fields>, AllocError>
         (text.now ≡ line (entry_of e)) × IsEntry (entry_of e))) }
     ensures only { IfOk result (λ o. IfNone o ((e : Entry) → IsEntry e → text.now ≢ line e)) }
 {
+    read_in(Vec::new(alloc), text)
+}
+
+/// The same, its bytes in the room of others.
+pub fn read_in(room: Vec<u8>, text: &[u8]) -> Result<Option<Fields>, AllocError>
+    ensures found { IfOk result (λ o. IfSome o (λ e.
+        (text.now ≡ line (entry_of e)) × IsEntry (entry_of e))) }
+    ensures only { IfOk result (λ o. IfNone o ((e : Entry) → IsEntry e → text.now ≢ line e)) }
+{
     let Some(parts) = parts_of(text) else {
         return Ok(None);
     };
-    let Some(bytes) = read_bytes(alloc, parts.digits)? else {
+    let Some(bytes) = read_bytes(room, parts.digits)? else {
         return Ok(None);
     };
     Ok(Some(Fields {

@@ -8,6 +8,7 @@ ghost use Rattle.hx_replay.specs.declared.fault.TapeError.TheVariants as fault;
 ghost use Rattle.hx_replay.specs.declared.fault.Kind.TheVariants as kinds;
 
 use crate::fault::{Kind, TapeError};
+use crate::room::Room;
 use crate::run::{Counts, Run};
 use hx_levels::{Book, LevelBook};
 use hx_members::Setup;
@@ -73,11 +74,11 @@ fn play_lines<'a, B: Book + Drop, W: Write>(
     ensures err { IfErr result
         (Stops ⊥ run.old text.now (W.contents writer.old) (W.contents writer.new)) }
 {
-    let mut output = Vec::new(alloc);
+    let mut room = Room::new(alloc);
     let mut rest = text;
     while let Some((line, others)) = split_once(rest, b'\n') {
-        run.play(line, &mut output)?;
-        write_whole(writer, &output)?;
+        run.play(line, &mut room)?;
+        write_whole(writer, &room.lines)?;
         rest = others;
     }
     send_out(writer)?;

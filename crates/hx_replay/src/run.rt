@@ -12,6 +12,7 @@ use crate::decimal::write_number;
 use crate::fault::{Kind, TapeError};
 use crate::hexadecimal::write_bytes;
 use crate::line::{self, Fields};
+use crate::room::Room;
 use hx_itch::{Feed, encode};
 use hx_levels::Book;
 use hx_market::{Bytes, Event, Market, Output, PrepareError, decode_operator};
@@ -195,11 +196,11 @@ impl<B: Book + Drop> Run<B> {
         self.counts
     }
 
-    /// Plays the next line, and leaves its output lines in the place of what stood in `lines`.
-    pub fn play(&mut self, text: &[u8], lines: &mut Vec<u8>) -> Result<(), TapeError>
+    /// Plays the next line, and leaves its output lines in the room's.
+    pub fn play(&mut self, text: &[u8], room: &mut Room) -> Result<(), TapeError>
         requires events { self.old.events < 2 ^ 48 }
         requires few { IsFew self.old }
-        ensures ok { OnOk result (Plays self.old self.new text.now lines.new.items) }
+        ensures ok { OnOk result (Plays self.old self.new text.now room.new.lines.items) }
         ensures faults { IfErr result (Faults self.old text.now) }
     {
         let line = self.counts.events + 1;
@@ -207,34 +208,44 @@ impl<B: Book + Drop> Run<B> {
             line,
             kind: Kind::Bad,
         };
-        let Some(fields) = line::read(self.alloc, text)? else {
+        let Some(fields) = line::read_in(room.bytes(self.alloc), text)? else {
             return Err(bad);
         };
         let Some(event) = event_of(fields) else {
             return Err(bad);
         };
-        let output = self.step(event)?;
-        Ok(self.tell(&output, lines)?)
+        let output = self.step(&event)?;
+        self.tell(&output, &mut room.lines)?;
+        self.take_back(output);
+        room.keep_bytes(event);
+        Ok(())
+    }
+
+    // The market takes back what it gave.
+    fn take_back(&mut self, output: Output)
+        ensures { self.new ≡ self.old }
+    {
+        self.market.take_back(output);
     }
 
     // One step of the market.
-    fn step(&mut self, event: Event) -> Result<Output, TapeError>
+    fn step(&mut self, event: &Event) -> Result<Output, TapeError>
         requires { self.old.events < 2 ^ 48 }
         ensures passes { OnOk result
-            (refusal self.old.setup self.old.market.recorded event ≡ None) }
+            (refusal self.old.setup self.old.market.recorded event.now ≡ None) }
         ensures run { OnOk result (
-            self.new ≡ with_market self.old (step self.old.setup self.old.market event).market) }
+            self.new ≡ with_market self.old (step self.old.setup self.old.market event.now).market) }
         ensures feed { IfOk result (λ output.
-            output.feed.items ≡ (step self.old.setup self.old.market event).told.feed) }
+            output.feed.items ≡ (step self.old.setup self.old.market event.now).told.feed) }
         ensures replies { IfOk result (λ output.
-            output.replies.items ≡ (step self.old.setup self.old.market event).told.replies) }
+            output.replies.items ≡ (step self.old.setup self.old.market event.now).told.replies) }
         ensures times { IfOk result (λ output.
             AllByRecursion (λ message. feed_time message < 2 ^ 48) output.feed.items) }
         ensures refused { IfErr result (λ e.
             e ≡ fault_of (self.old.events + 1) (or_no_memory
-            (refusal self.old.setup self.old.market.recorded event))) }
+            (refusal self.old.setup self.old.market.recorded event.now))) }
     {
-        match self.market.prepare(&event) {
+        match self.market.prepare(event) {
             Ok(prepared) => Ok(self.market.commit(prepared)),
             Err(error) => Err(fault_of(self.counts.events + 1, error)),
         }

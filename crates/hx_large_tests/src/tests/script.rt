@@ -54,6 +54,11 @@ impl Script {
         writeln!(self.words, "{time} {member} {sent}")
     }
 
+    /// So many nanoseconds pass until the next line.
+    pub fn pass(&mut self, nanoseconds: u64) {
+        self.time = self.time.saturating_add(nanoseconds);
+    }
+
     /// The next message of the feed.
     pub fn publish<D: Display + Drop>(&mut self, told: D) -> Result<(), AllocError> {
         self.feed = self.feed.saturating_add(1);

@@ -9,8 +9,8 @@ ghost use Rattle.hx_market.specs.Effects.{IsEffect, IsOf, SuitsTokens, IsAbout, 
 ghost use Rattle.hx_day.specs.Day.{TradingState};
 ghost use Rattle.hx_market.specs.MarketModel.{market_of};
 ghost use Rattle.hx_levels.specs.Book.{lives};
-ghost use Rattle.hx_day.specs.Expiries.{NoneEndsBefore};
 
+use crate::decision::ending::orders_by_code;
 use crate::decision::expiry::end_orders;
 use crate::effect::{Due, Effect};
 use hx_itch::{Feed, StockDirectory, SystemEvent};
@@ -89,18 +89,16 @@ fn is_next(hours: u8, code: u8) -> bool
     hours < 6 && CODES[hours as usize] == code
 }
 
-/// What an hours code does, at so many past, where no live order ends before a time. `NoMemory` as for a tick.
+/// What an hours code does, at so many past. `NoMemory` as for a tick.
 pub fn hours_effect<B: Book>(
     alloc: Global,
     setup: &Setup,
     hours: u8,
-    earliest: u64,
     book: &B,
     time: u64,
     code: u8,
 ) -> Result<Effect, NoMemory>
     requires time { time < day }
-    requires earliest { NoneEndsBefore earliest (lives (B.orders book.now)) }
     ensures does { IfOk result (λ a. (t : TokenList) (n : Numbers) (counts : List ℕ)
         (r : TradingState)
         → next_hours setup.now (market_of (B.orders book.now) t n hours counts r) time code
@@ -114,13 +112,6 @@ pub fn hours_effect<B: Book>(
         return Ok(Effect::Nothing);
     }
     let first = told_by_code(alloc, setup, time, code)?;
-    end_orders(
-        alloc,
-        earliest,
-        book,
-        Due::ByCode(code),
-        time,
-        hours + 1,
-        first,
-    )
+    let orders = orders_by_code(alloc, book, code)?;
+    end_orders(orders, Due::ByCode(code), time, hours + 1, first)
 }

@@ -1,19 +1,20 @@
 //! The plan of an effect: its executions, how many messages it gives, and all growths.
-ghost use Rattle.std.specs.Prelude.{◌≡◌, ◌<◌, ◌^◌, [], Some, IfOk, OnOk, length, map, false};
+ghost use Rattle.std.specs.Prelude.{◌≡◌, ◌<◌, ◌^◌, [], ◌∷◌, Some, IfOk, OnOk, length, map, false};
 ghost use Rattle.hx_levels.specs.Book.{order_of, without, KeysDiffer};
 ghost use Rattle.hx_match.specs.Matching.{terms, matched_live};
 ghost use Rattle.hx_match.specs.Executing.{fills_of};
 ghost use Rattle.hx_match.specs.Rules.{AreFills};
 ghost use Rattle.hx_rules.specs.Orders.{is_immediate, is_shown};
 ghost use Rattle.hx_market.specs.Effects.{IsReplacement, IsInRange, IsAbout, incoming_of_enter, terms_of_enter, incoming_of_replacement, terms_of_replacement};
-ghost use Rattle.hx_market.specs.Prepared.{HasRoom, HasPlaces, effect_feed_count, effect_members, arrival_members, arrival_count, one_if, replaced_count};
+ghost use Rattle.hx_market.specs.Prepared.{HasPlaces, effect_feed_count, effect_members, arrival_members, arrival_count, one_if, replaced_count};
 
 use crate::effect::{AcceptedEnter, Effect, Replacement, is_one_display};
+use crate::room::Room;
 use hx_levels::Book;
-use hx_match::{Fill, Incoming, Plan, plan};
+use hx_match::{Fill, Incoming, Plan, plan_in};
 use hx_members::Tokens;
 use hx_ouch::Outbound;
-use hx_rules::{Output, is_shown};
+use hx_rules::is_shown;
 use hx_units::{MemberNo, NoMemory};
 use std::alloc::Global;
 
@@ -43,9 +44,9 @@ fn incoming_by(effect: &Replacement) -> Incoming
     }
 }
 
-// The plan of an order, and a place for what rests of it: none of an immediate one does.
+// The plan of an order, in this room, and a place for what rests of it: none of an immediate one does.
 fn plan_order<B: Book>(
-    alloc: Global,
+    room: Vec<Fill>,
     book: &mut B,
     incoming: &Incoming,
     immediate: bool,
@@ -64,34 +65,25 @@ fn plan_order<B: Book>(
     if !immediate {
         book.reserve(incoming.locate, incoming.side, incoming.price)?;
     }
-    plan(alloc, book, incoming)
+    plan_in(room, book, incoming)
 }
 
-/// Room for what so many fills tell, and for what else an event tells.
-pub fn room_for(alloc: Global, fills: usize) -> Result<Output, NoMemory>
-    requires { fills < 2 ^ 60 }
-    ensures { IfOk result (HasRoom fills) }
-{
-    Ok(Output {
-        feed: Vec::with_capacity(alloc, fills + 2)?,
-        replies: Vec::with_capacity(alloc, 2 * fills + 2)?,
-    })
-}
-
-// The members of the replies of an order that arrives, in order.
+// The members of the replies of an order that arrives, in order, in this room.
 fn members_of<B: Book>(
-    alloc: Global,
+    room: Vec<MemberNo>,
     book: &B,
     member: MemberNo,
     immediate: bool,
     plan: &Plan,
 ) -> Result<Vec<MemberNo>, NoMemory>
-    requires { length plan.now.fills.items < 2 ^ 60 }
+    requires room { room.items ≡ [] }
+    requires few { length plan.now.fills.items < 2 ^ 60 }
     ensures { IfOk result (λ members. members.items
         ≡ arrival_members member immediate
         (B.orders book.now) plan.now.fills.items plan.now.left) }
 {
-    let mut members = Vec::with_capacity(alloc, 2 * plan.fills.len() + 2)?;
+    let mut members = room;
+    members.reserve(2 * plan.fills.len() + 2)?;
     members.push_reserved(member);
     for fill in &plan.fills {
         let maker = match book.get(fill.key) {
@@ -154,6 +146,7 @@ pub struct Draft {
 // Of an order that is accepted.
 fn draft_order<B: Book>(
     alloc: Global,
+    room: &mut Room,
     book: &mut B,
     effect: &AcceptedEnter,
 ) -> Result<Draft, NoMemory>
@@ -171,8 +164,9 @@ fn draft_order<B: Book>(
         (B.orders book.new) d.fills.items d.left) }
 {
     let immediate = effect.enter.time_in_force == 0;
-    let plan = plan_order(alloc, book, &incoming_of(effect), immediate)?;
-    let reply_members = members_of(alloc, book, effect.member, immediate, &plan)?;
+    let plan = plan_order(room.fills(alloc), book, &incoming_of(effect), immediate)?;
+    let members = room.members(alloc);
+    let reply_members = members_of(members, book, effect.member, immediate, &plan)?;
     let shown = is_shown(effect.enter.display, effect.enter.time_in_force);
     let feed_count = arrival_count(shown, &plan);
     Ok(Draft {
@@ -186,6 +180,7 @@ fn draft_order<B: Book>(
 // Of an order that replaces another, which it does not meet.
 fn draft_replacement<B: Book>(
     alloc: Global,
+    room: &mut Room,
     book: &mut B,
     effect: &Replacement,
 ) -> Result<Draft, NoMemory>
@@ -205,8 +200,9 @@ fn draft_replacement<B: Book>(
         (B.orders book.new) d.fills.items d.left) }
 {
     let immediate = effect.replace.time_in_force == 0;
-    let plan = plan_order(alloc, book, &incoming_by(effect), immediate)?;
-    let reply_members = members_of(alloc, book, effect.member, immediate, &plan)?;
+    let plan = plan_order(room.fills(alloc), book, &incoming_by(effect), immediate)?;
+    let members = room.members(alloc);
+    let reply_members = members_of(members, book, effect.member, immediate, &plan)?;
     let feed_count = replaced_count(effect, &plan);
     Ok(Draft {
         fills: plan.fills,
@@ -217,34 +213,50 @@ fn draft_replacement<B: Book>(
 }
 
 // Of an effect without an order that arrives: so many messages of the feed, and replies to these members.
-fn draft_told(alloc: Global, feed_count: u64, reply_members: Vec<MemberNo>) -> Draft
+fn draft_told(fills: Vec<Fill>, feed_count: u64, reply_members: Vec<MemberNo>) -> Draft
+    requires { fills.items ≡ [] }
     ensures fills { result.fills.items ≡ [] }
     ensures left { result.left ≡ 0 }
     ensures feed_count { result.feed_count ≡ feed_count }
     ensures members { result.reply_members.items ≡ reply_members.items }
 {
     Draft {
-        fills: Vec::new(alloc),
+        fills,
         left: 0,
         feed_count,
         reply_members,
     }
 }
 
-// The members of replies, in order.
-fn told_members(alloc: Global, replies: &[(MemberNo, Outbound)]) -> Result<Vec<MemberNo>, NoMemory>
+// The members of replies, in order, in this room.
+fn told_members(
+    room: Vec<MemberNo>,
+    replies: &[(MemberNo, Outbound)],
+) -> Result<Vec<MemberNo>, NoMemory>
+    requires { room.items ≡ [] }
     ensures { IfOk result (λ members. members.items ≡ map (λ r. r.0) replies.now) }
 {
-    let mut members = Vec::with_capacity(alloc, replies.len())?;
+    let mut members = room;
     for (member, _) in replies {
         members.push(*member)?;
     }
     Ok(members)
 }
 
+// The one member of a reply, in this room.
+fn one_member(room: Vec<MemberNo>, member: MemberNo) -> Result<Vec<MemberNo>, NoMemory>
+    requires { room.items ≡ [] }
+    ensures { IfOk result (λ members. members.items ≡ member ∷ []) }
+{
+    let mut members = room;
+    members.push(member)?;
+    Ok(members)
+}
+
 /// What is prepared of an effect, with a place for the token that it uses and one for the order that may rest.
 pub fn draft_effect<B: Book>(
     alloc: Global,
+    room: &mut Room,
     book: &mut B,
     tokens: &mut Tokens,
     effect: &Effect,
@@ -264,37 +276,41 @@ pub fn draft_effect<B: Book>(
         ≡ effect_members effect.now (B.orders book.new) d.fills.items d.left) }
 {
     match effect {
-        Effect::Nothing => Ok(draft_told(alloc, 0, Vec::new(alloc))),
+        Effect::Nothing => Ok(draft_told(room.fills(alloc), 0, room.members(alloc))),
         Effect::Reject(effect) => {
             tokens.reserve(effect.member, &effect.token)?;
-            Ok(draft_told(alloc, 0, vec![in alloc; effect.member]?))
+            let members = one_member(room.members(alloc), effect.member)?;
+            Ok(draft_told(room.fills(alloc), 0, members))
         }
         Effect::Accept(effect) => {
             tokens.reserve(effect.member, &effect.enter.token)?;
-            draft_order(alloc, book, effect)
+            draft_order(alloc, room, book, effect)
         }
         Effect::Fail(effect) => {
             tokens.reserve(effect.member, &effect.replacement)?;
             let told = one_if(effect.old.order.shown);
-            Ok(draft_told(alloc, told, vec![in alloc; effect.member]?))
+            let members = one_member(room.members(alloc), effect.member)?;
+            Ok(draft_told(room.fills(alloc), told, members))
         }
         Effect::Replace(effect) => {
             tokens.reserve(effect.member, &effect.replace.replacement_token)?;
-            draft_replacement(alloc, book, effect)
+            draft_replacement(alloc, room, book, effect)
         }
         Effect::Cancel(effect) => {
             let told = one_if(effect.old.order.shown);
-            Ok(draft_told(alloc, told, vec![in alloc; effect.member]?))
+            let members = one_member(room.members(alloc), effect.member)?;
+            Ok(draft_told(room.fills(alloc), told, members))
         }
         Effect::End(effect) => {
-            let members = told_members(alloc, &effect.told.replies)?;
-            Ok(draft_told(alloc, effect.told.feed.len() as u64, members))
+            let members = told_members(room.members(alloc), &effect.told.replies)?;
+            let feed_count = effect.told.feed.len() as u64;
+            Ok(draft_told(room.fills(alloc), feed_count, members))
         }
-        Effect::Halt(_) => Ok(draft_told(alloc, 1, Vec::new(alloc))),
+        Effect::Halt(_) => Ok(draft_told(room.fills(alloc), 1, room.members(alloc))),
         Effect::Break(effect) => {
-            let execution = &effect.execution;
-            let members = vec![in alloc; execution.maker, execution.taker]?;
-            Ok(draft_told(alloc, 1, members))
+            let mut members = one_member(room.members(alloc), effect.execution.maker)?;
+            members.push(effect.execution.taker)?;
+            Ok(draft_told(room.fills(alloc), 1, members))
         }
     }
 }

@@ -14,6 +14,7 @@ use Rattle.hx_rules.specs.Steps.{happens, sender, with_record}
 use Rattle.hx_market.specs.Effects.{SuitsTokens, IsOf, IsAbout, outcome_of}
 use Rattle.hx_day.specs.Day.{TradingState}
 use Rattle.hx_market.specs.MarketModel.{Planned, market_of}
+use Rattle.hx_market.specs.Expiries.{IsEndEntered}
 use Rattle.hx_market.specs.Prepared.{IsPlanned}
 use Rattle.hx_market.proofs.PreparedCounts.{tells}
 use Rattle.hx_market.proofs.prepare.make.Goals as goal
@@ -41,7 +42,7 @@ returns-clause-planned g c = λ n.
     let about : IsAbout orders effect = subst (λ (xs : List Live). IsAbout xs effect) (sym c.draft_effect.ensures.orders) c.in_ok-effect.ensures.about in
     let told = tells (with_record e m) effect orders place name d.fills.items d.left refl about c.in_ok-draft.ensures.places in
     let made : Event → Planned = λ ev. record { event = ev; feed_count = d.feed_count; reply_members = d.reply_members.items; number = c.in_ok-number.number; effect = effect; fills = d.fills.items; left = d.left } in
-    subst (λ (ev : Event). IsPlanned c.args.setup.now m orders place name c.reserve_for.new.self.room (made ev)) (sym c.of.ensures)
+    subst (λ (ev : Event). IsPlanned c.args.setup.now m orders place name c.reserve_for.new.self.room c.enter.new.self (made ev)) (sym c.of.ensures)
     (record {
       number = c.in_ok-number.ensures.number;
       may_record = c.in_ok-number.ensures.may_record;
@@ -52,6 +53,7 @@ returns-clause-planned g c = λ n.
       sender = subst (λ i. IsOf i effect) (sym c.in_ok-number.ensures.number) c.in_ok-effect.ensures.sender;
       places = c.in_ok-draft.ensures.places;
       has_room = subst (λ (fs : List Fill). length fs ≤ c.reserve_for.new.self.room) c.deref.ensures.value c.in_ok-reserve_for.ensures.room;
+      end_entered = subst (λ n. IsEndEntered c.enter.new.self n effect) c.count.ensures c.in_ok-enter.ensures.entered;
       feed_count = c.in_ok-draft.ensures.feed_count ∙ told.0;
       reply_members = c.in_ok-draft.ensures.members ∙ told.1;
     })

@@ -10,4 +10,4 @@ returns-then-text-ne0-clause-none c = λ bytes fits is.
     omega (arith, size, c.if-text-ne0.true)
 
 pub returns-clause-some : goal.returns-clause-some
-returns-clause-some c = rw (written_whole c.read_into.new.bytes c.in_ok-bytes.bytes.items c.in_ok-bytes.bytes.len (omega arith)) (c.if-not-read_into.ensures.all refl, c.read_into.ensures.are_bytes)
+returns-clause-some c = rw (written_whole c.read_into.new.bytes c.resize.new.self.items c.resize.new.self.len (omega arith)) (c.if-not-read_into.ensures.all refl, c.read_into.ensures.are_bytes)

@@ -15,10 +15,9 @@ use Rattle.hx_market.proofs.FeedTimes.{both_in, all_deleted_in}
 use Rattle.hx_market.proofs.decision.expiry.end_orders.Goals as goal
 
 pub returns-clause-does : goal.returns-clause-does
-returns-clause-does g c = λ t n before counts r.
+returns-clause-does c = λ orders t n before counts r is.
     let a = c.args in
-    let orders = g.B.Book.orders a.book.now in
-    let due : lives c.deref.result.now ≡ filter (λ x. is_due a.due a.time x) (lives orders) = ap lives (c.deref.ensures.value ∙ c.in_ok-ending.ensures.due) ∙ lives-filter (λ x. is_due a.due a.time x) orders in
+    let due : lives c.deref.result.now ≡ filter (λ x. is_due a.due a.time x) (lives orders) = ap lives (c.deref.ensures.value ∙ is) ∙ lives-filter (λ x. is_due a.due a.time x) orders in
     let m : Market = record (market_of orders t n a.hours counts r) { live = filter (λ x. Rattle.std.proofs.Common.not (is_due a.due a.time x)) (lives orders) } in
     let feed : a.first.feed.items ++ all_deleted a.time (filter (λ x. is_due a.due a.time x) (lives orders)) ≡ c.tell_ended.new.out.feed.items =
     ap (λ (l : List Order). a.first.feed.items ++ all_deleted a.time l) (sym due) ∙ sym c.in_ok-tell_ended.ensures.feed in
@@ -28,10 +27,10 @@ returns-clause-does g c = λ t n before counts r.
     ∙ ap (λ (l : List Reply). (let o : Outcome = record { market = m; told = record { feed = c.tell_ended.new.out.feed.items; replies = l } } in o)) replies
 
 pub returns-clause-is_effect : goal.returns-clause-is_effect
-returns-clause-is_effect g c = λ s.
+returns-clause-is_effect c = λ s.
     let l : c.args.time < 2 ^ 48 = let r = c.requires.time in omega arith in
     subst (λ (fs : List Feed). AllByRecursion (λ f. feed_time f < 2 ^ 48) fs) (sym c.in_ok-tell_ended.ensures.feed)
     (both_in c.args.first.feed.items (all_deleted c.args.time (lives c.deref.result.now)) c.requires.times (all_deleted_in c.args.time (lives c.deref.result.now) l))
 
 pub returns-clause-about : goal.returns-clause-about
-returns-clause-about g c = record { due = c.in_ok-ending.ensures.due; differ = c.in_ok-ending.ensures.differ; next = c.in_ok-ending.ensures.next }
+returns-clause-about c = λ all differ due. record { due = due; differ = differ }

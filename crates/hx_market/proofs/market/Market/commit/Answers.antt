@@ -16,9 +16,8 @@ use Rattle.hx_market.specs.Prepared.{IsPlanned, HasPlaces}
 use Rattle.hx_market.proofs.Bounds.AfterEnter.{recording}
 use Rattle.hx_market.proofs.PreparedCounts.{step_is}
 use Rattle.hx_market.proofs.FeedTimes.{fits_feed}
-use Rattle.hx_day.specs.Expiries.{NoneEndsBefore}
-use Rattle.hx_market.specs.Effects.{earliest_after}
-use Rattle.hx_market.proofs.Expiries.{earliest_outcome}
+use Rattle.hx_market.specs.Expiries.{AreEntered}
+use Rattle.hx_market.proofs.Entered.{entered_outcome}
 use Rattle.hx_itch.specs.Message.{feed_time}
 use Rattle.std.specs.List.{AllByRecursion}
 use Rattle.hx_market.proofs.Bounds.AfterEffect.{bare, parts, told_same, in_range, fits_effect, sound_outcome}
@@ -43,19 +42,9 @@ raise-requires g c =
     let q = c.prepared.inside in
     let p : Planned = record { event = q.event.value; feed_count = q.feed_count; reply_members = q.reply_members.items; number = q.number; effect = q.effect; fills = q.fills.items; left = q.left } in
     let m : Market = market_of (g.B.Book.orders s.book) s.tokens s.refs s.hours s.recorded s.trading in
-    let i : IsPlanned s.setup m (g.B.Book.orders s.book) (g.B.Book.place s.book) s.tokens.place s.trading.room p =
+    let i : IsPlanned s.setup m (g.B.Book.orders s.book) (g.B.Book.place s.book) s.tokens.place s.trading.room s.ends p =
     c.self.invariant.2 p (ap (λ (v : Seen). v.ready) c.self.view_is ∙ c.requires.ready ∙ ap (λ (z : Planned). Some z) (sym c.prepared.view_is)) in
     i.may_record
-
-pub earliest_after-self-inside-requires : goal.earliest_after-self-inside-requires
-earliest_after-self-inside-requires g c =
-    let s = c.self.inside in
-    let q = c.prepared.inside in
-    let p : Planned = record { event = q.event.value; feed_count = q.feed_count; reply_members = q.reply_members.items; number = q.number; effect = q.effect; fills = q.fills.items; left = q.left } in
-    let m : Market = market_of (g.B.Book.orders s.book) s.tokens s.refs s.hours s.recorded s.trading in
-    let i : IsPlanned s.setup m (g.B.Book.orders s.book) (g.B.Book.place s.book) s.tokens.place s.trading.room p =
-    c.self.invariant.2 p (ap (λ (v : Seen). v.ready) c.self.view_is ∙ c.requires.ready ∙ ap (λ (z : Planned). Some z) (sym c.prepared.view_is)) in
-    in_range s.setup q.effect i.is_effect
 
 pub commit_effect-requires-clause-range : goal.commit_effect-requires-clause-range
 commit_effect-requires-clause-range g c =
@@ -63,7 +52,7 @@ commit_effect-requires-clause-range g c =
     let q = c.prepared.inside in
     let p : Planned = record { event = q.event.value; feed_count = q.feed_count; reply_members = q.reply_members.items; number = q.number; effect = q.effect; fills = q.fills.items; left = q.left } in
     let m : Market = market_of (g.B.Book.orders s.book) s.tokens s.refs s.hours s.recorded s.trading in
-    let i : IsPlanned s.setup m (g.B.Book.orders s.book) (g.B.Book.place s.book) s.tokens.place s.trading.room p =
+    let i : IsPlanned s.setup m (g.B.Book.orders s.book) (g.B.Book.place s.book) s.tokens.place s.trading.room s.ends p =
     c.self.invariant.2 p (ap (λ (v : Seen). v.ready) c.self.view_is ∙ c.requires.ready ∙ ap (λ (z : Planned). Some z) (sym c.prepared.view_is)) in
     in_range s.setup q.effect i.is_effect
 
@@ -73,7 +62,7 @@ commit_effect-requires-clause-suits g c =
     let q = c.prepared.inside in
     let p : Planned = record { event = q.event.value; feed_count = q.feed_count; reply_members = q.reply_members.items; number = q.number; effect = q.effect; fills = q.fills.items; left = q.left } in
     let m : Market = market_of (g.B.Book.orders s.book) s.tokens s.refs s.hours s.recorded s.trading in
-    let i : IsPlanned s.setup m (g.B.Book.orders s.book) (g.B.Book.place s.book) s.tokens.place s.trading.room p =
+    let i : IsPlanned s.setup m (g.B.Book.orders s.book) (g.B.Book.place s.book) s.tokens.place s.trading.room s.ends p =
     c.self.invariant.2 p (ap (λ (v : Seen). v.ready) c.self.view_is ∙ c.requires.ready ∙ ap (λ (z : Planned). Some z) (sym c.prepared.view_is)) in
     i.suits
 
@@ -83,7 +72,7 @@ commit_effect-requires-clause-about g c =
     let q = c.prepared.inside in
     let p : Planned = record { event = q.event.value; feed_count = q.feed_count; reply_members = q.reply_members.items; number = q.number; effect = q.effect; fills = q.fills.items; left = q.left } in
     let m : Market = market_of (g.B.Book.orders s.book) s.tokens s.refs s.hours s.recorded s.trading in
-    let i : IsPlanned s.setup m (g.B.Book.orders s.book) (g.B.Book.place s.book) s.tokens.place s.trading.room p =
+    let i : IsPlanned s.setup m (g.B.Book.orders s.book) (g.B.Book.place s.book) s.tokens.place s.trading.room s.ends p =
     c.self.invariant.2 p (ap (λ (v : Seen). v.ready) c.self.view_is ∙ c.requires.ready ∙ ap (λ (z : Planned). Some z) (sym c.prepared.view_is)) in
     i.about
 
@@ -96,7 +85,7 @@ commit_effect-requires-clause-places g c =
     let q = c.prepared.inside in
     let p : Planned = record { event = q.event.value; feed_count = q.feed_count; reply_members = q.reply_members.items; number = q.number; effect = q.effect; fills = q.fills.items; left = q.left } in
     let m : Market = market_of (g.B.Book.orders s.book) s.tokens s.refs s.hours s.recorded s.trading in
-    let i : IsPlanned s.setup m (g.B.Book.orders s.book) (g.B.Book.place s.book) s.tokens.place s.trading.room p =
+    let i : IsPlanned s.setup m (g.B.Book.orders s.book) (g.B.Book.place s.book) s.tokens.place s.trading.room s.ends p =
     c.self.invariant.2 p (ap (λ (v : Seen). v.ready) c.self.view_is ∙ c.requires.ready ∙ ap (λ (z : Planned). Some z) (sym c.prepared.view_is)) in
     subst (λ (fs : List Fill). HasPlaces (g.B.Book.orders s.book) (g.B.Book.place s.book) s.tokens.place fs q.left q.effect) (sym c.deref.ensures.value) i.places
 
@@ -106,7 +95,7 @@ commit_effect-requires-clause-fits g c =
     let q = c.prepared.inside in
     let p : Planned = record { event = q.event.value; feed_count = q.feed_count; reply_members = q.reply_members.items; number = q.number; effect = q.effect; fills = q.fills.items; left = q.left } in
     let m : Market = market_of (g.B.Book.orders s.book) s.tokens s.refs s.hours s.recorded s.trading in
-    let i : IsPlanned s.setup m (g.B.Book.orders s.book) (g.B.Book.place s.book) s.tokens.place s.trading.room p =
+    let i : IsPlanned s.setup m (g.B.Book.orders s.book) (g.B.Book.place s.book) s.tokens.place s.trading.room s.ends p =
     c.self.invariant.2 p (ap (λ (v : Seen). v.ready) c.self.view_is ∙ c.requires.ready ∙ ap (λ (z : Planned). Some z) (sym c.prepared.view_is)) in
     fits_effect s.setup m q.number q.effect (g.B.Book.orders s.book) refl c.self.invariant.0 i.may_record i.is_effect i.suits i.about i.sender
 
@@ -116,7 +105,7 @@ commit_effect-requires-clause-executions_room g c =
     let q = c.prepared.inside in
     let p : Planned = record { event = q.event.value; feed_count = q.feed_count; reply_members = q.reply_members.items; number = q.number; effect = q.effect; fills = q.fills.items; left = q.left } in
     let m : Market = market_of (g.B.Book.orders s.book) s.tokens s.refs s.hours s.recorded s.trading in
-    let i : IsPlanned s.setup m (g.B.Book.orders s.book) (g.B.Book.place s.book) s.tokens.place s.trading.room p =
+    let i : IsPlanned s.setup m (g.B.Book.orders s.book) (g.B.Book.place s.book) s.tokens.place s.trading.room s.ends p =
     c.self.invariant.2 p (ap (λ (v : Seen). v.ready) c.self.view_is ∙ c.requires.ready ∙ ap (λ (z : Planned). Some z) (sym c.prepared.view_is)) in
     subst (λ (fs : List Fill). length fs ≤ s.trading.room) (sym c.deref.ensures.value) i.has_room
 
@@ -126,7 +115,7 @@ invariant_of-self g c =
     let q = c.prepared.inside in
     let p : Planned = record { event = q.event.value; feed_count = q.feed_count; reply_members = q.reply_members.items; number = q.number; effect = q.effect; fills = q.fills.items; left = q.left } in
     let m : Market = market_of (g.B.Book.orders s.book) s.tokens s.refs s.hours s.recorded s.trading in
-    let i : IsPlanned s.setup m (g.B.Book.orders s.book) (g.B.Book.place s.book) s.tokens.place s.trading.room p =
+    let i : IsPlanned s.setup m (g.B.Book.orders s.book) (g.B.Book.place s.book) s.tokens.place s.trading.room s.ends p =
     c.self.invariant.2 p (ap (λ (v : Seen). v.ready) c.self.view_is ∙ c.requires.ready ∙ ap (λ (z : Planned). Some z) (sym c.prepared.view_is)) in
     let k : Market = (outcome_of (bare m) q.effect).market in
     let n : Market = market_of (g.B.Book.orders c.commit_effect.new.book) c.commit_effect.new.tokens c.commit_effect.new.refs c.hours_after-self-inside.result c.raise.new.self c.commit_effect.new.trading in
@@ -137,8 +126,9 @@ invariant_of-self g c =
       subst IsSound (sym is) (sound_outcome s.setup m q.number q.effect (g.B.Book.orders s.book) refl c.self.invariant.0 i.may_record i.is_effect i.suits i.about i.sender),
       c.commit_effect.ensures.keyed,
       λ p h. cc,
-      subst (λ t. NoneEndsBefore t (lives (g.B.Book.orders c.commit_effect.new.book))) (sym c.earliest_after-self-inside.ensures)
-          (subst (NoneEndsBefore (earliest_after q.effect s.earliest)) (sym c.commit_effect.ensures.live) (earliest_outcome (bare m) q.effect (g.B.Book.orders s.book) s.earliest refl i.about c.self.invariant.3)),
+      subst (λ (ts : List Used). AreEntered c.done.new.self ts (lives (g.B.Book.orders c.commit_effect.new.book))) (sym c.commit_effect.ensures.tokens)
+          (subst (AreEntered c.done.new.self (outcome_of (bare m) q.effect).market.tokens) (sym c.commit_effect.ensures.live)
+          (entered_outcome (bare m) q.effect (g.B.Book.orders s.book) s.ends c.done.new.self i.about c.self.invariant.0.placed i.suits i.end_entered c.done.ensures c.self.invariant.3)),
     )
 
 pub returns-clause-market : goal.returns-clause-market
@@ -147,7 +137,7 @@ returns-clause-market g c =
     let q = c.prepared.inside in
     let p : Planned = record { event = q.event.value; feed_count = q.feed_count; reply_members = q.reply_members.items; number = q.number; effect = q.effect; fills = q.fills.items; left = q.left } in
     let m : Market = market_of (g.B.Book.orders s.book) s.tokens s.refs s.hours s.recorded s.trading in
-    let i : IsPlanned s.setup m (g.B.Book.orders s.book) (g.B.Book.place s.book) s.tokens.place s.trading.room p =
+    let i : IsPlanned s.setup m (g.B.Book.orders s.book) (g.B.Book.place s.book) s.tokens.place s.trading.room s.ends p =
     c.self.invariant.2 p (ap (λ (v : Seen). v.ready) c.self.view_is ∙ c.requires.ready ∙ ap (λ (z : Planned). Some z) (sym c.prepared.view_is)) in
     let k : Market = (outcome_of (bare m) q.effect).market in
     let n : Market = market_of (g.B.Book.orders c.commit_effect.new.book) c.commit_effect.new.tokens c.commit_effect.new.refs c.hours_after-self-inside.result c.raise.new.self c.commit_effect.new.trading in
@@ -165,7 +155,7 @@ returns-clause-feed g c =
     let q = c.prepared.inside in
     let p : Planned = record { event = q.event.value; feed_count = q.feed_count; reply_members = q.reply_members.items; number = q.number; effect = q.effect; fills = q.fills.items; left = q.left } in
     let m : Market = market_of (g.B.Book.orders s.book) s.tokens s.refs s.hours s.recorded s.trading in
-    let i : IsPlanned s.setup m (g.B.Book.orders s.book) (g.B.Book.place s.book) s.tokens.place s.trading.room p =
+    let i : IsPlanned s.setup m (g.B.Book.orders s.book) (g.B.Book.place s.book) s.tokens.place s.trading.room s.ends p =
     c.self.invariant.2 p (ap (λ (v : Seen). v.ready) c.self.view_is ∙ c.requires.ready ∙ ap (λ (z : Planned). Some z) (sym c.prepared.view_is)) in
     let one : outcome_of (with_record p.event m) q.effect ≡ step c.args.self.now.setup c.args.self.now.market c.args.prepared.event =
     step_is s.setup c.args.self.now.setup m c.args.self.now.market p.event c.args.prepared.event (outcome_of (with_record p.event m) q.effect) i.does (ap (λ (v : Seen). v.setup) c.self.view_is) (ap (λ (v : Seen). v.market) c.self.view_is) (ap (λ (v : Planned). v.event) c.prepared.view_is) in
@@ -179,7 +169,7 @@ returns-clause-replies g c =
     let q = c.prepared.inside in
     let p : Planned = record { event = q.event.value; feed_count = q.feed_count; reply_members = q.reply_members.items; number = q.number; effect = q.effect; fills = q.fills.items; left = q.left } in
     let m : Market = market_of (g.B.Book.orders s.book) s.tokens s.refs s.hours s.recorded s.trading in
-    let i : IsPlanned s.setup m (g.B.Book.orders s.book) (g.B.Book.place s.book) s.tokens.place s.trading.room p =
+    let i : IsPlanned s.setup m (g.B.Book.orders s.book) (g.B.Book.place s.book) s.tokens.place s.trading.room s.ends p =
     c.self.invariant.2 p (ap (λ (v : Seen). v.ready) c.self.view_is ∙ c.requires.ready ∙ ap (λ (z : Planned). Some z) (sym c.prepared.view_is)) in
     let one : outcome_of (with_record p.event m) q.effect ≡ step c.args.self.now.setup c.args.self.now.market c.args.prepared.event =
     step_is s.setup c.args.self.now.setup m c.args.self.now.market p.event c.args.prepared.event (outcome_of (with_record p.event m) q.effect) i.does (ap (λ (v : Seen). v.setup) c.self.view_is) (ap (λ (v : Seen). v.market) c.self.view_is) (ap (λ (v : Planned). v.event) c.prepared.view_is) in
@@ -193,6 +183,6 @@ returns-clause-times g c =
     let q = c.prepared.inside in
     let p : Planned = record { event = q.event.value; feed_count = q.feed_count; reply_members = q.reply_members.items; number = q.number; effect = q.effect; fills = q.fills.items; left = q.left } in
     let m : Market = market_of (g.B.Book.orders s.book) s.tokens s.refs s.hours s.recorded s.trading in
-    let i : IsPlanned s.setup m (g.B.Book.orders s.book) (g.B.Book.place s.book) s.tokens.place s.trading.room p =
+    let i : IsPlanned s.setup m (g.B.Book.orders s.book) (g.B.Book.place s.book) s.tokens.place s.trading.room s.ends p =
     c.self.invariant.2 p (ap (λ (v : Seen). v.ready) c.self.view_is ∙ c.requires.ready ∙ ap (λ (z : Planned). Some z) (sym c.prepared.view_is)) in
     subst (λ (fs : List Feed). AllByRecursion (λ f. feed_time f < 2 ^ 48) fs) (sym c.commit_effect.ensures.feed) (fits_feed (bare m) q.effect (in_range s.setup q.effect i.is_effect))

@@ -10,7 +10,7 @@ use Rattle.hx_rules.specs.declared.matches.Match.{Match}
 use Rattle.hx_rules.specs.Markets.{Market, opening, opening_hours, none_halted, no_counts}
 use Rattle.hx_market.specs.OrderKeys.{AreKeyed}
 use Rattle.hx_market.specs.Bounds.{IsSound}
-use Rattle.hx_day.specs.Expiries.{NoneEndsBefore}
+use Rattle.hx_market.specs.Expiries.{AreEntered}
 use Rattle.hx_market.proofs.Bounds.AfterEnter.{sound_opening}
 use Rattle.hx_market.proofs.market.Market.seeded.Goals as goal
 
@@ -44,5 +44,5 @@ invariant_of-result g c = (
       c.requires c.seeded.ensures.tokens c.seeded.ensures.chains c.in_ok-new.ensures c.opening_hours-hours.ensures (c.in_ok-new-3.ensures.halted ∙ ap (λ (xs : List Stock). replicate (suc (length xs)) false) c.stocks.ensures.stocks) c.in_ok-new-3.ensures.executions c.in_ok-new-2.ensures)) (sound_opening c.args.setup),
   keyed_none c.seeded.result.tokens c.seeded.result.keys (g.B.Book.orders c.args.book) c.seeded.ensures.tokens c.seeded.ensures.keys c.requires,
   λ p h. cc,
-  subst (λ (xs : List Live). NoneEndsBefore 18446744073709551615 (lives xs)) (sym c.requires) tt,
+  subst (λ (xs : List Live). AreEntered c.new-2.result c.seeded.result.tokens (lives xs)) (sym c.requires) (record { each = tt; in_order = tt }),
 )

@@ -1,0 +1,4 @@
+pub mod Members
+pub mod Increasing
+pub mod Held
+pub mod Due

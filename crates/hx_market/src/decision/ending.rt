@@ -1,0 +1,129 @@
+//! Which orders end.
+ghost use Rattle.std.specs.Prelude.{◌≡◌, ◌++◌, ◌∷◌, [], IfOk, OnOk};
+ghost use Rattle.std.specs.List.{filter};
+ghost use Rattle.hx_levels.specs.Book.{lives, KeysDiffer};
+ghost use Rattle.hx_rules.specs.Hours.{is_over, is_to_market, ends_by_code};
+ghost use Rattle.hx_market.specs.OrderKeys.{AreKeyed};
+ghost use Rattle.hx_market.specs.Expiries.{AreEntered, order_at, one_or_none, orders_at};
+
+use crate::ends::Ends;
+use crate::order_by_token::find_order;
+use hx_levels::{Book, Key, Life, Live, Order};
+use hx_members::Tokens;
+use hx_units::NoMemory;
+use std::alloc::Global;
+
+fn is_over(time: u64, life: Life) -> bool
+    ensures { result ≡ is_over time life }
+{
+    match life {
+        Life::Market | Life::System => false,
+        Life::Until(expiry) => expiry <= time,
+    }
+}
+
+fn is_to_market(life: Life) -> bool
+    ensures { result ≡ is_to_market life }
+{
+    match life {
+        Life::Market => true,
+        Life::System | Life::Until(_) => false,
+    }
+}
+
+fn ends_by_code(code: u8, order: &Order) -> bool
+    ensures { result ≡ ends_by_code code order.now }
+{
+    (code == b'M' && is_to_market(order.life)) || code == b'E'
+}
+
+// Puts the order behind those that end, where the code ends it.
+fn keep_ending(orders: &mut Vec<Live>, code: u8, live: Live) -> Result<(), NoMemory>
+    ensures { OnOk result (orders.new.items
+        ≡ orders.old.items ++ filter (λ l. ends_by_code code l.order) (live ∷ [])) }
+{
+    if ends_by_code(code, &live.order) {
+        orders.push(live)?;
+    }
+    Ok(())
+}
+
+/// The orders that end by an hours code, the earlier ones first, found among all. `NoMemory` where the list cannot grow.
+pub fn orders_by_code<B: Book>(alloc: Global, book: &B, code: u8) -> Result<Vec<Live>, NoMemory>
+    ensures due { IfOk result (λ orders. orders.items
+        ≡ filter (λ l. ends_by_code code l.order) (B.orders book.now)) }
+    ensures differ { OnOk result (KeysDiffer (B.orders book.now)) }
+{
+    let mut orders = Vec::new(alloc);
+    let mut after = None;
+    'walk: while let Some(key) = book.next_in_time(after) {
+        if let Some(order) = book.get(key) {
+            keep_ending(&mut orders, code, Live { key, order: *order })?;
+        }
+        after = Some(key);
+    }
+    Ok(orders)
+}
+
+// The live order whose token stands at a place.
+fn order_at<B: Book>(book: &B, tokens: &Tokens, place: u64) -> Option<Live>
+    requires { AreKeyed tokens.now.tokens tokens.now.keys (B.orders book.now) }
+    ensures { result ≡ order_at tokens.now.tokens place (B.orders book.now) }
+{
+    let name = tokens.name_at(place)?;
+    let found = find_order(book, tokens, name.member, &name.token)?;
+    Some(found.live)
+}
+
+// Puts the order, if there is one, behind those that are over, where it is.
+fn keep_over(orders: &mut Vec<Live>, time: u64, found: Option<Live>) -> Result<(), NoMemory>
+    ensures { OnOk result (orders.new.items
+        ≡ orders.old.items ++ filter (λ l. is_over time l.order.life) (one_or_none found)) }
+{
+    if let Some(live) = found {
+        if is_over(time, live.order.life) {
+            orders.push(live)?;
+        }
+    }
+    Ok(())
+}
+
+// Those of the orders at these places that are over at a time.
+fn over_at<B: Book>(
+    alloc: Global,
+    tokens: &Tokens,
+    book: &B,
+    time: u64,
+    places: &[u64],
+) -> Result<Vec<Live>, NoMemory>
+    requires { AreKeyed tokens.now.tokens tokens.now.keys (B.orders book.now) }
+    ensures { IfOk result (λ orders. orders.items ≡ filter (λ l. is_over time l.order.life)
+        (orders_at tokens.now.tokens places.now (B.orders book.now))) }
+{
+    let mut orders = Vec::new(alloc);
+    for place in places {
+        keep_over(&mut orders, time, order_at(book, tokens, *place))?;
+    }
+    Ok(orders)
+}
+
+/// The orders that are over at a time, the earlier ones first, found by what is entered. `NoMemory` where the list
+/// cannot grow.
+pub fn orders_over<B: Book>(
+    alloc: Global,
+    ends: &Ends,
+    tokens: &Tokens,
+    book: &B,
+    time: u64,
+) -> Result<Vec<Live>, NoMemory>
+    requires keyed { AreKeyed tokens.now.tokens tokens.now.keys (B.orders book.now) }
+    requires entered { AreEntered ends.now tokens.now.tokens (lives (B.orders book.now)) }
+    ensures due { IfOk result (λ orders. orders.items
+        ≡ filter (λ l. is_over time l.order.life) (B.orders book.now)) }
+    ensures differ { OnOk result (KeysDiffer (B.orders book.now)) }
+{
+    // What the book says of its keys it says with an answer.
+    let _ = book.get(Key(0));
+    let places = ends.places_until(alloc, time)?;
+    over_at(alloc, tokens, book, time, &places)
+}
