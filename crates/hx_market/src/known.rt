@@ -1,47 +1,28 @@
 //! What contracts alone know.
-ghost use Rattle.std.specs.Prelude.{◌≡◌, None, Some, IfOk};
+ghost use Rattle.std.specs.Prelude.{◌≡◌};
+ghost use Rattle.std.specs.Borrow.{ftrue};
 
-use hx_units::NoMemory;
-use once_cell::race::{Note, OnceBox};
-use std::alloc::Global;
-use std::marker::Model;
-use std::snapshot::Snapshot;
+use std::marker::{Model, PhantomData};
 
-/// A value, or none, as contracts see it: a note of a cell in which a snapshot of the value was put. It has no bytes,
-/// and unlike a snapshot it goes to another thread within any struct.
+/// A value as contracts see it. It has no bytes, and unlike a snapshot it goes to another thread within any struct.
 #[derive(Drop)]
 pub struct Known<T> {
-    note: Note<Snapshot<T>>,
+    marker: PhantomData<T>,
+    pub ghost value: { T },
 }
 
 impl<T> Model for Known<T> {
-    ghost use Rattle.std.specs.Prelude.{Option};
-    ghost use Rattle.std.specs.Option.{option_map};
-
-    ghost Value = { Option T };
-
-    ghost view = { λ k. option_map (λ s. s.value) k.note.known };
+    ghost also_owns = { λ _. ftrue };
 }
 
 impl<T> Known<T> {
-    /// None.
-    pub fn none(alloc: Global) -> Known<T>
-        ensures { result ≡ None }
+    /// What contracts see of a value.
+    pub fn of(x: &T) -> Known<T>
+        ensures { result.value ≡ x.now }
     {
+        let _ = x;
         Known {
-            note: OnceBox::new(alloc).note(),
-        }
-    }
-
-    /// What contracts see of a value. `NoMemory` where the cell finds no room.
-    pub fn of(alloc: Global, x: &T) -> Result<Known<T>, NoMemory>
-        ensures { IfOk result (λ known. known ≡ Some x.now) }
-    {
-        let cell = OnceBox::new(alloc);
-        let mut note = cell.note();
-        match cell.set_as(Box::new(alloc, Snapshot::of(x))?, &mut note) {
-            Ok(()) => Ok(Known { note }),
-            Err(_) => Err(NoMemory),
+            marker: PhantomData,
         }
     }
 }

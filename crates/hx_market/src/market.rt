@@ -37,7 +37,7 @@ pub struct Market<B: Book> {
     recorded: EventCounts,
     trading: Trading,
     // What the last `prepare` gave, known to contracts alone.
-    ready: Known<Prepared>,
+    ready: Option<Known<Prepared>>,
     // Lists of earlier events, for the next one.
     room: Room,
     alloc: Global,
@@ -64,6 +64,7 @@ impl<B: Book + Drop> Drop for Market<B> {
 
 impl<B: Book> Model for Market<B> {
     ghost use Rattle.std.specs.Prelude.{◌≡◌, Some};
+    ghost use Rattle.std.specs.Option.{option_map};
     ghost use Rattle.hx_market.specs.OrderKeys.{AreKeyed};
     ghost use Rattle.hx_market.specs.Bounds.{IsSound};
     ghost use Rattle.hx_market.specs.Expiries.{AreEntered};
@@ -77,13 +78,13 @@ impl<B: Book> Model for Market<B> {
       setup = m.setup;
       market = market_of
           (B.orders m.book) m.tokens m.refs m.hours m.recorded m.trading;
-      ready = m.ready;
+      ready = option_map (λ k. k.value) m.ready;
     } };
 
     ghost invariant = { λ m. IsSound
         (market_of (B.orders m.book) m.tokens m.refs m.hours m.recorded m.trading)
         × AreKeyed m.tokens.tokens m.tokens.keys (B.orders m.book)
-        × ((p : Planned) → m.ready ≡ Some p
+        × ((p : Planned) → option_map (λ k. k.value) m.ready ≡ Some p
         → IsPlanned m.setup
         (market_of (B.orders m.book) m.tokens m.refs m.hours m.recorded m.trading)
         (B.orders m.book) (B.place m.book) m.tokens.place m.trading.room m.ends p)
@@ -145,7 +146,7 @@ impl<B: Book + Drop> Market<B> {
             ends: Ends::new(alloc),
             recorded: EventCounts::new(alloc)?,
             trading: Trading::new(alloc, stocks)?,
-            ready: Known::none(alloc),
+            ready: None,
             room: Room::new(alloc),
             alloc,
         })
@@ -170,7 +171,7 @@ impl<B: Book + Drop> Market<B> {
             ≡ or_no_memory (refusal self.old.setup self.old.market.recorded event.now)) }
         ensures void { OnErr result (self.new.ready ≡ None) }
     {
-        self.ready = Known::none(self.alloc);
+        self.ready = None;
         self.ends.forget(self.tokens.count());
         let prepared = make(
             self.alloc,
@@ -184,7 +185,7 @@ impl<B: Book + Drop> Market<B> {
             &mut self.tokens,
             event,
         )?;
-        self.ready = Known::of(self.alloc, &prepared)?;
+        self.ready = Some(Known::of(&prepared));
         Ok(prepared)
     }
 
@@ -203,7 +204,7 @@ impl<B: Book + Drop> Market<B> {
         // The feed's times have room in its messages.
         ensures times { AllByRecursion (λ f. feed_time f < 2 ^ 48) result.feed.items }
     {
-        self.ready = Known::none(self.alloc);
+        self.ready = None;
         let Prepared {
             number,
             effect,

@@ -6,6 +6,7 @@ use hx_testing::lines::split_line;
 use hx_testing::setups::{CLOSED, STANDARD, setup_of};
 use hx_testing::worked::{
     CHAIN_THAT_TRADED, HOURS_OF_A_DAY, MINIMUM_PASSED_OVER, REPLACES_THAT_TRADE,
+    TWO_END_AT_ONE_TICK,
 };
 use hx_units::{MemberNo, NoMemory};
 use std::alloc::Global;
@@ -21,8 +22,8 @@ pub struct Worked {
     quiet: &'static [u64],
 }
 
-/// Days of hidden orders and minimums, of Replaces, and of the hours.
-pub const DAYS: [Worked; 4] = [
+/// Days of hidden orders and minimums, of Replaces, of the hours, and of orders that end at a tick.
+pub const DAYS: [Worked; 5] = [
     Worked {
         setup: STANDARD,
         words: MINIMUM_PASSED_OVER,
@@ -43,6 +44,11 @@ pub const DAYS: [Worked; 4] = [
         setup: CLOSED,
         words: HOURS_OF_A_DAY,
         quiet: &[2, 9],
+    },
+    Worked {
+        setup: STANDARD,
+        words: TWO_END_AT_ONE_TICK,
+        quiet: &[],
     },
 ];
 

@@ -60,17 +60,7 @@ invariant_of-self g c =
     (subst (λ n. StaysElsewhere n s.ends c.forget.new.self) c.count.ensures c.forget.ensures) c.self.invariant.3 in
     let h = held (g.B.Book.orders s.book) (g.B.Book.orders c.make.new.book) s.tokens c.make.new.tokens s.refs s.hours s.recorded s.trading c.make.new.trading c.forget.new.self c.make.new.ends
     e.orders e.tokens e.keys e.chains e.halted e.executions e.ends (record { sound = c.self.invariant.0; keyed = c.self.invariant.1; entered = entered }) in
-    (h.sound, h.keyed, (λ p is. absurd (let z : None ≡ Some p = sym c.none.ensures ∙ is in cc)), h.entered)
-
-pub invariant_of-self-in_err-self-inside : goal.invariant_of-self-in_err-self-inside
-invariant_of-self-in_err-self-inside g c =
-    let s = c.self.inside in
-    let e = c.in_ok-prepared.ensures in
-    let entered = entered_elsewhere s.ends c.forget.new.self s.tokens.tokens (lives (g.B.Book.orders s.book)) c.self.invariant.0.placed
-    (subst (λ n. StaysElsewhere n s.ends c.forget.new.self) c.count.ensures c.forget.ensures) c.self.invariant.3 in
-    let h = held (g.B.Book.orders s.book) (g.B.Book.orders c.make.new.book) s.tokens c.make.new.tokens s.refs s.hours s.recorded s.trading c.make.new.trading c.forget.new.self c.make.new.ends
-    e.orders e.tokens e.keys e.chains e.halted e.executions e.ends (record { sound = c.self.invariant.0; keyed = c.self.invariant.1; entered = entered }) in
-    (h.sound, h.keyed, (λ p is. absurd (let z : None ≡ Some p = sym c.none.ensures ∙ is in cc)), h.entered)
+    (h.sound, h.keyed, (λ p is. absurd (let z : None ≡ Some p = is in cc)), h.entered)
 
 pub invariant_of-self-2 : goal.invariant_of-self-2
 invariant_of-self-2 g c =
@@ -82,7 +72,7 @@ invariant_of-self-2 g c =
     e.orders e.tokens e.keys e.chains e.halted e.executions e.ends (record { sound = c.self.invariant.0; keyed = c.self.invariant.1; entered = entered }) in
     let planned : Planned → Type 0 = IsPlanned s.setup (market_of (g.B.Book.orders c.make.new.book) c.make.new.tokens s.refs s.hours s.recorded c.make.new.trading)
     (g.B.Book.orders c.make.new.book) (g.B.Book.place c.make.new.book) c.make.new.tokens.place c.make.new.trading.room c.make.new.ends in
-    (h.sound, h.keyed, (λ p is. let same : c.in_ok-prepared.prepared ≡ p = (let z : Some c.in_ok-prepared.prepared ≡ Some p = sym c.in_ok-self-inside.ensures ∙ is in cc) in subst planned same (e.planned s.refs)), h.entered)
+    (h.sound, h.keyed, (λ p is. let same : c.in_ok-prepared.prepared ≡ p = sym c.of.ensures ∙ (let z : Some c.of.result.value ≡ Some p = is in cc) in subst planned same (e.planned s.refs)), h.entered)
 
 pub returns-clause-feed_count : goal.returns-clause-feed_count
 returns-clause-feed_count g c =
