@@ -4,18 +4,15 @@ ghost use Rattle.hex.specs.Hex.{encode_lower, lower_digits, IsBytes};
 
 use std::alloc::AllocError;
 
-// The longest message that is written has 80 bytes.
-const LONGEST: usize = 80;
-
 /// Appends the digits of some bytes.
 pub fn write_bytes(text: &mut Vec<u8>, bytes: &[u8]) -> Result<(), AllocError>
     requires { length bytes.now ≤ 80 }
     ensures { OnOk result (text.new.items ≡ text.old.items ++ encode_lower bytes.now) }
 {
-    let mut digits = [0; 2 * LONGEST];
-    let digits = &mut digits[..2 * bytes.len()];
-    write_digits(bytes, digits);
-    text.extend_from_slice(digits)
+    let start = text.len();
+    text.resize(start + 2 * bytes.len(), 0)?;
+    write_digits(bytes, &mut text[start..]);
+    Ok(())
 }
 
 // Writes the digits of the bytes. It has neither table nor branch, so that many are written at once.
