@@ -40,9 +40,13 @@ fn enter_all(script: &mut Script) -> Result<(), Fail> {
     Ok(())
 }
 
-// The order is gone, and why. Its reference is its number.
-fn delete(script: &mut Script, number: u64, why: &str) -> Result<(), Fail> {
+// The feed: the order is gone. Its reference is its number.
+fn delete(script: &mut Script, number: u64) -> Result<(), Fail> {
     script.publish(format_args!("delete {number} S1"))?;
+    Ok(())
+}
+
+fn tell(script: &mut Script, number: u64, why: &str) -> Result<(), Fail> {
     script.reply(owner(number), format_args!("canceled T{number} 1 {why}"))
 }
 
@@ -50,7 +54,8 @@ fn cancel_fifths(script: &mut Script) -> Result<(), Fail> {
     for number in 1..=ORDERS {
         if is_canceled(number) {
             script.send(owner(number), format_args!("cancel T{number} 0"))?;
-            delete(script, number, "user")?;
+            delete(script, number)?;
+            tell(script, number, "user")?;
         }
     }
     Ok(())
@@ -61,7 +66,12 @@ fn tick(script: &mut Script, first: u64, last: u64) -> Result<(), Fail> {
     script.send(0, "tick")?;
     for number in first..=last {
         if !is_canceled(number) {
-            delete(script, number, "timeout")?;
+            delete(script, number)?;
+        }
+    }
+    for number in first..=last {
+        if !is_canceled(number) {
+            tell(script, number, "timeout")?;
         }
     }
     Ok(())
