@@ -1,1 +1,3 @@
 pub mod Day
+pub mod Ends
+pub mod Room

@@ -20,11 +20,11 @@ use Rattle.hx_members.specs.Chains.{Used, is_used, place_of, entered_of, replaci
 use Rattle.hx_members.specs.Rows.{name_of}
 use Rattle.hx_members.specs.Tokens.{name_at}
 use Rattle.hx_members.proofs.ChainLaws.{slice_get-place_of}
-use Rattle.hx_rules.specs.Orders.{is_called}
+use Rattle.hx_rules.specs.Orders.{is_called, expiry_of}
 use Rattle.hx_rules.specs.Hours.{is_over}
 use Rattle.hx_market.specs.OrderKeys.{AreKeyed}
 use Rattle.hx_market.specs.Effects.{IsOnly}
-use Rattle.hx_market.specs.Expiries.{expiry_of, order_place, order_at, one_or_none, orders_at, IsEntered, AreInOrder, AreEntered}
+use Rattle.hx_market.specs.Expiries.{order_place, order_at, one_or_none, orders_at, IsEntered, AreInOrder, AreEntered}
 use Rattle.hx_market.proofs.Bounds.ChainShares.{name-self}
 use Rattle.hx_market.proofs.Bounds.UsedTokens.{same-name}
 use Rattle.hx_market.proofs.OrderKeys.{StandsUsed, stand_used, used_place, place-unused}

@@ -19,7 +19,7 @@ use Rattle.hx_match.proofs.First.{all_append}
 use Rattle.hx_members.specs.Chains.{Used, is_used, place_of, entered_of, entered_used, replacing_used}
 use Rattle.hx_members.proofs.ChainLaws.{place_of-pushed, place_of-new}
 use Rattle.hx_rules.specs.Markets.{Market}
-use Rattle.hx_rules.specs.Orders.{is_shown, is_immediate, is_called, life_of}
+use Rattle.hx_rules.specs.Orders.{is_shown, is_immediate, is_called, expiry_of, life_of}
 use Rattle.hx_rules.specs.Executions.{incoming_of, resting_of, arrive}
 use Rattle.hx_rules.specs.Enter.{next_reference, consumed, drawn}
 use Rattle.hx_rules.specs.Replace.{handed_over}
@@ -33,7 +33,8 @@ use Rattle.hx_market.specs.declared.effect.Due.TheVariants.{Over, ByCode}
 use Rattle.hx_market.specs.declared.effect.Effect.{Effect}
 use Rattle.hx_market.specs.declared.effect.Effect.TheVariants.{Nothing, Reject, Accept, Fail, Replace, Cancel, End, Halt, Break}
 use Rattle.hx_market.specs.Effects.{IsAbout, SuitsTokens, is_due, order_of_enter, replacement_order, outcome_of}
-use Rattle.hx_market.specs.Expiries.{expiry_of, order_place, IsEntered, AreInOrder, AreEntered, IsEndEntered, StaysAfter, StaysAfterEffect, StaysElsewhere}
+use Rattle.hx_market.specs.Expiries.{order_place, IsEntered, AreInOrder, AreEntered, IsEndEntered, until_of, over_until}
+use Rattle.hx_day.specs.Ends.{StaysAfter, StaysElsewhere}
 use Rattle.hx_market.proofs.Bounds.ChainShares.{first, StandsIn, split}
 use Rattle.hx_market.proofs.Bounds.UsedTokens.{same-name}
 use Rattle.hx_market.proofs.OrderKeys.{place-used}
@@ -150,7 +151,7 @@ before ts u (y ∷ ys) p n = (
 )
 
 -- the orders that are left after some end
-left_entered : (old new : List Entry) (ts : List Used) (due : Due) (time : ℕ) (xs : List Order) → StaysAfter due time old new → AreEntered old ts xs
+left_entered : (old new : List Entry) (ts : List Used) (due : Due) (time : ℕ) (xs : List Order) → StaysAfter (until_of due time) old new → AreEntered old ts xs
     → AreEntered new ts (filter (λ x. not (is_due due time x)) xs)
 left_entered old new ts (ByCode code) time xs s h =
     subst (λ (es : List Entry). AreEntered es ts (filter (λ x. not (is_due (ByCode code) time x)) xs)) (sym s) (entered_filtered old ts (λ x. not (is_due (ByCode code) time x)) xs h)
@@ -169,7 +170,7 @@ left_entered old new ts Over time xs s h = record { each = each xs h.each; in_or
 
 -- After each effect the live orders are entered.
 pub entered_outcome : (m : Market) (effect : Effect) (orders : List Live) (old new : List Entry) → IsAbout orders effect → ArePlaced m.tokens m.live → SuitsTokens m.tokens m.chains effect → IsEndEntered old (length m.tokens) effect
-    → StaysAfterEffect effect old new → AreEntered old m.tokens m.live → AreEntered new (outcome_of m effect).market.tokens (outcome_of m effect).market.live
+    → StaysAfter (over_until effect) old new → AreEntered old m.tokens m.live → AreEntered new (outcome_of m effect).market.tokens (outcome_of m effect).market.live
 entered_outcome m Nothing orders old new b p u i s h = subst (λ (es : List Entry). AreEntered es m.tokens m.live) (sym s) h
 entered_outcome m (Reject r) orders old new b p u i s h =
     subst (λ (es : List Entry). AreEntered es (m.tokens ++ entered_used r.member r.token ∷ []) m.live) (sym s) (entered_more old m.tokens (entered_used r.member r.token) m.live p h)

@@ -1,23 +1,15 @@
 -- When live orders end: each that ends at a time is entered under the place of its token.
 use Rattle.std.specs.Prelude.{◌≡◌, ℕ, ◌+◌, ◌≤◌, ◌==◌, List, [], ◌∷◌, ◌++◌, Option, Some, None}
 use Rattle.std.specs.List.{AllByRecursion, find}
-use Rattle.hx_levels.specs.declared.order.Life.{Life}
-use Rattle.hx_levels.specs.declared.order.Life.TheVariants.{Market, System, Until}
 use Rattle.hx_levels.specs.declared.order.Live.{Live}
 use Rattle.hx_expiries.specs.declared.entry.Entry.{Entry}
-use Rattle.hx_expiries.specs.Expiries.{Holds, HoldsLater}
+use Rattle.hx_expiries.specs.Expiries.{Holds}
 use Rattle.hx_members.specs.Chains.{Used, place_of}
-use Rattle.hx_rules.specs.Orders.{Order, life_of}
+use Rattle.hx_rules.specs.Orders.{Order, expiry_of, life_of}
 use Rattle.hx_market.specs.declared.effect.Due.{Due}
 use Rattle.hx_market.specs.declared.effect.Due.TheVariants.{Over, ByCode}
 use Rattle.hx_market.specs.declared.effect.Effect.{Effect}
 use Rattle.hx_market.specs.declared.effect.Effect.TheVariants.{Nothing, Reject, Accept, Fail, Replace, Cancel, End, Halt, Break}
-
--- when an order of this life ends, where that is a time
-abbrev pub expiry_of : Life → Option ℕ
-expiry_of Market = None
-expiry_of System = None
-expiry_of (Until expiry) = Some expiry
 
 -- the place of an order's token among the used ones
 abbrev pub order_place : List Used → Order → ℕ
@@ -71,23 +63,19 @@ abbrev pub IsEndEntered : List Entry → (place : ℕ) → Effect → Type 0
 IsEndEntered entries place effect =
     (expiry : ℕ) → end_of effect ≡ Some expiry → Holds entries expiry place
 
--- what stays entered where orders end at a time: after a tick what ends later
-abbrev pub StaysAfter : Due → (time : ℕ) → (old new : List Entry) → Type 0
-StaysAfter Over time old new = HoldsLater old new time
-StaysAfter (ByCode code) time old new = new ≡ old
+-- until when orders end that are over, where it is those that end
+abbrev pub until_of : Due → (time : ℕ) → Option ℕ
+until_of Over time = Some time
+until_of (ByCode code) time = None
 
--- what stays entered after an effect
-abbrev pub StaysAfterEffect : Effect → (old new : List Entry) → Type 0
-StaysAfterEffect Nothing old new = new ≡ old
-StaysAfterEffect (Reject r) old new = new ≡ old
-StaysAfterEffect (Accept a) old new = new ≡ old
-StaysAfterEffect (Fail a) old new = new ≡ old
-StaysAfterEffect (Replace a) old new = new ≡ old
-StaysAfterEffect (Cancel a) old new = new ≡ old
-StaysAfterEffect (End e) old new = StaysAfter e.due e.time old new
-StaysAfterEffect (Halt h) old new = new ≡ old
-StaysAfterEffect (Break b) old new = new ≡ old
-
--- what is entered under other places stays
-abbrev pub StaysElsewhere : (place : ℕ) → (old new : List Entry) → Type 0
-StaysElsewhere place old new = (e p : ℕ) → (p ≡ place → ⊥) → Holds old e p → Holds new e p
+-- until when an effect ends all orders that are over, where it is a tick's
+abbrev pub over_until : Effect → Option ℕ
+over_until Nothing = None
+over_until (Reject r) = None
+over_until (Accept a) = None
+over_until (Fail a) = None
+over_until (Replace a) = None
+over_until (Cancel a) = None
+over_until (End e) = until_of e.due e.time
+over_until (Halt h) = None
+over_until (Break b) = None

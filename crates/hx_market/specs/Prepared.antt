@@ -179,12 +179,3 @@ pub record IsPlanned (setup : Setup) (market : Market) (orders : List Live)
   pub reply_members :
       p.reply_members
       ≡ map (λ r. r.0) (outcome_of (with_record p.event market) p.effect).told.replies
-
--- room for all that so many fills tell, and for what else an event tells
-pub record HasRoom (fills : ℕ) (out : Output) : Type 0 where
-  pub feed : out.feed.items ≡ []
-  pub replies : out.replies.items ≡ []
-  pub feed_len : vec_len out.feed ≡ 0
-  pub replies_len : vec_len out.replies ≡ 0
-  pub feed_room : fills + 2 ≤ vec_capacity out.feed
-  pub replies_room : 2 * fills + 2 ≤ vec_capacity out.replies

@@ -6,7 +6,8 @@ ghost use Rattle.hx_members.specs.Chains.{is_used, entered_used, entered_chain};
 ghost use Rattle.hx_market.specs.Effects.{IsInRange, SuitsTokens, IsAbout};
 ghost use Rattle.hx_market.specs.OrderKeys.{AreKeyed};
 ghost use Rattle.hx_market.specs.MarketModel.{market_of, name_of};
-ghost use Rattle.hx_market.specs.Prepared.{HasRoom, HasPlaces, FitsEffect, outcome_over};
+ghost use Rattle.hx_day.specs.Room.{HasRoom};
+ghost use Rattle.hx_market.specs.Prepared.{HasPlaces, FitsEffect, outcome_over};
 ghost use Rattle.hx_ouch.specs.declared.outbound.Outbound.TheVariants.{Rejected as ToldRejected};
 
 mod cancel;

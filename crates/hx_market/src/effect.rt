@@ -1,11 +1,12 @@
 //! The effects that an event can have, once it is committed.
 ghost use Rattle.std.specs.Prelude.{◌≡◌};
-ghost use Rattle.hx_market.specs.Effects.{replacement_order};
+ghost use Rattle.hx_market.specs.Effects.{replacement_order, IsInRange};
+ghost use Rattle.hx_market.specs.Expiries.{end_of, over_until};
 ghost use Rattle.hx_rules.specs.Replace.{is_one_display};
 
 use hx_levels::{Live, Order};
 use hx_ouch::{Enter, Replace};
-use hx_rules::{Match, Output, is_shown};
+use hx_rules::{Match, Output, expiry_of, is_shown, life_of};
 use hx_units::{Firm, MemberNo, Price, Side, Symbol, Token};
 
 /// An Enter that is rejected.
@@ -170,4 +171,47 @@ pub fn is_one_display(effect: &Replacement) -> bool
     old.shown
         && is_shown(effect.replace.display, effect.replace.time_in_force)
         && old.display == effect.replace.display
+}
+
+/// When the order of an effect ends, where that is a time.
+pub fn end_of(effect: &Effect) -> Option<u64>
+    requires { IsInRange effect.now }
+    ensures { result ≡ end_of effect.now }
+{
+    match effect {
+        Effect::Accept(accepted) => {
+            expiry_of(life_of(accepted.time, accepted.enter.time_in_force))
+        }
+        Effect::Replace(replacement) => {
+            let life = life_of(replacement.time, replacement.replace.time_in_force);
+            expiry_of(life)
+        }
+        Effect::Nothing
+        | Effect::Reject(_)
+        | Effect::Fail(_)
+        | Effect::Cancel(_)
+        | Effect::End(_)
+        | Effect::Halt(_)
+        | Effect::Break(_) => None,
+    }
+}
+
+/// Until when an effect ends all orders that are over, where it is a tick's.
+pub fn over_until(effect: &Effect) -> Option<u64>
+    ensures { result ≡ over_until effect.now }
+{
+    match effect {
+        Effect::End(ending) => match ending.due {
+            Due::Over => Some(ending.time),
+            Due::ByCode(_) => None,
+        },
+        Effect::Nothing
+        | Effect::Reject(_)
+        | Effect::Accept(_)
+        | Effect::Fail(_)
+        | Effect::Replace(_)
+        | Effect::Cancel(_)
+        | Effect::Halt(_)
+        | Effect::Break(_) => None,
+    }
 }

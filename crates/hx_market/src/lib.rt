@@ -5,14 +5,12 @@
 mod commit;
 mod decision;
 mod effect;
-mod ends;
 mod known;
 mod live_orders;
 mod market;
 mod messages;
 mod order_by_token;
 mod prepare;
-mod room;
 
 pub use hx_laws as laws;
 pub use hx_rules::{Bytes, Event, Output, PrepareError, decode_operator};

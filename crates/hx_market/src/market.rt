@@ -9,13 +9,11 @@ ghost use Rattle.hx_market.specs.Effects.{hours_after};
 ghost use Rattle.hx_market.specs.MarketModel.{chain_facts};
 
 use crate::commit::commit_effect;
-use crate::effect::Effect;
-use crate::ends::Ends;
+use crate::effect::{Effect, over_until};
 use crate::known::Known;
 use crate::live_orders::list_orders;
 use crate::prepare::{Prepared, make};
-use crate::room::Room;
-use hx_day::{EventCounts, Trading};
+use hx_day::{Ends, EventCounts, Room, Trading};
 use hx_levels::{Book, Order};
 use hx_members::{ChainFacts, Seed, Setup, Tokens};
 use hx_refs::Refs;
@@ -216,7 +214,7 @@ impl<B: Book + Drop> Market<B> {
         } = prepared;
         self.recorded.raise(number);
         self.hours = hours_after(&effect, self.hours);
-        self.ends.done(&effect);
+        self.ends.done(over_until(&effect));
         commit_effect(
             &mut self.book,
             &mut self.tokens,

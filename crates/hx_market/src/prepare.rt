@@ -7,16 +7,14 @@ ghost use Rattle.hx_levels.specs.Book.{lives};
 ghost use Rattle.hx_expiries.specs.Expiries.{Holds};
 ghost use Rattle.hx_market.specs.Expiries.{AreEntered};
 ghost use Rattle.hx_market.specs.MarketModel.{market_of};
-ghost use Rattle.hx_market.specs.Prepared.{HasRoom, IsPlanned};
+ghost use Rattle.hx_market.specs.Prepared.{IsPlanned};
 
 mod draft;
 
 use crate::decision::effect_of;
-use crate::effect::Effect;
-use crate::ends::Ends;
+use crate::effect::{Effect, end_of};
 use crate::prepare::draft::draft_effect;
-use crate::room::Room;
-use hx_day::{EventCounts, Trading, admit};
+use hx_day::{Ends, EventCounts, Room, Trading, admit};
 use hx_levels::Book;
 use hx_match::Fill;
 use hx_members::{Setup, Tokens};
@@ -45,7 +43,7 @@ pub struct Prepared {
 impl Model for Prepared {
     ghost use Rattle.std.specs.Prelude.{length};
     ghost use Rattle.hx_market.specs.MarketModel.{Planned};
-    ghost use Rattle.hx_market.specs.Prepared.{HasRoom};
+    ghost use Rattle.hx_day.specs.Room.{HasRoom};
 
     ghost Value = { Planned };
 
@@ -113,7 +111,7 @@ pub fn make<B: Book>(
     let number = admit(setup, recorded, event)?;
     let effect = effect_of(alloc, setup, hours, ends, trading, tokens, book, event)?;
     let draft = draft_effect(alloc, room, book, tokens, &effect)?;
-    ends.enter(tokens.count(), &effect)?;
+    ends.enter(tokens.count(), end_of(&effect))?;
     trading.reserve_for(&draft.fills)?;
     let out = room.output(alloc, draft.fills.len())?;
     Ok(Prepared {

@@ -1,5 +1,5 @@
 -- What the fields of an order mean (OUCH 4.2, Enter Order).
-use Rattle.std.specs.Prelude.{ℕ, ◌+◌, ◌*◌, Bool, if◌then◌else◌, ◌==◌, ◌&&◌, ◌||◌, not, nat_le}
+use Rattle.std.specs.Prelude.{ℕ, Option, Some, None, ◌+◌, ◌*◌, Bool, if◌then◌else◌, ◌==◌, ◌&&◌, ◌||◌, not, nat_le}
 pub use Rattle.hx_levels.specs.declared.order.Order.{Order}
 pub use Rattle.hx_levels.specs.declared.order.Life.{Life}
 use Rattle.hx_levels.specs.declared.order.Life.TheVariants.{Market, System, Until}
@@ -48,6 +48,12 @@ life_of time time_in_force =
     if nat_le 1 time_in_force && nat_le time_in_force most_seconds
     then Until (time + time_in_force * second)
     else (if time_in_force == market_hours then Market else System)
+
+-- when an order of this life ends, where that is a time
+abbrev pub expiry_of : Life → Option ℕ
+expiry_of Market = None
+expiry_of System = None
+expiry_of (Until expiry) = Some expiry
 
 -- the side as the feed has it: each kind of sale is a sale (ITCH 5.0, Add Order: Buy/Sell
 -- Indicator)

@@ -3,6 +3,7 @@
 
 mod event;
 mod fault;
+mod lives;
 mod matches;
 mod operator;
 mod output;
@@ -10,6 +11,7 @@ mod rules;
 
 pub use event::{Bytes, Event};
 pub use fault::PrepareError;
+pub use lives::{ends_by_code, expiry_of, is_over};
 pub use matches::Match;
 pub use operator::decode_operator;
 pub use output::Output;

@@ -2,40 +2,17 @@
 ghost use Rattle.std.specs.Prelude.{◌≡◌, ◌++◌, ◌∷◌, [], IfOk, OnOk};
 ghost use Rattle.std.specs.List.{filter};
 ghost use Rattle.hx_levels.specs.Book.{lives, KeysDiffer};
-ghost use Rattle.hx_rules.specs.Hours.{is_over, is_to_market, ends_by_code};
+ghost use Rattle.hx_rules.specs.Hours.{is_over, ends_by_code};
 ghost use Rattle.hx_market.specs.OrderKeys.{AreKeyed};
 ghost use Rattle.hx_market.specs.Expiries.{AreEntered, order_at, one_or_none, orders_at};
 
-use crate::ends::Ends;
 use crate::order_by_token::find_order;
-use hx_levels::{Book, Key, Life, Live, Order};
+use hx_day::Ends;
+use hx_levels::{Book, Key, Live};
 use hx_members::Tokens;
+use hx_rules::{ends_by_code, is_over};
 use hx_units::NoMemory;
 use std::alloc::Global;
-
-fn is_over(time: u64, life: Life) -> bool
-    ensures { result ≡ is_over time life }
-{
-    match life {
-        Life::Market | Life::System => false,
-        Life::Until(expiry) => expiry <= time,
-    }
-}
-
-fn is_to_market(life: Life) -> bool
-    ensures { result ≡ is_to_market life }
-{
-    match life {
-        Life::Market => true,
-        Life::System | Life::Until(_) => false,
-    }
-}
-
-fn ends_by_code(code: u8, order: &Order) -> bool
-    ensures { result ≡ ends_by_code code order.now }
-{
-    (code == b'M' && is_to_market(order.life)) || code == b'E'
-}
 
 // Puts the order behind those that end, where the code ends it.
 fn keep_ending(orders: &mut Vec<Live>, code: u8, live: Live) -> Result<(), NoMemory>

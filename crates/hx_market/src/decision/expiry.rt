@@ -19,8 +19,8 @@ ghost use Rattle.hx_market.specs.MarketModel.{market_of};
 
 use crate::decision::ending::orders_over;
 use crate::effect::{Due, Effect, Expiry};
-use crate::ends::Ends;
 use crate::messages::{delete, tell_canceled};
+use hx_day::Ends;
 use hx_levels::{Book, Live, Order};
 use hx_members::Tokens;
 use hx_rules::Output;

@@ -9,7 +9,7 @@ ghost use Rattle.hx_market.specs.Effects.{IsReplacement, IsInRange, IsAbout, inc
 ghost use Rattle.hx_market.specs.Prepared.{HasPlaces, effect_feed_count, effect_members, arrival_members, arrival_count, one_if, replaced_count};
 
 use crate::effect::{AcceptedEnter, Effect, Replacement, is_one_display};
-use crate::room::Room;
+use hx_day::Room;
 use hx_levels::Book;
 use hx_match::{Fill, Incoming, Plan, plan_in};
 use hx_members::Tokens;
@@ -243,16 +243,6 @@ fn told_members(
     Ok(members)
 }
 
-// The one member of a reply, in this room.
-fn one_member(room: Vec<MemberNo>, member: MemberNo) -> Result<Vec<MemberNo>, NoMemory>
-    requires { room.items ≡ [] }
-    ensures { IfOk result (λ members. members.items ≡ member ∷ []) }
-{
-    let mut members = room;
-    members.push(member)?;
-    Ok(members)
-}
-
 /// What is prepared of an effect, with a place for the token that it uses and one for the order that may rest.
 pub fn draft_effect<B: Book>(
     alloc: Global,
@@ -279,7 +269,7 @@ pub fn draft_effect<B: Book>(
         Effect::Nothing => Ok(draft_told(room.fills(alloc), 0, room.members(alloc))),
         Effect::Reject(effect) => {
             tokens.reserve(effect.member, &effect.token)?;
-            let members = one_member(room.members(alloc), effect.member)?;
+            let members = room.one_member(alloc, effect.member)?;
             Ok(draft_told(room.fills(alloc), 0, members))
         }
         Effect::Accept(effect) => {
@@ -289,7 +279,7 @@ pub fn draft_effect<B: Book>(
         Effect::Fail(effect) => {
             tokens.reserve(effect.member, &effect.replacement)?;
             let told = one_if(effect.old.order.shown);
-            let members = one_member(room.members(alloc), effect.member)?;
+            let members = room.one_member(alloc, effect.member)?;
             Ok(draft_told(room.fills(alloc), told, members))
         }
         Effect::Replace(effect) => {
@@ -298,7 +288,7 @@ pub fn draft_effect<B: Book>(
         }
         Effect::Cancel(effect) => {
             let told = one_if(effect.old.order.shown);
-            let members = one_member(room.members(alloc), effect.member)?;
+            let members = room.one_member(alloc, effect.member)?;
             Ok(draft_told(room.fills(alloc), told, members))
         }
         Effect::End(effect) => {
@@ -308,7 +298,7 @@ pub fn draft_effect<B: Book>(
         }
         Effect::Halt(_) => Ok(draft_told(room.fills(alloc), 1, room.members(alloc))),
         Effect::Break(effect) => {
-            let mut members = one_member(room.members(alloc), effect.execution.maker)?;
+            let mut members = room.one_member(alloc, effect.execution.maker)?;
             members.push(effect.execution.taker)?;
             Ok(draft_told(room.fills(alloc), 1, members))
         }

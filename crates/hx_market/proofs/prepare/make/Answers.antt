@@ -14,6 +14,8 @@ use Rattle.hx_rules.specs.Steps.{happens, sender, with_record}
 use Rattle.hx_market.specs.Effects.{SuitsTokens, IsOf, IsAbout, outcome_of}
 use Rattle.hx_day.specs.Day.{TradingState}
 use Rattle.hx_market.specs.MarketModel.{Planned, market_of}
+use Rattle.std.specs.Option.{IfSome}
+use Rattle.hx_expiries.specs.Expiries.{Holds}
 use Rattle.hx_market.specs.Expiries.{IsEndEntered}
 use Rattle.hx_market.specs.Prepared.{IsPlanned}
 use Rattle.hx_market.proofs.PreparedCounts.{tells}
@@ -53,7 +55,8 @@ returns-clause-planned g c = λ n.
       sender = subst (λ i. IsOf i effect) (sym c.in_ok-number.ensures.number) c.in_ok-effect.ensures.sender;
       places = c.in_ok-draft.ensures.places;
       has_room = subst (λ (fs : List Fill). length fs ≤ c.reserve_for.new.self.room) c.deref.ensures.value c.in_ok-reserve_for.ensures.room;
-      end_entered = subst (λ n. IsEndEntered c.enter.new.self n effect) c.count.ensures c.in_ok-enter.ensures.entered;
+      end_entered = subst (λ n. IsEndEntered c.enter.new.self n effect) c.count.ensures (λ e is.
+          subst (λ o. IfSome o (λ expiry. Holds c.enter.new.self expiry c.count.result)) (c.end_of.ensures ∙ is) c.in_ok-enter.ensures.entered);
       feed_count = c.in_ok-draft.ensures.feed_count ∙ told.0;
       reply_members = c.in_ok-draft.ensures.members ∙ told.1;
     })

@@ -1,4 +1,4 @@
-use Rattle.std.proofs.Common.{◌≡◌, ◌<◌, ◌≤◌, ◌^◌, ℕ, Bool, List, length, Some, refl, sym, ap, ◌∙◌, subst}
+use Rattle.std.proofs.Common.{◌≡◌, ◌<◌, ◌≤◌, ◌^◌, ℕ, Bool, List, length, Option, Some, refl, sym, ap, ◌∙◌, subst}
 use Rattle.hx_levels.specs.declared.order.Order.{Order}
 use Rattle.hx_levels.specs.Book.{lives}
 use Rattle.hx_match.specs.declared.fills.Fill.{Fill}
@@ -17,6 +17,7 @@ use Rattle.hx_market.proofs.Bounds.AfterEnter.{recording}
 use Rattle.hx_market.proofs.PreparedCounts.{step_is}
 use Rattle.hx_market.proofs.FeedTimes.{fits_feed}
 use Rattle.hx_market.specs.Expiries.{AreEntered}
+use Rattle.hx_day.specs.Ends.{StaysAfter}
 use Rattle.hx_market.proofs.Entered.{entered_outcome}
 use Rattle.hx_itch.specs.Message.{feed_time}
 use Rattle.std.specs.List.{AllByRecursion}
@@ -128,7 +129,7 @@ invariant_of-self g c =
       λ p h. cc,
       subst (λ (ts : List Used). AreEntered c.done.new.self ts (lives (g.B.Book.orders c.commit_effect.new.book))) (sym c.commit_effect.ensures.tokens)
           (subst (AreEntered c.done.new.self (outcome_of (bare m) q.effect).market.tokens) (sym c.commit_effect.ensures.live)
-          (entered_outcome (bare m) q.effect (g.B.Book.orders s.book) s.ends c.done.new.self i.about c.self.invariant.0.placed i.suits i.end_entered c.done.ensures c.self.invariant.3)),
+          (entered_outcome (bare m) q.effect (g.B.Book.orders s.book) s.ends c.done.new.self i.about c.self.invariant.0.placed i.suits i.end_entered (subst (λ (o : Option ℕ). StaysAfter o s.ends c.done.new.self) c.over_until.ensures c.done.ensures) c.self.invariant.3)),
     )
 
 pub returns-clause-market : goal.returns-clause-market

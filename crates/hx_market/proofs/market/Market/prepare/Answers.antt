@@ -14,7 +14,8 @@ use Rattle.hx_members.specs.Tokens.{TokenList}
 use Rattle.hx_day.specs.Day.{TradingState}
 use Rattle.hx_market.specs.Bounds.{IsSound}
 use Rattle.hx_market.specs.OrderKeys.{AreKeyed}
-use Rattle.hx_market.specs.Expiries.{AreEntered, StaysElsewhere}
+use Rattle.hx_market.specs.Expiries.{AreEntered}
+use Rattle.hx_day.specs.Ends.{StaysElsewhere}
 use Rattle.hx_market.specs.Prepared.{IsPlanned}
 use Rattle.hx_market.specs.MarketModel.{Planned, Seen, market_of}
 use Rattle.hx_market.proofs.Entered.{entered_kept, entered_elsewhere}

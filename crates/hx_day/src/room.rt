@@ -1,6 +1,6 @@
 //! Room that an event leaves for the next one.
-ghost use Rattle.std.specs.Prelude.{◌≡◌, ◌<◌, ◌^◌, [], IfOk};
-ghost use Rattle.hx_market.specs.Prepared.{HasRoom};
+ghost use Rattle.std.specs.Prelude.{◌≡◌, ◌<◌, ◌^◌, [], ◌∷◌, IfOk};
+ghost use Rattle.hx_day.specs.Room.{HasRoom};
 
 use hx_match::Fill;
 use hx_rules::Output;
@@ -46,6 +46,15 @@ impl Room {
         let mut members = replace(&mut self.members, Vec::new(alloc));
         members.clear();
         members
+    }
+
+    /// A list of the one member of a reply.
+    pub fn one_member(&mut self, alloc: Global, member: MemberNo) -> Result<Vec<MemberNo>, NoMemory>
+        ensures { IfOk result (λ members. members.items ≡ member ∷ []) }
+    {
+        let mut members = self.members(alloc);
+        members.push(member)?;
+        Ok(members)
     }
 
     /// Empty lists with room for what so many fills tell, and for what else an event tells.
