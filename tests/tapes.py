@@ -62,3 +62,10 @@ REPLACES_THAT_TRADE = tape(
     (60, 1, replace('T2', 'T4', 100, 100_000)),
     (70, 2, replace('S2', 'S1', 300, 100_200)),
     (80, 1, cancel('T2')))
+
+# Two orders end at one tick, of which one is hidden and has fewer shares than it had.
+TWO_END_AT_ONE_TICK = tape(
+    (10, 2, enter('H1', 'B', 100, 'ABCD', 100_000, 2, 'N')),
+    (20, 1, enter('T1', 'B', 70, 'ABCD', 100_000, 2)),
+    (30, 2, cancel('H1', 60)),
+    (2_000_000_020, 0, b'K'))

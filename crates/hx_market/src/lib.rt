@@ -5,7 +5,6 @@
 mod commit;
 mod decision;
 mod effect;
-mod known;
 mod live_orders;
 mod market;
 mod messages;

@@ -10,7 +10,6 @@ ghost use Rattle.hx_market.specs.MarketModel.{chain_facts};
 
 use crate::commit::commit_effect;
 use crate::effect::{Effect, over_until};
-use crate::known::Known;
 use crate::live_orders::list_orders;
 use crate::prepare::{Prepared, make};
 use hx_day::{Ends, EventCounts, Room, Trading};
@@ -18,7 +17,7 @@ use hx_levels::{Book, Order};
 use hx_members::{ChainFacts, Seed, Setup, Tokens};
 use hx_refs::Refs;
 use hx_rules::{Event, Output, PrepareError};
-use hx_units::{MemberNo, NoMemory, Token};
+use hx_units::{Known, MemberNo, NoMemory, Token};
 use std::alloc::Global;
 use std::marker::Model;
 

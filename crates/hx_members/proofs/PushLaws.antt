@@ -4,7 +4,7 @@ use Rattle.std.proofs.lemmas.Bool.{true≢false, cases_Bool}
 use Rattle.hx_units.specs.Names.{is_token}
 use Rattle.hx_units.specs.declared.names.Token.{Token}
 use Rattle.hx_members.specs.Chains.{Used, is_use, is_used, entered_used, entered_chain, IsEnteredAt}
-use Rattle.hx_members.specs.Rows.{Row, name_of, fresh, used_of, tokens_of, places_of, live_keys_of, is_entered, chain_of, chains_of, AreDistinct, AreChained, IsSound}
+use Rattle.hx_members.specs.Rows.{Row, name_of, fresh, key_of, used_of, tokens_of, places_of, live_keys_of, is_entered, chain_of, chains_of, AreDistinct, AreChained, IsSound}
 use Rattle.hx_members.proofs.ChainLaws.{is_same-flip, is_token-itself, same_token, slice_get-pushed, is_used-pushed, is_used-at}
 use Rattle.hx_members.proofs.TokenLaws.{length-tokens_of}
 
@@ -16,9 +16,9 @@ pub places_of-pushed : (rows : List Row) (r : Row) → places_of (rows ++ r ∷ 
 places_of-pushed [] r = refl
 places_of-pushed (e ∷ es) r = ap (λ l. e.1.chain ∷ l) (places_of-pushed es r)
 
-pub live_keys_of-pushed : (rows : List Row) (r : Row) → live_keys_of (rows ++ r ∷ []) ≡ live_keys_of rows ++ r.1.key ∷ []
+pub live_keys_of-pushed : (rows : List Row) (r : Row) → live_keys_of (rows ++ r ∷ []) ≡ live_keys_of rows ++ key_of r.1 ∷ []
 live_keys_of-pushed [] r = refl
-live_keys_of-pushed (e ∷ es) r = ap (λ l. e.1.key ∷ l) (live_keys_of-pushed es r)
+live_keys_of-pushed (e ∷ es) r = ap (λ l. key_of e.1 ∷ l) (live_keys_of-pushed es r)
 
 pub chains_of-entered : (rows : List Row) (r : Row) → is_entered r ≡ true → chains_of (rows ++ r ∷ []) ≡ chains_of rows ++ chain_of r ∷ []
 chains_of-entered [] r h = ap (λ b. cond b (chain_of r ∷ []) []) h
@@ -59,7 +59,7 @@ chained-pushed rows u c a new i v d h k =
     ]
 
 sound-pushed : (rows : List Row) (r : Row) → IsSound rows → is_used (tokens_of rows) r.0.member r.0.token ≡ false
-    → IsEnteredAt (tokens_of rows ++ used_of r ∷ []) r.0.member r.1.entered r.1.chain → IsSound (rows ++ r ∷ [])
+    → IsEnteredAt (tokens_of rows ++ used_of r ∷ []) r.0.member r.1.entered.value r.1.chain → IsSound (rows ++ r ∷ [])
 sound-pushed rows r s n e =
     record {
       distinct = subst AreDistinct (sym (tokens_of-pushed rows r)) (distinct-pushed (tokens_of rows) (used_of r) s.distinct n);

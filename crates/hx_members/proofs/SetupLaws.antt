@@ -104,6 +104,15 @@ apart-numbers (m ∷ ms) h =
           | inr n ↦ n
         ]
 
+-- the member of a number is the one that stands somewhere and has it
+pub member-at : (members : List Member) (i : ℕ) (m : Member) (number : ℕ) → AreApart (λ a b. a == b) (λ (x : Member). x.number) members → slice_get members i ≡ Some m → number ≡ m.number
+    → find (λ (x : Member). number == x.number) members ≡ Some m
+member-at [] i m number a h e = absurd cc
+member-at (x ∷ xs) zero m number a h e =
+    ap (λ b. cond b (Some x) (find (λ (y : Member). number == y.number) xs)) ((Decides-eqb number x.number).1 (e ∙ ap (λ (y : Member). y.number) (sym (some_same x m h)))) ∙ h
+member-at (x ∷ xs) (suc i) m number a h e =
+    ap (λ b. cond b (Some x) (find (λ (y : Member). number == y.number) xs)) (ap (λ n. n == x.number) e ∙ a.0 i m h) ∙ member-at xs i m number a.1 h e
+
 pub drop-next : {A : Type 0} (xs : List A) (i : ℕ) (x : A) → slice_get xs i ≡ Some x → drop i xs ≡ x ∷ drop (suc i) xs
 drop-next [] i x h = absurd cc
 drop-next (y ∷ ys) zero x h = λ j. some_same y x h j ∷ ys

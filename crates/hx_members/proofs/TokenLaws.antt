@@ -6,10 +6,9 @@ use Rattle.hx_units.specs.Names.{is_token}
 use Rattle.hx_units.specs.declared.names.Token.{Token}
 use Rattle.hx_members.specs.declared.name.ChainFacts.{ChainFacts}
 use Rattle.hx_members.specs.declared.name.TokenState.{TokenState}
-use Rattle.hx_members.specs.declared.rows.UsedToken.{UsedToken}
-use Rattle.hx_members.specs.Chains.{Used, Chain, is_use, is_used, entered_of, entered_at, place_of, is_chain, executed_by, entered_used, replacing_used, IsEnteredAt}
+use Rattle.hx_members.specs.Chains.{Used, Chain, is_use, is_used, entered_of, entered_at, place_of, is_chain, executed_by, entered_used, replacing_used, IsEnteredAt, IsChainAt}
 use Rattle.hx_members.specs.declared.name.Name.{Name}
-use Rattle.hx_members.specs.Rows.{Row, is_name, name_of, row_place, IsUnused, row_state, told_of, used_of, tokens_of, places_of, live_keys_of, is_entered, chain_of, chains_of, AreDistinct, IsSound}
+use Rattle.hx_members.specs.Rows.{Row, is_name, name_of, row_place, IsUnused, row_state, told_of, used_of, tokens_of, places_of, live_keys_of, key_of, row_facts, is_entered, chain_of, chains_of, AreDistinct, IsSound}
 use Rattle.hx_members.specs.Tokens.{facts_of, key_at, state_of, name_at}
 use Rattle.hx_members.proofs.ChainLaws.{is_same-flip, is_same-parts, is_same-itself, is_token-itself, slice_get-place_of, is_used-at}
 
@@ -44,9 +43,9 @@ slice_get-places_of [] i r h = absurd cc
 slice_get-places_of (e ∷ es) zero r h = ap (λ (x : Row). Some x.1.chain) (some_same e r h)
 slice_get-places_of (e ∷ es) (suc i) r h = slice_get-places_of es i r h
 
-pub slice_get-live_keys_of : (rows : List Row) (i : ℕ) (r : Row) → slice_get rows i ≡ Some r → slice_get (live_keys_of rows) i ≡ Some r.1.key
+pub slice_get-live_keys_of : (rows : List Row) (i : ℕ) (r : Row) → slice_get rows i ≡ Some r → slice_get (live_keys_of rows) i ≡ Some (key_of r.1)
 slice_get-live_keys_of [] i r h = absurd cc
-slice_get-live_keys_of (e ∷ es) zero r h = ap (λ (x : Row). Some x.1.key) (some_same e r h)
+slice_get-live_keys_of (e ∷ es) zero r h = ap (λ (x : Row). Some (key_of x.1)) (some_same e r h)
 slice_get-live_keys_of (e ∷ es) (suc i) r h = slice_get-live_keys_of es i r h
 
 -- the name of the used token at a place is that of its row
@@ -114,20 +113,20 @@ entered-row r m e h = (λ j. is_token ((h j).token) ((h j).entered)) ∙ is_toke
 next-row : (x : Row) (xs : List Row) (n : ℕ) → slice_get (x ∷ xs) (n + 1) ≡ slice_get xs n
 next-row x xs n = ap (λ k. slice_get (x ∷ xs) k) (let one : n + 1 ≡ suc n = omega arith in one)
 
-pub facts_of-chains_of : (rows : List Row) (m : ℕ) (e : Token) (f : Row) → slice_get rows (place_of (tokens_of rows) m e) ≡ Some f → used_of f ≡ entered_used m e → facts_of (chains_of rows) m e ≡ f.1.facts
+pub facts_of-chains_of : (rows : List Row) (m : ℕ) (e : Token) (f : Row) → slice_get rows (place_of (tokens_of rows) m e) ≡ Some f → used_of f ≡ entered_used m e → facts_of (chains_of rows) m e ≡ row_facts f.1
 facts_of-chains_of [] m e f h own = absurd cc
 facts_of-chains_of (x ∷ xs) m e f h own = at (is_use m e (used_of x)) refl h (λ k. facts_of-chains_of xs m e f k own)
   where
     other : (b : Bool) → is_use m e (used_of x) ≡ false → facts_of (cond b (chain_of x ∷ chains_of xs) (chains_of xs)) m e ≡ facts_of (chains_of xs) m e
-    other true n = ap (λ b. cond b x.1.facts (facts_of (chains_of xs) m e)) n
+    other true n = ap (λ b. cond b (row_facts x.1) (facts_of (chains_of xs) m e)) n
     other false n = refl
 
     at : (b : Bool) → is_use m e (used_of x) ≡ b → slice_get (x ∷ xs) (cond b 0 (place_of (tokens_of xs) m e + 1)) ≡ Some f
-        → (slice_get xs (place_of (tokens_of xs) m e) ≡ Some f → facts_of (chains_of xs) m e ≡ f.1.facts) → facts_of (chains_of (x ∷ xs)) m e ≡ f.1.facts
+        → (slice_get xs (place_of (tokens_of xs) m e) ≡ Some f → facts_of (chains_of xs) m e ≡ row_facts f.1) → facts_of (chains_of (x ∷ xs)) m e ≡ row_facts f.1
     at true p h ih =
         let same : x ≡ f = some_same x f h in
         ap (λ b. facts_of (cond b (chain_of x ∷ chains_of xs) (chains_of xs)) m e) (entered-row x m e (ap used_of same ∙ own))
-        ∙ ap (λ b. cond b x.1.facts (facts_of (chains_of xs) m e)) p ∙ ap (λ (r : Row). r.1.facts) same
+        ∙ ap (λ b. cond b (row_facts x.1) (facts_of (chains_of xs) m e)) p ∙ ap (λ (r : Row). row_facts r.1) same
     at false p h ih = other (is_entered x) p ∙ ih (sym (next-row x xs (place_of (tokens_of xs) m e)) ∙ h)
 
 -- the row of a chain, at the place of its entered token
@@ -136,7 +135,7 @@ pub record ChainRow (rows : List Row) (m : ℕ) (e : Token) (place : ℕ) : Type
   pub stands : slice_get rows place ≡ Some row
   pub own : used_of row ≡ entered_used m e
   pub place-is : place_of (tokens_of rows) m e ≡ place
-  pub facts : facts_of (chains_of rows) m e ≡ row.1.facts
+  pub facts : facts_of (chains_of rows) m e ≡ row_facts row.1
 
 pub chain-row : (rows : List Row) (m : ℕ) (e : Token) (place : ℕ) → AreDistinct (tokens_of rows) → IsEnteredAt (tokens_of rows) m e place → ChainRow rows m e place
 chain-row rows m e place d h =
@@ -150,7 +149,7 @@ chain-row rows m e place d h =
       facts = facts_of-chains_of rows m e r.0 (ap (λ n. slice_get rows n) at ∙ r.1.0) r.1.1;
     }
 
-pub executed-chain : (rows : List Row) (m : ℕ) (e : Token) (place : ℕ) → (c : ChainRow rows m e place) → c.row.1.facts.executed ≡ executed_by (chains_of rows) m e
+pub executed-chain : (rows : List Row) (m : ℕ) (e : Token) (place : ℕ) → (c : ChainRow rows m e place) → c.row.1.executed ≡ executed_by (chains_of rows) m e
 executed-chain rows m e place c = sym (ap (λ (f : ChainFacts). f.executed) c.facts) ∙ executed_facts (chains_of rows) m e
 
 -- what is told of a used token, and where its chain stands
@@ -170,10 +169,10 @@ told-used rows m t s u =
     let c = r.0.1.chain in
     let entered : IsEnteredAt tokens m e c = s.chained p (replacing_used m t e) c standing (slice_get-places_of rows p r.0 r.1.0) in
     let f = chain-row rows m e c s.distinct entered in
-    let here : row_state (name_of m t) rows ≡ Some (record { chain = c; facts = f.row.1.facts; key = r.0.1.key }) =
+    let here : row_state (name_of m t) rows ≡ Some (record { chain = c; facts = row_facts f.row.1; key = key_of r.0.1 }) =
     ap (λ o. option_map_or (λ place. option_map_or (told_of rows) (slice_get rows place) None) o None) (row_place-place_of m t rows ∙ ap (λ b. cond b (Some p) None) u)
     ∙ ap (λ o. option_map_or (told_of rows) o None) r.1.0
-    ∙ ap (λ o. option_map (λ (g : Row). let k : TokenState = record { chain = c; facts = g.1.facts; key = r.0.1.key } in k) o) f.stands
+    ∙ ap (λ o. option_map (λ (g : Row). let k : TokenState = record { chain = c; facts = row_facts g.1; key = key_of r.0.1 } in k) o) f.stands
     in
     record {
       chain = c;
@@ -207,11 +206,11 @@ told-chain rows m t s =
     at None c h i = tt
     at (Some s) c h i = subst (λ n. IsEnteredAt (tokens_of rows) m (entered_of (tokens_of rows) m t) n) (sym h) i
 
--- the entered token at a place, by the row there
-pub entered_at-tokens_of : (rows : List Row) (i : ℕ) (t : Token) → entered_at (tokens_of rows) i t ≡ option_map_or (λ (u : UsedToken). u.entered) (option_map (λ (r : Row). r.1) (slice_get rows i)) t
-entered_at-tokens_of [] i t = refl
-entered_at-tokens_of (e ∷ es) zero t = refl
-entered_at-tokens_of (e ∷ es) (suc i) t = entered_at-tokens_of es i t
+-- where a chain begins, the row's own name has the entered token
+pub entered_at-row : (rows : List Row) (i : ℕ) (t : Token) → IsChainAt (tokens_of rows) i → option_map_or (λ (n : Name). n.token) (option_map (λ (r : Row). r.0) (slice_get rows i)) t ≡ entered_at (tokens_of rows) i t
+entered_at-row rows i t there =
+    ap (λ o. option_map_or (λ (n : Name). n.token) o t) (name_at-row rows i ∙ ap (λ o. option_map (λ (u : Used). name_of u.member u.token) o) there.1.1)
+    ∙ sym (ap (λ o. option_map_or (λ (u : Used). u.entered) o t) there.1.1)
 
 -- the place of a used name among the rows
 pub row_place-used : (m : ℕ) (t : Token) (rows : List Row) → is_used (tokens_of rows) m t ≡ true → row_place (name_of m t) rows ≡ Some (place_of (tokens_of rows) m t)

@@ -6,7 +6,7 @@ use Rattle.hx_units.specs.declared.names.Token.{Token}
 use Rattle.hx_members.specs.declared.rows.UsedToken.{UsedToken}
 use Rattle.indexmap.specs.Layout.{set_value_at}
 use Rattle.hx_members.specs.Chains.{Used, Chain, is_use, is_used, place_of, note, noted, noted_at, entered_used, IsEnteredAt}
-use Rattle.hx_members.specs.Rows.{Row, updated, noted_rows, settled_rows, with_note, with_key, used_of, tokens_of, places_of, live_keys_of, is_entered, chain_of, chains_of, AreDistinct, AreChained, IsSound}
+use Rattle.hx_members.specs.Rows.{Row, updated, noted_rows, settled_rows, with_note, with_key, key_of, used_of, tokens_of, places_of, live_keys_of, is_entered, chain_of, chains_of, AreDistinct, AreChained, IsSound}
 use Rattle.hx_members.proofs.ChainLaws.{is_same-parts}
 use Rattle.hx_members.proofs.TokenLaws.{ChainRow, entered-row, some_same}
 
@@ -33,7 +33,7 @@ pub places_of-noted : (c n : ℕ) (d : Bool) (rows : List Row) → places_of (no
 places_of-noted c n d rows = unseen (λ r. r.1.chain) places_of (λ r l. refl) (with_note n d) (λ r. refl) c rows
 
 pub live_keys_of-noted : (c n : ℕ) (d : Bool) (rows : List Row) → live_keys_of (noted_rows c n d rows) ≡ live_keys_of rows
-live_keys_of-noted c n d rows = unseen (λ r. r.1.key) live_keys_of (λ r l. refl) (with_note n d) (λ r. refl) c rows
+live_keys_of-noted c n d rows = unseen (λ r. key_of r.1) live_keys_of (λ r l. refl) (with_note n d) (λ r. refl) c rows
 
 pub tokens_of-settled : (p : ℕ) (k : Option ℕ) (rows : List Row) → tokens_of (settled_rows p k rows) ≡ tokens_of rows
 tokens_of-settled p k rows = unseen used_of tokens_of (λ r l. refl) (with_key k) (λ r. refl) p rows
@@ -46,10 +46,15 @@ chains_of-settled p k [] = refl
 chains_of-settled zero k (x ∷ xs) = refl
 chains_of-settled (suc p) k (x ∷ xs) = ap chains_of (updated-next (with_key k) x xs p) ∙ ap (λ l. cond (is_entered x) (chain_of x ∷ l) l) (chains_of-settled p k xs)
 
+-- the key that was set is the key
+key_of-with_key : (k : Option ℕ) (u : UsedToken) → key_of (with_key k u) ≡ k
+key_of-with_key None u = refl
+key_of-with_key (Some n) u = refl
+
 pub live_keys_of-settled : (p : ℕ) (k : Option ℕ) (rows : List Row) → live_keys_of (settled_rows p k rows) ≡ slice_set (live_keys_of rows) p k
 live_keys_of-settled p k [] = refl
-live_keys_of-settled zero k (x ∷ xs) = refl
-live_keys_of-settled (suc p) k (x ∷ xs) = ap live_keys_of (updated-next (with_key k) x xs p) ∙ ap (λ l. x.1.key ∷ l) (live_keys_of-settled p k xs)
+live_keys_of-settled zero k (x ∷ xs) = ap (λ o. o ∷ live_keys_of xs) (key_of-with_key k x.1)
+live_keys_of-settled (suc p) k (x ∷ xs) = ap live_keys_of (updated-next (with_key k) x xs p) ∙ ap (λ l. key_of x.1 ∷ l) (live_keys_of-settled p k xs)
 
 sound-like : (old new : List Row) → tokens_of new ≡ tokens_of old → places_of new ≡ places_of old → IsSound old → IsSound new
 sound-like old new t p s =

@@ -1,8 +1,9 @@
 -- The rows of the map in which the used tokens are kept, in order of use.
-use Rattle.std.specs.Prelude.{◌≡◌, ℕ, ◌+◌, ◌==◌, ◌&&◌, ◌||◌, nat_lt, Bool, false, List, [], ◌∷◌, Option, Some, None, slice_get, suc, if◌then◌else◌}
+use Rattle.std.specs.Prelude.{◌≡◌, ℕ, ◌+◌, ◌==◌, ◌&&◌, ◌||◌, nat_lt, Bool, false, List, [], ◌∷◌, Option, Some, None, slice_get, unwrap_or, is_some, suc, if◌then◌else◌}
 use Rattle.std.specs.Option.{option_map, option_map_or}
 use Rattle.hx_units.specs.Names.{is_token}
 use Rattle.hx_units.specs.declared.names.Token.{Token}
+use Rattle.hx_units.specs.declared.known.Known.{Known}
 use Rattle.hx_members.specs.declared.name.Name.{Name}
 use Rattle.hx_members.specs.declared.rows.UsedToken.{UsedToken}
 use Rattle.hx_members.specs.declared.name.ChainFacts.{ChainFacts}
@@ -41,24 +42,44 @@ IsUnused name rows = row_place name rows ≡ None
 abbrev pub no_facts : ChainFacts
 no_facts = record { executed = 0; displayed = false; traded = false }
 
+-- the key of its live order
+abbrev pub key_of : UsedToken → Option ℕ
+key_of used = if used.has_key then Some used.key else None
+
+-- what its chain has done, at an entered token
+abbrev pub row_facts : UsedToken → ChainFacts
+row_facts used =
+    record { executed = used.executed; displayed = used.displayed; traded = used.traded }
+
+-- a token that contracts alone know
+abbrev pub known_of : Token → Known Token
+known_of token = record { marker = record {}; value = token }
+
 -- a token that is just used, in the chain of the entered token at a place
 abbrev pub fresh : Token → ℕ → UsedToken
-fresh entered chain = record { entered = entered; chain = chain; key = None; facts = no_facts }
+fresh entered chain =
+    record {
+      entered = known_of entered;
+      chain = chain;
+      key = 0;
+      executed = 0;
+      displayed = false;
+      traded = false;
+      has_key = false;
+    }
 
 -- a used token after its chain did so much more
 abbrev pub with_note : (shares : ℕ) → (displayed : Bool) → UsedToken → UsedToken
 with_note shares displayed used =
     record used {
-      facts = record {
-        executed = used.facts.executed + shares;
-        displayed = used.facts.displayed || displayed;
-        traded = used.facts.traded || nat_lt 0 shares;
-      };
+      executed = used.executed + shares;
+      displayed = used.displayed || displayed;
+      traded = used.traded || nat_lt 0 shares;
     }
 
 -- a used token with another key of its live order
 abbrev pub with_key : Option ℕ → UsedToken → UsedToken
-with_key key used = record used { key = key }
+with_key key used = record used { key = unwrap_or key 0; has_key = is_some key }
 
 -- the rows with the used token at a place changed, where there is one
 abbrev pub updated : (UsedToken → UsedToken) → ℕ → List Row → List Row
@@ -76,7 +97,7 @@ settled_rows place key rows = updated (with_key key) place rows
 -- what is told of the token at a place, by its row and the row of its chain
 abbrev pub told_of : List Row → Row → Option TokenState
 told_of rows row =
-    option_map (λ e. record { chain = row.1.chain; facts = e.1.facts; key = row.1.key })
+    option_map (λ e. record { chain = row.1.chain; facts = row_facts e.1; key = key_of row.1 })
     (slice_get rows row.1.chain)
 
 -- what is told of a name
@@ -87,7 +108,7 @@ row_state name rows =
 
 -- what the rows stand for: the used tokens, the places of their chains, the keys of their live orders, and the chains
 abbrev pub used_of : Row → Used
-used_of row = record { member = row.0.member; token = row.0.token; entered = row.1.entered }
+used_of row = record { member = row.0.member; token = row.0.token; entered = row.1.entered.value }
 
 abbrev pub tokens_of : List Row → List Used
 tokens_of [] = []
@@ -99,11 +120,11 @@ places_of (row ∷ rows) = row.1.chain ∷ places_of rows
 
 abbrev pub live_keys_of : List Row → List (Option ℕ)
 live_keys_of [] = []
-live_keys_of (row ∷ rows) = row.1.key ∷ live_keys_of rows
+live_keys_of (row ∷ rows) = key_of row.1 ∷ live_keys_of rows
 
 -- whether the row's token was entered, and replaced none
 abbrev pub is_entered : Row → Bool
-is_entered row = is_token row.0.token row.1.entered
+is_entered row = is_token row.0.token row.1.entered.value
 
 -- the chain of an entered token
 abbrev pub chain_of : Row → Chain
@@ -111,9 +132,9 @@ chain_of row =
     record {
       member = row.0.member;
       entered = row.0.token;
-      executed = row.1.facts.executed;
-      displayed = row.1.facts.displayed;
-      traded = row.1.facts.traded;
+      executed = row.1.executed;
+      displayed = row.1.displayed;
+      traded = row.1.traded;
     }
 
 abbrev pub chains_of : List Row → List Chain

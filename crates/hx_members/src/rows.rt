@@ -1,42 +1,65 @@
 //! The rows of the used tokens, in order of use.
 ghost use Rattle.std.specs.Prelude.{◌≡◌, ◌+◌, ◌<◌, ◌^◌, ◌++◌, [], ◌∷◌, length, Some, None, OnOk, OnErr, slice_get, true};
-ghost use Rattle.std.specs.Option.{option_map};
-ghost use Rattle.hx_members.specs.Chains.{entered_at};
+ghost use Rattle.std.specs.Option.{option_map, option_copied};
+ghost use Rattle.hx_members.specs.Chains.{entered_at, IsChainAt};
 ghost use Rattle.hx_members.specs.Rows.{Row, IsUnused, AreDistinct, is_name, tokens_of, row_place, row_state, noted_rows, settled_rows};
 
 use crate::name::{ChainFacts, Name, TokenState};
 use crate::seed::Seed;
-use hx_units::{NoMemory, Token};
+use hx_units::{Known, NoMemory, Token};
 use indexmap::IndexMap;
 use std::alloc::Global;
 use std::marker::Model;
 
 /// A used token: the entered token of its chain and that token's place, the key of its live order, and at an entered
 /// token what the chain has done.
-#[derive(Clone, Copy, Debug)]
+#[derive(Drop)]
 pub(crate) struct UsedToken {
-    pub entered: Token,
+    // Known to contracts alone: the row at the place `chain` has it as its name.
+    pub entered: Known<Token>,
     pub chain: u64,
-    pub key: Option<usize>,
-    pub facts: ChainFacts,
+    // The key, where `has_key`: an `Option` would take eight bytes more.
+    pub key: usize,
+    // What the chain has done, in the eight bytes that it shares with `has_key`.
+    pub executed: u32,
+    pub displayed: bool,
+    pub traded: bool,
+    pub has_key: bool,
 }
 
 impl UsedToken {
-    ghost use Rattle.hx_members.specs.Rows.{fresh};
+    ghost use Rattle.hx_members.specs.Rows.{fresh, key_of, row_facts};
 
     /// A token that is just used, in the chain of the entered token at a place.
     pub(crate) fn fresh(entered: Token, chain: u64) -> UsedToken
         ensures { result ≡ fresh entered chain }
     {
         UsedToken {
-            entered,
+            entered: Known::of(&entered),
             chain,
-            key: None,
-            facts: ChainFacts {
-                executed: 0,
-                displayed: false,
-                traded: false,
-            },
+            key: 0,
+            executed: 0,
+            displayed: false,
+            traded: false,
+            has_key: false,
+        }
+    }
+
+    /// The key of its live order.
+    pub(crate) fn key(&self) -> Option<usize>
+        ensures { result ≡ key_of self.now }
+    {
+        if self.has_key { Some(self.key) } else { None }
+    }
+
+    /// What its chain has done, where it begins one.
+    pub(crate) fn facts(&self) -> ChainFacts
+        ensures { result ≡ row_facts self.now }
+    {
+        ChainFacts {
+            executed: self.executed,
+            displayed: self.displayed,
+            traded: self.traded,
         }
     }
 }
@@ -132,11 +155,12 @@ impl Rows {
     }
 
     /// The row at a place, without its name.
-    pub(crate) fn at(&self, place: usize) -> Option<UsedToken>
-        ensures { result ≡ option_map (λ (row : Row). row.1) (slice_get self.now.rows place) }
+    pub(crate) fn at(&self, place: usize) -> Option<&UsedToken>
+        ensures { option_copied result
+            ≡ option_map (λ (row : Row). row.1) (slice_get self.now.rows place) }
     {
         let (_, used) = self.map.get_index(place)?;
-        Some(*used)
+        Some(used)
     }
 
     /// The name of the row at a place.
@@ -147,12 +171,13 @@ impl Rows {
         Some(*name)
     }
 
-    /// The entered token of the row at a place, or the given one where there is no row.
+    /// The entered token of the chain that begins at a place: the token of that row's name.
     pub(crate) fn entered(&self, place: usize, token: Token) -> Token
+        requires { IsChainAt (tokens_of self.now.rows) place }
         ensures { result ≡ entered_at (tokens_of self.now.rows) place token }
     {
-        match self.at(place) {
-            Some(used) => used.entered,
+        match self.name_at(place) {
+            Some(name) => name.token,
             None => token,
         }
     }
@@ -165,8 +190,8 @@ impl Rows {
         let entered = self.at(used.chain as usize)?;
         Some(TokenState {
             chain: used.chain,
-            facts: entered.facts,
-            key: used.key,
+            facts: entered.facts(),
+            key: used.key(),
         })
     }
 
@@ -176,23 +201,22 @@ impl Rows {
         ensures place { self.new.place ≡ self.old.place }
     {
         if let Some(used) = self.map.get_index_mut(place) {
-            used.key = key;
+            used.key = key.unwrap_or(0);
+            used.has_key = key.is_some();
         }
     }
 
     /// Adds to what the chain at a place has done.
     pub(crate) fn note(&mut self, chain: usize, shares: u32, displayed: bool)
         requires { (row : Row) × (slice_get self.old.rows chain ≡ Some row)
-            × (row.1.facts.executed + shares < 2 ^ 32) }
+            × (row.1.executed + shares < 2 ^ 32) }
         ensures rows { self.new.rows ≡ noted_rows chain shares displayed self.old.rows }
         ensures place { self.new.place ≡ self.old.place }
     {
         if let Some(used) = self.map.get_index_mut(chain) {
-            used.facts = ChainFacts {
-                executed: used.facts.executed + shares,
-                displayed: used.facts.displayed || displayed,
-                traded: used.facts.traded || shares > 0,
-            };
+            used.executed += shares;
+            used.displayed = used.displayed || displayed;
+            used.traded = used.traded || shares > 0;
         }
     }
 }

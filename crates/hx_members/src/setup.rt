@@ -217,8 +217,18 @@ impl Setup {
         self.locates.get(&symbol).copied()
     }
 
-    /// The member of this number, if there is one.
+    /// The member of this number, if there is one. Where numbers count from 1 without a gap, nothing is hashed.
     pub fn member(&self, number: MemberNo) -> Option<&Member>
+        ensures { option_map (λ m. m.now) result ≡ member_of self.now number }
+    {
+        match self.members.get(number.get() as usize - 1) {
+            Some(member) if member.number == number => Some(member),
+            _ => self.member_by_index(number),
+        }
+    }
+
+    /// The same, by the index.
+    fn member_by_index(&self, number: MemberNo) -> Option<&Member>
         ensures { option_map (λ m. m.now) result ≡ member_of self.now number }
     {
         let place = *self.places.get(&number)?;

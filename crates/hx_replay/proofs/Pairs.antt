@@ -2,7 +2,7 @@
 use Rattle.std.proofs.Common.{◌≡◌, ℕ, zero, suc, ◌+◌, ◌*◌, ◌/◌, ◌%◌, ◌<◌, ◌≤◌, List, [], ◌∷◌, ◌++◌, length, take, drop, set, get_or, slice_index, refl, sym, ap, ◌∙◌, append_assoc, arith, Fits, w8, inl, inr, ltb-true, ltb-false}
 use Rattle.std.specs.Prelude.{◌≢◌, ◌&&◌, ◌⊎◌, Bool, true, false, nat_lt}
 use Rattle.std.proofs.lemmas.Bool.{and_parts, and_cases}
-use Rattle.std.proofs.lemmas.List.{take_more_set, take_all}
+use Rattle.std.proofs.lemmas.List.{take_more_set}
 use Rattle.std.proofs.Math.Seq.{take-suc, take-append_seam}
 use Rattle.hex.specs.Hex.{encode_lower, encode_with, lower_digits, IsBytes}
 use Rattle.hex.proofs.HexLemmas.{length-encode_with}
@@ -34,10 +34,6 @@ read_more text bytes i b size lt so_far high low =
     ∙ ap (λ (x : ℕ). take (2 * i) text ++ x ∷ low_digit b ∷ []) (sym high) ∙ ap (λ (x : ℕ). take (2 * i) text ++ get_or text (2 * i) 0 ∷ x ∷ []) (sym low)
     ∙ sym (take_two text i (omega arith))
 
--- all are read
-pub read_all : (text bytes : List ℕ) (i : ℕ) → length text ≡ 2 * length bytes → length bytes ≤ i → encode_lower (take i bytes) ≡ take (2 * i) text → text ≡ encode_lower bytes
-read_all text bytes i size le so_far = sym (ap encode_lower (sym (take_all i bytes le)) ∙ so_far ∙ take_all (2 * i) text (omega arith))
-
 digits_at : (xs : List ℕ) (i : ℕ) → i < length xs → (get_or (encode_lower xs) (2 * i) 0 ≡ high_digit (get_or xs i 0)) × (get_or (encode_lower xs) (2 * i + 1) 0 ≡ low_digit (get_or xs i 0))
 unfolding encode_with
 digits_at [] i lt = absurd (omega arith)
@@ -66,7 +62,7 @@ pub byte_fits : (b : ℕ) → Fits w8 b → b < 256
 byte_fits b h = omega (arith, h)
 
 -- the byte of two values
-pub byte_parts : (h l : ℕ) → h < 16 → l < 16 → ((h * 16 % 256 + l) % 256 / 16 ≡ h) × ((h * 16 % 256 + l) % 256 % 16 ≡ l)
+byte_parts : (h l : ℕ) → h < 16 → l < 16 → ((h * 16 % 256 + l) % 256 / 16 ≡ h) × ((h * 16 % 256 + l) % 256 % 16 ≡ l)
 byte_parts h l hs ls = (omega (arith, hs, ls), omega (arith, hs, ls))
 
 -- two digits more are read, where all so far were digits

@@ -1,9 +1,10 @@
 //! The units of the exchange: prices, shares, times, members, sides and names, each exactly in its range;
-//! and the fields of a binary message.
+//! the fields of a binary message; and what contracts alone know.
 #![tactic(auto)]
 
 pub mod fields;
 mod heartbeat;
+mod known;
 mod member;
 mod memory;
 mod names;
@@ -13,6 +14,7 @@ mod side;
 mod time;
 
 pub use heartbeat::is_heartbeat_due;
+pub use known::Known;
 pub use member::MemberNo;
 pub use memory::NoMemory;
 pub use names::{Firm, Symbol, Token};

@@ -1,21 +1,18 @@
-use Rattle.std.proofs.Common.{◌==◌, None, slice_get, ap, ◌∙◌}
-use Rattle.std.specs.Map.{lookup}
-use Rattle.std.specs.Option.{option_map, option_map_or}
-use Rattle.hx_members.specs.declared.stock.Member.{Member}
+use Rattle.std.proofs.Common.{◌≡◌, ◌-◌, Some, slice_get, ap, sym, ◌∙◌}
+use Rattle.std.specs.Option.{option_map}
+use Rattle.std.proofs.lemmas.Bool.Decides.{Decides-eqb}
 use Rattle.hx_members.specs.Setups.{member_of}
-use Rattle.hx_members.proofs.SetupLaws.{find-places_by, read-item}
+use Rattle.hx_members.proofs.SetupLaws.{apart-numbers, member-at, read-item}
 use Rattle.hx_members.proofs.setup.Setup.member.Goals as goal
 
-pub returns-in_err-place : goal.returns-in_err-place
-returns-in_err-place c =
+pub returns-in-Some : goal.returns-in-Some
+returns-in-Some c =
     let members = c.self.inside.members.items in
-    ap (option_map (λ m. m.now)) c.from_residual.ensures
-    ∙ ap (λ o. option_map_or (λ p. slice_get members p) o None) (c.in_err-place.ensures.value ∙ ap (lookup (λ k. c.args.number == k)) c.self.invariant.2)
-    ∙ find-places_by (λ a b. a == b) (λ (m : Member). m.number) (λ k. c.args.number == k) members ∙ ap (λ v. member_of v c.args.number) c.self.view_is
-
-pub returns : goal.returns
-returns c =
-    let members = c.self.inside.members.items in
-    read-item c.get-2.result c.deref.result.now c.in_ok-place.field-0.now c.get-2.ensures.lookup.0 c.get-2.ensures.lookup.1 ∙ ap (λ l. slice_get l c.in_ok-place.field-0.now) c.deref.ensures.value
-    ∙ ap (λ o. option_map_or (λ p. slice_get members p) o None) (c.in_ok-place.ensures.value ∙ ap (lookup (λ k. c.args.number == k)) c.self.invariant.2)
-    ∙ find-places_by (λ a b. a == b) (λ (m : Member). m.number) (λ k. c.args.number == k) members ∙ ap (λ v. member_of v c.args.number) c.self.view_is
+    let place = c.get.result - 1 in
+    let member = c.in-Some.member.now in
+    let there : slice_get members place ≡ Some member =
+    ap (λ l. slice_get l place) (sym c.deref.ensures.value) ∙ sym (read-item c.get-2.result c.deref.result.now place c.get-2.ensures.lookup.0 c.get-2.ensures.lookup.1)
+    ∙ ap (option_map (λ m. m.now)) c.in-Some.is
+    in
+    let same : c.args.number ≡ member.number = sym ((Decides-eqb member.number c.args.number).0 (sym c.if-eq.ensures)) in
+    sym (member-at members place member c.args.number (apart-numbers members c.self.invariant.0.numbers) there same) ∙ ap (λ v. member_of v c.args.number) c.self.view_is

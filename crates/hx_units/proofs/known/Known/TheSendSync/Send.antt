@@ -1,7 +1,7 @@
 -- What contracts alone know owns nothing, so it may go to any thread.
 use denote.RattleType.{RattleType}
 use denote.Param.Send.{IsSend}
-use Rattle.hx_market.specs.contracts.known.Known.{the_row}
+use Rattle.hx_units.specs.contracts.known.Known.{the_row}
 
 pub send : (T : RattleType) → IsSend (the_row T)
 send T = record { owned = λ d vs. ((λ vss. (tt, ((λ uss. (tt, tt)), tt))), tt); leaving = λ k f vs. tt }

@@ -34,10 +34,10 @@ use denote.Triple.Entry.{on_entry, alive}
 use denote.Triple.Spec.{Meets, triple_of}
 use denote.Triple.Table.{entered}
 use denote.Triple.Walked.{says, Stays, stay_dropped, walk_of, ends_at, Goes-dropped, walk_Meets}
-use Rattle.hx_market.specs.contracts.known.Known.of.{ended, clauses}
-use Rattle.hx_market.specs.contracts.known.Known.of.Key.{name as #self}
-use Rattle.hx_market.proofs.known.Known.of.Statement as stated
-use Rattle.hx_market.proofs.known.Known.of.Code as code
+use Rattle.hx_units.specs.contracts.known.Known.of.{ended, clauses}
+use Rattle.hx_units.specs.contracts.known.Known.of.Key.{name as #self}
+use Rattle.hx_units.proofs.known.Known.of.Statement as stated
+use Rattle.hx_units.proofs.known.Known.of.Code as code
 
 module _ (Y : RattleType) where
   abbrev R : RattleType
