@@ -6,9 +6,7 @@ ghost use Rattle.hx_levels.specs.Book.{terms_of, has_key, order_of, KeysDiffer, 
 ghost use Rattle.std.specs.Option.{option_copied, option_map, is_some};
 
 use crate::book::Book;
-use crate::levels::{
-    Level, drop_empty, drop_if_empty, ends_at, first_from, join_queue, leave_queue, make_level,
-};
+use crate::levels::{Level, drop_empty, ends_at, first_from, join_queue, leave_level, make_level};
 use crate::nodes::{Ends, Node, link_last, take_shares, unlink};
 use crate::order::{Key, Order, Terms};
 use crate::rung::Rung;
@@ -203,8 +201,7 @@ impl LevelBook {
         let node = unlink(&mut self.nodes, key.0);
         let rung = rung_of(&node.order);
         let shown = node.order.shown;
-        let left = leave_queue(&mut self.levels, rung, shown, node.queue);
-        drop_if_empty(&mut self.levels, rung, self.kept, shown, left);
+        leave_level(&mut self.levels, rung, shown, node.queue, self.kept);
         self.time = self.time.without(node.time);
         node.order
     }
