@@ -6,14 +6,13 @@ ghost use Rattle.hx_levels.specs.Book.{terms_of, has_key, order_of, KeysDiffer, 
 ghost use Rattle.std.specs.Option.{option_copied, option_map, is_some};
 
 use crate::book::Book;
-use crate::levels::{Level, drop_empty, ends_at, first_from, join_queue, leave_level, make_level};
+use crate::ladders::Ladders;
 use crate::nodes::{Ends, Node, link_last, take_shares, unlink};
 use crate::order::{Key, Order, Terms};
 use crate::rung::Rung;
 use hx_units::{NoMemory, Price, Side};
 use slab::Slab;
 use std::alloc::Global;
-use std::collections::BTreeMap;
 use std::marker::Model;
 
 // A number above each price: the distance of a buy's level counts down from it.
@@ -23,7 +22,7 @@ const ABOVE_PRICES: u32 = 2_000_000_000;
 /// whether they are shown. A call takes time in proportion to the logarithm of the number of levels at most.
 pub struct LevelBook {
     nodes: Slab<Node>,
-    levels: BTreeMap<Rung, Level>,
+    ladders: Ladders,
     time: Ends,
     place: Option<Terms>,
     // The level of the reserved place. It stays also where it is empty.
@@ -35,7 +34,7 @@ impl Drop for LevelBook {
     fn drop(self) {
         let LevelBook {
             nodes: _,
-            levels: _,
+            ladders: _,
             time: _,
             place: _,
             kept: _,
@@ -51,7 +50,7 @@ impl Model for LevelBook {
 
     ghost view = { λ b. record { orders = walked b.nodes b.time; place = b.place } };
 
-    ghost invariant = { λ b. IsBook b.nodes b.levels b.time b.place b.kept
+    ghost invariant = { λ b. IsBook b.nodes b.ladders.levels b.time b.place b.kept
         (walked b.nodes b.time) };
 }
 
@@ -63,7 +62,7 @@ impl LevelBook {
     {
         LevelBook {
             nodes: Slab::new(alloc),
-            levels: BTreeMap::new(alloc),
+            ladders: Ladders::new(alloc),
             time: Ends {
                 first: None,
                 last: None,
@@ -86,7 +85,7 @@ impl LevelBook {
         let _price = order.price.get();
         let rung = rung_of(&order);
         let key = self.nodes.vacant_key();
-        let last = join_queue(&mut self.levels, rung, order.shown, key);
+        let last = self.ladders.join_queue(rung, order.shown, key);
         let key = link_last(&mut self.nodes, order, last, self.time.last);
         self.time = self.time.with(key);
         self.place = None;
@@ -138,7 +137,7 @@ impl LevelBook {
         ensures keys { KeysDiffer self.now.orders }
     {
         let (rung, limit) = contra_of(terms);
-        match first_from(&self.levels, rung, limit) {
+        match self.ladders.first_from(rung, limit) {
             Some(key) => Some(Key(key)),
             None => None,
         }
@@ -154,13 +153,13 @@ impl LevelBook {
             return Some(Key(next));
         }
         let rung = rung_of(&node.order);
-        let hidden = ends_at(&self.levels, rung, false).first;
+        let hidden = self.ladders.ends_at(rung, false).first;
         match hidden {
             Some(next) if node.order.shown => Some(Key(next)),
             _ => {
                 let (_, limit) = contra_of(terms);
                 let from = rung.at(rung.distance() + 1);
-                match first_from(&self.levels, from, limit) {
+                match self.ladders.first_from(from, limit) {
                     Some(next) => Some(Key(next)),
                     None => None,
                 }
@@ -201,7 +200,7 @@ impl LevelBook {
         let node = unlink(&mut self.nodes, key.0);
         let rung = rung_of(&node.order);
         let shown = node.order.shown;
-        leave_level(&mut self.levels, rung, shown, node.queue, self.kept);
+        self.ladders.leave_level(rung, shown, node.queue, self.kept);
         self.time = self.time.without(node.time);
         node.order
     }
@@ -221,9 +220,9 @@ impl LevelBook {
     {
         let rung = rung_at(&terms);
         self.nodes.reserve(1)?;
-        make_level(&mut self.levels, rung)?;
+        self.ladders.make_level(rung)?;
         if let Some(old) = self.kept {
-            drop_empty(&mut self.levels, old, Some(rung));
+            self.ladders.drop_empty(old, Some(rung));
         }
         self.kept = Some(rung);
         self.place = Some(terms);

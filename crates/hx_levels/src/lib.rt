@@ -1,7 +1,9 @@
 //! The book: the live orders in time order, each under its key.
 #![tactic(auto)]
 
+mod bests;
 mod book;
+mod ladders;
 mod level_book;
 mod levels;
 mod list_book;

@@ -1,10 +1,10 @@
 //! Where a level of a book stands.
-ghost use Rattle.std.specs.Prelude.{◌≡◌, true, false};
+ghost use Rattle.std.specs.Prelude.{◌≡◌, ◌<◌, true, false};
 ghost use Rattle.std.proofs.Common.{rules};
 ghost use Rattle.std.specs.Ordering.{as_partial_cmp, eq_by_cmp};
 ghost use Rattle.std.specs.Cmp.{partial_equiv_from_equiv, partial_order_from_own_ties};
 ghost use Rattle.std.specs.Cmp.Rules.{comparing};
-ghost use Rattle.hx_levels.specs.Levels.{Rung, rung_cmp};
+ghost use Rattle.hx_levels.specs.Levels.{Rung, rung_cmp, side_number};
 
 use std::cmp::Ordering;
 use std::marker::Model;
@@ -46,6 +46,14 @@ impl Rung {
         ensures no { result ≡ false → self.locate ≡ other.locate → self.buy ≡ other.buy → ⊥ }
     {
         self.number / DISTANCES == other.number / DISTANCES
+    }
+
+    /// The number of its stock's side: of each stock the sells, then the buys.
+    pub fn side_number(self) -> usize
+        ensures number { result ≡ side_number self }
+        ensures small { result < 4294967296 }
+    {
+        (self.number / DISTANCES) as usize
     }
 
     /// How far its price is from the best.

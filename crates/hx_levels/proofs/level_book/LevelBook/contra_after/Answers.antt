@@ -45,14 +45,14 @@ returns-in-Some-clause-exact c =
     let ranked : IsRanked terms key orders = subst (λ v. IsRanked terms key v.orders) (sym c.self.view_is) c.requires in
     let node = c.unwrap-node.result.now in
     let stored : get i.nodes key ≡ Some node = sym c.get.ensures ∙ ap option_copied c.unwrap-node.ensures in
-    let live = (rank i.nodes i.levels i.time i.place i.kept orders c.self.invariant terms key ranked node stored).live in
-    next_queued i.nodes i.levels i.time i.place i.kept orders c.self.invariant terms key ranked node stored c.in-Some.next c.in-Some.is
+    let live = (rank i.nodes i.ladders.levels i.time i.place i.kept orders c.self.invariant terms key ranked node stored).live in
+    next_queued i.nodes i.ladders.levels i.time i.place i.kept orders c.self.invariant terms key ranked node stored c.in-Some.next c.in-Some.is
     ∙ ap (λ v. next_by_rank terms (Some c.args.key) v.orders) c.self.view_is
 
 pub first_from-requires-clause-single : goal.first_from-requires-clause-single
 first_from-requires-clause-single c =
     let i = c.self.inside in
-    λ a b p q. one_empty i.nodes i.levels i.time i.place i.kept (walked i.nodes i.time) c.self.invariant c.args.terms.now a b p q
+    λ a b p q. one_empty i.nodes i.ladders.levels i.time i.place i.kept (walked i.nodes i.time) c.self.invariant c.args.terms.now a b p q
 
 pub returns-in-Some-hidden-clause-exact : goal.returns-in-Some-hidden-clause-exact
 returns-in-Some-hidden-clause-exact c =
@@ -63,15 +63,15 @@ returns-in-Some-hidden-clause-exact c =
     let ranked : IsRanked terms key orders = subst (λ v. IsRanked terms key v.orders) (sym c.self.view_is) c.requires in
     let node = c.unwrap-node.result.now in
     let stored : get i.nodes key ≡ Some node = sym c.get.ensures ∙ ap option_copied c.unwrap-node.ensures in
-    let live = (rank i.nodes i.levels i.time i.place i.kept orders c.self.invariant terms key ranked node stored).live in
+    let live = (rank i.nodes i.ladders.levels i.time i.place i.kept orders c.self.invariant terms key ranked node stored).live in
     let at : c.rung_of-rung.result ≡ contra terms (distance_of live) =
     c.rung_of-rung.ensures.rung
-    ∙ ap (λ (o : Order). rung_of (terms_of o)) (node_order i.nodes i.levels i.time i.place i.kept orders c.self.invariant terms key ranked node stored)
-    ∙ (live_rung i.nodes i.levels i.time i.place i.kept orders c.self.invariant terms key ranked node stored).0 in
-    let shown : node.order.shown ≡ live.order.shown = ap (λ (o : Order). o.shown) (node_order i.nodes i.levels i.time i.place i.kept orders c.self.invariant terms key ranked node stored) in
-    let hidden : c.ends_at-hidden.result.first ≡ first_at i.levels terms.locate (not (is_buy terms.side)) (distance_of live) false =
-    ap (λ (e : Ends). e.first) (c.ends_at-hidden.ensures ∙ ap (λ r. ends_in false (level_at i.levels r)) at) in
-    next_hidden i.nodes i.levels i.time i.place i.kept orders c.self.invariant terms key ranked node stored c.in-Some-hidden.next c.in_default.is (sym shown ∙ c.if-node.true) (sym hidden ∙ c.in-Some-hidden.is)
+    ∙ ap (λ (o : Order). rung_of (terms_of o)) (node_order i.nodes i.ladders.levels i.time i.place i.kept orders c.self.invariant terms key ranked node stored)
+    ∙ (live_rung i.nodes i.ladders.levels i.time i.place i.kept orders c.self.invariant terms key ranked node stored).0 in
+    let shown : node.order.shown ≡ live.order.shown = ap (λ (o : Order). o.shown) (node_order i.nodes i.ladders.levels i.time i.place i.kept orders c.self.invariant terms key ranked node stored) in
+    let hidden : c.ends_at-hidden.result.first ≡ first_at i.ladders.levels terms.locate (not (is_buy terms.side)) (distance_of live) false =
+    ap (λ (e : Ends). e.first) (c.ends_at-hidden.ensures ∙ ap (λ r. ends_in false (level_at i.ladders.levels r)) at) in
+    next_hidden i.nodes i.ladders.levels i.time i.place i.kept orders c.self.invariant terms key ranked node stored c.in-Some-hidden.next c.in_default.is (sym shown ∙ c.if-node.true) (sym hidden ∙ c.in-Some-hidden.is)
     ∙ ap (λ v. next_by_rank terms (Some c.args.key) v.orders) c.self.view_is
 
 pub returns-in-Some-first_from-clause-exact : goal.returns-in-Some-first_from-clause-exact
@@ -83,25 +83,25 @@ returns-in-Some-first_from-clause-exact c =
     let ranked : IsRanked terms key orders = subst (λ v. IsRanked terms key v.orders) (sym c.self.view_is) c.requires in
     let node = c.unwrap-node.result.now in
     let stored : get i.nodes key ≡ Some node = sym c.get.ensures ∙ ap option_copied c.unwrap-node.ensures in
-    let live = (rank i.nodes i.levels i.time i.place i.kept orders c.self.invariant terms key ranked node stored).live in
+    let live = (rank i.nodes i.ladders.levels i.time i.place i.kept orders c.self.invariant terms key ranked node stored).live in
     let at : c.rung_of-rung.result ≡ contra terms (distance_of live) =
     c.rung_of-rung.ensures.rung
-    ∙ ap (λ (o : Order). rung_of (terms_of o)) (node_order i.nodes i.levels i.time i.place i.kept orders c.self.invariant terms key ranked node stored)
-    ∙ (live_rung i.nodes i.levels i.time i.place i.kept orders c.self.invariant terms key ranked node stored).0 in
-    let shown : node.order.shown ≡ live.order.shown = ap (λ (o : Order). o.shown) (node_order i.nodes i.levels i.time i.place i.kept orders c.self.invariant terms key ranked node stored) in
-    let hidden : c.ends_at-hidden.result.first ≡ first_at i.levels terms.locate (not (is_buy terms.side)) (distance_of live) false =
-    ap (λ (e : Ends). e.first) (c.ends_at-hidden.ensures ∙ ap (λ r. ends_in false (level_at i.levels r)) at) in
-    let empty : live.order.shown ≡ true → first_at i.levels terms.locate (not (is_buy terms.side)) (distance_of live) false ≡ None =
+    ∙ ap (λ (o : Order). rung_of (terms_of o)) (node_order i.nodes i.ladders.levels i.time i.place i.kept orders c.self.invariant terms key ranked node stored)
+    ∙ (live_rung i.nodes i.ladders.levels i.time i.place i.kept orders c.self.invariant terms key ranked node stored).0 in
+    let shown : node.order.shown ≡ live.order.shown = ap (λ (o : Order). o.shown) (node_order i.nodes i.ladders.levels i.time i.place i.kept orders c.self.invariant terms key ranked node stored) in
+    let hidden : c.ends_at-hidden.result.first ≡ first_at i.ladders.levels terms.locate (not (is_buy terms.side)) (distance_of live) false =
+    ap (λ (e : Ends). e.first) (c.ends_at-hidden.ensures ∙ ap (λ r. ends_in false (level_at i.ladders.levels r)) at) in
+    let empty : live.order.shown ≡ true → first_at i.ladders.levels terms.locate (not (is_buy terms.side)) (distance_of live) false ≡ None =
     λ t. sym hidden ∙ elim c.in_default-hidden.branch [
       | in_default-hidden-via-in-Some-hidden+else-node w ↦ absurd (true≢false (sym t ∙ sym shown ∙ w.if-node.false))
       | in_default-hidden-via-in_default-hidden w ↦ w.in_default-hidden.is
     ] in
     let behind : c.at-from.result ≡ record c.rung_of-rung.result { distance = c.rung_of-rung.result.distance + 1 } =
     c.at-from.ensures ∙ ap (λ n. record c.rung_of-rung.result { distance = n + 1 }) c.distance.ensures in
-    next_level i.nodes i.levels i.time i.place i.kept orders c.self.invariant terms key ranked node stored c.in_default.is empty c.in-Some-first_from.next
-    (subst (λ n. IsFirstFrom i.levels terms.locate (not (is_buy terms.side)) (distance_of live + 1) n c.in-Some-first_from.next) c.contra_of-limit.ensures.limit
-    (subst (λ (r : Rung). IsFirstFrom i.levels r.locate r.buy (r.distance + 1) c.contra_of-limit.result.1 c.in-Some-first_from.next) at
-    (subst (λ (r : Rung). IsFirstFrom i.levels r.locate r.buy r.distance c.contra_of-limit.result.1 c.in-Some-first_from.next) behind c.in-Some-first_from.ensures.found)))
+    next_level i.nodes i.ladders.levels i.time i.place i.kept orders c.self.invariant terms key ranked node stored c.in_default.is empty c.in-Some-first_from.next
+    (subst (λ n. IsFirstFrom i.ladders.levels terms.locate (not (is_buy terms.side)) (distance_of live + 1) n c.in-Some-first_from.next) c.contra_of-limit.ensures.limit
+    (subst (λ (r : Rung). IsFirstFrom i.ladders.levels r.locate r.buy (r.distance + 1) c.contra_of-limit.result.1 c.in-Some-first_from.next) at
+    (subst (λ (r : Rung). IsFirstFrom i.ladders.levels r.locate r.buy r.distance c.contra_of-limit.result.1 c.in-Some-first_from.next) behind c.in-Some-first_from.ensures.found)))
     ∙ ap (λ v. next_by_rank terms (Some c.args.key) v.orders) c.self.view_is
 
 pub returns-in-None-clause-exact : goal.returns-in-None-clause-exact
@@ -113,23 +113,23 @@ returns-in-None-clause-exact c =
     let ranked : IsRanked terms key orders = subst (λ v. IsRanked terms key v.orders) (sym c.self.view_is) c.requires in
     let node = c.unwrap-node.result.now in
     let stored : get i.nodes key ≡ Some node = sym c.get.ensures ∙ ap option_copied c.unwrap-node.ensures in
-    let live = (rank i.nodes i.levels i.time i.place i.kept orders c.self.invariant terms key ranked node stored).live in
+    let live = (rank i.nodes i.ladders.levels i.time i.place i.kept orders c.self.invariant terms key ranked node stored).live in
     let at : c.rung_of-rung.result ≡ contra terms (distance_of live) =
     c.rung_of-rung.ensures.rung
-    ∙ ap (λ (o : Order). rung_of (terms_of o)) (node_order i.nodes i.levels i.time i.place i.kept orders c.self.invariant terms key ranked node stored)
-    ∙ (live_rung i.nodes i.levels i.time i.place i.kept orders c.self.invariant terms key ranked node stored).0 in
-    let shown : node.order.shown ≡ live.order.shown = ap (λ (o : Order). o.shown) (node_order i.nodes i.levels i.time i.place i.kept orders c.self.invariant terms key ranked node stored) in
-    let hidden : c.ends_at-hidden.result.first ≡ first_at i.levels terms.locate (not (is_buy terms.side)) (distance_of live) false =
-    ap (λ (e : Ends). e.first) (c.ends_at-hidden.ensures ∙ ap (λ r. ends_in false (level_at i.levels r)) at) in
-    let empty : live.order.shown ≡ true → first_at i.levels terms.locate (not (is_buy terms.side)) (distance_of live) false ≡ None =
+    ∙ ap (λ (o : Order). rung_of (terms_of o)) (node_order i.nodes i.ladders.levels i.time i.place i.kept orders c.self.invariant terms key ranked node stored)
+    ∙ (live_rung i.nodes i.ladders.levels i.time i.place i.kept orders c.self.invariant terms key ranked node stored).0 in
+    let shown : node.order.shown ≡ live.order.shown = ap (λ (o : Order). o.shown) (node_order i.nodes i.ladders.levels i.time i.place i.kept orders c.self.invariant terms key ranked node stored) in
+    let hidden : c.ends_at-hidden.result.first ≡ first_at i.ladders.levels terms.locate (not (is_buy terms.side)) (distance_of live) false =
+    ap (λ (e : Ends). e.first) (c.ends_at-hidden.ensures ∙ ap (λ r. ends_in false (level_at i.ladders.levels r)) at) in
+    let empty : live.order.shown ≡ true → first_at i.ladders.levels terms.locate (not (is_buy terms.side)) (distance_of live) false ≡ None =
     λ t. sym hidden ∙ elim c.in_default-hidden.branch [
       | in_default-hidden-via-in-Some-hidden+else-node w ↦ absurd (true≢false (sym t ∙ sym shown ∙ w.if-node.false))
       | in_default-hidden-via-in_default-hidden w ↦ w.in_default-hidden.is
     ] in
     let behind : c.at-from.result ≡ record c.rung_of-rung.result { distance = c.rung_of-rung.result.distance + 1 } =
     c.at-from.ensures ∙ ap (λ n. record c.rung_of-rung.result { distance = n + 1 }) c.distance.ensures in
-    next_none i.nodes i.levels i.time i.place i.kept orders c.self.invariant terms key ranked node stored c.in_default.is empty
-    (subst (λ n. (d : ℕ) (s : Bool) → distance_of live + 1 ≤ d → d ≤ n → first_at i.levels terms.locate (not (is_buy terms.side)) d s ≡ None) c.contra_of-limit.ensures.limit
-    (subst (λ (r : Rung). (d : ℕ) (s : Bool) → r.distance + 1 ≤ d → d ≤ c.contra_of-limit.result.1 → first_at i.levels r.locate r.buy d s ≡ None) at
-    (subst (λ (r : Rung). (d : ℕ) (s : Bool) → r.distance ≤ d → d ≤ c.contra_of-limit.result.1 → first_at i.levels r.locate r.buy d s ≡ None) behind c.in-None.ensures.none)))
+    next_none i.nodes i.ladders.levels i.time i.place i.kept orders c.self.invariant terms key ranked node stored c.in_default.is empty
+    (subst (λ n. (d : ℕ) (s : Bool) → distance_of live + 1 ≤ d → d ≤ n → first_at i.ladders.levels terms.locate (not (is_buy terms.side)) d s ≡ None) c.contra_of-limit.ensures.limit
+    (subst (λ (r : Rung). (d : ℕ) (s : Bool) → r.distance + 1 ≤ d → d ≤ c.contra_of-limit.result.1 → first_at i.ladders.levels r.locate r.buy d s ≡ None) at
+    (subst (λ (r : Rung). (d : ℕ) (s : Bool) → r.distance ≤ d → d ≤ c.contra_of-limit.result.1 → first_at i.ladders.levels r.locate r.buy d s ≡ None) behind c.in-None.ensures.none)))
     ∙ ap (λ v. next_by_rank terms (Some c.args.key) v.orders) c.self.view_is

@@ -3,7 +3,7 @@ use Rattle.std.specs.Option.{is_some}
 use Rattle.hx_levels.specs.declared.levels.Level.{Level}
 use Rattle.hx_levels.specs.declared.nodes.Ends.{Ends}
 use Rattle.hx_levels.specs.Levels.{ends_in, ends_of, IsEmptyLevel}
-use Rattle.hx_levels.proofs.levels.drop_if_empty.Goals as goal
+use Rattle.hx_levels.proofs.ladders.Ladders.drop_if_empty.Goals as goal
 
 -- a level with a queue that has an order is not empty
 not_empty : (shown : Bool) (ends : Ends) (level : Level) → ends ≡ ends_of shown level → is_some ends.first ≡ true → IsEmptyLevel level → ⊥

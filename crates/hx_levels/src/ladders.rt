@@ -1,0 +1,141 @@
+//! The levels of a book, and beside them how near to the best price those of each stock and side begin.
+ghost use Rattle.std.specs.Prelude.{◌≡◌, ◌≤◌, ◌<◌, ℕ, Option, Some, None, IsSome, OnOk, OnErr, IfSome, IfNone, Bool, true, false};
+ghost use Rattle.std.specs.Option.{option_map};
+ghost use Rattle.std.specs.BTreeMap.{IsEmpty};
+ghost use Rattle.hx_levels.specs.Nodes.{ends_with};
+ghost use Rattle.hx_levels.specs.Levels.{Rung, level_at, with_ends, ends_in, first_at, IsFirstFrom, IsEmptyAt, DropsEmpty, LeavesLevel};
+ghost use Rattle.hx_levels.specs.Bests.{NoneBetter};
+
+use crate::bests::{Bests, NO_DISTANCE};
+use crate::levels::{
+    Level, ends_at, first_from, first_within, is_empty_at, is_kept, join_queue, leave_queue,
+    make_level,
+};
+use crate::nodes::{Ends, Links};
+use crate::rung::Rung;
+use hx_units::NoMemory;
+use std::alloc::Global;
+use std::collections::BTreeMap;
+
+/// The levels of all stocks and sides. Where no level of a side is near enough, that is known without a look for one.
+#[derive(Drop)]
+pub struct Ladders {
+    levels: BTreeMap<Rung, Level>,
+    bests: Bests,
+    ghost near: { NoneBetter levels bests },
+}
+
+impl Ladders {
+    /// No levels.
+    pub fn new(alloc: Global) -> Self
+        ensures { IsEmpty result.levels }
+    {
+        Ladders {
+            levels: BTreeMap::new(alloc),
+            bests: Bests::new(alloc),
+        }
+    }
+
+    /// The ends of a queue, none where there is no level.
+    pub fn ends_at(&self, at: Rung, shown: bool) -> Ends
+        ensures { result ≡ ends_in shown (level_at self.now.levels at) }
+    {
+        ends_at(&self.levels, at, shown)
+    }
+
+    /// The first order of the first level that is not empty, from a rung up to a distance.
+    pub fn first_from(&self, from: Rung, limit: u32) -> Option<usize>
+        requires single { (a b : Rung) → IsEmptyAt self.now.levels a
+            → IsEmptyAt self.now.levels b → a ≡ b }
+        requires limit { limit < 4294967295 }
+        ensures found { IfSome result
+            (IsFirstFrom self.now.levels from.locate from.buy from.distance limit) }
+        ensures none { IfNone result ((d : ℕ) (s : Bool) → from.distance ≤ d → d ≤ limit
+            → first_at self.now.levels from.locate from.buy d s ≡ None) }
+    {
+        if limit < self.bests.bound(from) {
+            return None;
+        }
+        first_from(&self.levels, from, limit)
+    }
+
+    /// Makes an empty level, where there is none.
+    pub fn make_level(&mut self, at: Rung) -> Result<(), NoMemory>
+        ensures there { OnOk result (IsSome (level_at self.new.levels at)) }
+        ensures ends { (s : Bool) → ends_in s (level_at self.new.levels at)
+            ≡ ends_in s (level_at self.old.levels at) }
+        ensures others { (q : Rung) → (q ≡ at → ⊥)
+            → level_at self.new.levels q ≡ level_at self.old.levels q }
+        ensures err { OnErr result ((q : Rung)
+            → level_at self.new.levels q ≡ level_at self.old.levels q) }
+    {
+        // Noted before it is made: where it is then refused, what is kept is nearer than it need be.
+        self.bests.include(at)?;
+        make_level(&mut self.levels, at)
+    }
+
+    /// Puts a key last in a queue of a level that is there, and gives the key that was last.
+    pub fn join_queue(&mut self, at: Rung, shown: bool, key: usize) -> Option<usize>
+        requires { IsSome (level_at self.old.levels at) }
+        ensures last { result ≡ (ends_in shown (level_at self.old.levels at)).last }
+        ensures changed { level_at self.new.levels at
+            ≡ option_map
+            (with_ends shown (ends_with key (ends_in shown (level_at self.old.levels at))))
+            (level_at self.old.levels at) }
+        ensures others { (q : Rung) → (q ≡ at → ⊥)
+            → level_at self.new.levels q ≡ level_at self.old.levels q }
+    {
+        join_queue(&mut self.levels, at, shown, key)
+    }
+
+    // Looks for the best level of the rung's stock and side, where the rung was the best before its level went out.
+    fn find_best(&mut self, at: Rung)
+        ensures { self.new.levels ≡ self.old.levels }
+    {
+        if self.bests.is_at_bound(at) {
+            let best = match first_within(&self.levels, at.at(0), NO_DISTANCE) {
+                Some((distance, _)) => distance,
+                None => NO_DISTANCE,
+            };
+            self.bests.renew(at, best);
+        }
+    }
+
+    /// Takes the level out where it is empty, unless it is the one to keep.
+    pub fn drop_empty(&mut self, at: Rung, kept: Option<Rung>)
+        ensures { DropsEmpty self.old.levels self.new.levels at kept }
+    {
+        if is_kept(at, kept) {
+            return;
+        }
+        if is_empty_at(&self.levels, at) {
+            self.levels.remove(&at);
+            self.find_best(at);
+        }
+    }
+
+    // Takes the level out where it is empty, unless it is the one to keep. A queue of it has these ends: where there is
+    // an order in the queue the level is not looked for.
+    fn drop_if_empty(&mut self, at: Rung, kept: Option<Rung>, shown: bool, ends: Ends)
+        requires { ends ≡ ends_in shown (level_at self.old.levels at) }
+        ensures { DropsEmpty self.old.levels self.new.levels at kept }
+    {
+        if ends.first.is_some() {
+            return;
+        }
+        self.drop_empty(at, kept);
+    }
+
+    /// Takes the order of these links out of its queue, and its level out where that leaves it empty, unless it is the
+    /// one to keep. An order between two others is no end of its queue, and its level is not looked for.
+    pub fn leave_level(&mut self, at: Rung, shown: bool, links: Links, kept: Option<Rung>)
+        requires { IsSome (ends_in shown (level_at self.old.levels at)).first }
+        ensures { LeavesLevel self.old.levels self.new.levels at shown links kept }
+    {
+        if links.before.is_some() && links.after.is_some() {
+            return;
+        }
+        let left = leave_queue(&mut self.levels, at, shown, links);
+        self.drop_if_empty(at, kept, shown, left);
+    }
+}
