@@ -1,12 +1,11 @@
 -- The lines of a tape that stay, written one after the other.
-use Rattle.std.proofs.Common.{◌≡◌, ℕ, suc, ◌+◌, ◌<◌, ◌≤◌, Bool, true, false, cond, not, List, [], ◌∷◌, ◌++◌, map, length, take, drop, get_or, zero, Option, None, refl, sym, ap, ◌∙◌, subst, append_assoc, arith, take-append-drop}
-use Rattle.std.specs.List.{AllByRecursion, filter}
+use Rattle.std.proofs.Common.{◌≡◌, ℕ, suc, ◌+◌, ◌<◌, Bool, true, false, cond, not, List, [], ◌∷◌, ◌++◌, map, length, take, drop, get_or, zero, Option, None, refl, sym, ap, ◌∙◌, subst, append_assoc, arith, take-append-drop}
+use Rattle.std.specs.List.{AllByRecursion}
 use Rattle.std.specs.Io.KnownBytes.{Appends, Consumes, IsAtEnd}
-use Rattle.std.proofs.KnownBytes.{Appends-nil, Appends-trans}
+use Rattle.std.proofs.KnownBytes.{Appends-trans}
 use Rattle.std.proofs.Math.Seq.{take-append-add}
 use Rattle.std.proofs.lemmas.List.{append-nil}
 use Rattle.std.proofs.lemmas.List.Elements.{filter-append}
-use Rattle.hx_rules.specs.declared.event.Event.{Event}
 use Rattle.hx_market.specs.QuietChains.{Choice, bears}
 use Rattle.hx_members.specs.Setups.{Setup}
 use Rattle.hx_market.specs.Markets.{Market}

@@ -1,4 +1,7 @@
 pub mod Pairs
+pub mod Blocks
+pub mod Lanes
+pub mod Fronts
 pub mod Lines
 pub mod Writing
 pub mod Told

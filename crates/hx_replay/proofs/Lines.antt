@@ -1,7 +1,8 @@
 -- A line's fields are those of its one event.
-use Rattle.std.proofs.Common.{◌≡◌, ℕ, ◌*◌, List, ◌∷◌, ◌++◌, length, Option, Some, None, refl, sym, ap, ◌∙◌, subst, arith}
+use Rattle.std.proofs.Common.{◌≡◌, ◌<◌, ◌≤◌, ◌^◌, ℕ, ◌*◌, List, ◌∷◌, ◌++◌, length, Option, Some, None, refl, sym, ap, ◌∙◌, subst, arith}
 use Rattle.std.specs.Prelude.{IfSome, IfNone}
 use Rattle.std.specs.Fmt.{decimal}
+use Rattle.std.proofs.lemmas.Fmt.{length-decimal-le}
 use Rattle.hex.specs.Hex.{encode_lower, IsBytes}
 use Rattle.hex.proofs.HexLemmas.{length-encode_with}
 use Rattle.hx_text.specs.Cuts.{Lacks}
@@ -19,7 +20,7 @@ time_Lacks e fits = lacks-decimal 32 e.time (omega arith) (omega (arith, fits.ti
 pub member_Lacks : (e : Entry) → IsEntry e → Lacks 32 (decimal e.member)
 member_Lacks e fits = lacks-decimal 32 e.member (omega arith) (omega (arith, fits.member))
 
-pub two_fields : (e : Entry) (text a b : List ℕ) → IsEntry e → text ≡ line e → text ≡ a ++ 32 ∷ b → Lacks 32 a → (a ≡ decimal e.time) × (b ≡ after_time e)
+two_fields : (e : Entry) (text a b : List ℕ) → IsEntry e → text ≡ line e → text ≡ a ++ 32 ∷ b → Lacks 32 a → (a ≡ decimal e.time) × (b ≡ after_time e)
 two_fields e text a b fits is cut none = same_split 32 a b (decimal e.time) (after_time e) none (time_Lacks e fits) (sym cut ∙ is)
 
 -- all three
@@ -33,6 +34,19 @@ three_fields e text a others b x fits is cut none cut2 none2 =
     let first = two_fields e text a others fits is cut none in
     let second = same_split 32 b x (decimal e.member) (encode_lower e.bytes) none2 (member_Lacks e fits) (sym cut2 ∙ first.1) in
     record { time = first.0; member = second.0; hex = second.1 }
+
+-- the same where the fields are numbers that were read
+pub behind_time : (e : Entry) (text : List ℕ) (t : ℕ) (others : List ℕ) → IsEntry e → text ≡ line e → t < 10 ^ 14 → text ≡ decimal t ++ 32 ∷ others → others ≡ after_time e
+behind_time e text t others fits is small cut = (two_fields e text (decimal t) others fits is cut (lacks-decimal 32 t (omega arith) (omega (arith, small)))).1
+
+pub numbers_read : (e : Entry) (text others x : List ℕ) (t m : ℕ) → IsEntry e → text ≡ line e → t < 10 ^ 14 → text ≡ decimal t ++ 32 ∷ others → m < 10 ^ 14 → others ≡ decimal m ++ 32 ∷ x
+    → Fields e (decimal t) (decimal m) x
+numbers_read e text others x t m fits is small cut few cut2 =
+    three_fields e text (decimal t) others (decimal m) x fits is cut (lacks-decimal 32 t (omega arith) (omega (arith, small))) cut2 (lacks-decimal 32 m (omega arith) (omega (arith, few)))
+
+-- how many digits a number of 64 bits has at most
+pub decimal_fits : (n : ℕ) → n < 2 ^ 64 → length (decimal n) ≤ 20
+decimal_fits n lt = length-decimal-le 20 n (omega arith) (omega (arith, lt)) lt
 
 pub hex_length : (bytes : List ℕ) → length (encode_lower bytes) ≡ 2 * length bytes
 hex_length bytes = length-encode_with _ bytes

@@ -1,10 +1,8 @@
 -- A tape is struck: events and entries, and the first fault.
-use Rattle.std.proofs.Common.{◌≡◌, ℕ, ◌+◌, eqb, Bool, true, false, cond, not, ◌&&◌, List, [], ◌∷◌, ◌++◌, map, length, Option, Some, None, refl, sym, ap, ◌∙◌, subst, append_assoc, inl, inr, eqb-true, arith}
+use Rattle.std.proofs.Common.{◌≡◌, ℕ, eqb, Bool, true, false, cond, not, ◌&&◌, List, [], ◌∷◌, ◌++◌, map, length, Some, None, refl, sym, ap, ◌∙◌, eqb-true, arith}
 use Rattle.std.specs.Prelude.{is_none, if◌then◌else◌, ◌==◌}
 use Rattle.std.specs.List.{AllByRecursion, filter, list_any}
 use Rattle.std.specs.Option.{option_map_or}
-use Rattle.std.proofs.lemmas.List.{append-nil, length-map, map-append}
-use Rattle.hx_levels.proofs.Lists.{all_filtered}
 use Rattle.std.proofs.lemmas.Bool.{and_parts}
 use Rattle.hx_units.specs.Fields.{AreBytes, byte_at, text_at, number_at}
 use Rattle.hx_units.proofs.FieldLaws.{by_cells, spelled_at_8}
@@ -12,26 +10,18 @@ use Rattle.hx_members.specs.Setups.{Setup}
 use Rattle.hx_rules.specs.declared.event.Event.{Event}
 use Rattle.hx_rules.specs.declared.event.Event.TheVariants.{Message, Tick, Hours}
 use Rattle.hx_rules.specs.declared.fault.PrepareError.{PrepareError}
-use Rattle.hx_rules.specs.declared.fault.PrepareError.TheVariants as refused
 use Rattle.hx_market.specs.Markets.{Market}
 use Rattle.hx_market.specs.Refusals.{refusal}
 use Rattle.hx_market.specs.Hours.{hours_codes}
 use Rattle.hx_market.specs.OperatorMessages.{is_halt, halt_of, halt_bytes, is_break, break_of, break_bytes, letter_event, operator_event}
 use Rattle.hx_market.specs.Steps.{run}
-use Rattle.hx_market.specs.QuietChains.{Choice, bears, strike}
-use Rattle.hx_audit.specs.Recording.{AreAccepted, AreRecorded, IsRefusedAt}
-use Rattle.hx_replay.specs.declared.fault.Kind.{Kind}
-use Rattle.hx_replay.specs.declared.fault.Kind.TheVariants as kind
-use Rattle.hx_replay.specs.declared.fault.TapeError.{TapeError}
-use Rattle.hx_replay.specs.declared.fault.TapeError.TheVariants as fault
-use Rattle.std.proofs.KnownBytes.{Appends-nil}
-use Rattle.hx_replay.specs.Text.{Entry, line}
-use Rattle.hx_replay.specs.Run.{Progress, start, event_of, message_of, is_operator, is_unknown, kind_of, fault_of, check_of, after, after_all, tape, AreEvents, BeginsBadly}
+use Rattle.hx_market.specs.QuietChains.{Choice, bears}
+use Rattle.hx_audit.specs.Recording.{AreAccepted, AreRecorded}
+use Rattle.hx_replay.specs.Text.{Entry}
+use Rattle.hx_replay.specs.Run.{Progress, start, event_of, message_of, is_operator, is_unknown, kind_of, check_of, after, after_all, AreEvents}
 use Rattle.hx_replay.specs.Struck.{entry_of_event, IsKnown}
-use Rattle.hx_replay.proofs.Playing.{checked, unknown_is_bad}
+use Rattle.hx_replay.proofs.Playing.{checked}
 use Rattle.hx_replay.proofs.OutputIsTold.{market_is_run}
-use Rattle.hx_replay.proofs.OneReading.{line_no_feed, tape-cons}
-use Rattle.hx_replay.proofs.Runs.{tape-append}
 
 -- An entry is that of its event.
 

@@ -1,6 +1,5 @@
 -- A tape whose lines are taken as they are read: one line more, and the first line that fails a check.
 use Rattle.std.proofs.Common.{◌≡◌, ℕ, ◌+◌, ◌≤◌, ◌<◌, List, [], ◌∷◌, ◌++◌, map, length, take, drop, ◌-◌, Option, Some, None, refl, sym, ap, ◌∙◌, subst, append_assoc, inl, inr, arith}
-use Rattle.std.specs.List.{AllByRecursion}
 use Rattle.std.proofs.lemmas.List.{length-map, map-append, length-append, length-drop, drop-append-le, take_all, drop_all}
 use Rattle.std.specs.Io.KnownBytes.{Consumes, IsAtEnd}
 use Rattle.std.proofs.KnownBytes.{Appends-nil, Consumes-trans}
@@ -11,7 +10,6 @@ use Rattle.hx_rules.specs.declared.fault.PrepareError.{PrepareError}
 use Rattle.hx_rules.specs.declared.fault.PrepareError.TheVariants as refused
 use Rattle.hx_market.specs.Markets.{Market}
 use Rattle.hx_market.specs.Refusals.{refusal, or_no_memory}
-use Rattle.hx_market.specs.Steps.{run}
 use Rattle.hx_market.specs.QuietChains.{Choice, bears}
 use Rattle.hx_audit.specs.Auditing.{Audit, HasTaken, is_borne}
 use Rattle.hx_audit.specs.declared.bearing.Bearing.{Bearing}
@@ -22,7 +20,7 @@ use Rattle.hx_replay.specs.declared.fault.TapeError.{TapeError}
 use Rattle.hx_replay.specs.declared.fault.TapeError.TheVariants as fault
 use Rattle.hx_replay.specs.Text.{Entry, line}
 use Rattle.hx_replay.specs.Run.{Progress, start, event_of, kind_of, fault_of, check_of, after_all, tape, FailsAs, BeginsBadly}
-use Rattle.hx_replay.specs.Struck.{IsKnown, IsLineOf, IsNoLine, FirstFault, StrikeStops}
+use Rattle.hx_replay.specs.Struck.{IsLineOf, IsNoLine, FirstFault, StrikeStops}
 use Rattle.hx_replay.specs.Taking.{AreBearings, Takes, IsFaultOf, StopsReading}
 use Rattle.hx_replay.proofs.Playing.{unknown_is_bad}
 use Rattle.hx_replay.proofs.OneReading.{tape-cons}

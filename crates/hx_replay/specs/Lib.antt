@@ -1,4 +1,5 @@
 pub mod Text
+pub mod Digits
 pub mod Output
 pub mod Run
 pub mod Seen

@@ -1,5 +1,5 @@
 -- The operator's lines of a tape.
-use Rattle.std.specs.Prelude.{◌≡◌, ℕ, List, Option, Some}
+use Rattle.std.specs.Prelude.{◌≡◌, ℕ, List, Some}
 use Rattle.hx_rules.specs.declared.event.Event.{Event}
 use Rattle.hx_market.specs.OperatorMessages.{operator_event}
 use Rattle.hx_replay.specs.Text.{Entry, IsEntry, line}

@@ -2,12 +2,10 @@
 use Rattle.std.specs.Prelude.{◌≡◌, ◌≢◌, ◌⊎◌, ℕ, ◌+◌, true, false, not, List, [], ◌∷◌, ◌++◌, map, length, Option}
 use Rattle.std.specs.List.{filter}
 use Rattle.std.specs.Io.KnownBytes.{Consumes, Appends, IsAtEnd}
-use Rattle.hx_units.specs.Letters.{line_feed}
 use Rattle.hx_members.specs.Setups.{Setup}
 use Rattle.hx_rules.specs.declared.event.Event.{Event}
 use Rattle.hx_rules.specs.declared.event.Event.TheVariants.{Message, Tick, Hours, Halt, Break}
 use Rattle.hx_market.specs.OperatorMessages.{halt_bytes, break_bytes}
-use Rattle.hx_market.specs.Markets.{Market}
 use Rattle.hx_market.specs.Steps.{run}
 use Rattle.hx_market.specs.QuietChains.{Choice, bears, is_quiet, quiet_of_one}
 use Rattle.hx_replay.specs.declared.fault.Kind.{Kind}
@@ -16,7 +14,6 @@ use Rattle.hx_replay.specs.declared.fault.TapeError.TheVariants as fault
 use Rattle.hx_replay.specs.declared.run.Counts.{Counts}
 use Rattle.hx_audit.specs.declared.auditor.Whose.{Whose}
 use Rattle.hx_audit.specs.Auditing.{choice_of}
-use Rattle.hx_text.specs.Cuts.{Lacks}
 use Rattle.hx_replay.specs.Text.{Entry, IsEntry, line}
 use Rattle.hx_replay.specs.Run.{start, event_of, is_unknown, tape, after_all, AreEvents, BeginsBadly, IsFront}
 

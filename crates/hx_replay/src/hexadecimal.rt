@@ -1,42 +1,77 @@
-//! Bytes in hexadecimal: two lower case digits for each.
-ghost use Rattle.std.specs.Prelude.{◌≡◌, ◌≢◌, ◌≤◌, ◌<◌, ◌*◌, ◌/◌, ◌%◌, ◌++◌, ℕ, List, true, false, length, IfSome, IfNone, IfOk, OnOk, slice_index};
+//! Bytes in hexadecimal: two lower case digits for each. They are written and read in blocks of 16, of 4 and of one; a
+//! block has neither table nor branch, so that its bytes go at once.
+ghost use Rattle.std.specs.Prelude.{◌≡◌, ◌≢◌, ◌≤◌, ◌<◌, ◌+◌, ◌*◌, ◌/◌, ◌%◌, ◌++◌, ℕ, List, true, false, length, drop, IfSome, IfNone, IfOk, slice_index};
+ghost use Rattle.hx_replay.specs.Digits.{AreWritten, AreRead};
 ghost use Rattle.hex.specs.Hex.{encode_lower, lower_digits, IsBytes};
 
+use crate::vectors::block_digits;
+use hx_units::fields::array_at;
 use std::alloc::AllocError;
 
-/// Appends the digits of some bytes.
-pub fn write_bytes(text: &mut Vec<u8>, bytes: &[u8]) -> Result<(), AllocError>
-    requires { length bytes.now ≤ 80 }
-    ensures { OnOk result (text.new.items ≡ text.old.items ++ encode_lower bytes.now) }
+/// Writes the digits of some bytes so that they end at `end`, and answers where they start.
+pub fn write_bytes(bytes: &[u8], text: &mut [u8], end: usize) -> usize
+    requires { (2 * length bytes.now ≤ end) × (end ≤ length text.old) }
+    ensures start { result + 2 * length bytes.now ≡ end }
+    ensures written { drop result text.new ≡ encode_lower bytes.now ++ drop end text.old }
 {
-    let start = text.len();
-    text.resize(start + 2 * bytes.len(), 0)?;
-    write_digits(bytes, &mut text[start..]);
-    Ok(())
+    let start = end - 2 * bytes.len();
+    if bytes.len() < 16 {
+        write_blocks::<1, 2>(bytes, text, start);
+        return start;
+    }
+    if write_blocks::<16, 32>(bytes, text, start) > 0 {
+        // Some of the first sixteen are left: their digits are written once more with those of the others.
+        write_block::<16, 32>(bytes, text, start, 0);
+    }
+    start
 }
 
-// Writes the digits of the bytes. It has neither table nor branch, so that many are written at once.
-fn write_digits(bytes: &[u8], digits: &mut [u8])
-    requires { length digits.old ≡ 2 * length bytes.now }
-    ensures { digits.new ≡ encode_lower bytes.now }
+// Writes the digits of whole blocks of the bytes, the last ones first, and answers how many bytes are left in front. The
+// digits of them all would start at `start`.
+fn write_blocks<const N: usize, const M: usize>(
+    bytes: &[u8],
+    text: &mut [u8],
+    start: usize,
+) -> usize
+    requires block { (0 < N) × (N ≤ 16) × (M ≡ 2 * N) }
+    requires room { start + 2 * length bytes.now ≤ length text.old }
+    ensures few { (result < N) × (result ≤ length bytes.now) }
+    ensures written { AreWritten bytes.now result start text.new
+        (drop (start + 2 * length bytes.now) text.old) }
 {
-    for i in 0..bytes.len() {
-        let byte = bytes[i];
-        digits[2 * i] = digit_of(byte / 16);
-        digits[2 * i + 1] = digit_of(byte % 16);
+    let mut left = bytes.len();
+    while left >= N {
+        left -= N;
+        write_block::<N, M>(bytes, text, start, left);
     }
+    left
 }
 
-// The digit of a value.
-fn digit_of(value: u8) -> u8
-    requires { value < 16 }
-    ensures { result ≡ slice_index lower_digits value }
+// Writes the digits of the block that begins at a place of the bytes, where those behind it are written.
+fn write_block<const N: usize, const M: usize>(
+    bytes: &[u8],
+    text: &mut [u8],
+    start: usize,
+    place: usize,
+)
+    requires block { (N ≤ 16) × (M ≡ 2 * N) }
+    requires within { place + N ≤ length bytes.now }
+    requires room { start + 2 * length bytes.now ≤ length text.old }
+    ensures { (behind : List ℕ) → AreWritten bytes.now (place + N) start text.old behind
+        → AreWritten bytes.now place start text.new behind }
 {
-    if value < 10 {
-        b'0' + value
-    } else {
-        b'a' - 10 + value
-    }
+    let at = start + 2 * place;
+    text[at..at + M].copy_from_slice(&digits_of::<N, M>(array_at(bytes, place)));
+}
+
+// The digits of a block of at most sixteen bytes, which are those in front of sixteen.
+fn digits_of<const N: usize, const M: usize>(bytes: [u8; N]) -> [u8; M]
+    requires { (N ≤ 16) × (M ≡ 2 * N) }
+    ensures { result ≡ encode_lower bytes.entry }
+{
+    let mut block = [0; 16];
+    block[..N].copy_from_slice(&bytes);
+    array_at(&block_digits(block), 0)
 }
 
 /// The bytes of a text of such digits, in the room of others.
@@ -46,19 +81,61 @@ pub fn read_bytes(room: Vec<u8>, text: &[u8]) -> Result<Option<Vec<u8>>, AllocEr
     ensures none { IfOk result (λ o.
         IfNone o ((bytes : List ℕ) → IsBytes bytes → text.now ≢ encode_lower bytes)) }
 {
-    if text.len() % 2 != 0 {
-        return Ok(None);
-    }
     let mut bytes = room;
-    bytes.resize(text.len() / 2, 0)?;
-    if !read_into(text, &mut bytes) {
+    bytes.clear();
+    bytes.reserve(text.len() / 2)?;
+    let Some(rest) = read_blocks::<16, 32>(text, &mut bytes)? else {
+        return Ok(None);
+    };
+    let Some(rest) = read_blocks::<4, 8>(rest, &mut bytes)? else {
+        return Ok(None);
+    };
+    let Some(rest) = read_blocks::<1, 2>(rest, &mut bytes)? else {
+        return Ok(None);
+    };
+    if !rest.is_empty() {
         return Ok(None);
     }
     Ok(Some(bytes))
 }
 
-// Reads the bytes of the digits, and answers whether all are digits. It reads to the end in any case, so that many are
-// read at once.
+// Appends the bytes of whole blocks of digits, and answers the text behind them; or none where one is no block of digits.
+fn read_blocks<'a, const N: usize, const M: usize>(
+    text: &'a [u8],
+    bytes: &mut Vec<u8>,
+) -> Result<Option<&'a [u8]>, AllocError>
+    requires { (0 < N) × (M ≡ 2 * N) }
+    ensures some { IfOk result (λ o. IfSome o (λ rest.
+        AreRead text.now bytes.old.items rest.now bytes.new.items × (length rest.now < M))) }
+    ensures none { IfOk result (λ o.
+        IfNone o ((others : List ℕ) → IsBytes others → text.now ≢ encode_lower others)) }
+{
+    let mut rest = text;
+    while rest.len() >= M {
+        let Some(block) = values_of::<N, M>(array_at(rest, 0)) else {
+            return Ok(None);
+        };
+        bytes.extend_from_slice(&block)?;
+        rest = &rest[M..];
+    }
+    Ok(Some(rest))
+}
+
+// The bytes of a block of digits.
+fn values_of<const N: usize, const M: usize>(digits: [u8; M]) -> Option<[u8; N]>
+    requires { M ≡ 2 * N }
+    ensures some { IfSome result (λ bytes. (digits.entry ≡ encode_lower bytes) × IsBytes bytes) }
+    ensures none { IfNone result ((others : List ℕ) → IsBytes others
+        → digits.entry ≢ encode_lower others) }
+{
+    let mut bytes = [0; N];
+    if !read_into(&digits, &mut bytes) {
+        return None;
+    }
+    Some(bytes)
+}
+
+// Reads the bytes of the digits, and answers whether all are digits. It reads to the end in any case.
 fn read_into(text: &[u8], bytes: &mut [u8]) -> bool
     requires { length text.now ≡ 2 * length bytes.old }
     ensures all { result ≡ true → text.now ≡ encode_lower bytes.new }

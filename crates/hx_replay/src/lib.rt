@@ -13,6 +13,8 @@ mod run;
 mod spelling;
 mod striking;
 mod taking;
+mod telling;
+mod vectors;
 
 pub use fault::{Kind, TapeError};
 pub use operator::read_operator_line;

@@ -1,10 +1,9 @@
 //! The lines of a tape.
 ghost use Rattle.std.specs.Prelude.{◌≡◌, ◌≢◌, ◌∷◌, ◌++◌, IfSome, IfNone, IfOk};
-ghost use Rattle.hx_text.specs.Cuts.{Lacks};
 ghost use Rattle.hx_replay.specs.Text.{Entry, entry_of, IsEntry, line, HasParts};
 
+use crate::decimal::split_number;
 use crate::hexadecimal::read_bytes;
-use hx_text::{read_number, split_once};
 use std::alloc::{AllocError, Global};
 
 /// A timed message of a member.
@@ -56,10 +55,8 @@ fn parts_of(text: &[u8]) -> Option<Parts<'_>>
     ensures some { IfSome result (λ p. HasParts text.now p.time p.member p.digits.now) }
     ensures none { IfNone result ((e : Entry) → IsEntry e → text.now ≢ line e) }
 {
-    let (time, others) = split_once(text, b' ')?;
-    let (member, digits) = split_once(others, b' ')?;
-    let time = read_number(time)?;
-    let member = read_number(member)?;
+    let (time, others) = split_number(text)?;
+    let (member, digits) = split_number(others)?;
     if member >= 10_000 || digits.is_empty() || digits.len() > 2046 {
         return None;
     }

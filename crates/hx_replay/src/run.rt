@@ -5,19 +5,18 @@ ghost use Rattle.hx_itch.specs.Message.{feed_time};
 ghost use Rattle.hx_market.specs.Steps.{step};
 ghost use Rattle.hx_market.specs.Refusals.{refusal, or_no_memory};
 ghost use Rattle.hx_replay.specs.Text.{Entry, entry_of, line};
-ghost use Rattle.hx_replay.specs.Output.{feed_line, reply_line, feed_lines, reply_lines, counts_after};
+ghost use Rattle.hx_replay.specs.Output.{feed_lines, reply_lines, counts_after};
 ghost use Rattle.hx_replay.specs.Run.{event_of, is_unknown, fault_of, counts_of, start, with_market, Plays, Faults, IsFew};
 
-use crate::decimal::write_number;
 use crate::fault::{Kind, TapeError};
-use crate::hexadecimal::write_bytes;
 use crate::line::{self, Fields};
 use crate::room::Room;
-use hx_itch::{Feed, encode};
+use crate::telling::{write_feed_line, write_reply_line};
+use hx_itch::Feed;
 use hx_levels::Book;
 use hx_market::{Bytes, Event, Market, Output, PrepareError, decode_operator};
 use hx_members::Setup;
-use hx_ouch::{Outbound, encode_out};
+use hx_ouch::Outbound;
 use hx_units::{MemberNo, NoMemory};
 use std::alloc::{AllocError, Global};
 use std::marker::Model;
@@ -67,38 +66,6 @@ impl<B: Book> Model for Run<B> {
       replies = r.counts.replies;
       counts = r.replies.items;
     } };
-}
-
-// Appends the line of message n of the feed.
-fn write_feed_line(text: &mut Vec<u8>, number: u64, message: &Feed) -> Result<(), AllocError>
-    requires { feed_time message.now < 2 ^ 48 }
-    ensures { OnOk result (text.new.items ≡ text.old.items ++ feed_line number message.now) }
-{
-    text.extend_from_slice(b"F ")?;
-    write_number(text, number)?;
-    text.push(b' ')?;
-    write_bytes(text, &encode(message))?;
-    text.push(b'\n')?;
-    Ok(())
-}
-
-// Appends the line of reply n to a member.
-fn write_reply_line(
-    text: &mut Vec<u8>,
-    member: MemberNo,
-    number: u64,
-    reply: &Outbound,
-) -> Result<(), AllocError>
-    ensures { OnOk result (text.new.items ≡ text.old.items ++ reply_line member number reply.now) }
-{
-    text.extend_from_slice(b"M ")?;
-    write_number(text, u64::from(member.get()))?;
-    text.push(b' ')?;
-    write_number(text, number)?;
-    text.push(b' ')?;
-    write_bytes(text, &encode_out(reply))?;
-    text.push(b'\n')?;
-    Ok(())
 }
 
 // Appends the lines of messages of the feed, after so many others.

@@ -1,5 +1,5 @@
-use Rattle.std.proofs.Common.{◌≡◌, ◌∙◌, ap, arith, sym}
-use Rattle.hx_replay.specs.Text.{Entry, entry_of, IsEntry, line}
+use Rattle.std.proofs.Common.{◌≡◌, ◌∙◌, ap, arith}
+use Rattle.hx_replay.specs.Text.{entry_of, IsEntry, line}
 use Rattle.hx_replay.specs.declared.line.Fields.{Fields}
 use Rattle.hx_market.specs.OperatorMessages.{operator_event}
 use Rattle.hx_replay.proofs.Lines.{some_of}

@@ -1,13 +1,12 @@
-use Rattle.std.proofs.Common.{◌≡◌, ℕ, ◌+◌, ◌≤◌, List, [], ◌∷◌, ◌++◌, length, take, drop, false, true, refl, sym, ap, subst, ◌∙◌, arith, append_assoc}
+use Rattle.std.proofs.Common.{◌≡◌, ℕ, ◌≤◌, List, [], ◌∷◌, ◌++◌, length, take, false, true, refl, sym, ap, subst, ◌∙◌, arith, append_assoc}
 use Rattle.std.specs.Io.KnownBytes.{Appends}
 use Rattle.std.proofs.KnownBytes.{Appends-trans}
 use Rattle.std.proofs.lemmas.List.{append-nil, length-append, take_all, drop_all}
 use Rattle.std.proofs.lemmas.Result.{err_from_is_err_and}
-use Rattle.hx_audit.specs.Auditing.{choice_of, IsStranger, is_borne}
-use Rattle.hx_replay.specs.Text.{Entry, line}
+use Rattle.hx_audit.specs.Auditing.{choice_of}
+use Rattle.hx_replay.specs.Text.{Entry}
 use Rattle.hx_replay.specs.Run.{tape}
 use Rattle.hx_replay.specs.Struck.{without_chosen}
-use Rattle.hx_replay.specs.Taking.{IsTape}
 use Rattle.hx_replay.proofs.Leaving.{no_bearing, line_at, cut_off, is_there, as_many, with_feed, stays, goes, wrote_more, front_more}
 use Rattle.hx_replay.proofs.striking.write_left.Goals as goal
 use Rattle.hx_replay.proofs.striking.write_left.Goals.{then-strikes, else-strikes+in_ok-write_whole}

@@ -1,6 +1,7 @@
-use Rattle.std.proofs.Common.{◌≡◌, ℕ, List, [], ◌++◌, length, take, drop, sym, subst, ◌∙◌, arith}
+use Rattle.std.proofs.Common.{[], sym, subst, ◌∙◌, arith}
 use Rattle.std.specs.Io.KnownBytes.{Consumes}
-use Rattle.std.proofs.KnownBytes.{Consumes-kept, Consumes-trans, Keeps-refl}
+use Rattle.std.proofs.KnownBytes.{Consumes-kept, Consumes-trans}
+use Rattle.std.proofs.lemmas.List.{append-nil}
 use Rattle.std.proofs.lemmas.Result.{err_from_is_err_and, IfOk-weaker, IfErr-weaker}
 use Rattle.hx_replay.specs.Taking.{Takes, StopsReading}
 use Rattle.hx_replay.proofs.Pieces.{at_end_after}
@@ -13,6 +14,15 @@ returns-in-Ok-eq0-clause-taken g c =
     let l = c.loop in
     IfOk-weaker c.whole.result _ (λ t. Takes t.auditor t.bearings.items t.text.items [])
     (λ y p. rw p.0 (nothing_left l.tape.auditor l.tape.bearings.items l.tape.text.items l.tape.taken l.invariant.taken p.1)) c.whole.ensures.ok
+
+pub returns-in-Ok-eq0-clause-read : goal.returns-in-Ok-eq0-clause-read
+returns-in-Ok-eq0-clause-read g c =
+    let l = c.loop in
+    let s = g.R.Read.remaining l.reader in
+    let s' = g.R.Read.remaining c.read.new.self in
+    let end = at_end_after s s' c.in-Ok-eq0.field-0 c.read.new.buf c.in-Ok-eq0.field-0-test (omega arith) c.in-Ok-eq0.ensures.bytes in
+    IfOk-weaker c.whole.result _ (λ t. Consumes (g.R.Read.remaining c.args.reader.now) s' t.text.items)
+    (λ y p. rw p.0 (subst (Consumes (g.R.Read.remaining c.args.reader.now) s') (append-nil l.tape.text.items) (Consumes-trans _ _ _ _ _ l.invariant.read end.0))) c.whole.ensures.ok
 
 pub returns-in-Ok-eq0-clause-err : goal.returns-in-Ok-eq0-clause-err
 returns-in-Ok-eq0-clause-err g c =

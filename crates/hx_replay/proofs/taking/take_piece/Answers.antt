@@ -1,12 +1,8 @@
-use Rattle.std.proofs.Common.{◌≡◌, ℕ, List, ◌++◌, ◌+◌, ◌-◌, length, drop, subst, sym, ap, ◌∙◌, arith}
+use Rattle.std.proofs.Common.{◌≡◌, ◌++◌, ◌+◌, length, subst, ap, ◌∙◌, arith}
 use Rattle.std.proofs.lemmas.Result.{err_from_is_err_and}
 use Rattle.hx_members.specs.Setups.{Setup}
-use Rattle.hx_audit.specs.declared.bearing.Bearing.{Bearing}
-use Rattle.hx_replay.specs.declared.fault.TapeError.{TapeError}
-use Rattle.hx_replay.specs.declared.fault.TapeError.TheVariants as fault
 use Rattle.hx_replay.specs.declared.fault.Kind.TheVariants as kinds
 use Rattle.hx_replay.specs.Struck.{FirstFault}
-use Rattle.hx_replay.specs.Taking.{Takes, IsFaultOf}
 use Rattle.hx_replay.proofs.Taken.{taken_on, piece_taken, piece_lacks, rest_within, too_long}
 use Rattle.hx_replay.proofs.taking.take_piece.Goals as goal
 
