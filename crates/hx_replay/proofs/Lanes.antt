@@ -44,11 +44,11 @@ looked_up t g v js fits e small =
     get_or-swz_l_below w8 16 t 0 js i (omega arith) below ∙ ap (λ k. get_or t k 0) place ∙ sym (get_or-map (λ x. get_or t (g x) 0) v i 0 0 within))
 
 -- the first lanes, one by one
-abbrev firsts : ℕ → List ℕ → List ℕ
+abbrev pub firsts : ℕ → List ℕ → List ℕ
 firsts zero v = []
 firsts (suc n) v = get_or v 0 0 ∷ firsts n (drop 1 v)
 
-all_lanes : (n : ℕ) (v : List ℕ) → length v ≡ n → v ≡ firsts n v
+pub all_lanes : (n : ℕ) (v : List ℕ) → length v ≡ n → v ≡ firsts n v
 all_lanes zero [] e = refl
 all_lanes zero (x ∷ xs) e = absurd (omega (arith, e))
 all_lanes (suc n) [] e = absurd (omega (arith, e))

@@ -1,6 +1,7 @@
 pub mod Pairs
 pub mod Blocks
 pub mod Lanes
+pub mod Values
 pub mod Fronts
 pub mod Lines
 pub mod Writing

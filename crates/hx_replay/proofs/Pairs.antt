@@ -62,7 +62,7 @@ pub byte_fits : (b : ℕ) → Fits w8 b → b < 256
 byte_fits b h = omega (arith, h)
 
 -- the byte of two values
-byte_parts : (h l : ℕ) → h < 16 → l < 16 → ((h * 16 % 256 + l) % 256 / 16 ≡ h) × ((h * 16 % 256 + l) % 256 % 16 ≡ l)
+pub byte_parts : (h l : ℕ) → h < 16 → l < 16 → ((h * 16 % 256 + l) % 256 / 16 ≡ h) × ((h * 16 % 256 + l) % 256 % 16 ≡ l)
 byte_parts h l hs ls = (omega (arith, hs, ls), omega (arith, hs, ls))
 
 -- two digits more are read, where all so far were digits

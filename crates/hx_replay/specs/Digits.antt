@@ -1,5 +1,5 @@
 -- Digits of bytes that are written and read block by block.
-use Rattle.std.specs.Prelude.{◌≡◌, ℕ, ◌+◌, ◌*◌, List, ◌++◌, drop}
+use Rattle.std.specs.Prelude.{◌≡◌, ℕ, ◌+◌, ◌-◌, ◌*◌, ◌%◌, ◌<◌, ◌&&◌, nat_le, if◌then◌else◌, List, [], ◌∷◌, ◌++◌, drop, slice_index}
 use Rattle.hex.specs.Hex.{encode_lower, IsBytes}
 
 -- of some bytes, whose digits would all start at `start`, those from a place on have their digits in the text, and
@@ -14,3 +14,20 @@ pub record AreRead (text before rest now : List ℕ) : Type 0 where
   pub text_is : text ≡ encode_lower read ++ rest
   pub bytes_are : now ≡ before ++ read
   pub are_bytes : IsBytes read
+
+-- the value of a digit by its code, and 16 of what is none
+abbrev pub value_of : ℕ → ℕ
+value_of code =
+    if nat_le 48 code && nat_le code 57 then code - 48
+    else if nat_le 97 code && nat_le code 102 then code - 87
+    else 16
+
+-- all are values of digits
+abbrev pub AreValues : List ℕ → Type 0
+AreValues values = (i : ℕ) → slice_index values i < 16
+
+-- the bytes of such values, two for each
+abbrev pub joined : List ℕ → List ℕ
+joined [] = []
+joined (high ∷ []) = []
+joined (high ∷ low ∷ values) = (high * 16 % 256 + low) % 256 ∷ joined values

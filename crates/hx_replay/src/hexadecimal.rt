@@ -1,10 +1,10 @@
-//! Bytes in hexadecimal: two lower case digits for each. They are written and read in blocks of 16, of 4 and of one; a
-//! block has neither table nor branch, so that its bytes go at once.
+//! Bytes in hexadecimal: two lower case digits for each. Sixteen bytes go at once, by vectors; those that are left over
+//! when they are read go by four and one by one, without table or branch.
 ghost use Rattle.std.specs.Prelude.{◌≡◌, ◌≢◌, ◌≤◌, ◌<◌, ◌+◌, ◌*◌, ◌/◌, ◌%◌, ◌++◌, ℕ, List, true, false, length, drop, IfSome, IfNone, IfOk, slice_index};
 ghost use Rattle.hx_replay.specs.Digits.{AreWritten, AreRead};
 ghost use Rattle.hex.specs.Hex.{encode_lower, lower_digits, IsBytes};
 
-use crate::vectors::block_digits;
+use crate::vectors::{block_bytes, block_digits};
 use hx_units::fields::array_at;
 use std::alloc::AllocError;
 
@@ -128,6 +128,10 @@ fn values_of<const N: usize, const M: usize>(digits: [u8; M]) -> Option<[u8; N]>
     ensures none { IfNone result ((others : List ℕ) → IsBytes others
         → digits.entry ≢ encode_lower others) }
 {
+    if N == 16 {
+        let bytes = block_bytes(array_at(&digits, 0))?;
+        return Some(array_at(&bytes, 0));
+    }
     let mut bytes = [0; N];
     if !read_into(&digits, &mut bytes) {
         return None;

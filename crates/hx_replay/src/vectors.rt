@@ -1,13 +1,12 @@
 //! Sixteen bytes at once.
-ghost use Rattle.std.specs.Prelude.{◌≡◌, ◌++◌, ◌/◌, ◌%◌, map, slice_index};
-ghost use Rattle.hex.specs.Hex.{encode_lower, lower_digits};
+ghost use Rattle.std.specs.Prelude.{◌≡◌, ◌++◌, ◌/◌, ◌%◌, ◌<◌, ◌≢◌, ℕ, List, map, slice_index, true, false, IfSome, IfNone};
+ghost use Rattle.hx_replay.specs.Digits.{value_of, AreValues, joined};
+ghost use Rattle.hex.specs.Hex.{encode_lower, lower_digits, IsBytes};
 
 use std::simd::prelude::*;
 
 // The digits, by their values.
-const DIGITS: [u8; 16] = [
-    48, 49, 50, 51, 52, 53, 54, 55, 56, 57, 97, 98, 99, 100, 101, 102,
-];
+const DIGITS: [u8; 16] = *b"0123456789abcdef";
 
 // The first digit of each byte.
 fn high_digits(bytes: u8x16) -> u8x16
@@ -39,4 +38,48 @@ pub fn block_digits(block: [u8; 16]) -> [u8; 32]
     digits[..16].copy_from_slice(&front.to_array());
     digits[16..].copy_from_slice(&back.to_array());
     digits
+}
+
+// The value of each digit, and 16 of what is none.
+fn values(codes: u8x16) -> u8x16
+    ensures { result ≡ map value_of codes }
+{
+    let numbers = codes - u8x16::splat(b'0');
+    let letters = codes - u8x16::splat(b'a');
+    let of_letters = letters
+        .simd_lt(u8x16::splat(6))
+        .select(letters + u8x16::splat(10), u8x16::splat(16));
+    numbers
+        .simd_lt(u8x16::splat(10))
+        .select(numbers, of_letters)
+}
+
+// Whether all are values of digits.
+fn are_values(values: u8x16) -> bool
+    ensures yes { result ≡ true → AreValues values }
+    ensures no { result ≡ false → AreValues values → ⊥ }
+{
+    !values.simd_ge(u8x16::splat(16)).any()
+}
+
+// The bytes of values, two for each.
+fn joined(front: u8x16, back: u8x16) -> u8x16
+    ensures { result ≡ joined (front ++ back) }
+{
+    let (high, low) = front.deinterleave(back);
+    high * u8x16::splat(16) + low
+}
+
+/// The bytes of thirty-two digits, or none where one of them is no digit.
+pub fn block_bytes(digits: [u8; 32]) -> Option<[u8; 16]>
+    ensures some { IfSome result (λ bytes. (digits ≡ encode_lower bytes) × IsBytes bytes) }
+    ensures none { IfNone result ((others : List ℕ) → IsBytes others
+        → digits ≢ encode_lower others) }
+{
+    let front = values(u8x16::from_slice(&digits[..16]));
+    let back = values(u8x16::from_slice(&digits[16..]));
+    if !are_values(front) || !are_values(back) {
+        return None;
+    }
+    Some(joined(front, back).to_array())
 }
