@@ -1,7 +1,7 @@
 -- Bytes and their digits, block by block.
 use Rattle.std.proofs.Common.{◌≡◌, ℕ, zero, suc, ◌+◌, ◌-◌, ◌*◌, ◌<◌, ◌≤◌, List, [], ◌∷◌, ◌++◌, length, take, drop, refl, sym, ap, subst, ◌∙◌, append_assoc, arith, take-append-drop}
-use Rattle.std.specs.Prelude.{◌≢◌}
-use Rattle.std.proofs.lemmas.List.{length-take-le}
+use Rattle.std.specs.Prelude.{◌≢◌, ◌%◌}
+use Rattle.std.proofs.lemmas.List.{length-take-le, length-append, take-append-le}
 use Rattle.std.proofs.Math.Seq.{take_at, drop_at, drop-drop, drop-length, take_all}
 use Rattle.std.proofs.lemmas.List.{get_or-drop, drop_all, drop-append-le, length-drop, append-nil}
 use Rattle.hex.specs.Hex.{encode_lower, encode_with, lower_digits, IsBytes}
@@ -152,3 +152,33 @@ one_none rest others one is = let size : length rest ≡ 2 * length others = ap 
 pub none_written : (bytes was : List ℕ) → was ≡ encode_lower (drop (length bytes) bytes) ++ was
 unfolding encode_with
 none_written bytes was = ap (λ (l : List ℕ). encode_lower l ++ was) (sym (drop-length bytes))
+
+-- the last digits of a text are those of the last bytes
+last_digits : (text others : List ℕ) (at : ℕ) → at + 32 ≡ length text → text ≡ encode_lower others → take 32 (drop at text) ≡ encode_lower (drop (length others - 16) others)
+last_digits text others at size is =
+    let long : length text ≡ 2 * length others = ap length is ∙ digits_length others in
+    let from : at ≡ 2 * (length others - 16) = omega (arith, size, long) in
+    take_all 32 (drop at text) (omega (arith, length-drop at text, size))
+    ∙ ap (λ (t : List ℕ). drop at t) is ∙ ap (λ (n : ℕ). drop n (encode_lower others)) from ∙ encode-drop (length others - 16) others
+
+-- where the last digits are none, all are none
+pub last_none : (text : List ℕ) (at : ℕ) → at + 32 ≡ length text → ((bytes : List ℕ) → IsBytes bytes → take 32 (drop at text) ≢ encode_lower bytes) → (others : List ℕ) → IsBytes others → text ≢ encode_lower others
+last_none text at size none others fits is = none (drop (length others - 16) others) (bytes-drop (length others - 16) others fits) (last_digits text others at size is)
+
+-- the last digits are read once more
+pub last_read : (text rest now block : List ℕ) (at n : ℕ) → AreRead text [] rest now → at + 32 ≡ length text → at ≡ 2 * n → length rest < 32 → take 32 (drop at text) ≡ encode_lower block → IsBytes block
+    → (text ≡ encode_lower (take n now ++ block)) × IsBytes (take n now ++ block)
+last_read text rest now block at n a size two few is fits =
+    let long : length text ≡ 2 * length a.read + length rest = ap length a.text_is ∙ length-append (encode_lower a.read) rest ∙ ap (λ (k : ℕ). k + length rest) (digits_length a.read) in
+    let front : take at text ≡ encode_lower (take n now) =
+    ap (λ (t : List ℕ). take at t) a.text_is
+    ∙ take-append-le at (encode_lower a.read) rest (omega (arith, digits_length a.read, long, size, few))
+    ∙ ap (λ (k : ℕ). take k (encode_lower a.read)) two ∙ encode-take n a.read ∙ ap (λ (l : List ℕ). encode_lower (take n l)) (sym a.bytes_are) in
+    let back : drop at text ≡ encode_lower block = sym (take_all 32 (drop at text) (omega (arith, length-drop at text, size))) ∙ is in (
+      sym (take-append-drop at text) ∙ ap (λ (l : List ℕ). l ++ drop at text) front ∙ ap (λ (l : List ℕ). encode_lower (take n now) ++ l) back ∙ sym (encode-append (take n now) block),
+      bytes-append (take n now) block (bytes-take n now (subst IsBytes (sym a.bytes_are) a.are_bytes)) fits,
+    )
+
+-- an odd number of digits is none
+pub odd_none : (text others : List ℕ) → 0 < length text % 2 → text ≢ encode_lower others
+odd_none text others odd is = let size : length text ≡ 2 * length others = ap length is ∙ digits_length others in omega (arith, odd, size)

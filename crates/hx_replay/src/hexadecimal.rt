@@ -1,6 +1,6 @@
 //! Bytes in hexadecimal: two lower case digits for each. Sixteen bytes go at once, by vectors; those that are left over
-//! when they are read go by four and one by one, without table or branch.
-ghost use Rattle.std.specs.Prelude.{◌≡◌, ◌≢◌, ◌≤◌, ◌<◌, ◌+◌, ◌*◌, ◌/◌, ◌%◌, ◌++◌, ℕ, List, true, false, length, drop, IfSome, IfNone, IfOk, slice_index};
+//! when they are read go once more with those before them, or one by one where all are fewer.
+ghost use Rattle.std.specs.Prelude.{◌≡◌, ◌≢◌, ◌≤◌, ◌<◌, ◌+◌, ◌*◌, ◌/◌, ◌%◌, ◌++◌, [], ℕ, List, true, false, length, drop, IfSome, IfNone, IfOk, slice_index};
 ghost use Rattle.hx_replay.specs.Digits.{AreWritten, AreRead};
 ghost use Rattle.hex.specs.Hex.{encode_lower, lower_digits, IsBytes};
 
@@ -87,16 +87,51 @@ pub fn read_bytes(room: Vec<u8>, text: &[u8]) -> Result<Option<Vec<u8>>, AllocEr
     let Some(rest) = read_blocks::<16, 32>(text, &mut bytes)? else {
         return Ok(None);
     };
-    let Some(rest) = read_blocks::<4, 8>(rest, &mut bytes)? else {
-        return Ok(None);
+    let is_read = if text.len() < 32 {
+        read_few(text, rest, &mut bytes)?
+    } else {
+        read_last(text, rest, &mut bytes)?
     };
-    let Some(rest) = read_blocks::<1, 2>(rest, &mut bytes)? else {
-        return Ok(None);
-    };
-    if !rest.is_empty() {
+    if !is_read {
         return Ok(None);
     }
     Ok(Some(bytes))
+}
+
+// Reads what is left of a text byte by byte, and answers whether all of it are digits of bytes.
+fn read_few(text: &[u8], rest: &[u8], bytes: &mut Vec<u8>) -> Result<bool, AllocError>
+    requires read { AreRead text.now [] rest.now bytes.old.items }
+    ensures yes { IfOk result (λ b. b ≡ true
+        → (text.now ≡ encode_lower bytes.new.items) × IsBytes bytes.new.items) }
+    ensures no { IfOk result (λ b. b ≡ false
+        → (others : List ℕ) → IsBytes others → text.now ≢ encode_lower others) }
+{
+    let Some(left) = read_blocks::<1, 2>(rest, bytes)? else {
+        return Ok(false);
+    };
+    Ok(left.is_empty())
+}
+
+// Reads the last thirty-two digits of a text, once more those that are read, and answers whether all of it are digits of
+// bytes.
+fn read_last(text: &[u8], rest: &[u8], bytes: &mut Vec<u8>) -> Result<bool, AllocError>
+    requires read { AreRead text.now [] rest.now bytes.old.items }
+    requires many { 32 ≤ length text.now }
+    requires few { length rest.now < 32 }
+    ensures yes { IfOk result (λ b. b ≡ true
+        → (text.now ≡ encode_lower bytes.new.items) × IsBytes bytes.new.items) }
+    ensures no { IfOk result (λ b. b ≡ false
+        → (others : List ℕ) → IsBytes others → text.now ≢ encode_lower others) }
+{
+    if text.len() % 2 > 0 {
+        return Ok(false);
+    }
+    let Some(block) = block_bytes(array_at(text, text.len() - 32)) else {
+        return Ok(false);
+    };
+    bytes.truncate(text.len() / 2 - 16);
+    bytes.extend_from_slice(&block)?;
+    Ok(true)
 }
 
 // Appends the bytes of whole blocks of digits, and answers the text behind them; or none where one is no block of digits.
