@@ -10,11 +10,11 @@ use Rattle.hx_members.specs.declared.seed.Seed.TheVariants.{Fixed, Drawn}
 use Rattle.hx_members.specs.declared.seed.TokenHasher.{TokenHasher}
 use Rattle.hx_members.specs.declared.seed.TokenHasher.TheVariants.{Folding, Keyed}
 
--- what is hashed of a name: the number of its member, the high byte first, and its token
+-- what is hashed of a name: the number of its member, the low byte first, and its token
 abbrev pub bytes_of_name : (member : ℕ) → Token → List ℕ
 bytes_of_name member token =
     let t = token.0 in
-    member / 256 ∷ member % 256 ∷ slice_index t 0 ∷ slice_index t 1 ∷ slice_index t 2
+    member % 256 ∷ member / 256 ∷ slice_index t 0 ∷ slice_index t 1 ∷ slice_index t 2
     ∷ slice_index t 3 ∷ slice_index t 4 ∷ slice_index t 5 ∷ slice_index t 6 ∷ slice_index t 7
     ∷ slice_index t 8 ∷ slice_index t 9 ∷ slice_index t 10 ∷ slice_index t 11 ∷ slice_index t 12
     ∷ slice_index t 13 ∷ []

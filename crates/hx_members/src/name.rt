@@ -27,8 +27,8 @@ impl Hash for Name {
         let member = self.member.get();
         let t = &self.token.0;
         state.write(&[
-            (member / 256) as u8,
             (member % 256) as u8,
+            (member / 256) as u8,
             t[0],
             t[1],
             t[2],

@@ -1,12 +1,12 @@
 //! The rules of Enter and Replace (OUCH 4.2, Enter Order and Replace Order Message).
 ghost use Rattle.std.specs.Prelude.{◌≡◌, ◌<◌, ◌^◌};
+ghost use Rattle.hx_members.specs.Setups.{Setup as SetupOf, locate_of};
 ghost use Rattle.hx_rules.specs.Orders.{is_side, side_of, is_visible, is_display, is_shown, life_of, published_side};
 ghost use Rattle.hx_rules.specs.Markets.{is_open, is_halted};
 ghost use Rattle.hx_rules.specs.Enter.{rejection, is_bad_shares, is_bad_price, is_late};
 ghost use Rattle.hx_rules.specs.Replace.{replace_fails};
 
 use hx_levels::Life;
-use hx_members::Setup;
 use hx_ouch::{Enter, Replace};
 use hx_units::Side;
 
@@ -105,15 +105,16 @@ pub fn is_halted(halted: &[bool], locate: u16) -> bool
     }
 }
 
-/// The letter of the first reason to reject a message, at this many hours codes past, and with these stocks halted,
-/// each under its locate.
-pub fn rejection(setup: &Setup, hours: u8, halted: &[bool], enter: &Enter) -> Option<u8>
-    ensures { result ≡ rejection setup.now hours halted.now enter.now }
+/// The letter of the first reason to reject a message whose stock has this locate, none where it is not one of the
+/// day's; at this many hours codes past, and with these stocks halted, each under its locate.
+pub fn rejection(locate: Option<u16>, hours: u8, halted: &[bool], enter: &Enter) -> Option<u8>
+    ensures { (setup : SetupOf) → locate_of setup enter.now.stock ≡ locate
+        → result ≡ rejection setup hours halted.now enter.now }
 {
     if !is_open(hours) || is_late(hours, enter.time_in_force) {
         return Some(b'C');
     }
-    let Some(locate) = setup.locate(enter.stock) else {
+    let Some(locate) = locate else {
         return Some(b'S');
     };
     if is_halted(halted, locate) {

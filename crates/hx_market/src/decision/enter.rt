@@ -1,7 +1,7 @@
 //! Which effect an Enter has.
 ghost use Rattle.std.specs.Prelude.{◌≡◌, ◌<◌, List, None, IsSome, false};
 ghost use Rattle.hx_units.specs.Limits.{day};
-ghost use Rattle.hx_members.specs.Setups.{member_of};
+ghost use Rattle.hx_members.specs.Setups.{member_of, locate_of};
 ghost use Rattle.hx_members.specs.Chains.{Used, Chain, is_used};
 ghost use Rattle.hx_rules.specs.Enter.{entered_by, enter, rejection, resolved_firm};
 ghost use Rattle.hx_levels.specs.declared.order.Live.{Live as LiveOrder};
@@ -31,12 +31,14 @@ fn accepted_enter(
     setup: &Setup,
     hours: u8,
     halted: &[bool],
+    locate: Option<u16>,
     member: MemberNo,
     time: u64,
     enter: Enter,
 ) -> AcceptedEnter
     requires member { IsSome (member_of setup.now member) }
     requires time { time < day }
+    requires locate { locate_of setup.now enter.stock ≡ locate }
     requires passes { rejection setup.now hours halted.now enter ≡ None }
     ensures message { (result.member ≡ member) × (result.time ≡ time) × (result.enter ≡ enter) }
     ensures is_accepted_enter { IsAcceptedEnter setup.now result }
@@ -45,7 +47,7 @@ fn accepted_enter(
         member,
         time,
         enter,
-        locate: setup.locate(enter.stock).unwrap(),
+        locate: locate.unwrap(),
         side: side_of(enter.side),
         price: Price::of(enter.price).unwrap(),
         firm: resolved_firm(setup, member, enter.firm),
@@ -73,7 +75,8 @@ fn unused_enter_effect(
         → is_used tokens member enter.token ≡ false → SuitsTokens tokens chains result }
     ensures about { (orders : List LiveOrder) → IsAbout orders result }
 {
-    if let Some(letter) = rejection(setup, hours, halted, &enter) {
+    let locate = setup.locate(enter.stock);
+    if let Some(letter) = rejection(locate, hours, halted, &enter) {
         return Effect::Reject(RejectedEnter {
             member,
             time,
@@ -81,7 +84,7 @@ fn unused_enter_effect(
             letter,
         });
     }
-    Effect::Accept(accepted_enter(setup, hours, halted, member, time, enter))
+    Effect::Accept(accepted_enter(setup, hours, halted, locate, member, time, enter))
 }
 
 /// What an Enter does, at so many hours codes past, and with these stocks halted.

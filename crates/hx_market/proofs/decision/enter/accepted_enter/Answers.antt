@@ -8,7 +8,7 @@ unwrap-requires-2 c = c.of.ensures.exists.1 (passes c.args.setup.now c.args.hour
 
 pub returns-clause-is_accepted_enter : goal.returns-clause-is_accepted_enter
 returns-clause-is_accepted_enter c = record {
-  locate = sym c.locate.ensures ∙ c.unwrap.ensures;
+  locate = c.requires.locate ∙ c.unwrap.ensures;
   side = c.side_of.ensures;
   price = subst (λ (o : Option ℕ). IfSome o (λ p. p ≡ c.args.enter.price)) c.unwrap-2.ensures c.of.ensures.value;
   firm = c.resolved_firm.ensures;
