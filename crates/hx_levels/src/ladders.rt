@@ -1,5 +1,5 @@
 //! The levels of a book, and beside them how near to the best price those of each stock and side begin.
-ghost use Rattle.std.specs.Prelude.{◌≡◌, ◌≤◌, ◌<◌, ℕ, Option, Some, None, IsSome, OnOk, OnErr, IfSome, IfNone, Bool, true, false};
+ghost use Rattle.std.specs.Prelude.{◌≡◌, ◌+◌, ◌≤◌, ◌<◌, ◌^◌, ℕ, Option, Some, None, IsSome, OnOk, OnErr, IfSome, IfNone, Bool, true, false};
 ghost use Rattle.std.specs.Option.{option_map};
 ghost use Rattle.std.specs.BTreeMap.{IsEmpty};
 ghost use Rattle.hx_levels.specs.Nodes.{ends_with};
@@ -11,6 +11,7 @@ use crate::levels::{
     Level, ends_at, first_from, first_within, is_empty_at, is_kept, join_queue, leave_queue,
     make_level,
 };
+use crate::link::Link;
 use crate::nodes::{Ends, Links};
 use crate::rung::Rung;
 use hx_units::NoMemory;
@@ -75,8 +76,9 @@ impl Ladders {
     }
 
     /// Puts a key last in a queue of a level that is there, and gives the key that was last.
-    pub fn join_queue(&mut self, at: Rung, shown: bool, key: usize) -> Option<usize>
-        requires { IsSome (level_at self.old.levels at) }
+    pub fn join_queue(&mut self, at: Rung, shown: bool, key: usize) -> Link
+        requires level { IsSome (level_at self.old.levels at) }
+        requires small { key + 1 < 2 ^ 64 }
         ensures last { result ≡ (ends_in shown (level_at self.old.levels at)).last }
         ensures changed { level_at self.new.levels at
             ≡ option_map
@@ -132,7 +134,7 @@ impl Ladders {
         requires { IsSome (ends_in shown (level_at self.old.levels at)).first }
         ensures { LeavesLevel self.old.levels self.new.levels at shown links kept }
     {
-        if links.before.is_some() && links.after.is_some() {
+        if links.is_inside() {
             return;
         }
         let left = leave_queue(&mut self.levels, at, shown, links);

@@ -7,7 +7,8 @@ ghost use Rattle.std.specs.Option.{option_copied, option_map, is_some};
 
 use crate::book::Book;
 use crate::ladders::Ladders;
-use crate::nodes::{Ends, Node, link_last, take_shares, unlink};
+use crate::link::Link;
+use crate::nodes::{Ends, Node, link_last, store, take_shares, unlink};
 use crate::order::{Key, Order, Terms};
 use crate::rung::Rung;
 use hx_units::{NoMemory, Price, Side};
@@ -63,10 +64,7 @@ impl LevelBook {
         LevelBook {
             nodes: Slab::new(alloc),
             ladders: Ladders::new(alloc),
-            time: Ends {
-                first: None,
-                last: None,
-            },
+            time: Ends::none(),
             place: None,
             kept: None,
         }
@@ -84,9 +82,9 @@ impl LevelBook {
     {
         let _price = order.price.get();
         let rung = rung_of(&order);
-        let key = self.nodes.vacant_key();
+        let key = store(&mut self.nodes, order);
         let last = self.ladders.join_queue(rung, order.shown, key);
-        let key = link_last(&mut self.nodes, order, last, self.time.last);
+        link_last(&mut self.nodes, key, last, self.time.last);
         self.time = self.time.with(key);
         self.place = None;
         self.kept = None;
@@ -149,11 +147,11 @@ impl LevelBook {
         ensures keys { KeysDiffer self.now.orders }
     {
         let node = self.nodes.get(key.0).unwrap();
-        if let Some(next) = node.queue.after {
+        if let Some(next) = node.queue.after.get() {
             return Some(Key(next));
         }
         let rung = rung_of(&node.order);
-        let hidden = self.ladders.ends_at(rung, false).first;
+        let hidden = self.ladders.ends_at(rung, false).first.get();
         match hidden {
             Some(next) if node.order.shown => Some(Key(next)),
             _ => {
@@ -169,10 +167,10 @@ impl LevelBook {
 }
 
 // The key that a link leads to.
-fn key_of(link: Option<usize>) -> Option<Key>
+fn key_of(link: Link) -> Option<Key>
     ensures { result ≡ option_map to_key link }
 {
-    match link {
+    match link.get() {
         Some(key) => Some(Key(key)),
         None => None,
     }

@@ -6,6 +6,7 @@ mod book;
 mod ladders;
 mod level_book;
 mod levels;
+mod link;
 mod list_book;
 mod nodes;
 mod order;

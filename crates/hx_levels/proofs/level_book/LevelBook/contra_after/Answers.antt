@@ -46,7 +46,7 @@ returns-in-Some-clause-exact c =
     let node = c.unwrap-node.result.now in
     let stored : get i.nodes key ≡ Some node = sym c.get.ensures ∙ ap option_copied c.unwrap-node.ensures in
     let live = (rank i.nodes i.ladders.levels i.time i.place i.kept orders c.self.invariant terms key ranked node stored).live in
-    next_queued i.nodes i.ladders.levels i.time i.place i.kept orders c.self.invariant terms key ranked node stored c.in-Some.next c.in-Some.is
+    next_queued i.nodes i.ladders.levels i.time i.place i.kept orders c.self.invariant terms key ranked node stored c.in-Some.next (sym c.get-2.ensures ∙ c.in-Some.is)
     ∙ ap (λ v. next_by_rank terms (Some c.args.key) v.orders) c.self.view_is
 
 pub first_from-requires-clause-single : goal.first_from-requires-clause-single
@@ -69,9 +69,9 @@ returns-in-Some-hidden-clause-exact c =
     ∙ ap (λ (o : Order). rung_of (terms_of o)) (node_order i.nodes i.ladders.levels i.time i.place i.kept orders c.self.invariant terms key ranked node stored)
     ∙ (live_rung i.nodes i.ladders.levels i.time i.place i.kept orders c.self.invariant terms key ranked node stored).0 in
     let shown : node.order.shown ≡ live.order.shown = ap (λ (o : Order). o.shown) (node_order i.nodes i.ladders.levels i.time i.place i.kept orders c.self.invariant terms key ranked node stored) in
-    let hidden : c.ends_at-hidden.result.first ≡ first_at i.ladders.levels terms.locate (not (is_buy terms.side)) (distance_of live) false =
-    ap (λ (e : Ends). e.first) (c.ends_at-hidden.ensures ∙ ap (λ r. ends_in false (level_at i.ladders.levels r)) at) in
-    next_hidden i.nodes i.ladders.levels i.time i.place i.kept orders c.self.invariant terms key ranked node stored c.in-Some-hidden.next c.in_default.is (sym shown ∙ c.if-node.true) (sym hidden ∙ c.in-Some-hidden.is)
+    let hidden : c.get-hidden.result ≡ first_at i.ladders.levels terms.locate (not (is_buy terms.side)) (distance_of live) false =
+    c.get-hidden.ensures ∙ ap (λ (e : Ends). e.first) (c.ends_at.ensures ∙ ap (λ r. ends_in false (level_at i.ladders.levels r)) at) in
+    next_hidden i.nodes i.ladders.levels i.time i.place i.kept orders c.self.invariant terms key ranked node stored c.in-Some-hidden.next (sym c.get-2.ensures ∙ c.in_default.is) (sym shown ∙ c.if-node.true) (sym hidden ∙ c.in-Some-hidden.is)
     ∙ ap (λ v. next_by_rank terms (Some c.args.key) v.orders) c.self.view_is
 
 pub returns-in-Some-first_from-clause-exact : goal.returns-in-Some-first_from-clause-exact
@@ -89,8 +89,8 @@ returns-in-Some-first_from-clause-exact c =
     ∙ ap (λ (o : Order). rung_of (terms_of o)) (node_order i.nodes i.ladders.levels i.time i.place i.kept orders c.self.invariant terms key ranked node stored)
     ∙ (live_rung i.nodes i.ladders.levels i.time i.place i.kept orders c.self.invariant terms key ranked node stored).0 in
     let shown : node.order.shown ≡ live.order.shown = ap (λ (o : Order). o.shown) (node_order i.nodes i.ladders.levels i.time i.place i.kept orders c.self.invariant terms key ranked node stored) in
-    let hidden : c.ends_at-hidden.result.first ≡ first_at i.ladders.levels terms.locate (not (is_buy terms.side)) (distance_of live) false =
-    ap (λ (e : Ends). e.first) (c.ends_at-hidden.ensures ∙ ap (λ r. ends_in false (level_at i.ladders.levels r)) at) in
+    let hidden : c.get-hidden.result ≡ first_at i.ladders.levels terms.locate (not (is_buy terms.side)) (distance_of live) false =
+    c.get-hidden.ensures ∙ ap (λ (e : Ends). e.first) (c.ends_at.ensures ∙ ap (λ r. ends_in false (level_at i.ladders.levels r)) at) in
     let empty : live.order.shown ≡ true → first_at i.ladders.levels terms.locate (not (is_buy terms.side)) (distance_of live) false ≡ None =
     λ t. sym hidden ∙ elim c.in_default-hidden.branch [
       | in_default-hidden-via-in-Some-hidden+else-node w ↦ absurd (true≢false (sym t ∙ sym shown ∙ w.if-node.false))
@@ -98,7 +98,7 @@ returns-in-Some-first_from-clause-exact c =
     ] in
     let behind : c.at-from.result ≡ record c.rung_of-rung.result { distance = c.rung_of-rung.result.distance + 1 } =
     c.at-from.ensures ∙ ap (λ n. record c.rung_of-rung.result { distance = n + 1 }) c.distance.ensures in
-    next_level i.nodes i.ladders.levels i.time i.place i.kept orders c.self.invariant terms key ranked node stored c.in_default.is empty c.in-Some-first_from.next
+    next_level i.nodes i.ladders.levels i.time i.place i.kept orders c.self.invariant terms key ranked node stored (sym c.get-2.ensures ∙ c.in_default.is) empty c.in-Some-first_from.next
     (subst (λ n. IsFirstFrom i.ladders.levels terms.locate (not (is_buy terms.side)) (distance_of live + 1) n c.in-Some-first_from.next) c.contra_of-limit.ensures.limit
     (subst (λ (r : Rung). IsFirstFrom i.ladders.levels r.locate r.buy (r.distance + 1) c.contra_of-limit.result.1 c.in-Some-first_from.next) at
     (subst (λ (r : Rung). IsFirstFrom i.ladders.levels r.locate r.buy r.distance c.contra_of-limit.result.1 c.in-Some-first_from.next) behind c.in-Some-first_from.ensures.found)))
@@ -119,8 +119,8 @@ returns-in-None-clause-exact c =
     ∙ ap (λ (o : Order). rung_of (terms_of o)) (node_order i.nodes i.ladders.levels i.time i.place i.kept orders c.self.invariant terms key ranked node stored)
     ∙ (live_rung i.nodes i.ladders.levels i.time i.place i.kept orders c.self.invariant terms key ranked node stored).0 in
     let shown : node.order.shown ≡ live.order.shown = ap (λ (o : Order). o.shown) (node_order i.nodes i.ladders.levels i.time i.place i.kept orders c.self.invariant terms key ranked node stored) in
-    let hidden : c.ends_at-hidden.result.first ≡ first_at i.ladders.levels terms.locate (not (is_buy terms.side)) (distance_of live) false =
-    ap (λ (e : Ends). e.first) (c.ends_at-hidden.ensures ∙ ap (λ r. ends_in false (level_at i.ladders.levels r)) at) in
+    let hidden : c.get-hidden.result ≡ first_at i.ladders.levels terms.locate (not (is_buy terms.side)) (distance_of live) false =
+    c.get-hidden.ensures ∙ ap (λ (e : Ends). e.first) (c.ends_at.ensures ∙ ap (λ r. ends_in false (level_at i.ladders.levels r)) at) in
     let empty : live.order.shown ≡ true → first_at i.ladders.levels terms.locate (not (is_buy terms.side)) (distance_of live) false ≡ None =
     λ t. sym hidden ∙ elim c.in_default-hidden.branch [
       | in_default-hidden-via-in-Some-hidden+else-node w ↦ absurd (true≢false (sym t ∙ sym shown ∙ w.if-node.false))
@@ -128,7 +128,7 @@ returns-in-None-clause-exact c =
     ] in
     let behind : c.at-from.result ≡ record c.rung_of-rung.result { distance = c.rung_of-rung.result.distance + 1 } =
     c.at-from.ensures ∙ ap (λ n. record c.rung_of-rung.result { distance = n + 1 }) c.distance.ensures in
-    next_none i.nodes i.ladders.levels i.time i.place i.kept orders c.self.invariant terms key ranked node stored c.in_default.is empty
+    next_none i.nodes i.ladders.levels i.time i.place i.kept orders c.self.invariant terms key ranked node stored (sym c.get-2.ensures ∙ c.in_default.is) empty
     (subst (λ n. (d : ℕ) (s : Bool) → distance_of live + 1 ≤ d → d ≤ n → first_at i.ladders.levels terms.locate (not (is_buy terms.side)) d s ≡ None) c.contra_of-limit.ensures.limit
     (subst (λ (r : Rung). (d : ℕ) (s : Bool) → r.distance + 1 ≤ d → d ≤ c.contra_of-limit.result.1 → first_at i.ladders.levels r.locate r.buy d s ≡ None) at
     (subst (λ (r : Rung). (d : ℕ) (s : Bool) → r.distance ≤ d → d ≤ c.contra_of-limit.result.1 → first_at i.ladders.levels r.locate r.buy d s ≡ None) behind c.in-None.ensures.none)))
