@@ -1,3 +1,2 @@
 pub mod Day
 pub mod Ends
-pub mod Room

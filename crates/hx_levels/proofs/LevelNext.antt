@@ -2,7 +2,6 @@
 use Rattle.std.proofs.Common.{◌≡◌, ℕ, ◌≤◌, ◌<◌, ◌+◌, ◌-◌, ◌⊎◌, inl, inr, Bool, true, false, not, ◌||◌, ◌&&◌, cond, eqb, ltb, List, [], ◌∷◌, Option, Some, None, refl, sym, ap, ◌∙◌, subst, arith, eqb-true, eq-eqb}
 use Rattle.std.specs.List.{AllByRecursion, find, filter}
 use Rattle.std.specs.Option.{option_map}
-use Rattle.std.specs.BTreeMap.{BTreeMap}
 use Rattle.std.proofs.lemmas.Bool.{cond_both, cond-true, cond-false, true≢false, false_from_ne_true, and_parts, or_left, or_right, and_from, cases_order}
 use Rattle.std.proofs.lemmas.Bool.Decides.{nat_tests}
 use Rattle.slab.specs.Slab.{Slab, get}
@@ -15,7 +14,8 @@ use Rattle.hx_levels.specs.Lists.{head_of, behind_first}
 use Rattle.hx_levels.specs.Rank.{first_of}
 use Rattle.hx_levels.specs.Chain.{has}
 use Rattle.hx_levels.specs.Nodes.{queue_links, time_links}
-use Rattle.hx_levels.specs.Levels.{Rung, level_at, ends_in, first_at, IsFirstFrom}
+use Rattle.hx_levels.specs.Rung.{Rung}
+use Rattle.hx_levels.specs.Levels.{Tiers, level_at, ends_in, first_at, IsFirstFrom}
 use Rattle.hx_units.specs.Side.{is_buy}
 use Rattle.hx_levels.specs.Book.{is_under, is_ahead, crosses, has_key, IsRanked, next_by_rank, next_by_time, is_candidate, is_equal, terms_of}
 use Rattle.hx_levels.specs.LevelBook.{keys_of, is_in, rung_of, contra, limit_of, to_key, IsBook}
@@ -57,7 +57,7 @@ has_first p orders key h = at (find p orders) refl (sym (head-keys (filter p ord
     at None f e = cc
     at (Some x) f e = record { live = x; found = f; key_is = cc }
 
-module _ (nodes : Slab Node) (levels : BTreeMap Rung Level) (time : Ends) (place : Option Terms) (kept : Option Rung) (orders : List Live)
+module _ (nodes : Slab Node) (levels : Tiers) (time : Ends) (place : Option Terms) (kept : Option Rung) (orders : List Live)
     (book : IsBook nodes levels time place kept orders) (terms : Terms) where
   queue_first : (d : ℕ) (s : Bool) → first_at levels terms.locate (not (is_buy terms.side)) d s ≡ head_of (keys_of (filter (is_in (contra terms d) s) orders))
   queue_first d s = (book.in_level (contra terms d) s).first
@@ -204,7 +204,7 @@ equal-in terms a y pa py c =
     let d : distance_of y ≡ distance_of a = ap (λ n. cond (is_buy y.order.side) (2000000000 - n) n) (eqb-true y.order.price a.order.price q.1) ∙ ap (λ t. cond t (2000000000 - a.order.price) a.order.price) o in
     in_queue (rung_of (terms_of a.order)) a.order.shown y (s.0 ∙ ap (contra terms) d ∙ sym r.0) (shown_is y.order.shown a.order.shown p.1))
 
-module _ (nodes : Slab Node) (levels : BTreeMap Rung Level) (time : Ends) (place : Option Terms) (kept : Option Rung) (orders : List Live)
+module _ (nodes : Slab Node) (levels : Tiers) (time : Ends) (place : Option Terms) (kept : Option Rung) (orders : List Live)
     (book : IsBook nodes levels time place kept orders) (terms : Terms) (key : ℕ) (ranked : IsRanked terms key orders) (node : Node) (stored : get nodes key ≡ Some node) where
   pub rank : Ranked terms key orders
   rank = next-some terms key orders book.differ ranked
@@ -346,11 +346,11 @@ pub to_keys : (r : Option ℕ) (o : Option Live) → r ≡ option_map (λ (y : L
 to_keys r None e = ap (option_map to_key) e
 to_keys r (Some x) e = ap (option_map to_key) e
 
-pub time_first : (nodes : Slab Node) (levels : BTreeMap Rung Level) (time : Ends) (place : Option Terms) (kept : Option Rung) (orders : List Live) → IsBook nodes levels time place kept orders
+pub time_first : (nodes : Slab Node) (levels : Tiers) (time : Ends) (place : Option Terms) (kept : Option Rung) (orders : List Live) → IsBook nodes levels time place kept orders
     → option_map to_key time.first ≡ next_by_time None orders
 time_first nodes levels time place kept orders b = to_keys time.first (head_of orders) (b.in_time.first ∙ head-keys orders)
 
-pub time_behind : (nodes : Slab Node) (levels : BTreeMap Rung Level) (time : Ends) (place : Option Terms) (kept : Option Rung) (orders : List Live) → IsBook nodes levels time place kept orders
+pub time_behind : (nodes : Slab Node) (levels : Tiers) (time : Ends) (place : Option Terms) (kept : Option Rung) (orders : List Live) → IsBook nodes levels time place kept orders
     → (key : ℕ) (node : Node) → has_key key orders ≡ true → get nodes key ≡ Some node → option_map to_key node.time.after ≡ next_by_time (Some (record { 0 = key })) orders
 time_behind nodes levels time place kept orders b key node h e =
     to_keys node.time.after (head_of (behind_first (is_under key) orders))
@@ -372,7 +372,7 @@ pub record Found (nodes : Slab Node) (orders : List Live) (key : ℕ) : Type 0 w
   pub stored : get nodes key ≡ Some node
   pub order : node.order ≡ live.order
 
-pub node_found : (nodes : Slab Node) (levels : BTreeMap Rung Level) (time : Ends) (place : Option Terms) (kept : Option Rung) (orders : List Live) → IsBook nodes levels time place kept orders
+pub node_found : (nodes : Slab Node) (levels : Tiers) (time : Ends) (place : Option Terms) (kept : Option Rung) (orders : List Live) → IsBook nodes levels time place kept orders
     → (key : ℕ) → has_key key orders ≡ true → Found nodes orders key
 node_found nodes levels time place kept orders b key h =
     let s = some_found key orders h in

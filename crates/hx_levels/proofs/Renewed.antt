@@ -1,12 +1,11 @@
 -- No level is better than the distance kept for its stock and side, once the best of a side is found anew.
 use Rattle.std.proofs.Common.{◌≡◌, ℕ, ◌+◌, ◌*◌, ◌<◌, ◌≤◌, Bool, true, false, inl, inr, eqb, cond, List, length, set, None, sym, ap, ◌∙◌, subst, arith, eqb-true, refl}
 use Rattle.std.specs.Option.{IsSome, is_some}
-use Rattle.std.specs.BTreeMap.{BTreeMap}
 use Rattle.std.proofs.lemmas.Bool.{true≢false, eqb-false, cases_lt}
 use Rattle.std.proofs.lemmas.List.{get_or-set_other}
 use Rattle.std.proofs.lemmas.Grind.{get_or-set_at}
-use Rattle.hx_levels.specs.declared.levels.Level.{Level}
-use Rattle.hx_levels.specs.Levels.{Rung, level_at, side_number}
+use Rattle.hx_levels.specs.Rung.{Rung, side_number}
+use Rattle.hx_levels.specs.Levels.{Tiers, level_at}
 use Rattle.hx_levels.specs.Bests.{bound_of, NoneBetter}
 
 same_number : (l m : ℕ) (b c : Bool) → l * 2 + cond b 1 0 ≡ m * 2 + cond c 1 0 → (l ≡ m) × (b ≡ c)
@@ -22,7 +21,7 @@ beside at q h =
     ap (λ n. record { locate = n; buy = at.buy; distance = q.distance }) (sym s.0)
     ∙ ap (λ b. record { locate = q.locate; buy = b; distance = q.distance }) (sym s.1)
 
-pub renewed : (levels : BTreeMap Rung Level) (distances : List ℕ) (at : Rung) (best : ℕ) → side_number at < length distances
+pub renewed : (levels : Tiers) (distances : List ℕ) (at : Rung) (best : ℕ) → side_number at < length distances
     → ((d : ℕ) → d < best → level_at levels (record at { distance = d }) ≡ None)
     → NoneBetter levels distances → NoneBetter levels (set distances (side_number at) best)
 renewed levels distances at best there none better = λ q s. by q s (eqb (side_number q) (side_number at)) refl

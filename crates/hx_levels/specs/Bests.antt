@@ -1,9 +1,8 @@
 -- How near to the best price the levels of each stock and side begin.
 use Rattle.std.specs.Prelude.{ℕ, ◌≤◌, List, slice_index_or}
 use Rattle.std.specs.Option.{IsSome}
-use Rattle.std.specs.BTreeMap.{BTreeMap}
-use Rattle.hx_levels.specs.declared.levels.Level.{Level}
-use Rattle.hx_levels.specs.Levels.{Rung, level_at, side_number}
+use Rattle.hx_levels.specs.Rung.{Rung, side_number}
+use Rattle.hx_levels.specs.Levels.{Tiers, level_at}
 
 -- beyond each price
 abbrev pub no_distance : ℕ
@@ -14,6 +13,6 @@ abbrev pub bound_of : (distances : List ℕ) → Rung → ℕ
 bound_of distances at = slice_index_or distances (side_number at) no_distance
 
 -- no level of a stock and side is better than the distance kept for them
-abbrev pub NoneBetter : BTreeMap Rung Level → (distances : List ℕ) → Type 0
+abbrev pub NoneBetter : Tiers → (distances : List ℕ) → Type 0
 NoneBetter levels distances =
     (at : Rung) → IsSome (level_at levels at) → bound_of distances at ≤ at.distance

@@ -2,7 +2,6 @@
 use Rattle.std.specs.Prelude.{◌≡◌, ℕ, ◌-◌, ◌≤◌, ◌==◌, ◌&&◌, not, suc, zero, Bool, List, [], ◌∷◌, map, length, Option, Some, None, if◌then◌else◌}
 use Rattle.std.specs.List.{filter, AllByRecursion}
 use Rattle.std.specs.Option.{option_map, IsSome}
-use Rattle.std.specs.BTreeMap.{BTreeMap}
 use Rattle.slab.specs.Slab.{Slab, get, HasRoomFor}
 use Rattle.hx_levels.specs.declared.order.Key.{Key}
 use Rattle.hx_levels.specs.declared.order.Live.{Live}
@@ -12,7 +11,8 @@ use Rattle.hx_levels.specs.declared.nodes.Ends.{Ends}
 use Rattle.hx_levels.specs.declared.levels.Level.{Level}
 use Rattle.hx_levels.specs.Chain.{IsLinked}
 use Rattle.hx_levels.specs.Nodes.{time_links, queue_links}
-use Rattle.hx_levels.specs.Levels.{Rung, level_at, ends_in, IsEmptyLevel}
+use Rattle.hx_levels.specs.Rung.{Rung}
+use Rattle.hx_levels.specs.Levels.{Tiers, level_at, ends_in, IsEmptyLevel}
 use Rattle.hx_units.specs.Side.{is_buy}
 use Rattle.hx_units.specs.Limits.{greatest_price}
 use Rattle.hx_levels.specs.Book.{terms_of, order_of, KeysDiffer}
@@ -56,7 +56,7 @@ abbrev pub queue : Rung → Bool → List Live → List ℕ
 queue at shown orders = keys_of (filter (is_in at shown) orders)
 
 -- the slab, the levels and the links hold these live orders and no others
-pub record IsBook (nodes : Slab Node) (levels : BTreeMap Rung Level) (time : Ends)
+pub record IsBook (nodes : Slab Node) (levels : Tiers) (time : Ends)
     (place : Option Terms) (kept : Option Rung) (orders : List Live) : Type 0 where
   pub differ : KeysDiffer orders
   pub stored : (key : ℕ) → option_map (λ node. node.order) (get nodes key) ≡ order_of key orders

@@ -1,6 +1,6 @@
 //! How near to the best price the levels of each stock and side begin.
 ghost use Rattle.std.specs.Prelude.{◌≡◌, ◌≤◌, ◌<◌, ℕ, List, [], length, slice_set, OnOk, OnErr, true, false};
-ghost use Rattle.hx_levels.specs.Levels.{Rung, side_number};
+ghost use Rattle.hx_levels.specs.Rung.{Rung, side_number};
 ghost use Rattle.hx_levels.specs.Bests.{bound_of};
 
 use crate::rung::Rung;

@@ -1,27 +1,24 @@
 //! The levels of a book, and beside them how near to the best price those of each stock and side begin.
 ghost use Rattle.std.specs.Prelude.{◌≡◌, ◌+◌, ◌≤◌, ◌<◌, ◌^◌, ℕ, Option, Some, None, IsSome, OnOk, OnErr, IfSome, IfNone, Bool, true, false};
 ghost use Rattle.std.specs.Option.{option_map};
-ghost use Rattle.std.specs.BTreeMap.{IsEmpty};
 ghost use Rattle.hx_levels.specs.Nodes.{ends_with};
-ghost use Rattle.hx_levels.specs.Levels.{Rung, level_at, with_ends, ends_in, first_at, IsFirstFrom, IsEmptyAt, DropsEmpty, LeavesLevel};
+ghost use Rattle.hx_levels.specs.Rung.{Rung};
+ghost use Rattle.hx_levels.specs.Levels.{level_at, with_ends, ends_in, first_at, IsFirstFrom, IsEmptyAt, DropsEmpty, LeavesLevel};
 ghost use Rattle.hx_levels.specs.Bests.{NoneBetter};
 
 use crate::bests::{Bests, NO_DISTANCE};
-use crate::levels::{
-    Level, ends_at, first_from, first_within, is_empty_at, is_kept, join_queue, leave_queue,
-    make_level,
-};
+use crate::levels::{ends_at, first_from, first_of_level, first_within, is_empty_at, is_kept};
 use crate::link::Link;
 use crate::nodes::{Ends, Links};
 use crate::rung::Rung;
+use crate::tiers::Tiers;
 use hx_units::NoMemory;
 use std::alloc::Global;
-use std::collections::BTreeMap;
 
 /// The levels of all stocks and sides. Where no level of a side is near enough, that is known without a look for one.
 #[derive(Drop)]
 pub struct Ladders {
-    levels: BTreeMap<Rung, Level>,
+    levels: Tiers,
     bests: Bests,
     ghost near: { NoneBetter levels bests },
 }
@@ -29,10 +26,10 @@ pub struct Ladders {
 impl Ladders {
     /// No levels.
     pub fn new(alloc: Global) -> Self
-        ensures { IsEmpty result.levels }
+        ensures { (at : Rung) → level_at result.levels at ≡ None }
     {
         Ladders {
-            levels: BTreeMap::new(alloc),
+            levels: Tiers::new(alloc),
             bests: Bests::new(alloc),
         }
     }
@@ -54,8 +51,15 @@ impl Ladders {
         ensures none { IfNone result ((d : ℕ) (s : Bool) → from.distance ≤ d → d ≤ limit
             → first_at self.now.levels from.locate from.buy d s ≡ None) }
     {
-        if limit < self.bests.bound(from) {
+        let bound = self.bests.bound(from);
+        if limit < bound {
             return None;
+        }
+        // Mostly the best level is at the bound, and is found there without a search.
+        if from.distance() <= bound {
+            if let Some(key) = first_of_level(&self.levels, from.at(bound)) {
+                return Some(key);
+            }
         }
         first_from(&self.levels, from, limit)
     }
@@ -72,7 +76,7 @@ impl Ladders {
     {
         // Noted before it is made: where it is then refused, what is kept is nearer than it need be.
         self.bests.include(at)?;
-        make_level(&mut self.levels, at)
+        self.levels.make_level(at)
     }
 
     /// Puts a key last in a queue of a level that is there, and gives the key that was last.
@@ -87,7 +91,7 @@ impl Ladders {
         ensures others { (q : Rung) → (q ≡ at → ⊥)
             → level_at self.new.levels q ≡ level_at self.old.levels q }
     {
-        join_queue(&mut self.levels, at, shown, key)
+        self.levels.join_queue(at, shown, key)
     }
 
     // Looks for the best level of the rung's stock and side, where the rung was the best before its level went out.
@@ -111,7 +115,7 @@ impl Ladders {
             return;
         }
         if is_empty_at(&self.levels, at) {
-            self.levels.remove(&at);
+            self.levels.remove(at);
             self.find_best(at);
         }
     }
@@ -137,7 +141,7 @@ impl Ladders {
         if links.is_inside() {
             return;
         }
-        let left = leave_queue(&mut self.levels, at, shown, links);
+        let left = self.levels.leave_queue(at, shown, links);
         self.drop_if_empty(at, kept, shown, left);
     }
 }

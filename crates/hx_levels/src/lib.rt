@@ -11,6 +11,7 @@ mod list_book;
 mod nodes;
 mod order;
 mod rung;
+mod tiers;
 
 pub use book::Book;
 pub use level_book::LevelBook;

@@ -4,13 +4,18 @@ ghost use Rattle.std.proofs.Common.{rules};
 ghost use Rattle.std.specs.Ordering.{as_partial_cmp, eq_by_cmp};
 ghost use Rattle.std.specs.Cmp.{partial_equiv_from_equiv, partial_order_from_own_ties};
 ghost use Rattle.std.specs.Cmp.Rules.{comparing};
-ghost use Rattle.hx_levels.specs.Levels.{Rung, rung_cmp, side_number};
+ghost use Rattle.hx_levels.specs.Rung.{Rung, rung_cmp, side_number};
 
 use std::cmp::Ordering;
 use std::marker::Model;
 
 // How many distances there are on a side of a stock.
 const DISTANCES: u64 = 1 << 32;
+
+// Times this number, the upper bits of distances a cent (100) apart are next to each other, and those of distances closer
+// together, or of two sides, far apart: it is 61 / 100 of 2 ^ 64 and 1 / 4,096 of a hundredth more, and its lower half
+// 2 ^ 32 over the golden ratio.
+const SPREAD: u64 = 11_252_558_926_534_113_721;
 
 /// A stock, a side and how far a price is from the best, in one number, so that two of them compare at once: the number
 /// of the stock from bit 33 on, the side in bit 32, the distance below. Of one stock and side the better price comes first.
@@ -20,7 +25,7 @@ pub struct Rung {
 }
 
 impl Model for Rung {
-    ghost use Rattle.hx_levels.specs.Levels.{Rung, rung_number, rung_of_number};
+    ghost use Rattle.hx_levels.specs.Rung.{Rung, rung_number, rung_of_number};
 
     ghost Value = { Rung };
 
@@ -61,6 +66,13 @@ impl Rung {
         ensures { result ≡ self.distance }
     {
         (self.number % DISTANCES) as u32
+    }
+
+    /// The number of its hint, of 4,096: rungs near to each other have different ones.
+    pub fn hint(self) -> usize
+        ensures { result < 4096 }
+    {
+        (self.number.wrapping_mul(SPREAD) >> 52) as usize
     }
 
     /// The rung of the same stock and side at another distance.

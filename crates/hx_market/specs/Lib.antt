@@ -4,6 +4,7 @@ pub mod Effects
 pub mod MarketModel
 pub mod Expiries
 pub mod Prepared
+pub mod Room
 pub use Rattle.hx_rules.specs.Letters
 pub use Rattle.hx_rules.specs.Limits
 pub use Rattle.hx_rules.specs.Orders

@@ -13,6 +13,7 @@ use Rattle.hx_refs.specs.Numbers.{Numbers}
 use Rattle.hx_day.specs.Day.{TradingState}
 use Rattle.hx_rules.specs.declared.event.Event.{Event}
 use Rattle.hx_market.specs.declared.effect.Effect.{Effect}
+use Rattle.hx_market.specs.declared.next_step.NextStep.{NextStep}
 use Rattle.hx_rules.specs.Orders.{Order}
 use Rattle.hx_rules.specs.Markets.{Market}
 
@@ -26,6 +27,16 @@ pub record Planned : Type 0 where
   pub effect : Effect
   pub fills : List Fill
   pub left : ℕ
+
+-- the same, of this next step of the market
+abbrev pub with_step : NextStep → Planned → Planned
+with_step next p =
+    record p {
+      number = next.number;
+      effect = next.effect;
+      fills = next.fills.items;
+      left = next.left;
+    }
 
 -- what contracts see of a market over its book: the setup, the market of the definitions, and what
 -- its last `prepare` gave and no `commit` took

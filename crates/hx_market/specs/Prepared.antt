@@ -1,7 +1,6 @@
 -- What stands between prepare and commit: counts, places, and room for an effect.
-use Rattle.std.specs.Prelude.{◌≡◌, ℕ, ◌+◌, ◌*◌, ◌<◌, ◌≤◌, Bool, false, List, [], ◌∷◌, ◌++◌, length, map, Option, Some, nat_lt, ◌&&◌, if◌then◌else◌, ⊤}
+use Rattle.std.specs.Prelude.{◌≡◌, ℕ, ◌+◌, ◌≤◌, Bool, false, List, [], ◌∷◌, ◌++◌, length, map, Option, Some, nat_lt, ◌&&◌, if◌then◌else◌, ⊤}
 use Rattle.std.specs.Option.{option_map_or}
-use Rattle.std.specs.Vec.{vec_len, vec_capacity}
 use Rattle.hx_units.specs.declared.names.Token.{Token}
 use Rattle.hx_levels.specs.declared.order.Live.{Live}
 use Rattle.hx_levels.specs.declared.order.Terms.{Terms}
@@ -17,7 +16,6 @@ use Rattle.hx_refs.specs.Numbers.{Numbers}
 use Rattle.hx_market.specs.Bounds.{CanAccept}
 use Rattle.hx_day.specs.Day.{MayRecord, TradingState}
 use Rattle.hx_market.specs.MarketModel.{Planned, name_of, market_of}
-use Rattle.hx_rules.specs.declared.output.Output.{Output}
 use Rattle.hx_market.specs.declared.effect.Effect.{Effect}
 use Rattle.hx_market.specs.declared.effect.Effect.TheVariants.{Nothing, Reject, Accept, Fail, Replace, Cancel, End, Halt, Break}
 use Rattle.hx_market.specs.declared.effect.AcceptedEnter.{AcceptedEnter}

@@ -6,7 +6,7 @@ ghost use Rattle.hx_members.specs.Chains.{is_used, entered_used, entered_chain};
 ghost use Rattle.hx_market.specs.Effects.{IsInRange, SuitsTokens, IsAbout};
 ghost use Rattle.hx_market.specs.OrderKeys.{AreKeyed};
 ghost use Rattle.hx_market.specs.MarketModel.{market_of, name_of};
-ghost use Rattle.hx_day.specs.Room.{HasRoom};
+ghost use Rattle.hx_market.specs.Room.{HasRoom};
 ghost use Rattle.hx_market.specs.Prepared.{HasPlaces, FitsEffect, outcome_over};
 ghost use Rattle.hx_ouch.specs.declared.outbound.Outbound.TheVariants.{Rejected as ToldRejected};
 
@@ -69,50 +69,57 @@ pub fn commit_effect<B: Book>(
     refs: &mut Refs,
     trading: &mut Trading,
     out: &mut Output,
-    effect: Effect,
+    effect: &mut Effect,
     fills: &[Fill],
     left: u32,
 )
-    requires range { IsInRange effect }
-    requires suits { SuitsTokens tokens.old.tokens tokens.old.chains effect }
-    requires about { IsAbout (B.orders book.old) effect }
+    requires range { IsInRange effect.old }
+    requires suits { SuitsTokens tokens.old.tokens tokens.old.chains effect.old }
+    requires about { IsAbout (B.orders book.old) effect.old }
     requires places { HasPlaces (B.orders book.old)
-        (B.place book.old) tokens.old.place fills.now left effect }
+        (B.place book.old) tokens.old.place fills.now left effect.old }
     requires keyed { AreKeyed tokens.old.tokens tokens.old.keys (B.orders book.old) }
     requires fits { FitsEffect
-        (market_of (B.orders book.old) tokens.old refs.old 0 [] trading.old) effect }
+        (market_of (B.orders book.old) tokens.old refs.old 0 [] trading.old) effect.old }
     requires executions_room { length fills.now ≤ trading.old.room }
     requires room { HasRoom (length fills.now) out.old }
     ensures live { lives (B.orders book.new)
-        ≡ (outcome_over (B.orders book.old) tokens.old refs.old trading.old effect).market.live }
+        ≡ (outcome_over (B.orders book.old) tokens.old refs.old trading.old
+        effect.old).market.live }
     ensures tokens { tokens.new.tokens
-        ≡ (outcome_over (B.orders book.old) tokens.old refs.old trading.old effect).market.tokens }
+        ≡ (outcome_over (B.orders book.old) tokens.old refs.old trading.old
+        effect.old).market.tokens }
     ensures chains { tokens.new.chains
-        ≡ (outcome_over (B.orders book.old) tokens.old refs.old trading.old effect).market.chains }
+        ≡ (outcome_over (B.orders book.old) tokens.old refs.old trading.old
+        effect.old).market.chains }
     ensures keyed { AreKeyed tokens.new.tokens tokens.new.keys (B.orders book.new) }
     ensures numbers { refs.new
-        ≡ (outcome_over (B.orders book.old) tokens.old refs.old trading.old effect).market.numbers }
+        ≡ (outcome_over (B.orders book.old) tokens.old refs.old trading.old
+        effect.old).market.numbers }
     ensures halted { trading.new.halted
-        ≡ (outcome_over (B.orders book.old) tokens.old refs.old trading.old effect).market.halted }
+        ≡ (outcome_over (B.orders book.old) tokens.old refs.old trading.old
+        effect.old).market.halted }
     ensures executions { trading.new.executions
         ≡ (outcome_over (B.orders book.old) tokens.old refs.old trading.old
-        effect).market.executions }
+        effect.old).market.executions }
     ensures feed { out.new.feed.items
-        ≡ (outcome_over (B.orders book.old) tokens.old refs.old trading.old effect).told.feed }
+        ≡ (outcome_over (B.orders book.old) tokens.old refs.old trading.old
+        effect.old).told.feed }
     ensures replies { out.new.replies.items
-        ≡ (outcome_over (B.orders book.old) tokens.old refs.old trading.old effect).told.replies }
+        ≡ (outcome_over (B.orders book.old) tokens.old refs.old trading.old
+        effect.old).told.replies }
 {
     match effect {
         Effect::Nothing => {}
-        Effect::Reject(effect) => reject(tokens, out, &effect),
-        Effect::Accept(effect) => { accept(book, tokens, refs, trading, out, &effect, fills, left) }
-        Effect::Fail(effect) => fail(book, tokens, out, &effect),
+        Effect::Reject(effect) => reject(tokens, out, effect),
+        Effect::Accept(effect) => { accept(book, tokens, refs, trading, out, effect, fills, left) }
+        Effect::Fail(effect) => fail(book, tokens, out, effect),
         Effect::Replace(effect) => {
-            replace(book, tokens, refs, trading, out, &effect, fills, left)
+            replace(book, tokens, refs, trading, out, effect, fills, left)
         }
-        Effect::Cancel(effect) => cancel(book, out, &effect),
+        Effect::Cancel(effect) => cancel(book, out, effect),
         Effect::End(effect) => end(book, out, effect),
-        Effect::Halt(effect) => set_state(trading, out, &effect),
-        Effect::Break(effect) => break_match(trading, out, &effect),
+        Effect::Halt(effect) => set_state(trading, out, effect),
+        Effect::Break(effect) => break_match(trading, out, effect),
     }
 }

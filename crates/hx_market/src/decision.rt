@@ -1,5 +1,5 @@
 //! Which effect an event has.
-ghost use Rattle.std.specs.Prelude.{◌≡◌, ◌<◌, ℕ, List, IsSome, IfOk, false};
+ghost use Rattle.std.specs.Prelude.{◌≡◌, ◌<◌, ℕ, List, IsSome, OnOk, false};
 ghost use Rattle.hx_units.specs.Limits.{day};
 ghost use Rattle.hx_ouch.specs.Inbound.{inbound_of};
 ghost use Rattle.hx_members.specs.Setups.{member_of};
@@ -47,7 +47,8 @@ fn message_effect<B: Book>(
     member: MemberNo,
     time: u64,
     bytes: &[u8],
-) -> Effect
+    effect: &mut Effect,
+)
     requires member { IsSome (member_of setup.now member) }
     requires time { time < day }
     requires keyed { AreKeyed tokens.now.tokens tokens.now.keys (B.orders book.now) }
@@ -55,26 +56,40 @@ fn message_effect<B: Book>(
         → receive setup.now
         (market_of (B.orders book.now) tokens.now n hours counts trading.now) member time
         (inbound_of bytes.now)
-        ≡ outcome_of (market_of (B.orders book.now) tokens.now n hours counts trading.now) result }
-    ensures is_effect { IsEffect setup.now result }
-    ensures sender { IsOf member result }
-    ensures suits { SuitsTokens tokens.now.tokens tokens.now.chains result }
-    ensures about { IsAbout (B.orders book.now) result }
+        ≡ outcome_of (market_of (B.orders book.now) tokens.now n hours counts trading.now)
+        effect.new }
+    ensures is_effect { IsEffect setup.now effect.new }
+    ensures sender { IsOf member effect.new }
+    ensures suits { SuitsTokens tokens.now.tokens tokens.now.chains effect.new }
+    ensures about { IsAbout (B.orders book.now) effect.new }
 {
     match decode_in(bytes) {
         Some(Inbound::Enter(enter)) => {
-            enter_effect(setup, hours, trading.halted(), tokens, member, time, enter)
+            enter_effect(
+                setup,
+                hours,
+                trading.halted(),
+                tokens,
+                member,
+                time,
+                enter,
+                effect,
+            );
         }
         Some(Inbound::Replace(replace)) => {
-            replace_effect(setup, hours, trading, tokens, book, member, time, replace)
+            replace_effect(
+                setup, hours, trading, tokens, book, member, time, replace, effect,
+            );
         }
-        Some(Inbound::Cancel(cancel)) => cancel_effect(tokens, book, member, time, cancel),
-        None => Effect::Nothing,
+        Some(Inbound::Cancel(cancel)) => {
+            cancel_effect(tokens, book, member, time, cancel, effect);
+        }
+        None => *effect = Effect::Nothing,
     }
 }
 
-/// What an event does that is not refused, at so many hours codes past. `NoMemory` where the orders that end, and what
-/// they tell, find no room.
+/// What an event does that is not refused, at so many hours codes past, in the place of the effect before. `NoMemory`
+/// where the orders that end, and what they tell, find no room.
 pub fn effect_of<B: Book>(
     alloc: Global,
     setup: &Setup,
@@ -84,19 +99,21 @@ pub fn effect_of<B: Book>(
     tokens: &Tokens,
     book: &B,
     event: &Event,
-) -> Result<Effect, NoMemory>
+    effect: &mut Effect,
+) -> Result<(), NoMemory>
     requires known { is_from_stranger setup.now event.now ≡ false }
     requires time { time_of event.now < day }
     requires keyed { AreKeyed tokens.now.tokens tokens.now.keys (B.orders book.now) }
     requires entered { AreEntered ends.now tokens.now.tokens (lives (B.orders book.now)) }
-    ensures does { IfOk result (λ a. (n : Numbers) (counts : List ℕ)
+    ensures does { OnOk result ((n : Numbers) (counts : List ℕ)
         → happens setup.now
         (market_of (B.orders book.now) tokens.now n hours counts trading.now) event.now
-        ≡ outcome_of (market_of (B.orders book.now) tokens.now n hours counts trading.now) a) }
-    ensures is_effect { IfOk result (λ a. IsEffect setup.now a) }
-    ensures sender { IfOk result (λ a. IsOf (sender event.now) a) }
-    ensures suits { IfOk result (λ a. SuitsTokens tokens.now.tokens tokens.now.chains a) }
-    ensures about { IfOk result (λ a. IsAbout (B.orders book.now) a) }
+        ≡ outcome_of (market_of (B.orders book.now) tokens.now n hours counts trading.now)
+        effect.new) }
+    ensures is_effect { OnOk result (IsEffect setup.now effect.new) }
+    ensures sender { OnOk result (IsOf (sender event.now) effect.new) }
+    ensures suits { OnOk result (SuitsTokens tokens.now.tokens tokens.now.chains effect.new) }
+    ensures about { OnOk result (IsAbout (B.orders book.now) effect.new) }
 {
     match event {
         Event::Message {
@@ -105,25 +122,24 @@ pub fn effect_of<B: Book>(
             bytes,
         } => {
             let member = MemberNo::of(*member).unwrap();
-            Ok(message_effect(
-                setup,
-                hours,
-                trading,
-                tokens,
-                book,
-                member,
-                *time,
-                bytes.as_slice(),
-            ))
+            let bytes = bytes.as_slice();
+            message_effect(
+                setup, hours, trading, tokens, book, member, *time, bytes, effect,
+            );
         }
-        Event::Tick { time } => tick_effect(alloc, hours, ends, tokens, book, *time),
-        Event::Hours { time, code } => { hours_effect(alloc, setup, hours, book, *time, *code) }
+        Event::Tick { time } => {
+            *effect = tick_effect(alloc, hours, ends, tokens, book, *time)?;
+        }
+        Event::Hours { time, code } => {
+            *effect = hours_effect(alloc, setup, hours, book, *time, *code)?;
+        }
         Event::Halt {
             time,
             stock,
             state,
             reason,
-        } => Ok(halt_effect(setup, *time, *stock, *state, *reason)),
-        Event::Break { time, number } => Ok(break_effect(trading, *time, *number)),
+        } => *effect = halt_effect(setup, *time, *stock, *state, *reason),
+        Event::Break { time, number } => *effect = break_effect(trading, *time, *number),
     }
+    Ok(())
 }

@@ -8,6 +8,7 @@ mod effect;
 mod live_orders;
 mod market;
 mod messages;
+mod next_step;
 mod order_by_token;
 mod prepare;
 

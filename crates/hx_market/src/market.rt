@@ -11,8 +11,9 @@ ghost use Rattle.hx_market.specs.MarketModel.{chain_facts};
 use crate::commit::commit_effect;
 use crate::effect::{Effect, over_until};
 use crate::live_orders::list_orders;
+use crate::next_step::{NextStep, no_output};
 use crate::prepare::{Prepared, make};
-use hx_day::{Ends, EventCounts, Room, Trading};
+use hx_day::{Ends, EventCounts, Trading};
 use hx_levels::{Book, Order};
 use hx_members::{ChainFacts, Seed, Setup, Tokens};
 use hx_refs::Refs;
@@ -20,6 +21,7 @@ use hx_rules::{Event, Output, PrepareError};
 use hx_units::{Known, MemberNo, NoMemory, Token};
 use std::alloc::Global;
 use std::marker::Model;
+use std::mem::replace;
 
 /// The market over a book.
 pub struct Market<B: Book> {
@@ -33,10 +35,10 @@ pub struct Market<B: Book> {
     ends: Ends,
     recorded: EventCounts,
     trading: Trading,
-    // What the last `prepare` gave, known to contracts alone.
+    // What was prepared last.
+    next: NextStep,
+    // What its `prepare` gave, known to contracts alone.
     ready: Option<Known<Prepared>>,
-    // Lists of earlier events, for the next one.
-    room: Room,
     alloc: Global,
 }
 
@@ -52,21 +54,22 @@ impl<B: Book + Drop> Drop for Market<B> {
             ends: _,
             recorded: _,
             trading: _,
+            next: _,
             ready: _,
-            room: _,
             alloc: _,
         } = self;
     }
 }
 
 impl<B: Book> Model for Market<B> {
-    ghost use Rattle.std.specs.Prelude.{◌≡◌, Some};
+    ghost use Rattle.std.specs.Prelude.{◌≡◌, Some, length};
     ghost use Rattle.std.specs.Option.{option_map};
+    ghost use Rattle.hx_market.specs.Room.{HasRoom};
     ghost use Rattle.hx_market.specs.OrderKeys.{AreKeyed};
     ghost use Rattle.hx_market.specs.Bounds.{IsSound};
     ghost use Rattle.hx_market.specs.Expiries.{AreEntered};
     ghost use Rattle.hx_levels.specs.Book.{lives};
-    ghost use Rattle.hx_market.specs.MarketModel.{Planned, Seen, market_of};
+    ghost use Rattle.hx_market.specs.MarketModel.{Planned, Seen, market_of, with_step};
     ghost use Rattle.hx_market.specs.Prepared.{IsPlanned};
 
     ghost Value = { Seen };
@@ -75,16 +78,17 @@ impl<B: Book> Model for Market<B> {
       setup = m.setup;
       market = market_of
           (B.orders m.book) m.tokens m.refs m.hours m.recorded m.trading;
-      ready = option_map (λ k. k.value) m.ready;
+      ready = option_map (λ k. with_step m.next k.value) m.ready;
     } };
 
     ghost invariant = { λ m. IsSound
         (market_of (B.orders m.book) m.tokens m.refs m.hours m.recorded m.trading)
         × AreKeyed m.tokens.tokens m.tokens.keys (B.orders m.book)
-        × ((p : Planned) → option_map (λ k. k.value) m.ready ≡ Some p
+        × ((p : Planned) → option_map (λ k. with_step m.next k.value) m.ready ≡ Some p
         → IsPlanned m.setup
         (market_of (B.orders m.book) m.tokens m.refs m.hours m.recorded m.trading)
-        (B.orders m.book) (B.place m.book) m.tokens.place m.trading.room m.ends p)
+        (B.orders m.book) (B.place m.book) m.tokens.place m.trading.room m.ends p
+        × HasRoom (length m.next.fills.items) m.next.out)
         × AreEntered m.ends m.tokens.tokens (lives (B.orders m.book)) };
 }
 
@@ -143,8 +147,8 @@ impl<B: Book + Drop> Market<B> {
             ends: Ends::new(alloc),
             recorded: EventCounts::new(alloc)?,
             trading: Trading::new(alloc, stocks)?,
+            next: NextStep::nothing(alloc),
             ready: None,
-            room: Room::new(alloc),
             alloc,
         })
     }
@@ -172,7 +176,6 @@ impl<B: Book + Drop> Market<B> {
         self.ends.forget(self.tokens.count());
         let prepared = make(
             self.alloc,
-            &mut self.room,
             &self.setup,
             self.hours,
             &mut self.ends,
@@ -180,6 +183,7 @@ impl<B: Book + Drop> Market<B> {
             &mut self.trading,
             &mut self.book,
             &mut self.tokens,
+            &mut self.next,
             event,
         )?;
         self.ready = Some(Known::of(&prepared));
@@ -202,40 +206,34 @@ impl<B: Book + Drop> Market<B> {
         ensures times { AllByRecursion (λ f. feed_time f < 2 ^ 48) result.feed.items }
     {
         self.ready = None;
-        let Prepared {
-            number,
-            effect,
-            fills,
-            left,
-            reply_members,
-            mut out,
-            ..
-        } = prepared;
-        self.recorded.raise(number);
-        self.hours = hours_after(&effect, self.hours);
-        self.ends.done(over_until(&effect));
+        let Prepared { reply_members, .. } = prepared;
+        self.recorded.raise(self.next.number);
+        self.hours = hours_after(&self.next.effect, self.hours);
+        self.ends.done(over_until(&self.next.effect));
         commit_effect(
             &mut self.book,
             &mut self.tokens,
             &mut self.refs,
             &mut self.trading,
-            &mut out,
-            effect,
-            &fills,
-            left,
+            &mut self.next.out,
+            &mut self.next.effect,
+            &self.next.fills,
+            self.next.left,
         );
-        self.room.keep_plan(fills, reply_members);
-        out
+        self.next.members = reply_members;
+        replace(&mut self.next.out, no_output(self.alloc))
     }
 
-    /// Takes back what a `commit` gave, once it is told: the lists are room for what comes. What contracts see of the
-    /// market stays.
+    /// Takes back what a `commit` gave, once it is told: the lists are room for the next event, unless that is prepared
+    /// already. What contracts see of the market stays.
     pub fn take_back(&mut self, output: Output)
         ensures setup { self.new.setup ≡ self.old.setup }
         ensures market { self.new.market ≡ self.old.market }
         ensures ready { self.new.ready ≡ self.old.ready }
     {
-        self.room.keep_output(output);
+        if self.ready.is_none() {
+            self.next.out = output;
+        }
     }
 
     /// How many of the hours codes `O`, `S`, `Q`, `M`, `E`, `C` are past.

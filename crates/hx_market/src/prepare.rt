@@ -6,44 +6,37 @@ ghost use Rattle.hx_market.specs.OrderKeys.{AreKeyed};
 ghost use Rattle.hx_levels.specs.Book.{lives};
 ghost use Rattle.hx_expiries.specs.Expiries.{Holds};
 ghost use Rattle.hx_market.specs.Expiries.{AreEntered};
-ghost use Rattle.hx_market.specs.MarketModel.{market_of};
+ghost use Rattle.hx_market.specs.MarketModel.{market_of, with_step};
+ghost use Rattle.hx_market.specs.Room.{HasRoom};
 ghost use Rattle.hx_market.specs.Prepared.{IsPlanned};
 
 mod draft;
 
 use crate::decision::effect_of;
-use crate::effect::{Effect, end_of};
-use crate::prepare::draft::draft_effect;
-use hx_day::{Ends, EventCounts, Room, Trading, admit};
+use crate::effect::end_of;
+use crate::next_step::{NextStep, make_room, take_empty};
+use crate::prepare::draft::{Lists, draft_effect};
+use hx_day::{Ends, EventCounts, Trading, admit};
 use hx_levels::Book;
-use hx_match::Fill;
 use hx_members::{Setup, Tokens};
-use hx_rules::{Event, Output, PrepareError};
+use hx_rules::{Event, PrepareError};
 use hx_units::MemberNo;
 use std::alloc::Global;
 use std::marker::Model;
 use std::snapshot::Snapshot;
 
-/// What the market prepared for an event: what it will do, and room for what it tells.
+/// What the market prepared for an event: how much it will tell. What it will do stands in the market.
 #[derive(Drop)]
 pub struct Prepared {
-    // The event, known to contracts alone.
+    // The event, and what it will do, known to contracts alone.
     pub(crate) event: Snapshot<Event>,
-    // The number under which it is recorded.
-    pub(crate) number: u16,
-    pub(crate) effect: Effect,
-    // The plan of an order that arrives.
-    pub(crate) fills: Vec<Fill>,
-    pub(crate) left: u32,
+    pub(crate) next: Snapshot<NextStep>,
     pub(crate) feed_count: u64,
     pub(crate) reply_members: Vec<MemberNo>,
-    pub(crate) out: Output,
 }
 
 impl Model for Prepared {
-    ghost use Rattle.std.specs.Prelude.{length};
     ghost use Rattle.hx_market.specs.MarketModel.{Planned};
-    ghost use Rattle.hx_day.specs.Room.{HasRoom};
 
     ghost Value = { Planned };
 
@@ -51,13 +44,11 @@ impl Model for Prepared {
       event = p.event.value;
       feed_count = p.feed_count;
       reply_members = p.reply_members.items;
-      number = p.number;
-      effect = p.effect;
-      fills = p.fills.items;
-      left = p.left;
+      number = p.next.value.number;
+      effect = p.next.value.effect;
+      fills = p.next.value.fills.items;
+      left = p.next.value.left;
     } };
-
-    ghost invariant = { λ p. HasRoom (length p.fills.items) p.out };
 }
 
 impl Prepared {
@@ -76,11 +67,10 @@ impl Prepared {
     }
 }
 
-/// What is prepared for an event, with all growths that its commit needs. What contracts see of book, tokens and
+/// Prepares the next step for an event, with all growths that its commit needs. What contracts see of book, tokens and
 /// executions stays, but for their reserved places.
 pub fn make<B: Book>(
     alloc: Global,
-    room: &mut Room,
     setup: &Setup,
     hours: u8,
     ends: &mut Ends,
@@ -88,6 +78,7 @@ pub fn make<B: Book>(
     trading: &mut Trading,
     book: &mut B,
     tokens: &mut Tokens,
+    next: &mut NextStep,
     event: &Event,
 ) -> Result<Prepared, PrepareError>
     requires keyed { AreKeyed tokens.old.tokens tokens.old.keys (B.orders book.old) }
@@ -104,24 +95,31 @@ pub fn make<B: Book>(
         → IsPlanned setup.now
         (market_of (B.orders book.new) tokens.new n hours recorded.now trading.new)
         (B.orders book.new) (B.place book.new) tokens.new.place trading.new.room ends.new p) }
+    ensures next { IfOk result (λ p. p ≡ with_step next.new p) }
+    ensures room { OnOk result (HasRoom (length next.new.fills.items) next.new.out) }
     ensures passes { OnOk result (refusal setup.now recorded.now event.now ≡ None) }
     ensures refused { IfErr result (λ e. e
         ≡ or_no_memory (refusal setup.now recorded.now event.now)) }
 {
-    let number = admit(setup, recorded, event)?;
-    let effect = effect_of(alloc, setup, hours, ends, trading, tokens, book, event)?;
-    let draft = draft_effect(alloc, room, book, tokens, &effect)?;
-    ends.enter(tokens.count(), end_of(&effect))?;
+    next.number = admit(setup, recorded, event)?;
+    let effect = &mut next.effect;
+    effect_of(
+        alloc, setup, hours, ends, trading, tokens, book, event, effect,
+    )?;
+    let lists = Lists {
+        fills: take_empty(alloc, &mut next.fills),
+        members: take_empty(alloc, &mut next.members),
+    };
+    let draft = draft_effect(lists, book, tokens, &next.effect)?;
+    ends.enter(tokens.count(), end_of(&next.effect))?;
     trading.reserve_for(&draft.fills)?;
-    let out = room.output(alloc, draft.fills.len())?;
+    make_room(&mut next.out, draft.fills.len())?;
+    next.fills = draft.fills;
+    next.left = draft.left;
     Ok(Prepared {
         event: Snapshot::of(event),
-        number,
-        effect,
-        fills: draft.fills,
-        left: draft.left,
+        next: Snapshot::of(next),
         feed_count: draft.feed_count,
         reply_members: draft.reply_members,
-        out,
     })
 }

@@ -3,12 +3,16 @@ pub mod Blocks
 pub mod Lanes
 pub mod Values
 pub mod Fronts
+pub mod Eights
 pub mod Lines
+pub mod DigitCounts
+pub mod Behind
 pub mod Writing
 pub mod Told
 pub mod Few
 pub mod Playing
 pub mod Runs
+pub mod Gathering
 pub mod Pieces
 pub mod OneReading
 pub mod OutputIsTold

@@ -1,7 +1,6 @@
 -- Lines one after the other.
 use Rattle.std.proofs.Common.{◌⊎◌, ◌≡◌, ℕ, ◌+◌, ◌≤◌, ◌<◌, List, [], ◌∷◌, ◌++◌, length, Option, refl, sym, ap, ◌∙◌, subst, append_assoc, inl, inr, arith}
-use Rattle.std.specs.Io.KnownBytes.{Appends}
-use Rattle.std.proofs.KnownBytes.{Appends-nil, Appends-trans}
+use Rattle.std.proofs.KnownBytes.{Appends-nil}
 use Rattle.std.proofs.lemmas.List.{append-nil, length-append}
 use Rattle.std.proofs.lemmas.List.Concat.{flat_map-cons, flat_map-append}
 use Rattle.hx_replay.specs.declared.fault.TapeError.{TapeError}
@@ -9,7 +8,7 @@ use Rattle.hx_replay.specs.declared.fault.TapeError.TheVariants as fault
 use Rattle.hx_replay.specs.declared.fault.Kind.TheVariants as kinds
 use Rattle.hx_text.specs.Cuts.{Lacks}
 use Rattle.hx_replay.specs.Text.{Entry, line}
-use Rattle.hx_replay.specs.Run.{Progress, output_of, after, IsEvent, AreEvents, tape, after_all, output_all, Plays, Replays, Stops, EndsBy, Faults, FailsAs, Writes, IsFew}
+use Rattle.hx_replay.specs.Run.{Progress, output_of, after, IsEvent, AreEvents, tape, after_all, output_all, Plays, Replays, Stops, EndsBy, Faults, FailsAs, IsFew}
 use Rattle.hx_replay.proofs.Few.{few-after}
 
 -- ---- one list of events after another
@@ -60,7 +59,7 @@ pub record Grown (c d' : Progress) (text : List ℕ) (es : List Entry) (e : Entr
   pub after_is : d' ≡ after_all c (es ++ e ∷ [])
   pub output_is : output_all c (es ++ e ∷ []) ≡ output_all c es ++ output
 
-grows : (c d d' : Progress) (text : List ℕ) (es : List Entry) (rest l output others : List ℕ) → AreEvents c es → text ≡ tape es ++ rest → d ≡ after_all c es → rest ≡ l ++ 10 ∷ others
+pub grows : (c d d' : Progress) (text : List ℕ) (es : List Entry) (rest l output others : List ℕ) → AreEvents c es → text ≡ tape es ++ rest → d ≡ after_all c es → rest ≡ l ++ 10 ∷ others
     → (p : Plays d d' l output) → Grown c d' text es p.entry output others
 grows c d d' text es rest l output others are text_is after_is cut p =
     let e = p.entry in
@@ -76,18 +75,6 @@ grows c d d' text es rest l output others are text_is after_is cut p =
 pub replays_none : (c : Progress) (text : List ℕ) (w : Option (List ℕ)) → Replays c c text w w text
 replays_none c text w = record { events = []; are_events = tt; text_is = refl; after_is = refl; wrote = Appends-nil w }
 
-pub replays_more : (c d d' : Progress) (text : List ℕ) (w v u : Option (List ℕ)) (rest l output others : List ℕ) → Replays c d text w v rest → rest ≡ l ++ 10 ∷ others → Plays d d' l output → Appends v u output
-    → Replays c d' text w u others
-replays_more c d d' text w v u rest l output others h cut p wrote =
-    let g = grows c d d' text h.events rest l output others h.are_events h.text_is h.after_is cut p in
-    record {
-      events = h.events ++ p.entry ∷ [];
-      are_events = g.are_events;
-      text_is = g.text_is;
-      after_is = g.after_is;
-      wrote = subst (Appends w u) (sym g.output_is) (Appends-trans w v u (output_all c h.events) output h.wrote wrote);
-    }
-
 pub stops_at_line : (c d : Progress) (text : List ℕ) (w v : Option (List ℕ)) (rest l others : List ℕ) (e : TapeError) → Replays c d text w v rest → rest ≡ l ++ 10 ∷ others → Lacks 10 l → Faults d l e
     → Stops ⊥ c text w v e
 stops_at_line c d text w v rest l others e h cut none fails =
@@ -101,20 +88,6 @@ stops_at_line c d text w v rest l others e h cut none fails =
       | fault.Write ↦ λ f. absurd f
       | fault.Turns ↦ λ f. absurd f
     ] fails
-
-pub stops_in_write : (c d d' : Progress) (text : List ℕ) (w v u : Option (List ℕ)) (rest l output others left : List ℕ) → Replays c d text w v rest → rest ≡ l ++ 10 ∷ others → Plays d d' l output → Writes v u output left
-    → Stops ⊥ c text w u fault.Write
-stops_in_write c d d' text w v u rest l output others left h cut p some =
-    let g = grows c d d' text h.events rest l output others h.are_events h.text_is h.after_is cut p in
-    record {
-      events = h.events ++ p.entry ∷ [];
-      are_events = g.are_events;
-      rest = others;
-      text_is = g.text_is;
-      written = output_all c h.events ++ some.front;
-      wrote = Appends-trans w v u (output_all c h.events) some.front h.wrote some.wrote;
-      why = (left, g.output_is ∙ ap (λ (x : List ℕ). output_all c h.events ++ x) some.bytes_are ∙ sym (append_assoc (output_all c h.events) some.front left));
-    }
 
 pub stops_without_memory : (c d : Progress) (text : List ℕ) (w v : Option (List ℕ)) (rest : List ℕ) → Replays c d text w v rest → Stops ⊥ c text w v fault.NoMemory
 stops_without_memory c d text w v rest h = record {

@@ -2,7 +2,7 @@
 ghost use Rattle.std.specs.Prelude.{◌≡◌, ◌≢◌, ◌∷◌, ◌++◌, IfSome, IfNone, IfOk};
 ghost use Rattle.hx_replay.specs.Text.{Entry, entry_of, IsEntry, line, HasParts};
 
-use crate::decimal::split_number;
+use crate::decimal::{split_long_number, split_number};
 use crate::hexadecimal::read_bytes;
 use std::alloc::{AllocError, Global};
 
@@ -55,7 +55,7 @@ fn parts_of(text: &[u8]) -> Option<Parts<'_>>
     ensures some { IfSome result (λ p. HasParts text.now p.time p.member p.digits.now) }
     ensures none { IfNone result ((e : Entry) → IsEntry e → text.now ≢ line e) }
 {
-    let (time, others) = split_number(text)?;
+    let (time, others) = split_long_number(text)?;
     let (member, digits) = split_number(others)?;
     if member >= 10_000 || digits.is_empty() || digits.len() > 2046 {
         return None;

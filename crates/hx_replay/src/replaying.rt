@@ -10,6 +10,7 @@ ghost use Rattle.hx_replay.specs.declared.fault.Kind.TheVariants as kinds;
 use crate::fault::{Kind, TapeError};
 use crate::room::Room;
 use crate::run::{Counts, Run};
+use crate::telling::Lines;
 use hx_levels::{Book, LevelBook};
 use hx_members::Setup;
 use hx_text::split_once;
@@ -59,10 +60,29 @@ fn send_out<W: Write>(writer: &mut W) -> Result<(), TapeError>
     Err(TapeError::Write)
 }
 
-// Plays the whole lines of the text, has their output sent out, and answers the bytes behind them.
+// So many bytes of output lines are written at once, or more.
+const MANY: usize = 65_536;
+
+// Writes the output lines where they are many. Where it fails, a front of them was written.
+fn write_many<W: Write>(writer: &mut W, lines: &mut Lines) -> Result<(), TapeError>
+    ensures ok { OnOk result
+        (Writes (W.contents writer.old) (W.contents writer.new) lines.old lines.new) }
+    ensures write { IfErr result (λ e. e ≡ fault.Write) }
+    ensures err { OnErr result (
+        (rest : List ℕ) × Writes (W.contents writer.old) (W.contents writer.new) lines.old rest) }
+{
+    if lines.len() >= MANY {
+        write_whole(writer, lines.text())?;
+        lines.clear();
+    }
+    Ok(())
+}
+
+// Plays the whole lines of the text, has their output sent out, and answers the bytes behind them. What was told before
+// a line that fails is written.
 fn play_lines<'a, B: Book + Drop, W: Write>(
-    alloc: Global,
     run: &mut Run<B>,
+    room: &mut Room,
     writer: &mut W,
     text: &'a [u8],
 ) -> Result<&'a [u8], TapeError>
@@ -74,13 +94,18 @@ fn play_lines<'a, B: Book + Drop, W: Write>(
     ensures err { IfErr result
         (Stops ⊥ run.old text.now (W.contents writer.old) (W.contents writer.new)) }
 {
-    let mut room = Room::new(alloc);
+    room.lines.clear();
     let mut rest = text;
     while let Some((line, others)) = split_once(rest, b'\n') {
-        run.play(line, &mut room)?;
-        write_whole(writer, &room.lines)?;
+        let told = room.lines.len();
+        if let Err(error) = run.play(line, room) {
+            write_whole(writer, &room.lines.text()[..told])?;
+            return Err(error);
+        }
+        write_many(writer, &mut room.lines)?;
         rest = others;
     }
+    write_whole(writer, room.lines.text())?;
     send_out(writer)?;
     Ok(rest)
 }
@@ -90,9 +115,9 @@ pub const READS: u64 = 1_000_000_000;
 /// The greatest line, without its line feed.
 pub(crate) const LONGEST: usize = 2066;
 
-/// Replays a tape over the market of a setup: reads it to its end, writes the output lines of each event before it takes
-/// the next line, and flushes the writer before it reads on, so that who types into a pipe is answered line by line. A
-/// read is one call of the reader, and 1,000,000,000 of them are too many.
+/// Replays a tape over the market of a setup: reads it to its end, and before it reads on it writes the output lines of
+/// all that it has read and flushes the writer, so that who types into a pipe is answered line by line. A read is one call
+/// of the reader, and 1,000,000,000 of them are too many.
 pub fn replay<R: Read, W: Write>(
     alloc: Global,
     setup: &Setup,
@@ -125,12 +150,20 @@ pub fn replay_on<B: Book + Drop, R: Read, W: Write>(
 {
     let mut run = Run::new(alloc, setup.copy(alloc)?, book)?;
     let mut pending = Vec::new(alloc);
+    let mut room = Room::new(alloc);
     let mut chunk = [0; 65536];
     for _ in 0..READS {
         match reader.read(&mut chunk) {
             Ok(0) => return finish(run.counts(), &pending),
             Ok(count) => {
-                play_piece(alloc, &mut run, writer, &mut pending, &chunk[..count])?;
+                play_piece(
+                    alloc,
+                    &mut run,
+                    &mut room,
+                    writer,
+                    &mut pending,
+                    &chunk[..count],
+                )?;
             }
             Err(e) => {
                 if e.kind() != ErrorKind::Interrupted {
@@ -146,6 +179,7 @@ pub fn replay_on<B: Book + Drop, R: Read, W: Write>(
 fn play_piece<B: Book + Drop, W: Write>(
     alloc: Global,
     run: &mut Run<B>,
+    room: &mut Room,
     writer: &mut W,
     pending: &mut Vec<u8>,
     piece: &[u8],
@@ -160,7 +194,7 @@ fn play_piece<B: Book + Drop, W: Write>(
         (W.contents writer.new)) }
 {
     pending.extend_from_slice(piece)?;
-    let rest = play_lines(alloc, run, writer, pending)?;
+    let rest = play_lines(run, room, writer, pending)?;
     let rest = Vec::from_slice(alloc, rest)?;
     *pending = rest;
     if pending.len() > LONGEST {

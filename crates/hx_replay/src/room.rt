@@ -1,27 +1,28 @@
-//! Room that a line of a tape leaves for the next one.
+//! Room that a line of a tape leaves for the next one, and the output lines that are to be written.
 ghost use Rattle.std.specs.Prelude.{◌≡◌, []};
 
+use crate::telling::Lines;
 use hx_market::Event;
 use std::alloc::Global;
 use std::mem::replace;
 
-/// The bytes of a message, and the output lines of its event. The next one takes memory only where it is longer than all
-/// before it.
+/// The bytes of a message, and the output lines of events. The next ones take memory only where they are longer than all
+/// before them.
 #[derive(Drop)]
 pub(crate) struct Room {
     bytes: Vec<u8>,
-    /// The output lines of the last event.
-    pub(crate) lines: Vec<u8>,
+    /// The output lines that are told and not yet written.
+    pub(crate) lines: Lines,
 }
 
 impl Room {
     /// None yet.
     pub(crate) fn new(alloc: Global) -> Room
-        ensures { result.lines.items ≡ [] }
+        ensures { result.lines ≡ [] }
     {
         Room {
             bytes: Vec::new(alloc),
-            lines: Vec::new(alloc),
+            lines: Lines::new(alloc),
         }
     }
 

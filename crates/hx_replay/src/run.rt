@@ -1,17 +1,17 @@
 //! A replay as it goes: its market, and what was counted.
-ghost use Rattle.std.specs.Prelude.{◌≡◌, ◌≢◌, ◌≤◌, ◌<◌, ◌^◌, ◌+◌, ◌++◌, [], ℕ, None, true, false, IfOk, IfErr, IfSome, IfNone, OnSome, OnOk, OnErr, length, replicate, slice_index};
+ghost use Rattle.std.specs.Prelude.{◌≡◌, ◌≢◌, ◌≤◌, ◌<◌, ◌^◌, ◌+◌, ◌++◌, [], ℕ, List, None, true, false, IfOk, IfErr, IfSome, IfNone, OnSome, OnOk, OnErr, length, replicate, slice_index};
 ghost use Rattle.std.specs.List.{AllByRecursion};
 ghost use Rattle.hx_itch.specs.Message.{feed_time};
 ghost use Rattle.hx_market.specs.Steps.{step};
 ghost use Rattle.hx_market.specs.Refusals.{refusal, or_no_memory};
 ghost use Rattle.hx_replay.specs.Text.{Entry, entry_of, line};
 ghost use Rattle.hx_replay.specs.Output.{feed_lines, reply_lines, counts_after};
-ghost use Rattle.hx_replay.specs.Run.{event_of, is_unknown, fault_of, counts_of, start, with_market, Plays, Faults, IsFew};
+ghost use Rattle.hx_replay.specs.Run.{event_of, is_unknown, fault_of, counts_of, start, with_market, Plays, Faults, IsFew, IsFront};
 
 use crate::fault::{Kind, TapeError};
 use crate::line::{self, Fields};
 use crate::room::Room;
-use crate::telling::{write_feed_line, write_reply_line};
+use crate::telling::Lines;
 use hx_itch::Feed;
 use hx_levels::Book;
 use hx_market::{Bytes, Event, Market, Output, PrepareError, decode_operator};
@@ -69,35 +69,36 @@ impl<B: Book> Model for Run<B> {
 }
 
 // Appends the lines of messages of the feed, after so many others.
-fn write_feed(text: &mut Vec<u8>, before: u64, feed: &[Feed]) -> Result<(), AllocError>
+fn write_feed(lines: &mut Lines, before: u64, feed: &[Feed]) -> Result<(), AllocError>
     requires times { AllByRecursion (λ message. feed_time message < 2 ^ 48) feed.now }
     requires room { before + length feed.now < 2 ^ 64 }
-    ensures { OnOk result (text.new.items ≡ text.old.items ++ feed_lines before feed.now) }
+    ensures ok { OnOk result (lines.new ≡ lines.old ++ feed_lines before feed.now) }
+    ensures err { OnErr result (IsFront lines.old lines.new) }
 {
     let mut number = before;
     for message in feed {
         number += 1;
-        write_feed_line(text, number, message)?;
+        lines.add_feed_line(number, message)?;
     }
     Ok(())
 }
 
 // Appends the lines of replies, after so many others of each member.
 fn write_replies(
-    text: &mut Vec<u8>,
+    lines: &mut Lines,
     counts: &mut [u64],
     replies: &[(MemberNo, Outbound)],
 ) -> Result<(), AllocError>
     requires numbered { length counts.old ≡ 4096 }
     requires room { (member : ℕ) → slice_index counts.old member + length replies.now < 2 ^ 64 }
-    ensures lines { OnOk result
-        (text.new.items ≡ text.old.items ++ reply_lines counts.old replies.now) }
+    ensures lines { OnOk result (lines.new ≡ lines.old ++ reply_lines counts.old replies.now) }
     ensures counts { OnOk result (counts.new ≡ counts_after counts.old replies.now) }
+    ensures err { OnErr result (IsFront lines.old lines.new) }
 {
     for (member, reply) in replies {
         let count = &mut counts[member.get() as usize];
         *count += 1;
-        write_reply_line(text, *member, *count, reply)?;
+        lines.add_reply_line(*member, *count, reply)?;
     }
     Ok(())
 }
@@ -163,12 +164,15 @@ impl<B: Book + Drop> Run<B> {
         self.counts
     }
 
-    /// Plays the next line, and leaves its output lines in the room's.
+    /// Plays the next line, and appends its output lines to the room's. Where it fails, those before them stay.
     pub fn play(&mut self, text: &[u8], room: &mut Room) -> Result<(), TapeError>
         requires events { self.old.events < 2 ^ 48 }
         requires few { IsFew self.old }
-        ensures ok { OnOk result (Plays self.old self.new text.now room.new.lines.items) }
+        ensures ok { OnOk result ((output : List ℕ)
+            × Plays self.old self.new text.now output
+            × (room.new.lines ≡ room.old.lines ++ output)) }
         ensures faults { IfErr result (Faults self.old text.now) }
+        ensures kept { OnErr result (IsFront room.old.lines room.new.lines) }
     {
         let line = self.counts.events + 1;
         let bad = TapeError::Line {
@@ -218,8 +222,8 @@ impl<B: Book + Drop> Run<B> {
         }
     }
 
-    // Counts what a step gave, and leaves its output lines in `lines`.
-    fn tell(&mut self, output: &Output, lines: &mut Vec<u8>) -> Result<(), AllocError>
+    // Counts what a step gave, and appends its output lines.
+    fn tell(&mut self, output: &Output, lines: &mut Lines) -> Result<(), AllocError>
         requires times { AllByRecursion (λ message.
             feed_time message < 2 ^ 48) output.now.feed.items }
         requires events { self.old.events < 2 ^ 48 }
@@ -228,16 +232,16 @@ impl<B: Book + Drop> Run<B> {
         requires numbered { length self.old.counts ≡ 4096 }
         requires each { (member : ℕ) → slice_index self.old.counts member ≤ self.old.replies }
         ensures lines { OnOk result (
-            lines.new.items ≡ feed_lines self.old.feed output.now.feed.items
-            ++ reply_lines self.old.counts output.now.replies.items) }
+            lines.new ≡ lines.old ++ (feed_lines self.old.feed output.now.feed.items
+            ++ reply_lines self.old.counts output.now.replies.items)) }
         ensures run { OnOk result (self.new ≡ record self.old {
           events = self.old.events + 1;
           feed = self.old.feed + length output.now.feed.items;
           replies = self.old.replies + length output.now.replies.items;
           counts = counts_after self.old.counts output.now.replies.items;
         }) }
+        ensures err { OnErr result (IsFront lines.old lines.new) }
     {
-        lines.clear();
         write_feed(lines, self.counts.feed, &output.feed)?;
         write_replies(lines, &mut self.replies, &output.replies)?;
         self.counts.events += 1;

@@ -10,7 +10,7 @@ ghost use Rattle.hx_market.specs.Effects.{incoming_of_enter, terms_of_enter, ord
 ghost use Rattle.hx_market.specs.declared.effect.Effect.TheVariants.{Accept};
 ghost use Rattle.hx_market.specs.OrderKeys.{AreKeyed};
 ghost use Rattle.hx_market.specs.MarketModel.{name_of, market_of};
-ghost use Rattle.hx_day.specs.Room.{HasRoom};
+ghost use Rattle.hx_market.specs.Room.{HasRoom};
 ghost use Rattle.hx_market.specs.Prepared.{HasRoomFor, outcome_over};
 
 use crate::commit::execute::Taker;

@@ -15,7 +15,7 @@ ghost use Rattle.hx_rules.specs.Replace.{replaced_of, is_one_display};
 ghost use Rattle.hx_market.specs.OrderKeys.{AreKeyed, AreBefore};
 ghost use Rattle.hx_market.specs.Effects.{IsOnly, IsReplacement, incoming_of_replacement, terms_of_replacement, replacement_order};
 ghost use Rattle.hx_market.specs.MarketModel.{listed, name_of, market_of};
-ghost use Rattle.hx_day.specs.Room.{HasRoom};
+ghost use Rattle.hx_market.specs.Room.{HasRoom};
 ghost use Rattle.hx_market.specs.Prepared.{HasRoomToReplace, IsChainOf, outcome_over};
 
 use crate::commit::execute::Taker;

@@ -32,29 +32,31 @@ pub fn cancel_effect<B: Book>(
     member: MemberNo,
     time: u64,
     message: Cancel,
-) -> Effect
+    effect: &mut Effect,
+)
     requires keyed { AreKeyed tokens.now.tokens tokens.now.keys (B.orders book.now) }
     requires time { time < day }
     ensures does { (n : Numbers) (hours : ℕ) (counts : List ℕ) (r : TradingState)
         → cancel (market_of (B.orders book.now) tokens.now n hours counts r) member time message
-        ≡ outcome_of (market_of (B.orders book.now) tokens.now n hours counts r) result }
-    ensures is_effect { (setup : SetupOf) → IsEffect setup result }
-    ensures sender { IsOf member result }
-    ensures suits { SuitsTokens tokens.now.tokens tokens.now.chains result }
-    ensures about { IsAbout (B.orders book.now) result }
+        ≡ outcome_of (market_of (B.orders book.now) tokens.now n hours counts r) effect.new }
+    ensures is_effect { (setup : SetupOf) → IsEffect setup effect.new }
+    ensures sender { IsOf member effect.new }
+    ensures suits { SuitsTokens tokens.now.tokens tokens.now.chains effect.new }
+    ensures about { IsAbout (B.orders book.now) effect.new }
 {
+    *effect = Effect::Nothing;
     let Some(found) = find_order(book, tokens, member, &message.token) else {
-        return Effect::Nothing;
+        return;
     };
     let by = cancelled_shares(&found, &message);
     if by == 0 {
-        return Effect::Nothing;
+        return;
     }
-    Effect::Cancel(Reduction {
+    *effect = Effect::Cancel(Reduction {
         member,
         time,
         token: message.token,
         by,
         old: found.live,
-    })
+    });
 }

@@ -62,29 +62,31 @@ fn unused_enter_effect(
     member: MemberNo,
     time: u64,
     enter: Enter,
-) -> Effect
+    effect: &mut Effect,
+)
     requires member { IsSome (member_of setup.now member) }
     requires time { time < day }
     ensures does { (m : Market)
         → entered_by setup.now m member time enter false
         (rejection setup.now hours halted.now enter)
-        ≡ outcome_of m result }
-    ensures is_effect { IsEffect setup.now result }
-    ensures sender { IsOf member result }
+        ≡ outcome_of m effect.new }
+    ensures is_effect { IsEffect setup.now effect.new }
+    ensures sender { IsOf member effect.new }
     ensures suits { (tokens : List Used) (chains : List Chain)
-        → is_used tokens member enter.token ≡ false → SuitsTokens tokens chains result }
-    ensures about { (orders : List LiveOrder) → IsAbout orders result }
+        → is_used tokens member enter.token ≡ false → SuitsTokens tokens chains effect.new }
+    ensures about { (orders : List LiveOrder) → IsAbout orders effect.new }
 {
     let locate = setup.locate(enter.stock);
     if let Some(letter) = rejection(locate, hours, halted, &enter) {
-        return Effect::Reject(RejectedEnter {
+        *effect = Effect::Reject(RejectedEnter {
             member,
             time,
             token: enter.token,
             letter,
         });
+        return;
     }
-    Effect::Accept(accepted_enter(setup, hours, halted, locate, member, time, enter))
+    *effect = Effect::Accept(accepted_enter(setup, hours, halted, locate, member, time, enter));
 }
 
 /// What an Enter does, at so many hours codes past, and with these stocks halted.
@@ -96,18 +98,20 @@ pub fn enter_effect(
     member: MemberNo,
     time: u64,
     message: Enter,
-) -> Effect
+    effect: &mut Effect,
+)
     requires member { IsSome (member_of setup.now member) }
     requires time { time < day }
     ensures does { (m : Market) → m.tokens ≡ tokens.now.tokens → m.hours ≡ hours
-        → m.halted ≡ halted.now → enter setup.now m member time message ≡ outcome_of m result }
-    ensures is_effect { IsEffect setup.now result }
-    ensures sender { IsOf member result }
-    ensures suits { SuitsTokens tokens.now.tokens tokens.now.chains result }
-    ensures about { (orders : List LiveOrder) → IsAbout orders result }
+        → m.halted ≡ halted.now → enter setup.now m member time message ≡ outcome_of m effect.new }
+    ensures is_effect { IsEffect setup.now effect.new }
+    ensures sender { IsOf member effect.new }
+    ensures suits { SuitsTokens tokens.now.tokens tokens.now.chains effect.new }
+    ensures about { (orders : List LiveOrder) → IsAbout orders effect.new }
 {
     if tokens.state(member, &message.token).is_some() {
-        return Effect::Nothing;
+        *effect = Effect::Nothing;
+        return;
     }
-    unused_enter_effect(setup, hours, halted, member, time, message)
+    unused_enter_effect(setup, hours, halted, member, time, message, effect);
 }

@@ -38,31 +38,33 @@ fn replace_or_fail(
     time: u64,
     replace: Replace,
     found: Found,
-) -> Effect
+    effect: &mut Effect,
+)
     requires time { time < day }
     ensures does { (m : Market) → executed_of m member replace.existing_token ≡ found.executed
         → replaced_by setup.now m member time replace (Some found.live.order) false
-        false (replace_fails hours found.executed replace) ≡ outcome_of m result }
-    ensures is_effect { IsEffect setup.now result }
-    ensures sender { IsOf member result }
+        false (replace_fails hours found.executed replace) ≡ outcome_of m effect.new }
+    ensures is_effect { IsEffect setup.now effect.new }
+    ensures sender { IsOf member effect.new }
     ensures suits { (tokens : List Used) (chains : List Chain)
         → is_used tokens member replace.replacement_token ≡ false
         → found.executed
         ≡ executed_by chains member (entered_of tokens member replace.existing_token)
-        → SuitsTokens tokens chains result }
+        → SuitsTokens tokens chains effect.new }
     ensures about { (orders : List LiveOrder)
-        → IsOnly orders member replace.existing_token found.live → IsAbout orders result }
+        → IsOnly orders member replace.existing_token found.live → IsAbout orders effect.new }
 {
     if replace_fails(hours, found.executed, &replace) {
-        return Effect::Fail(FailedReplace {
+        *effect = Effect::Fail(FailedReplace {
             member,
             time,
             existing: replace.existing_token,
             replacement: replace.replacement_token,
             old: found.live,
         });
+        return;
     }
-    Effect::Replace(Replacement {
+    *effect = Effect::Replace(Replacement {
         member,
         time,
         replace,
@@ -70,7 +72,7 @@ fn replace_or_fail(
         stock: symbol_of(setup, found.live.order.locate),
         executed: found.executed,
         old: found.live,
-    })
+    });
 }
 
 /// What a Replace does, at so many hours codes past, and with these stocks halted.
@@ -83,26 +85,28 @@ pub fn replace_effect<B: Book>(
     member: MemberNo,
     time: u64,
     message: Replace,
-) -> Effect
+    effect: &mut Effect,
+)
     requires keyed { AreKeyed tokens.now.tokens tokens.now.keys (B.orders book.now) }
     requires time { time < day }
     ensures does { (n : Numbers) (counts : List ℕ)
         → replace setup.now
         (market_of (B.orders book.now) tokens.now n hours counts trading.now) member time message
-        ≡ outcome_of (market_of (B.orders book.now) tokens.now n hours counts trading.now) result }
-    ensures is_effect { IsEffect setup.now result }
-    ensures sender { IsOf member result }
-    ensures suits { SuitsTokens tokens.now.tokens tokens.now.chains result }
-    ensures about { IsAbout (B.orders book.now) result }
+        ≡ outcome_of (market_of (B.orders book.now) tokens.now n hours counts trading.now) effect.new }
+    ensures is_effect { IsEffect setup.now effect.new }
+    ensures sender { IsOf member effect.new }
+    ensures suits { SuitsTokens tokens.now.tokens tokens.now.chains effect.new }
+    ensures about { IsAbout (B.orders book.now) effect.new }
 {
+    *effect = Effect::Nothing;
     let Some(found) = find_order(book, tokens, member, &message.existing_token) else {
-        return Effect::Nothing;
+        return;
     };
     if tokens.state(member, &message.replacement_token).is_some() {
-        return Effect::Nothing;
+        return;
     }
     if is_halted(trading.halted(), found.live.order.locate) {
-        return Effect::Nothing;
+        return;
     }
-    replace_or_fail(setup, hours, member, time, message, found)
+    replace_or_fail(setup, hours, member, time, message, found, effect);
 }

@@ -9,14 +9,12 @@ ghost use Rattle.hx_market.specs.Effects.{IsReplacement, IsInRange, IsAbout, inc
 ghost use Rattle.hx_market.specs.Prepared.{HasPlaces, effect_feed_count, effect_members, arrival_members, arrival_count, one_if, replaced_count};
 
 use crate::effect::{AcceptedEnter, Effect, Replacement, is_one_display};
-use hx_day::Room;
 use hx_levels::Book;
 use hx_match::{Fill, Incoming, Plan, plan_in};
 use hx_members::Tokens;
 use hx_ouch::Outbound;
 use hx_rules::is_shown;
 use hx_units::{MemberNo, NoMemory};
-use std::alloc::Global;
 
 fn incoming_of(effect: &AcceptedEnter) -> Incoming
     ensures { result ≡ incoming_of_enter effect.now }
@@ -143,13 +141,22 @@ pub struct Draft {
     pub reply_members: Vec<MemberNo>,
 }
 
+/// Empty lists, in the room of those of the step before.
+#[derive(Drop)]
+pub struct Lists {
+    /// For the executions.
+    pub fills: Vec<Fill>,
+    /// For the members of the replies.
+    pub members: Vec<MemberNo>,
+}
+
 // Of an order that is accepted.
 fn draft_order<B: Book>(
-    alloc: Global,
-    room: &mut Room,
+    lists: Lists,
     book: &mut B,
     effect: &AcceptedEnter,
 ) -> Result<Draft, NoMemory>
+    requires empty { lists.members.items ≡ [] }
     ensures orders { B.orders book.new ≡ B.orders book.old }
     ensures place { OnOk result (is_immediate effect.now.enter.time_in_force ≡ false
         → B.place book.new ≡ Some (terms_of_enter effect.now)) }
@@ -164,9 +171,8 @@ fn draft_order<B: Book>(
         (B.orders book.new) d.fills.items d.left) }
 {
     let immediate = effect.enter.time_in_force == 0;
-    let plan = plan_order(room.fills(alloc), book, &incoming_of(effect), immediate)?;
-    let members = room.members(alloc);
-    let reply_members = members_of(members, book, effect.member, immediate, &plan)?;
+    let plan = plan_order(lists.fills, book, &incoming_of(effect), immediate)?;
+    let reply_members = members_of(lists.members, book, effect.member, immediate, &plan)?;
     let shown = is_shown(effect.enter.display, effect.enter.time_in_force);
     let feed_count = arrival_count(shown, &plan);
     Ok(Draft {
@@ -179,11 +185,11 @@ fn draft_order<B: Book>(
 
 // Of an order that replaces another, which it does not meet.
 fn draft_replacement<B: Book>(
-    alloc: Global,
-    room: &mut Room,
+    lists: Lists,
     book: &mut B,
     effect: &Replacement,
 ) -> Result<Draft, NoMemory>
+    requires empty { lists.members.items ≡ [] }
     requires is_replacement { IsReplacement effect.now }
     requires old { order_of effect.now.old.key.0 (B.orders book.old) ≡ Some effect.now.old.order }
     ensures orders { B.orders book.new ≡ B.orders book.old }
@@ -200,9 +206,8 @@ fn draft_replacement<B: Book>(
         (B.orders book.new) d.fills.items d.left) }
 {
     let immediate = effect.replace.time_in_force == 0;
-    let plan = plan_order(room.fills(alloc), book, &incoming_by(effect), immediate)?;
-    let members = room.members(alloc);
-    let reply_members = members_of(members, book, effect.member, immediate, &plan)?;
+    let plan = plan_order(lists.fills, book, &incoming_by(effect), immediate)?;
+    let reply_members = members_of(lists.members, book, effect.member, immediate, &plan)?;
     let feed_count = replaced_count(effect, &plan);
     Ok(Draft {
         fills: plan.fills,
@@ -212,20 +217,34 @@ fn draft_replacement<B: Book>(
     })
 }
 
-// Of an effect without an order that arrives: so many messages of the feed, and replies to these members.
-fn draft_told(fills: Vec<Fill>, feed_count: u64, reply_members: Vec<MemberNo>) -> Draft
-    requires { fills.items ≡ [] }
+// Of an effect without an order that arrives: so many messages of the feed, and replies to the members of the list.
+fn draft_told(lists: Lists, feed_count: u64) -> Draft
+    requires { lists.fills.items ≡ [] }
     ensures fills { result.fills.items ≡ [] }
     ensures left { result.left ≡ 0 }
     ensures feed_count { result.feed_count ≡ feed_count }
-    ensures members { result.reply_members.items ≡ reply_members.items }
+    ensures members { result.reply_members.items ≡ lists.members.items }
 {
     Draft {
-        fills,
+        fills: lists.fills,
         left: 0,
         feed_count,
-        reply_members,
+        reply_members: lists.members,
     }
+}
+
+// The same with one reply, to this member.
+fn draft_reply(lists: Lists, feed_count: u64, member: MemberNo) -> Result<Draft, NoMemory>
+    requires fills { lists.fills.items ≡ [] }
+    requires members { lists.members.items ≡ [] }
+    ensures fills { IfOk result (λ d. d.fills.items ≡ []) }
+    ensures left { IfOk result (λ d. d.left ≡ 0) }
+    ensures feed_count { IfOk result (λ d. d.feed_count ≡ feed_count) }
+    ensures members { IfOk result (λ d. d.reply_members.items ≡ member ∷ []) }
+{
+    let Lists { fills, mut members } = lists;
+    members.push(member)?;
+    Ok(draft_told(Lists { fills, members }, feed_count))
 }
 
 // The members of replies, in order, in this room.
@@ -245,12 +264,13 @@ fn told_members(
 
 /// What is prepared of an effect, with a place for the token that it uses and one for the order that may rest.
 pub fn draft_effect<B: Book>(
-    alloc: Global,
-    room: &mut Room,
+    lists: Lists,
     book: &mut B,
     tokens: &mut Tokens,
     effect: &Effect,
 ) -> Result<Draft, NoMemory>
+    requires fills { lists.fills.items ≡ [] }
+    requires members { lists.members.items ≡ [] }
     requires range { IsInRange effect.now }
     requires about { IsAbout (B.orders book.old) effect.now }
     ensures orders { B.orders book.new ≡ B.orders book.old }
@@ -266,41 +286,38 @@ pub fn draft_effect<B: Book>(
         ≡ effect_members effect.now (B.orders book.new) d.fills.items d.left) }
 {
     match effect {
-        Effect::Nothing => Ok(draft_told(room.fills(alloc), 0, room.members(alloc))),
+        Effect::Nothing => Ok(draft_told(lists, 0)),
         Effect::Reject(effect) => {
             tokens.reserve(effect.member, &effect.token)?;
-            let members = room.one_member(alloc, effect.member)?;
-            Ok(draft_told(room.fills(alloc), 0, members))
+            draft_reply(lists, 0, effect.member)
         }
         Effect::Accept(effect) => {
             tokens.reserve(effect.member, &effect.enter.token)?;
-            draft_order(alloc, room, book, effect)
+            draft_order(lists, book, effect)
         }
         Effect::Fail(effect) => {
             tokens.reserve(effect.member, &effect.replacement)?;
-            let told = one_if(effect.old.order.shown);
-            let members = room.one_member(alloc, effect.member)?;
-            Ok(draft_told(room.fills(alloc), told, members))
+            draft_reply(lists, one_if(effect.old.order.shown), effect.member)
         }
         Effect::Replace(effect) => {
             tokens.reserve(effect.member, &effect.replace.replacement_token)?;
-            draft_replacement(alloc, room, book, effect)
+            draft_replacement(lists, book, effect)
         }
         Effect::Cancel(effect) => {
-            let told = one_if(effect.old.order.shown);
-            let members = room.one_member(alloc, effect.member)?;
-            Ok(draft_told(room.fills(alloc), told, members))
+            draft_reply(lists, one_if(effect.old.order.shown), effect.member)
         }
         Effect::End(effect) => {
-            let members = told_members(room.members(alloc), &effect.told.replies)?;
+            let Lists { fills, members } = lists;
+            let members = told_members(members, &effect.told.replies)?;
             let feed_count = effect.told.feed.len() as u64;
-            Ok(draft_told(room.fills(alloc), feed_count, members))
+            Ok(draft_told(Lists { fills, members }, feed_count))
         }
-        Effect::Halt(_) => Ok(draft_told(room.fills(alloc), 1, room.members(alloc))),
+        Effect::Halt(_) => Ok(draft_told(lists, 1)),
         Effect::Break(effect) => {
-            let mut members = room.one_member(alloc, effect.execution.maker)?;
+            let Lists { fills, mut members } = lists;
+            members.push(effect.execution.maker)?;
             members.push(effect.execution.taker)?;
-            Ok(draft_told(room.fills(alloc), 1, members))
+            Ok(draft_told(Lists { fills, members }, 1))
         }
     }
 }

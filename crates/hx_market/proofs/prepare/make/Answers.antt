@@ -8,6 +8,7 @@ use Rattle.hx_members.specs.Tokens.{TokenList}
 use Rattle.hx_refs.specs.Numbers.{Numbers, raised}
 use Rattle.hx_rules.specs.declared.event.Event.{Event}
 use Rattle.hx_market.specs.declared.effect.Effect.{Effect}
+use Rattle.hx_market.specs.declared.next_step.NextStep.{NextStep}
 use Rattle.hx_rules.specs.declared.matches.Match.{Match}
 use Rattle.hx_rules.specs.Markets.{Market}
 use Rattle.hx_rules.specs.Steps.{happens, sender, with_record}
@@ -39,24 +40,26 @@ returns-clause-planned g c = λ n.
     let name = c.draft_effect.new.tokens.place in
     let m : Market = market_of orders c.draft_effect.new.tokens n c.args.hours c.args.recorded.now c.reserve_for.new.self in
     let e : Event = c.args.event.now in
-    let effect : Effect = c.in_ok-effect.effect in
+    let effect : Effect = c.effect_of.new.effect in
     let d = c.in_ok-draft.draft in
-    let about : IsAbout orders effect = subst (λ (xs : List Live). IsAbout xs effect) (sym c.draft_effect.ensures.orders) c.in_ok-effect.ensures.about in
+    let about : IsAbout orders effect = subst (λ (xs : List Live). IsAbout xs effect) (sym c.draft_effect.ensures.orders) c.in_ok-effect_of.ensures.about in
     let told = tells (with_record e m) effect orders place name d.fills.items d.left refl about c.in_ok-draft.ensures.places in
-    let made : Event → Planned = λ ev. record { event = ev; feed_count = d.feed_count; reply_members = d.reply_members.items; number = c.in_ok-number.number; effect = effect; fills = d.fills.items; left = d.left } in
-    subst (λ (ev : Event). IsPlanned c.args.setup.now m orders place name c.reserve_for.new.self.room c.enter.new.self (made ev)) (sym c.of.ensures)
+    let made : Event → NextStep → Planned = λ ev step. record { event = ev; feed_count = d.feed_count; reply_members = d.reply_members.items; number = step.number; effect = step.effect; fills = step.fills.items; left = step.left } in
+    let planned : Planned → Type 0 = IsPlanned c.args.setup.now m orders place name c.reserve_for.new.self.room c.enter.new.self in
+    subst (λ (ev : Event). planned (made ev c.of-2.result.value)) (sym c.of.ensures)
+    (subst (λ (step : NextStep). planned (made e step)) (sym c.of-2.ensures)
     (record {
-      number = c.in_ok-number.ensures.number;
-      may_record = c.in_ok-number.ensures.may_record;
-      does = does_here c.args.setup.now e effect n c.args.hours (raised c.args.recorded.now (sender e)) (g.B.Book.orders c.args.book.now) orders c.args.tokens.now c.draft_effect.new.tokens c.args.trading.now c.reserve_for.new.self (sym c.draft_effect.ensures.orders) (sym c.draft_effect.ensures.tokens) (sym c.draft_effect.ensures.chains) (sym c.reserve_for.ensures.halted) (sym c.reserve_for.ensures.executions) (c.in_ok-effect.ensures.does n (raised c.args.recorded.now (sender e)));
-      is_effect = c.in_ok-effect.ensures.is_effect;
-      suits = subst (λ (us : List Used). SuitsTokens us c.draft_effect.new.tokens.chains effect) (sym c.draft_effect.ensures.tokens) (subst (λ (cs : List Chain). SuitsTokens c.args.tokens.now.tokens cs effect) (sym c.draft_effect.ensures.chains) c.in_ok-effect.ensures.suits);
+      number = c.in_ok-next.ensures.number;
+      may_record = c.in_ok-next.ensures.may_record;
+      does = does_here c.args.setup.now e effect n c.args.hours (raised c.args.recorded.now (sender e)) (g.B.Book.orders c.args.book.now) orders c.args.tokens.now c.draft_effect.new.tokens c.args.trading.now c.reserve_for.new.self (sym c.draft_effect.ensures.orders) (sym c.draft_effect.ensures.tokens) (sym c.draft_effect.ensures.chains) (sym c.reserve_for.ensures.halted) (sym c.reserve_for.ensures.executions) (c.in_ok-effect_of.ensures.does n (raised c.args.recorded.now (sender e)));
+      is_effect = c.in_ok-effect_of.ensures.is_effect;
+      suits = subst (λ (us : List Used). SuitsTokens us c.draft_effect.new.tokens.chains effect) (sym c.draft_effect.ensures.tokens) (subst (λ (cs : List Chain). SuitsTokens c.args.tokens.now.tokens cs effect) (sym c.draft_effect.ensures.chains) c.in_ok-effect_of.ensures.suits);
       about = about;
-      sender = subst (λ i. IsOf i effect) (sym c.in_ok-number.ensures.number) c.in_ok-effect.ensures.sender;
+      sender = subst (λ i. IsOf i effect) (sym c.in_ok-next.ensures.number) c.in_ok-effect_of.ensures.sender;
       places = c.in_ok-draft.ensures.places;
       has_room = subst (λ (fs : List Fill). length fs ≤ c.reserve_for.new.self.room) c.deref.ensures.value c.in_ok-reserve_for.ensures.room;
       end_entered = subst (λ n. IsEndEntered c.enter.new.self n effect) c.count.ensures (λ e is.
           subst (λ o. IfSome o (λ expiry. Holds c.enter.new.self expiry c.count.result)) (c.end_of.ensures ∙ is) c.in_ok-enter.ensures.entered);
       feed_count = c.in_ok-draft.ensures.feed_count ∙ told.0;
       reply_members = c.in_ok-draft.ensures.members ∙ told.1;
-    })
+    }))

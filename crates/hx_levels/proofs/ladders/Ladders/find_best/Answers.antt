@@ -1,5 +1,6 @@
 use Rattle.std.proofs.Common.{◌≡◌, ℕ, ◌<◌, ◌≤◌, None, refl, sym, ap, subst, arith}
-use Rattle.hx_levels.specs.Levels.{Rung, level_at}
+use Rattle.hx_levels.specs.Rung.{Rung}
+use Rattle.hx_levels.specs.Levels.{level_at}
 use Rattle.hx_levels.specs.Bests.{NoneBetter}
 use Rattle.hx_levels.proofs.Renewed.{renewed}
 use Rattle.hx_levels.proofs.ladders.Ladders.find_best.Goals as goal

@@ -7,7 +7,8 @@ use Rattle.hx_levels.specs.declared.order.Order.{Order}
 use Rattle.hx_levels.specs.declared.order.Live.{Live}
 use Rattle.hx_levels.specs.declared.nodes.Node.{Node}
 use Rattle.hx_levels.specs.declared.nodes.Ends.{Ends}
-use Rattle.hx_levels.specs.Levels.{Rung, first_at, IsFirstFrom, ends_in, level_at}
+use Rattle.hx_levels.specs.Rung.{Rung}
+use Rattle.hx_levels.specs.Levels.{first_at, IsFirstFrom, ends_in, level_at}
 use Rattle.hx_units.specs.Side.{is_buy}
 use Rattle.hx_levels.specs.Book.{next_by_rank, IsRanked, terms_of}
 use Rattle.hx_levels.specs.LevelBook.{walked, contra, rung_of}

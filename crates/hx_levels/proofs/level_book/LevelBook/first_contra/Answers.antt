@@ -1,5 +1,6 @@
 use Rattle.std.proofs.Common.{◌≡◌, ℕ, ◌≤◌, Bool, not, None, ap, ◌∙◌, subst}
-use Rattle.hx_levels.specs.Levels.{Rung, first_at, IsFirstFrom}
+use Rattle.hx_levels.specs.Rung.{Rung}
+use Rattle.hx_levels.specs.Levels.{first_at, IsFirstFrom}
 use Rattle.hx_units.specs.Side.{is_buy}
 use Rattle.hx_levels.specs.Book.{next_by_rank}
 use Rattle.hx_levels.specs.LevelBook.{walked}

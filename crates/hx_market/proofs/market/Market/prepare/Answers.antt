@@ -17,7 +17,7 @@ use Rattle.hx_market.specs.OrderKeys.{AreKeyed}
 use Rattle.hx_market.specs.Expiries.{AreEntered}
 use Rattle.hx_day.specs.Ends.{StaysElsewhere}
 use Rattle.hx_market.specs.Prepared.{IsPlanned}
-use Rattle.hx_market.specs.MarketModel.{Planned, Seen, market_of}
+use Rattle.hx_market.specs.MarketModel.{Planned, Seen, market_of, with_step}
 use Rattle.hx_market.proofs.Entered.{entered_kept, entered_elsewhere}
 use Rattle.hx_market.proofs.PreparedCounts.{step_is}
 use Rattle.hx_market.proofs.market.Market.prepare.Goals as goal
@@ -72,8 +72,14 @@ invariant_of-self-2 g c =
     let h = held (g.B.Book.orders s.book) (g.B.Book.orders c.make.new.book) s.tokens c.make.new.tokens s.refs s.hours s.recorded s.trading c.make.new.trading c.forget.new.self c.make.new.ends
     e.orders e.tokens e.keys e.chains e.halted e.executions e.ends (record { sound = c.self.invariant.0; keyed = c.self.invariant.1; entered = entered }) in
     let planned : Planned → Type 0 = IsPlanned s.setup (market_of (g.B.Book.orders c.make.new.book) c.make.new.tokens s.refs s.hours s.recorded c.make.new.trading)
-    (g.B.Book.orders c.make.new.book) (g.B.Book.place c.make.new.book) c.make.new.tokens.place c.make.new.trading.room c.make.new.ends in
-    (h.sound, h.keyed, (λ p is. let same : c.in_ok-prepared.prepared ≡ p = sym c.of.ensures ∙ (let z : Some c.of.result.value ≡ Some p = is in cc) in subst planned same (e.planned s.refs)), h.entered)
+    (g.B.Book.orders c.make.new.book) (g.B.Book.place c.make.new.book) c.make.new.tokens.place c.make.new.trading.room c.make.new.ends in (
+      h.sound,
+      h.keyed,
+      (λ p is.
+          let same : c.in_ok-prepared.prepared ≡ p = e.next ∙ ap (with_step c.make.new.next) (sym c.of.ensures) ∙ (let z : Some (with_step c.make.new.next c.of.result.value) ≡ Some p = is in cc) in
+          (subst planned same (e.planned s.refs), e.room)),
+      h.entered,
+    )
 
 pub returns-clause-feed_count : goal.returns-clause-feed_count
 returns-clause-feed_count g c =

@@ -5,7 +5,7 @@ use Rattle.std.proofs.lemmas.Grind.{get_or_default_zero}
 use Rattle.std.proofs.lemmas.Int.Digits.{digits_value_more, digits_more}
 use Rattle.hx_text.proofs.Numbers.{digit_value_of, digit_value_small, decimal_size, value_small}
 use Rattle.hx_replay.proofs.Fronts.{within_number, number_longer}
-use Rattle.hx_replay.proofs.decimal.split_number.Goals as goal
+use Rattle.hx_replay.proofs.decimal.split_from.Goals as goal
 
 pub overflow_mul-number : goal.overflow_mul-number
 overflow_mul-number c = omega (arith, c.loop-at.invariant.value, value_small (take c.loop-at.at c.args.text.now) (omega (arith, length-take c.loop-at.at c.args.text.now)) c.loop-at.invariant.digits)

@@ -1,6 +1,6 @@
 use Rattle.std.proofs.Common.{◌≡◌, take}
 use Rattle.std.specs.Str.Parse.{digits_value, AllDigits}
-use Rattle.hx_replay.proofs.decimal.split_number.Given as goal
+use Rattle.hx_replay.proofs.decimal.split_from.Given as goal
 
 abbrev pub invariant-loop-at : goal.invariant-loop-at
 invariant-loop-at l = record {

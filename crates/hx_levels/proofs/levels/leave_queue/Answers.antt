@@ -1,8 +1,0 @@
-use Rattle.hx_levels.proofs.Rungs.{apart}
-use Rattle.hx_levels.proofs.levels.leave_queue.Goals as goal
-
-pub returns-then-shown-clause-others : goal.returns-then-shown-clause-others
-returns-then-shown-clause-others c = λ q h. ((c.get_mut.follows.holds (record c.unwrap-level.result.now { shown = c.without-level.result })).3 c.requires).2 q (apart c.args.at q h)
-
-pub returns-else-shown-clause-others : goal.returns-else-shown-clause-others
-returns-else-shown-clause-others c = λ q h. ((c.get_mut.follows.holds (record c.unwrap-level.result.now { hidden = c.without-level-else-shown.result })).3 c.requires).2 q (apart c.args.at q h)

@@ -1,0 +1,71 @@
+//! The next step of the market, as it was prepared.
+ghost use Rattle.std.specs.Prelude.{◌≡◌, ◌<◌, ◌^◌, [], OnOk};
+ghost use Rattle.hx_market.specs.Room.{HasRoom};
+
+use crate::effect::Effect;
+use hx_match::Fill;
+use hx_rules::Output;
+use hx_units::{MemberNo, NoMemory};
+use std::alloc::Global;
+use std::mem::replace;
+
+/// What was prepared of an event, where its commit does it: no part of it moves in between. Its lists are those of the
+/// step before, and take memory only where they have to grow.
+#[derive(Drop)]
+pub struct NextStep {
+    /// The number under which the event is recorded.
+    pub number: u16,
+    /// What the event does.
+    pub effect: Effect,
+    /// The executions of an order that arrives.
+    pub fills: Vec<Fill>,
+    /// The shares that they leave.
+    pub left: u32,
+    /// Room for what is told.
+    pub out: Output,
+    /// A list for the members of the replies.
+    pub members: Vec<MemberNo>,
+}
+
+impl NextStep {
+    /// Nothing.
+    pub fn nothing(alloc: Global) -> NextStep {
+        NextStep {
+            number: 0,
+            effect: Effect::Nothing,
+            fills: Vec::new(alloc),
+            left: 0,
+            out: no_output(alloc),
+            members: Vec::new(alloc),
+        }
+    }
+}
+
+/// Lists of no messages.
+pub fn no_output(alloc: Global) -> Output {
+    Output {
+        feed: Vec::new(alloc),
+        replies: Vec::new(alloc),
+    }
+}
+
+/// Takes a list out, and empties it.
+pub fn take_empty<T: Copy>(alloc: Global, list: &mut Vec<T>) -> Vec<T>
+    ensures { result.items ≡ [] }
+{
+    let mut taken = replace(list, Vec::new(alloc));
+    taken.clear();
+    taken
+}
+
+/// Empties the lists, and makes room for what so many fills tell, and for what else an event tells.
+pub fn make_room(out: &mut Output, fills: usize) -> Result<(), NoMemory>
+    requires { fills < 2 ^ 60 }
+    ensures { OnOk result (HasRoom fills out.new) }
+{
+    out.feed.clear();
+    out.feed.reserve(fills + 2)?;
+    out.replies.clear();
+    out.replies.reserve(2 * fills + 2)?;
+    Ok(())
+}
