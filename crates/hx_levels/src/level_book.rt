@@ -73,6 +73,7 @@ impl LevelBook {
 
 impl LevelBook {
     // Puts an order last, whose level is there.
+    #[inline(always)]
     fn add_last(&mut self, order: Order) -> Key
         requires { self.old.place ≡ Some (terms_of order) }
         ensures orders { self.new.orders ≡ self.old.orders
@@ -119,6 +120,7 @@ fn contra_of(terms: &Terms) -> (Rung, u32)
 }
 
 impl LevelBook {
+    #[inline(always)]
     fn order(&self, key: Key) -> Option<&Order>
         ensures exact { option_copied result ≡ order_of key.0 self.now.orders }
         ensures live { is_some result ≡ has_key key.0 self.now.orders }
@@ -189,6 +191,7 @@ impl LevelBook {
 }
 
 impl LevelBook {
+    #[inline(always)]
     fn take(&mut self, key: Key) -> Order
         requires { has_key key.0 self.old.orders ≡ true }
         ensures was { order_of key.0 self.old.orders ≡ Some result }
@@ -254,6 +257,8 @@ impl Book for LevelBook {
         })
     }
 
+    #[inline(always)]
+
     fn add(&mut self, order: Order) -> Key {
         self.add_last(order)
     }
@@ -262,9 +267,13 @@ impl Book for LevelBook {
         self.take_off(key, by);
     }
 
+    #[inline(always)]
+
     fn remove(&mut self, key: Key) -> Order {
         self.take(key)
     }
+
+    #[inline(always)]
 
     fn get(&self, key: Key) -> Option<&Order> {
         self.order(key)

@@ -1,6 +1,6 @@
 -- How the table of used tokens hashes. No answer depends on it: what it changes is who can tell which
 -- tokens fall on one another.
-use Rattle.std.specs.Prelude.{ℕ, ◌/◌, ◌%◌, List, [], ◌∷◌, slice_index}
+use Rattle.std.specs.Prelude.{ℕ, ◌+◌, ◌-◌, ◌*◌, ◌/◌, ◌%◌, ◌^◌, List, [], ◌∷◌, slice_index, length, take, get_or}
 use Rattle.hx_units.specs.declared.names.Token.{Token}
 use Rattle.std.specs.Hash.FoldHasher as folding
 use Rattle.std.specs.Hash.DefaultHasher as sip
@@ -21,15 +21,21 @@ bytes_of_name member token =
 
 -- the hasher of a seed, before anything is written
 abbrev pub hasher_of : Seed → TokenHasher
-hasher_of Fixed = Folding folding.initial
+hasher_of Fixed = Folding folding.initial 0
 hasher_of (Drawn keys) = Keyed (initial_hasher keys)
 
--- the hasher after these bytes
+-- the hasher after these bytes, the last of which is kept by itself
 abbrev pub written : TokenHasher → List ℕ → TokenHasher
-written (Folding hasher) bytes = Folding (folding.write hasher bytes)
+written (Folding hasher near) bytes =
+    let last = length bytes - 1 in
+    Folding (folding.write hasher (take last bytes)) (get_or bytes last 0)
 written (Keyed hasher) bytes = Keyed (sip.write hasher bytes)
+
+-- how far a name with this last byte lies from where the hash of its other bytes leads
+abbrev pub beside : ℕ → ℕ
+beside near = near * 2 ^ 24 + near / 8
 
 -- the hash of what was written
 abbrev pub finished : TokenHasher → ℕ
-finished (Folding hasher) = folding.finish hasher
+finished (Folding hasher near) = (folding.finish hasher + beside near) % 2 ^ 64
 finished (Keyed hasher) = sip.finish hasher

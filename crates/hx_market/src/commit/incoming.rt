@@ -35,6 +35,7 @@ pub fn draw(refs: &mut Refs, member: MemberNo, shown: bool) -> u64
 }
 
 /// Puts an order last in time, at its reserved place, under its token; its chain counts as displayed where it is shown.
+#[inline(always)]
 pub fn rest_order<B: Book>(book: &mut B, tokens: &mut Tokens, order: &Order)
     requires place { B.place book.old ≡ Some (terms_of order.now) }
     requires used { is_used tokens.old.tokens order.now.member order.now.token ≡ true }
@@ -56,6 +57,7 @@ pub fn rest_order<B: Book>(book: &mut B, tokens: &mut Tokens, order: &Order)
 }
 
 // The order with so many open shares.
+#[inline(always)]
 fn with_shares(order: &Order, shares: u32) -> Order
     ensures { result ≡ record order.now { shares = shares } }
 {
@@ -65,6 +67,7 @@ fn with_shares(order: &Order, shares: u32) -> Order
 }
 
 // What is left of an order, which is no immediate one, rests.
+#[inline(always)]
 fn rest_of<B: Book>(book: &mut B, tokens: &mut Tokens, order: &Order, left: u32) -> Order
     requires place { B.place book.old ≡ Some (terms_of order.now) }
     requires used { is_used tokens.old.tokens order.now.member order.now.token ≡ true }
@@ -87,6 +90,7 @@ fn rest_of<B: Book>(book: &mut B, tokens: &mut Tokens, order: &Order, left: u32)
 
 /// Carries out the plan of an order, and gives what rests of it, whose place is reserved. What is left of an immediate
 /// one is cancelled.
+#[inline(always)]
 pub fn arrive<B: Book>(
     book: &mut B,
     tokens: &mut Tokens,
