@@ -258,7 +258,6 @@ impl Book for LevelBook {
     }
 
     #[inline(always)]
-
     fn add(&mut self, order: Order) -> Key {
         self.add_last(order)
     }
@@ -268,13 +267,11 @@ impl Book for LevelBook {
     }
 
     #[inline(always)]
-
     fn remove(&mut self, key: Key) -> Order {
         self.take(key)
     }
 
     #[inline(always)]
-
     fn get(&self, key: Key) -> Option<&Order> {
         self.order(key)
     }
