@@ -48,12 +48,17 @@ const MOST_DIGITS: usize = 14;
 
 /// The number in front of the first space, and what stands behind the space; or none where no number of at most 14 digits
 /// stands there, the first of them no 0 where there are more.
+#[inline(always)]
 pub fn split_number(text: &[u8]) -> Option<(u64, &[u8])>
     ensures some { IfSome result (λ p. (p.0 < 10 ^ 14)
         × (text.now ≡ decimal p.0 ++ space ∷ p.1.now)) }
     ensures none { IfNone result ((n : ℕ) (rest : List ℕ) → n < 10 ^ 14
         → text.now ≢ decimal n ++ space ∷ rest) }
 {
+    // One digit takes no loop, and no call.
+    if let [digit @ b'0'..=b'9', b' ', ..] = text {
+        return whole(text, 1, u64::from(*digit - b'0'));
+    }
     split_from(text, 0, 0)
 }
 
