@@ -1,9 +1,9 @@
 -- Bytes and their digits, block by block.
 use Rattle.std.proofs.Common.{◌≡◌, ℕ, zero, suc, ◌+◌, ◌-◌, ◌*◌, ◌<◌, ◌≤◌, List, [], ◌∷◌, ◌++◌, length, take, drop, refl, sym, ap, subst, ◌∙◌, append_assoc, arith, take-append-drop}
 use Rattle.std.specs.Prelude.{◌≢◌, ◌%◌}
-use Rattle.std.proofs.lemmas.List.{length-take-le, length-append, take-append-le}
+use Rattle.std.proofs.lemmas.List.{length-take-le}
 use Rattle.std.proofs.Math.Seq.{take_at, drop_at, drop-drop, drop-length, take_all}
-use Rattle.std.proofs.lemmas.List.{get_or-drop, drop_all, drop-append-le, length-drop, append-nil}
+use Rattle.std.proofs.lemmas.List.{get_or-drop, drop_all, drop-append-le, length-drop}
 use Rattle.hex.specs.Hex.{encode_lower, encode_with, lower_digits, IsBytes}
 use Rattle.hex.proofs.HexLemmas.{length-encode_with}
 use Rattle.hx_replay.specs.Digits.{AreWritten, AreRead}
@@ -93,91 +93,63 @@ bytes-take (suc n) [] p i = p i
 bytes-take (suc n) (x ∷ xs) p zero = p 0
 bytes-take (suc n) (x ∷ xs) p (suc i) = bytes-take n xs (λ k. p (suc k)) i
 
-pub none_read : (text before : List ℕ) → AreRead text before text before
+-- before the first block is read
+pub none_read : (text bytes : List ℕ) → length text ≡ 2 * length bytes → AreRead text (length bytes) bytes
 unfolding encode_with
-none_read text before = record { read = []; text_is = refl; bytes_are = sym (append-nil before); are_bytes = λ i. omega arith }
-
--- what is read of the rest is read of the whole
-pub read_on : (text before rest now others later : List ℕ) → AreRead text before rest now → AreRead rest now others later → AreRead text before others later
-read_on text before rest now others later a b = record {
-  read = a.read ++ b.read;
-  text_is = a.text_is ∙ ap (λ (l : List ℕ). encode_lower a.read ++ l) b.text_is ∙ sym (append_assoc (encode_lower a.read) (encode_lower b.read) others) ∙ ap (λ (l : List ℕ). l ++ others) (sym (encode-append a.read b.read));
-  bytes_are = b.bytes_are ∙ ap (λ (l : List ℕ). l ++ b.read) a.bytes_are ∙ append_assoc before a.read b.read;
-  are_bytes = bytes-append a.read b.read a.are_bytes b.are_bytes;
+none_read text bytes size = record {
+  digits = drop_all (2 * length bytes) text (omega (arith, size)) ∙ ap encode_lower (sym (drop-length bytes));
+  are_bytes = subst IsBytes (sym (drop-length bytes)) (λ i. omega arith);
 }
 
--- a block more is read
-pub block_read : (rest now block : List ℕ) (k : ℕ) → take k rest ≡ encode_lower block → IsBytes block → AreRead rest now (drop k rest) (now ++ block)
-block_read rest now block k is fits = record { read = block; text_is = sym (take-append-drop k rest) ∙ ap (λ (l : List ℕ). l ++ drop k rest) is; bytes_are = refl; are_bytes = fits }
+-- a block more is read in front of those behind it
+pub block_read : (text bytes block : List ℕ) (place k : ℕ) → k ≡ 16 → place + 16 ≤ length bytes → take 32 (drop (2 * place) text) ≡ encode_lower block → IsBytes block
+    → AreRead text (place + 16) bytes → AreRead text place (take place bytes ++ (block ++ drop k (drop place bytes)))
+block_read text bytes block place k size within is fits behind =
+    let rest = drop (place + 16) bytes in
+    let now = put_drop bytes block place k (omega (arith, within)) ∙ ap (λ (n : ℕ). block ++ drop (place + n) bytes) size in
+    let next : 2 * place + 32 ≡ 2 * (place + 16) = omega arith in
+    record {
+      digits = sym (take-append-drop 32 (drop (2 * place) text)) ∙ ap (λ (l : List ℕ). l ++ drop 32 (drop (2 * place) text)) is
+          ∙ ap (λ (l : List ℕ). encode_lower block ++ l) (drop-drop 32 (2 * place) text ∙ ap (λ (n : ℕ). drop n text) next ∙ behind.digits)
+          ∙ sym (encode-append block rest) ∙ ap encode_lower (sym now);
+      are_bytes = subst IsBytes (sym now) (bytes-append block rest fits behind.are_bytes);
+    }
 
-pub read_as : (text before rest now others later : List ℕ) → AreRead text before rest now → rest ≡ others → now ≡ later → AreRead text before others later
-read_as text before rest now others later a same more =
-    record { read = a.read; text_is = a.text_is ∙ ap (λ (l : List ℕ). encode_lower a.read ++ l) same; bytes_are = sym more ∙ a.bytes_are; are_bytes = a.are_bytes }
+-- what is read from a place on is read from a later one on
+pub read_later : (text bytes : List ℕ) (place later : ℕ) → place ≤ later → AreRead text place bytes → AreRead text later bytes
+read_later text bytes place later le a =
+    let on : 2 * later ≡ 2 * place + 2 * (later - place) = omega (arith, le) in
+    let whole : place + (later - place) ≡ later = omega (arith, le) in
+    let same : drop (later - place) (drop place bytes) ≡ drop later bytes = drop-drop (later - place) place bytes ∙ ap (λ (n : ℕ). drop n bytes) whole in
+    record {
+      digits = ap (λ (n : ℕ). drop n text) on ∙ sym (drop-drop (2 * (later - place)) (2 * place) text)
+          ∙ ap (λ (l : List ℕ). drop (2 * (later - place)) l) a.digits ∙ encode-drop (later - place) (drop place bytes) ∙ ap encode_lower same;
+      are_bytes = subst IsBytes same (bytes-drop (later - place) (drop place bytes) a.are_bytes);
+    }
 
-empty_is : (xs : List ℕ) → length xs ≡ 0 → xs ≡ []
-empty_is [] e = refl
-empty_is (x ∷ xs) e = absurd (omega (arith, e))
-
--- nothing is left
-pub all_read : (text before rest now : List ℕ) → AreRead text before rest now → before ≡ [] → length rest ≡ 0 → (text ≡ encode_lower now) × IsBytes now
-all_read text before rest now a none over =
-    let same : now ≡ a.read = a.bytes_are ∙ ap (λ (l : List ℕ). l ++ a.read) none in (
-      a.text_is ∙ ap (λ (l : List ℕ). encode_lower a.read ++ l) (empty_is rest over) ∙ append-nil (encode_lower a.read) ∙ ap encode_lower (sym same),
-      subst IsBytes (sym same) a.are_bytes,
-    )
+-- all are read
+pub all_read : (text bytes : List ℕ) (place : ℕ) → place ≡ 0 → AreRead text place bytes → (text ≡ encode_lower bytes) × IsBytes bytes
+all_read text bytes place none a =
+    let whole = subst (λ (k : ℕ). AreRead text k bytes) none a in
+    let nothing : 0 ≡ 2 * 0 = omega arith in
+    (ap (λ (n : ℕ). drop n text) nothing ∙ whole.digits, whole.are_bytes)
 
 -- the digits of some bytes are those in front of more
 pub front_digits : (xs rest : List ℕ) (n m : ℕ) → length xs ≡ n → m ≡ 2 * n → take m (encode_lower (xs ++ rest)) ≡ encode_lower xs
 front_digits xs rest n m e two = ap (λ (k : ℕ). take k (encode_lower (xs ++ rest))) two ∙ encode-take n (xs ++ rest) ∙ ap encode_lower (take_at xs rest n e)
 
--- where the text has the digits of some bytes, the rest has those of the last of them
-pub rest_digits : (text before rest now others : List ℕ) (a : AreRead text before rest now) → text ≡ encode_lower others → rest ≡ encode_lower (drop (length a.read) others)
-rest_digits text before rest now others a is =
-    sym (drop_at (encode_lower a.read) rest (2 * length a.read) (digits_length a.read))
-    ∙ ap (λ (t : List ℕ). drop (2 * length a.read) t) (sym a.text_is ∙ is) ∙ encode-drop (length a.read) others
-
-pub rest_none : (text before rest now : List ℕ) → AreRead text before rest now → ((bytes : List ℕ) → IsBytes bytes → rest ≢ encode_lower bytes) → (others : List ℕ) → IsBytes others → text ≢ encode_lower others
-rest_none text before rest now a none others fits is = none (drop (length a.read) others) (bytes-drop (length a.read) others fits) (rest_digits text before rest now others a is)
-
--- a block that is none is the front of no digits
-pub block_none : (rest : List ℕ) (size k : ℕ) → k ≡ 2 * size → ((bytes : List ℕ) → IsBytes bytes → take k rest ≢ encode_lower bytes) → (others : List ℕ) → IsBytes others → rest ≢ encode_lower others
-block_none rest size k two none others fits is =
-    none (take size others) (bytes-take size others fits) (ap (λ (t : List ℕ). take k t) is ∙ ap (λ (n : ℕ). take n (encode_lower others)) two ∙ encode-take size others)
-
--- one digit is none
-pub one_none : (rest others : List ℕ) → length rest ≡ 1 → rest ≢ encode_lower others
-one_none rest others one is = let size : length rest ≡ 2 * length others = ap length is ∙ digits_length others in omega (arith, size, one)
+-- a text that somewhere has a block of no digits has the digits of no bytes
+pub block_none : (text : List ℕ) (place : ℕ) → ((bytes : List ℕ) → IsBytes bytes → take 32 (drop (2 * place) text) ≢ encode_lower bytes) → (others : List ℕ) → IsBytes others → text ≢ encode_lower others
+block_none text place none others fits is =
+    let two : 32 ≡ 2 * 16 = omega arith in
+    none (take 16 (drop place others)) (bytes-take 16 (drop place others) (bytes-drop place others fits))
+    (ap (λ (t : List ℕ). take 32 (drop (2 * place) t)) is ∙ ap (λ (l : List ℕ). take 32 l) (encode-drop place others)
+    ∙ ap (λ (n : ℕ). take n (encode_lower (drop place others))) two ∙ encode-take 16 (drop place others))
 
 -- before the first block is written
 pub none_written : (bytes was : List ℕ) → was ≡ encode_lower (drop (length bytes) bytes) ++ was
 unfolding encode_with
 none_written bytes was = ap (λ (l : List ℕ). encode_lower l ++ was) (sym (drop-length bytes))
-
--- the last digits of a text are those of the last bytes
-last_digits : (text others : List ℕ) (at : ℕ) → at + 32 ≡ length text → text ≡ encode_lower others → take 32 (drop at text) ≡ encode_lower (drop (length others - 16) others)
-last_digits text others at size is =
-    let long : length text ≡ 2 * length others = ap length is ∙ digits_length others in
-    let from : at ≡ 2 * (length others - 16) = omega (arith, size, long) in
-    take_all 32 (drop at text) (omega (arith, length-drop at text, size))
-    ∙ ap (λ (t : List ℕ). drop at t) is ∙ ap (λ (n : ℕ). drop n (encode_lower others)) from ∙ encode-drop (length others - 16) others
-
--- where the last digits are none, all are none
-pub last_none : (text : List ℕ) (at : ℕ) → at + 32 ≡ length text → ((bytes : List ℕ) → IsBytes bytes → take 32 (drop at text) ≢ encode_lower bytes) → (others : List ℕ) → IsBytes others → text ≢ encode_lower others
-last_none text at size none others fits is = none (drop (length others - 16) others) (bytes-drop (length others - 16) others fits) (last_digits text others at size is)
-
--- the last digits are read once more
-pub last_read : (text rest now block : List ℕ) (at n : ℕ) → AreRead text [] rest now → at + 32 ≡ length text → at ≡ 2 * n → length rest < 32 → take 32 (drop at text) ≡ encode_lower block → IsBytes block
-    → (text ≡ encode_lower (take n now ++ block)) × IsBytes (take n now ++ block)
-last_read text rest now block at n a size two few is fits =
-    let long : length text ≡ 2 * length a.read + length rest = ap length a.text_is ∙ length-append (encode_lower a.read) rest ∙ ap (λ (k : ℕ). k + length rest) (digits_length a.read) in
-    let front : take at text ≡ encode_lower (take n now) =
-    ap (λ (t : List ℕ). take at t) a.text_is
-    ∙ take-append-le at (encode_lower a.read) rest (omega (arith, digits_length a.read, long, size, few))
-    ∙ ap (λ (k : ℕ). take k (encode_lower a.read)) two ∙ encode-take n a.read ∙ ap (λ (l : List ℕ). encode_lower (take n l)) (sym a.bytes_are) in
-    let back : drop at text ≡ encode_lower block = sym (take_all 32 (drop at text) (omega (arith, length-drop at text, size))) ∙ is in (
-      sym (take-append-drop at text) ∙ ap (λ (l : List ℕ). l ++ drop at text) front ∙ ap (λ (l : List ℕ). encode_lower (take n now) ++ l) back ∙ sym (encode-append (take n now) block),
-      bytes-append (take n now) block (bytes-take n now (subst IsBytes (sym a.bytes_are) a.are_bytes)) fits,
-    )
 
 -- an odd number of digits is none
 pub odd_none : (text others : List ℕ) → 0 < length text % 2 → text ≢ encode_lower others

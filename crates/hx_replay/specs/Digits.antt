@@ -8,12 +8,10 @@ abbrev pub AreWritten : (bytes : List ℕ) (place start : ℕ) (text behind : Li
 AreWritten bytes place start text behind =
     drop (start + 2 * place) text ≡ encode_lower (drop place bytes) ++ behind
 
--- of the digits of a text some bytes were read, which now stand behind those before them; the rest is left
-pub record AreRead (text before rest now : List ℕ) : Type 0 where
-  pub read : List ℕ
-  pub text_is : text ≡ encode_lower read ++ rest
-  pub bytes_are : now ≡ before ++ read
-  pub are_bytes : IsBytes read
+-- of the bytes of a text of digits, those from a place on are read: the text has their digits there
+pub record AreRead (text : List ℕ) (place : ℕ) (bytes : List ℕ) : Type 0 where
+  pub digits : drop (2 * place) text ≡ encode_lower (drop place bytes)
+  pub are_bytes : IsBytes (drop place bytes)
 
 -- the value of a digit by its code, and 16 of what is none
 abbrev pub value_of : ℕ → ℕ

@@ -1,5 +1,5 @@
-//! Bytes in hexadecimal: two lower case digits for each. Sixteen bytes go at once, by vectors; those that are left over
-//! when they are read go once more with those before them, or one by one where all are fewer.
+//! Bytes in hexadecimal: two lower case digits for each. Sixteen bytes go at once, by vectors, from the last ones on; those
+//! that are left over go once more with those behind them, or one by one where all are fewer.
 ghost use Rattle.std.specs.Prelude.{◌≡◌, ◌≢◌, ◌≤◌, ◌<◌, ◌+◌, ◌*◌, ◌/◌, ◌%◌, ◌++◌, [], ℕ, List, true, false, length, drop, IfSome, IfNone, IfOk, slice_index};
 ghost use Rattle.hx_replay.specs.Digits.{AreWritten, AreRead};
 ghost use Rattle.hex.specs.Hex.{encode_lower, lower_digits, IsBytes};
@@ -81,97 +81,56 @@ pub fn read_bytes(room: Vec<u8>, text: &[u8]) -> Result<Option<Vec<u8>>, AllocEr
     ensures none { IfOk result (λ o.
         IfNone o ((bytes : List ℕ) → IsBytes bytes → text.now ≢ encode_lower bytes)) }
 {
-    let mut bytes = room;
-    bytes.clear();
-    bytes.reserve(text.len() / 2)?;
-    let Some(rest) = read_blocks::<16, 32>(text, &mut bytes)? else {
+    if text.len() % 2 > 0 {
         return Ok(None);
-    };
-    let is_read = if text.len() < 32 {
-        read_few(text, rest, &mut bytes)?
-    } else {
-        read_last(text, rest, &mut bytes)?
-    };
-    if !is_read {
+    }
+    let mut bytes = room;
+    bytes.resize(text.len() / 2, 0)?;
+    if !read_all(text, &mut bytes) {
         return Ok(None);
     }
     Ok(Some(bytes))
 }
 
-// Reads what is left of a text byte by byte, and answers whether all of it are digits of bytes.
-fn read_few(text: &[u8], rest: &[u8], bytes: &mut Vec<u8>) -> Result<bool, AllocError>
-    requires read { AreRead text.now [] rest.now bytes.old.items }
-    ensures yes { IfOk result (λ b. b ≡ true
-        → (text.now ≡ encode_lower bytes.new.items) × IsBytes bytes.new.items) }
-    ensures no { IfOk result (λ b. b ≡ false
-        → (others : List ℕ) → IsBytes others → text.now ≢ encode_lower others) }
+// Reads the bytes of the digits, the last ones first, and answers whether all are digits.
+fn read_all(text: &[u8], bytes: &mut [u8]) -> bool
+    requires { length text.now ≡ 2 * length bytes.old }
+    ensures yes { result ≡ true → (text.now ≡ encode_lower bytes.new) × IsBytes bytes.new }
+    ensures no { result ≡ false → (others : List ℕ) → IsBytes others
+        → text.now ≢ encode_lower others }
 {
-    let Some(left) = read_blocks::<1, 2>(rest, bytes)? else {
-        return Ok(false);
+    if bytes.len() < 16 {
+        return read_into(text, bytes);
+    }
+    let mut left = bytes.len();
+    while left >= 16 {
+        left -= 16;
+        if !read_block(text, bytes, left) {
+            return false;
+        }
+    }
+    if left == 0 {
+        return true;
+    }
+    // Some of the first sixteen are left: they are read with those behind them, which are read once more.
+    read_block(text, bytes, 0)
+}
+
+// Reads the sixteen bytes that begin at a place, where those behind them are read, and answers whether their digits are
+// digits.
+fn read_block(text: &[u8], bytes: &mut [u8], place: usize) -> bool
+    requires size { length text.now ≡ 2 * length bytes.old }
+    requires within { place + 16 ≤ length bytes.old }
+    ensures yes { result ≡ true → AreRead text.now (place + 16) bytes.old
+        → AreRead text.now place bytes.new }
+    ensures no { result ≡ false → (others : List ℕ) → IsBytes others
+        → text.now ≢ encode_lower others }
+{
+    let Some(block) = block_bytes(array_at(text, 2 * place)) else {
+        return false;
     };
-    Ok(left.is_empty())
-}
-
-// Reads the last thirty-two digits of a text, once more those that are read, and answers whether all of it are digits of
-// bytes.
-fn read_last(text: &[u8], rest: &[u8], bytes: &mut Vec<u8>) -> Result<bool, AllocError>
-    requires read { AreRead text.now [] rest.now bytes.old.items }
-    requires many { 32 ≤ length text.now }
-    requires few { length rest.now < 32 }
-    ensures yes { IfOk result (λ b. b ≡ true
-        → (text.now ≡ encode_lower bytes.new.items) × IsBytes bytes.new.items) }
-    ensures no { IfOk result (λ b. b ≡ false
-        → (others : List ℕ) → IsBytes others → text.now ≢ encode_lower others) }
-{
-    if text.len() % 2 > 0 {
-        return Ok(false);
-    }
-    let Some(block) = block_bytes(array_at(text, text.len() - 32)) else {
-        return Ok(false);
-    };
-    bytes.truncate(text.len() / 2 - 16);
-    bytes.extend_from_slice(&block)?;
-    Ok(true)
-}
-
-// Appends the bytes of whole blocks of digits, and answers the text behind them; or none where one is no block of digits.
-fn read_blocks<'a, const N: usize, const M: usize>(
-    text: &'a [u8],
-    bytes: &mut Vec<u8>,
-) -> Result<Option<&'a [u8]>, AllocError>
-    requires { (0 < N) × (M ≡ 2 * N) }
-    ensures some { IfOk result (λ o. IfSome o (λ rest.
-        AreRead text.now bytes.old.items rest.now bytes.new.items × (length rest.now < M))) }
-    ensures none { IfOk result (λ o.
-        IfNone o ((others : List ℕ) → IsBytes others → text.now ≢ encode_lower others)) }
-{
-    let mut rest = text;
-    while rest.len() >= M {
-        let Some(block) = values_of::<N, M>(array_at(rest, 0)) else {
-            return Ok(None);
-        };
-        bytes.extend_from_slice(&block)?;
-        rest = &rest[M..];
-    }
-    Ok(Some(rest))
-}
-
-// The bytes of a block of digits.
-fn values_of<const N: usize, const M: usize>(digits: [u8; M]) -> Option<[u8; N]>
-    requires { M ≡ 2 * N }
-    ensures some { IfSome result (λ bytes. (digits.entry ≡ encode_lower bytes) × IsBytes bytes) }
-    ensures none { IfNone result ((others : List ℕ) → IsBytes others
-        → digits.entry ≢ encode_lower others) }
-{
-    if N == 16 {
-        let bytes = block_bytes(array_at(&digits, 0))?;
-        return Some(array_at(&bytes, 0));
-    }
-    let mut bytes = [0; N];
-    if !read_into(&digits, &mut bytes) {
-        return None;
-    }
-    Some(bytes)
+    bytes[place..place + 16].copy_from_slice(&block);
+    true
 }
 
 // Reads the bytes of the digits, and answers whether all are digits. It reads to the end in any case.
