@@ -1,13 +1,16 @@
 -- Output lines that wait to be written together.
-use Rattle.std.proofs.Common.{◌≡◌, ℕ, ◌+◌, ◌≤◌, arith, List, [], ◌++◌, ◌∷◌, length, take, Option, refl, sym, ap, ◌∙◌, subst, append_assoc}
+use Rattle.std.proofs.Common.{◌≡◌, ℕ, ◌+◌, ◌≤◌, arith, List, [], ◌++◌, ◌∷◌, length, take, Option, refl, sym, ap, ◌∙◌, subst, append_assoc, inl, inr}
 use Rattle.std.specs.Io.KnownBytes.{Appends, Keeps}
 use Rattle.std.proofs.KnownBytes.{Appends-nil, Appends-trans, Appends-kept}
 use Rattle.std.proofs.lemmas.List.{append-nil, length-append}
 use Rattle.std.proofs.Math.Seq.{take-append_seam}
+use Rattle.hx_text.specs.Cuts.{Lacks}
+use Rattle.hx_replay.specs.declared.fault.TapeError.{TapeError}
 use Rattle.hx_replay.specs.declared.fault.TapeError.TheVariants as fault
 use Rattle.hx_replay.specs.Text.{Entry}
-use Rattle.hx_replay.specs.Run.{Progress, AreEvents, tape, after_all, output_all, Plays, Replays, Stops, Writes, IsFront, IsFew}
-use Rattle.hx_replay.proofs.Runs.{grows, events_counted, few_all, length-tape}
+use Rattle.hx_replay.specs.Run.{Progress, AreEvents, tape, after_all, output_all, Plays, Replays, Stops, EndsBy, Faults, Writes, IsFront, IsFew}
+use Rattle.hx_replay.specs.Ahead.{Gathers, IsUnwritten}
+use Rattle.hx_replay.proofs.Runs.{grows, stops_at_line, events_counted, few_all, length-tape}
 
 -- ---- fronts
 
@@ -19,16 +22,6 @@ pub front_taken : (n : ℕ) (xs ys text : List ℕ) → n ≡ length xs → text
 front_taken n xs ys text is same h = ap (λ (k : ℕ). take k text) is ∙ ap (λ (l : List ℕ). take (length xs) l) (same ∙ h.1) ∙ take-append_seam xs h.0
 
 -- ---- lines that are gathered
-
--- the text is that of events and a rest, and of the output text of the events all was written but what is gathered
-pub record Gathers (old new : Progress) (text : List ℕ) (w v : Option (List ℕ)) (gathered rest : List ℕ) : Type 0 where
-  pub events : List Entry
-  pub are_events : AreEvents old events
-  pub text_is : text ≡ tape events ++ rest
-  pub after_is : new ≡ after_all old events
-  pub written : List ℕ
-  pub wrote : Appends w v written
-  pub output_is : output_all old events ≡ written ++ gathered
 
 -- nothing is played yet
 pub gathers_none : (c : Progress) (text gathered : List ℕ) (w : Option (List ℕ)) → gathered ≡ [] → Gathers c c text w w gathered text
@@ -78,11 +71,23 @@ all_written c d text w v u gathered rest h wrote = record {
   wrote = subst (Appends w u) (sym h.output_is) (Appends-trans w v u h.written gathered h.wrote wrote);
 }
 
--- the writer fails to take them
-pub stops_gathering : (c d : Progress) (text : List ℕ) (w v u : Option (List ℕ)) (gathered rest : List ℕ) → Gathers c d text w v gathered rest → ((left : List ℕ) × Writes v u gathered left) → Stops ⊥ c text w u fault.Write
-stops_gathering c d text w v u gathered rest h some =
+-- not all of them are written, for want of memory or since the writer fails to take them
+pub stops_gathering : (c d : Progress) (text : List ℕ) (w v u : Option (List ℕ)) (gathered rest : List ℕ) (e : TapeError) → Gathers c d text w v gathered rest → ((left : List ℕ) × Writes v u gathered left) → IsUnwritten e
+    → Stops ⊥ c text w u e
+stops_gathering c d text w v u gathered rest e h some is =
     let g = gathers_less c d text w v u gathered rest some.0 h some.1 in
-    record { events = g.events; are_events = g.are_events; rest = rest; text_is = g.text_is; written = g.written; wrote = g.wrote; why = (some.0, g.output_is) }
+    let stops : (x : TapeError) → EndsBy ⊥ c g.events rest g.written x → Stops ⊥ c text w u x = λ x why.
+    record { events = g.events; are_events = g.are_events; rest = rest; text_is = g.text_is; written = g.written; wrote = g.wrote; why = why } in
+    elim is [
+      | inl write ↦ subst (Stops ⊥ c text w u) (sym write) (stops fault.Write (some.0, g.output_is))
+      | inr memory ↦ subst (Stops ⊥ c text w u) (sym memory) (stops fault.NoMemory (some.0, g.output_is))
+    ]
+
+-- the same at a line that fails: what was told before it is written, or not
+pub stops_behind : (c d : Progress) (text : List ℕ) (w v u : Option (List ℕ)) (gathered told rest l others : List ℕ) (e : TapeError) → Gathers c d text w v gathered rest → rest ≡ l ++ 10 ∷ others → Lacks 10 l → Faults d l e → told ≡ gathered → Appends v u told
+    → Stops ⊥ c text w u e
+stops_behind c d text w v u gathered told rest l others e h cut lacks fails same wrote =
+    stops_at_line c d text w u rest l others e (all_written c d text w v u gathered rest h (subst (Appends v u) same wrote)) cut lacks fails
 
 -- the writer has all, and fails to send it out
 pub stops_sending : (c d : Progress) (text : List ℕ) (w v u : Option (List ℕ)) (rest : List ℕ) → Replays c d text w v rest → Keeps v u → Stops ⊥ c text w u fault.Write

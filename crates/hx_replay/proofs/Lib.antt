@@ -23,3 +23,6 @@ pub mod Leaving
 pub mod Texts
 pub mod StruckTapes
 pub mod Operators
+pub mod Reading
+pub mod Spelled
+pub mod Turning

@@ -31,7 +31,7 @@ pub text_grown : (es fs : List Entry) (text pending piece rest : List ℕ) → t
 text_grown es fs text pending piece rest p q =
     ap (λ (x : List ℕ). x ++ piece) p ∙ append_assoc (tape es) pending piece ∙ ap (λ (x : List ℕ). tape es ++ x) q ∙ sym (append_assoc (tape es) (tape fs) rest) ∙ ap (λ (x : List ℕ). x ++ rest) (sym (tape-append es fs))
 
-replays_then : (b c d : Progress) (text pending piece rest : List ℕ) (w v u : Option (List ℕ)) → Replays b c text w v pending → Replays c d (pending ++ piece) v u rest → Replays b d (text ++ piece) w u rest
+pub replays_then : (b c d : Progress) (text pending piece rest : List ℕ) (w v u : Option (List ℕ)) → Replays b c text w v pending → Replays c d (pending ++ piece) v u rest → Replays b d (text ++ piece) w u rest
 replays_then b c d text pending piece rest w v u p q = record {
   events = p.events ++ q.events;
   are_events = events-append b p.events q.events p.are_events (subst (λ (x : Progress). AreEvents x q.events) p.after_is q.are_events);
@@ -62,7 +62,7 @@ ends_then End b c es fs rest written e counts why =
       | fault.Turns ↦ λ p. (whole p.0, p.1)
     ] why
 
-stops_then : (End : Type 0) (b c : Progress) (text pending piece : List ℕ) (w v u : Option (List ℕ)) (e : TapeError) → Replays b c text w v pending → Stops ⊥ c (pending ++ piece) v u e → Stops End b (text ++ piece) w u e
+pub stops_then : (End : Type 0) (b c : Progress) (text pending piece : List ℕ) (w v u : Option (List ℕ)) (e : TapeError) → Replays b c text w v pending → Stops ⊥ c (pending ++ piece) v u e → Stops End b (text ++ piece) w u e
 stops_then End b c text pending piece w v u e p q = record {
   events = p.events ++ q.events;
   are_events = events-append b p.events q.events p.are_events (subst (λ (x : Progress). AreEvents x q.events) p.after_is q.are_events);
@@ -84,15 +84,35 @@ starts_so setup copied c pending r w copy i is none =
     let start_is : start setup ≡ c = ap start (sym copy) ∙ sym is in
     subst (λ (x : List ℕ). SoFar setup r r w w c x 0) (sym none) (subst (λ (x : Progress). SoFar setup r r w w x [] 0) start_is (so_far_none setup r w i))
 
-pub so_far_more : (setup : Setup) (r s s' w v u : Option (List ℕ)) (c c' : Progress) (pending piece pending' : List ℕ) (turn : ℕ) → SoFar setup r s w v c pending turn → Consumes s s' piece → length piece ≤ 65536
-    → Replays c c' (pending ++ piece) v u pending' → Lacks 10 pending' → SoFar setup r s' w u c' pending' (turn + 1)
-so_far_more setup r s s' w v u c c' pending piece pending' turn h took small plays none = record {
+-- the setup of a replay at its start
+pub setup_at_start : (setup : Setup) (c : Progress) → c ≡ start setup → c.setup ≡ setup
+unfolding start
+setup_at_start setup c is = ap (λ (x : Progress). x.setup) is
+
+-- so many bytes more, of a piece that is as long as so many reads at most
+pub so_far_much : (setup : Setup) (r s s' w v u : Option (List ℕ)) (c c' : Progress) (pending piece pending' : List ℕ) (turn n : ℕ) → SoFar setup r s w v c pending turn → Consumes s s' piece → length piece ≤ 65536 * n
+    → Replays c c' (pending ++ piece) v u pending' → Lacks 10 pending' → SoFar setup r s' w u c' pending' (turn + n)
+so_far_much setup r s s' w v u c c' pending piece pending' turn n h took small plays none = record {
   is_setup = h.is_setup;
   text = h.text ++ piece;
   read = Consumes-trans r s s' h.text piece h.read took;
   plays = replays_then (start setup) c c' h.text pending piece pending' w v u h.plays plays;
   no_feed = none;
   short = omega (arith, length-append h.text piece, h.short);
+}
+
+pub so_far_more : (setup : Setup) (r s s' w v u : Option (List ℕ)) (c c' : Progress) (pending piece pending' : List ℕ) (turn : ℕ) → SoFar setup r s w v c pending turn → Consumes s s' piece → length piece ≤ 65536
+    → Replays c c' (pending ++ piece) v u pending' → Lacks 10 pending' → SoFar setup r s' w u c' pending' (turn + 1)
+so_far_more setup r s s' w v u c c' pending piece pending' turn h took small plays none = so_far_much setup r s s' w v u c c' pending piece pending' turn 1 h took (omega arith) plays none
+
+pub so_far_later : (setup : Setup) (r s w v : Option (List ℕ)) (c : Progress) (pending : List ℕ) (turn later : ℕ) → turn ≤ later → SoFar setup r s w v c pending turn → SoFar setup r s w v c pending later
+so_far_later setup r s w v c pending turn later after h = record {
+  is_setup = h.is_setup;
+  text = h.text;
+  read = h.read;
+  plays = h.plays;
+  no_feed = h.no_feed;
+  short = omega (arith, h.short);
 }
 
 pub so_far_kept : (setup : Setup) (r s s' w v : Option (List ℕ)) (c : Progress) (pending : List ℕ) (turn : ℕ) → SoFar setup r s w v c pending turn → Keeps s s' → SoFar setup r s' w v c pending (turn + 1)

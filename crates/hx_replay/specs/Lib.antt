@@ -10,3 +10,4 @@ pub mod Taking
 pub mod Quiet
 pub mod Operators
 pub mod Histories
+pub mod Ahead

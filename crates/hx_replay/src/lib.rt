@@ -1,24 +1,30 @@
 //! Tapes: a replay from a tape's lines to its output lines, and a tape without a member's quiet chains.
 #![tactic(auto)]
 
+mod ahead;
 mod decimal;
+mod delivery;
 mod fault;
 mod hexadecimal;
 pub mod laws;
 mod line;
+mod messages;
 mod operator;
 mod replaying;
+mod replaying_ahead;
 mod room;
 mod run;
 mod spelling;
 mod striking;
 mod taking;
 mod telling;
+mod turns;
 mod vectors;
 
 pub use fault::{Kind, TapeError};
 pub use operator::read_operator_line;
 pub use replaying::{replay, replay_on};
+pub use replaying_ahead::replay_ahead;
 pub use run::Counts;
 pub use spelling::write_event;
 pub use striking::{strike_all_tape, strike_tape};

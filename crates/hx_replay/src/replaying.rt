@@ -7,6 +7,7 @@ ghost use Rattle.hx_replay.specs.Whole.{ReplaysAll, StopsAt};
 ghost use Rattle.hx_replay.specs.declared.fault.TapeError.TheVariants as fault;
 ghost use Rattle.hx_replay.specs.declared.fault.Kind.TheVariants as kinds;
 
+use crate::delivery::{write_before, write_told};
 use crate::fault::{Kind, TapeError};
 use crate::room::Room;
 use crate::run::{Counts, Run};
@@ -64,7 +65,7 @@ fn send_out<W: Write>(writer: &mut W) -> Result<(), TapeError>
 const MANY: usize = 65_536;
 
 // Writes the output lines where they are many. Where it fails, a front of them was written.
-fn write_many<W: Write>(writer: &mut W, lines: &mut Lines) -> Result<(), TapeError>
+pub fn write_many<W: Write>(writer: &mut W, lines: &mut Lines) -> Result<(), TapeError>
     ensures ok { OnOk result
         (Writes (W.contents writer.old) (W.contents writer.new) lines.old lines.new) }
     ensures write { IfErr result (λ e. e ≡ fault.Write) }
@@ -80,7 +81,7 @@ fn write_many<W: Write>(writer: &mut W, lines: &mut Lines) -> Result<(), TapeErr
 
 // Plays the whole lines of the text, has their output sent out, and answers the bytes behind them. What was told before
 // a line that fails is written.
-fn play_lines<'a, B: Book + Drop, W: Write>(
+pub fn play_lines<'a, B: Book + Drop, W: Write>(
     run: &mut Run<B>,
     room: &mut Room,
     writer: &mut W,
@@ -97,15 +98,12 @@ fn play_lines<'a, B: Book + Drop, W: Write>(
     room.lines.clear();
     let mut rest = text;
     while let Some((line, others)) = split_once(rest, b'\n') {
-        let told = room.lines.len();
         if let Err(error) = run.play(line, room) {
-            write_whole(writer, &room.lines.text()[..told])?;
-            return Err(error);
+            return Err(write_before(error, &room.lines, &mut room.spelled, writer));
         }
-        write_many(writer, &mut room.lines)?;
         rest = others;
     }
-    write_whole(writer, room.lines.text())?;
+    write_told(&room.lines, &mut room.spelled, writer)?;
     send_out(writer)?;
     Ok(rest)
 }
@@ -204,7 +202,7 @@ fn play_piece<B: Book + Drop, W: Write>(
 }
 
 // The answer at the end of a tape.
-fn finish(counts: Counts, pending: &[u8]) -> Result<Counts, TapeError>
+pub fn finish(counts: Counts, pending: &[u8]) -> Result<Counts, TapeError>
     requires { counts.events < 2 ^ 63 }
     ensures ok { IfOk result (λ c. (c ≡ counts) × (length pending.now ≡ 0)) }
     ensures err { IfErr result (λ e.
@@ -216,7 +214,7 @@ fn finish(counts: Counts, pending: &[u8]) -> Result<Counts, TapeError>
     Ok(counts)
 }
 
-fn bad_line(counts: Counts) -> TapeError
+pub fn bad_line(counts: Counts) -> TapeError
     requires { counts.events < 2 ^ 63 }
     ensures { result ≡ fault.Line (counts.events + 1) kinds.Bad }
 {

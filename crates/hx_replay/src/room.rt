@@ -1,18 +1,21 @@
-//! Room that a line of a tape leaves for the next one, and the output lines that are to be written.
+//! Room that a line of a tape leaves for the next one, and what is told and to be written.
 ghost use Rattle.std.specs.Prelude.{◌≡◌, []};
 
+use crate::messages::Messages;
 use crate::telling::Lines;
 use hx_market::Event;
 use std::alloc::Global;
 use std::mem::replace;
 
 /// The bytes of a message, and the output lines of events. The next ones take memory only where they are longer than all
-/// before them.
+/// before them, or more.
 #[derive(Drop)]
 pub(crate) struct Room {
     bytes: Vec<u8>,
     /// The output lines that are told and not yet written.
-    pub(crate) lines: Lines,
+    pub(crate) lines: Messages,
+    /// Room for those that are spelled.
+    pub(crate) spelled: Lines,
 }
 
 impl Room {
@@ -22,7 +25,8 @@ impl Room {
     {
         Room {
             bytes: Vec::new(alloc),
-            lines: Lines::new(alloc),
+            lines: Messages::new(alloc),
+            spelled: Lines::new(alloc),
         }
     }
 

@@ -4,14 +4,16 @@ ghost use Rattle.std.specs.List.{AllByRecursion};
 ghost use Rattle.hx_itch.specs.Message.{feed_time};
 ghost use Rattle.hx_market.specs.Steps.{step};
 ghost use Rattle.hx_market.specs.Refusals.{refusal, or_no_memory};
+ghost use Rattle.hx_replay.specs.declared.fault.TapeError.TheVariants as fault;
+ghost use Rattle.hx_replay.specs.Struck.{IsKnown};
 ghost use Rattle.hx_replay.specs.Text.{Entry, entry_of, line};
 ghost use Rattle.hx_replay.specs.Output.{feed_lines, reply_lines, counts_after};
 ghost use Rattle.hx_replay.specs.Run.{event_of, is_unknown, fault_of, counts_of, start, with_market, Plays, Faults, IsFew, IsFront};
 
 use crate::fault::{Kind, TapeError};
 use crate::line::{self, Fields};
+use crate::messages::Messages;
 use crate::room::Room;
-use crate::telling::Lines;
 use hx_itch::Feed;
 use hx_levels::Book;
 use hx_market::{Bytes, Event, Market, Output, PrepareError, decode_operator};
@@ -69,7 +71,7 @@ impl<B: Book> Model for Run<B> {
 }
 
 // Appends the lines of messages of the feed, after so many others.
-fn write_feed(lines: &mut Lines, before: u64, feed: &[Feed]) -> Result<(), AllocError>
+fn write_feed(lines: &mut Messages, before: u64, feed: &[Feed]) -> Result<(), AllocError>
     requires times { AllByRecursion (λ message. feed_time message < 2 ^ 48) feed.now }
     requires room { before + length feed.now < 2 ^ 64 }
     ensures ok { OnOk result (lines.new ≡ lines.old ++ feed_lines before feed.now) }
@@ -85,7 +87,7 @@ fn write_feed(lines: &mut Lines, before: u64, feed: &[Feed]) -> Result<(), Alloc
 
 // Appends the lines of replies, after so many others of each member.
 fn write_replies(
-    lines: &mut Lines,
+    lines: &mut Messages,
     counts: &mut [u64],
     replies: &[(MemberNo, Outbound)],
 ) -> Result<(), AllocError>
@@ -164,7 +166,7 @@ impl<B: Book + Drop> Run<B> {
         self.counts
     }
 
-    /// Plays the next line, and appends its output lines to the room's. Where it fails, those before them stay.
+    /// Plays the next line, and appends its output lines to the room's. Where the line fails, those before it stay.
     pub fn play(&mut self, text: &[u8], room: &mut Room) -> Result<(), TapeError>
         requires events { self.old.events < 2 ^ 48 }
         requires few { IsFew self.old }
@@ -172,7 +174,8 @@ impl<B: Book + Drop> Run<B> {
             × Plays self.old self.new text.now output
             × (room.new.lines ≡ room.old.lines ++ output)) }
         ensures faults { IfErr result (Faults self.old text.now) }
-        ensures kept { OnErr result (IsFront room.old.lines room.new.lines) }
+        ensures kept { IfErr result (λ e. (e ≡ fault.NoMemory → ⊥)
+            → room.new.lines ≡ room.old.lines) }
     {
         let line = self.counts.events + 1;
         let bad = TapeError::Line {
@@ -185,10 +188,25 @@ impl<B: Book + Drop> Run<B> {
         let Some(event) = event_of(fields) else {
             return Err(bad);
         };
-        let output = self.step(&event)?;
-        self.tell(&output, &mut room.lines)?;
-        self.take_back(output);
+        self.play_event(&event, &mut room.lines)?;
         room.keep_bytes(event);
+        Ok(())
+    }
+
+    /// Plays the event of a line, and appends its output lines. Where the line fails, those before it stay.
+    pub fn play_event(&mut self, event: &Event, lines: &mut Messages) -> Result<(), TapeError>
+        requires events { self.old.events < 2 ^ 48 }
+        requires few { IsFew self.old }
+        ensures ok { OnOk result ((e : Entry) → IsKnown e → event.now ≡ event_of e
+            → (output : List ℕ) × Plays self.old self.new (line e) output
+            × (lines.new ≡ lines.old ++ output)) }
+        ensures faults { IfErr result (λ x. (e : Entry) → IsKnown e → event.now ≡ event_of e
+            → Faults self.old (line e) x) }
+        ensures kept { IfErr result (λ e. (e ≡ fault.NoMemory → ⊥) → lines.new ≡ lines.old) }
+    {
+        let output = self.step(event)?;
+        self.tell(&output, lines)?;
+        self.take_back(output);
         Ok(())
     }
 
@@ -223,7 +241,7 @@ impl<B: Book + Drop> Run<B> {
     }
 
     // Counts what a step gave, and appends its output lines.
-    fn tell(&mut self, output: &Output, lines: &mut Lines) -> Result<(), AllocError>
+    fn tell(&mut self, output: &Output, lines: &mut Messages) -> Result<(), AllocError>
         requires times { AllByRecursion (λ message.
             feed_time message < 2 ^ 48) output.now.feed.items }
         requires events { self.old.events < 2 ^ 48 }

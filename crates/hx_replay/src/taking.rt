@@ -8,10 +8,10 @@ ghost use Rattle.hx_text.specs.Cuts.{Lacks};
 ghost use Rattle.hx_replay.specs.Struck.{IsLineOf, IsNoLine};
 ghost use Rattle.hx_replay.specs.Taking.{Takes, IsFaultOf, StopsReading};
 
+use crate::ahead::read_event;
 use crate::fault::{Kind, TapeError};
-use crate::line;
 use crate::replaying::{LONGEST, READS};
-use crate::run::{event_of, fault_of};
+use crate::run::fault_of;
 use hx_audit::{Auditor, Bearing, Whose};
 use hx_market::Event;
 use hx_members::Setup;
@@ -30,17 +30,6 @@ pub(crate) struct Tape {
     pub(crate) text: Vec<u8>,
     // How many of its bytes are whole lines.
     taken: usize,
-}
-
-// The event of a line, where it is one.
-fn read_event(alloc: Global, text: &[u8]) -> Result<Option<Event>, AllocError>
-    ensures some { IfOk result (λ o. IfSome o (IsLineOf text.now)) }
-    ensures none { IfOk result (λ o. IfNone o (IsNoLine text.now)) }
-{
-    let Some(fields) = line::read(alloc, text)? else {
-        return Ok(None);
-    };
-    Ok(event_of(fields))
 }
 
 // The number of the line behind those that were taken.
@@ -77,7 +66,7 @@ fn take_line(
         → IsFaultOf ⊥ auditor.old.setup all e) }
 {
     let number = next_line(bearings);
-    let Some(event) = read_event(alloc, text)? else {
+    let Some(event) = read_event(Vec::new(alloc), text)? else {
         return Err(bad_line(bearings));
     };
     if let Err(error) = auditor.take(&event) {

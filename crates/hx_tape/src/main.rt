@@ -13,7 +13,7 @@ use clap::error::ErrorKind;
 use clap::{ArgMatches, Error};
 use commands::command;
 use failure::Failure;
-use hx_replay::{Counts, TapeError, replay, strike_all_tape, strike_tape};
+use hx_replay::{Counts, TapeError, replay_ahead, strike_all_tape, strike_tape};
 use hx_units::MemberNo;
 use log::Log;
 use serve::serve_input;
@@ -42,7 +42,7 @@ fn ended(run: Result<Counts, TapeError>, written: io::Result<()>) -> Result<(), 
 }
 
 // Replays the input. What was written before a fault is written out as well.
-fn replay_input<R: AllocGlobal + Input + Print + Files>(
+fn replay_input<R: AllocGlobal + Input + Print + Files + Threads + Sync>(
     rt: &R,
     matches: &ArgMatches<'_>,
 ) -> Result<(), Failure> {
@@ -51,7 +51,7 @@ fn replay_input<R: AllocGlobal + Input + Print + Files>(
     let Ok(mut writer) = BufWriter::with_capacity(alloc, BUFFER, io::writer(rt)) else {
         return Err(Failure::Tape(TapeError::NoMemory));
     };
-    let run = replay(alloc, &setup, &mut rt.reader(), &mut writer);
+    let run = replay_ahead(rt, alloc, &setup, &mut rt.reader(), &mut writer);
     ended(run, writer.flush())
 }
 

@@ -1,0 +1,25 @@
+use Rattle.std.proofs.Common.{◌≡◌}
+use Rattle.std.proofs.lemmas.Result.{err_from_is_err_and}
+use Rattle.hx_replay.proofs.Turning.{turned, stops_in_turn, at_fault}
+use Rattle.hx_replay.proofs.turns.play_turn.Goals as goal
+
+pub returns-in_err-rest-clause-err : goal.returns-in_err-rest-clause-err
+returns-in_err-rest-clause-err g c =
+    let p = err_from_is_err_and c.from_residual.result c.from_residual.ensures.1 in
+    let some = rw c.in_err-rest.was at c.play_and_write-played.ensures.err in
+    let short = rw c.in_err-rest.was at c.play_and_write-played.ensures.fault in
+    rw (p.1, p.2) (λ old all w t. stops_in_turn old _ all w _ _ _ _ _ _ t some short)
+
+pub returns-in-Err-clause-err : goal.returns-in-Err-clause-err
+returns-in-Err-clause-err g c = λ old all w t.
+    let wrote = rw c.in_ok-rest.was at c.play_and_write-played.ensures.wrote in
+    let failed = rw (c.in-Err.is, c.events.ensures) at c.play_and_write-played.ensures.failed in
+    let f = at_fault old c.args.run.now all w _ _ c.args.turns.now.told c.play_and_write-played.new.telling c.args.text.now c.args.turns.now.now c.in-Err.error t wrote failed in
+    c.write_before.ensures old f.at all f.gathered f.rest f.text f.others w f.gathers f.cut f.lacks f.faults f.told
+
+pub returns-clause-ok : goal.returns-clause-ok
+returns-clause-ok g c =
+    let wrote = rw c.in_ok-rest.was at c.play_and_write-played.ensures.wrote in
+    let ahead = rw c.in_ok-rest.was at c.play_and_write-played.ensures.ahead in
+    let played = rw (c.in_default.is, c.events.ensures) at c.play_and_write-played.ensures.played in
+    rw (c.swap.ensures.x_after, c.swap-2.ensures.x_after) (λ old all w t. turned old c.args.run.now c.play_and_write-played.new.run all w _ _ c.args.turns.now.told c.play_and_write-played.new.telling c.args.text.now c.args.turns.now.now c.play_and_write-played.new.next c.in_ok-rest.rest.now t wrote played ahead)

@@ -1,0 +1,69 @@
+-- Lines that are read before they are played, and lines of output that are told before they are written.
+use Rattle.std.specs.Prelude.{◌≡◌, ◌⊎◌, ◌∷◌, ℕ, ◌<◌, ◌^◌, List, ◌++◌, map, Option}
+use Rattle.std.specs.List.{AllByRecursion}
+use Rattle.std.specs.Io.KnownBytes.{Appends}
+use Rattle.hx_itch.specs.Message.{feed_time}
+use Rattle.hx_rules.specs.declared.event.Event.{Event}
+use Rattle.hx_replay.specs.Text.{Entry, line}
+use Rattle.hx_replay.specs.declared.fault.TapeError.{TapeError}
+use Rattle.hx_replay.specs.declared.fault.TapeError.TheVariants as fault
+use Rattle.hx_replay.specs.declared.messages.Numbered.{Numbered}
+use Rattle.hx_replay.specs.declared.messages.Numbered.TheVariants.{OfFeed, OfMember}
+use Rattle.hx_replay.specs.Run.{Progress, event_of, tape, Faults, AreEvents, after_all, output_all}
+use Rattle.hx_replay.specs.Struck.{IsKnown}
+
+-- events of entries that say something
+pub record AreOf (entries : List Entry) (events : List Event) : Type 0 where
+  pub are_known : AllByRecursion IsKnown entries
+  pub events_are : events ≡ map event_of entries
+
+-- the text is the lines of these events, and a rest
+pub record IsAhead (text : List ℕ) (events : List Event) (rest : List ℕ) : Type 0 where
+  pub entries : List Entry
+  pub are : AreOf entries events
+  pub text_is : text ≡ tape entries ++ rest
+
+-- the time of a message of the feed fits into its six bytes
+abbrev pub HasRoomForTime : Numbered → Type 0
+HasRoomForTime (OfFeed number message) = feed_time message < 2 ^ 48
+HasRoomForTime (OfMember member number reply) = Unit {0}
+
+-- the text is that of events and a rest, and of the output text of the events all was written but what is gathered
+pub record Gathers (old new : Progress) (text : List ℕ) (w v : Option (List ℕ))
+    (gathered rest : List ℕ) : Type 0 where
+  pub events : List Entry
+  pub are_events : AreEvents old events
+  pub text_is : text ≡ tape events ++ rest
+  pub after_is : new ≡ after_all old events
+  pub written : List ℕ
+  pub wrote : Appends w v written
+  pub output_is : output_all old events ≡ written ++ gathered
+
+-- what keeps lines of output from being written: the writer, or want of memory
+abbrev pub IsUnwritten : TapeError → Type 0
+IsUnwritten e = (e ≡ fault.Write) ⊎ (e ≡ fault.NoMemory)
+
+-- these events were played, and this is their output text
+pub record PlaysAll (old new : Progress) (events : List Entry) (output : List ℕ) : Type 0 where
+  pub are_events : AreEvents old events
+  pub after_is : new ≡ after_all old events
+  pub output_is : output ≡ output_all old events
+
+-- the events before one that fails were played, and but for want of memory this is their output text
+pub record FailsAmong (old : Progress) (events : List Entry) (output : List ℕ)
+    (e : TapeError) : Type 0 where
+  pub played : List Entry
+  pub bad : Entry
+  pub others : List Entry
+  pub events_are : events ≡ played ++ bad ∷ others
+  pub are_events : AreEvents old played
+  pub faults : Faults (after_all old played) (line bad) e
+  pub output_is : (e ≡ fault.NoMemory → ⊥) → output ≡ output_all old played
+
+-- Of this text these events are read and not yet played, the rest is not read; what was told before, and is not yet
+-- written, is gathered.
+pub record IsAtTurn (old new : Progress) (text : List ℕ) (w v : Option (List ℕ))
+    (gathered : List ℕ) (now : List Event) (rest : List ℕ) : Type 0 where
+  pub pending : List ℕ
+  pub gathers : Gathers old new text w v gathered pending
+  pub ahead : IsAhead pending now rest

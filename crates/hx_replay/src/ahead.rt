@@ -1,0 +1,118 @@
+//! Lines that are read before they are played.
+ghost use Rattle.std.specs.Prelude.{◌≡◌, ◌<◌, ◌++◌, ◌∷◌, [], IfOk, OnOk, IfSome, IfNone, length, true, false};
+ghost use Rattle.hx_replay.specs.Struck.{IsLineOf, IsNoLine};
+ghost use Rattle.hx_replay.specs.Ahead.{IsAhead};
+
+use crate::line;
+use crate::run::event_of;
+use hx_market::Event;
+use hx_text::split_once;
+use std::alloc::{AllocError, Global};
+use std::marker::Model;
+use std::mem::replace;
+
+/// The event of a line, where it is one, its bytes in the room of others.
+pub(crate) fn read_event(room: Vec<u8>, text: &[u8]) -> Result<Option<Event>, AllocError>
+    ensures some { IfOk result (λ o. IfSome o (IsLineOf text.now)) }
+    ensures none { IfOk result (λ o. IfNone o (IsNoLine text.now)) }
+{
+    let Some(fields) = line::read_in(room, text)? else {
+        return Ok(None);
+    };
+    Ok(event_of(fields))
+}
+
+/// The events of lines that are read and not yet played. Contracts see the list of them.
+#[derive(Drop)]
+pub(crate) struct Ahead {
+    // The events, and behind them others that are played: their bytes are room for those of the next ones.
+    events: Vec<Event>,
+    count: usize,
+}
+
+impl Model for Ahead {
+    ghost use Rattle.std.specs.Prelude.{◌≤◌, List, length, take};
+    ghost use Rattle.hx_rules.specs.declared.event.Event.{Event};
+
+    ghost Value = { List Event };
+
+    ghost view = { λ a. take a.count a.events.items };
+
+    ghost invariant = { λ a. a.count ≤ length a.events.items };
+}
+
+// So many lines are read ahead at most.
+const MOST: usize = 4096;
+
+impl Ahead {
+    /// None yet.
+    pub(crate) fn new(alloc: Global) -> Ahead
+        ensures { result ≡ [] }
+    {
+        Ahead {
+            events: Vec::new(alloc),
+            count: 0,
+        }
+    }
+
+    /// The events.
+    pub(crate) fn events(&self) -> &[Event]
+        ensures { result.now ≡ self.now }
+    {
+        &self.events[..self.count]
+    }
+
+    /// Whether there are none.
+    pub(crate) fn is_empty(&self) -> bool
+        ensures none { result ≡ true → length self.now ≡ 0 }
+        ensures some { result ≡ false → 0 < length self.now }
+    {
+        self.count == 0
+    }
+
+    // A list for the bytes of the next event. What stands in it is of no use.
+    fn room(&mut self, alloc: Global) -> Vec<u8>
+        ensures { self.new ≡ self.old }
+    {
+        if self.count < self.events.len() {
+            let played = replace(&mut self.events[self.count], Event::Tick { time: 0 });
+            if let Event::Message { bytes, .. } = played {
+                return bytes.into_vec();
+            }
+        }
+        Vec::new(alloc)
+    }
+
+    // Puts an event behind the others.
+    fn push(&mut self, event: Event) -> Result<(), AllocError>
+        ensures { OnOk result (self.new ≡ self.old ++ event ∷ []) }
+    {
+        if self.count < self.events.len() {
+            self.events[self.count] = event;
+        } else {
+            self.events.push(event)?;
+        }
+        self.count += 1;
+        Ok(())
+    }
+
+    /// Reads the next lines of a text in place of those before, and answers what stands behind them: nothing, or a line
+    /// that is none, or lines that are too many.
+    pub(crate) fn read<'a>(&mut self, alloc: Global, text: &'a [u8]) -> Result<&'a [u8], AllocError>
+        ensures { IfOk result (λ rest. IsAhead text.now self.new rest.now) }
+    {
+        self.count = 0;
+        let mut rest = text;
+        for _ in 0..MOST {
+            let Some((line, others)) = split_once(rest, b'\n') else {
+                return Ok(rest);
+            };
+            let Some(event) = read_event(self.room(alloc), line)? else {
+                return Ok(rest);
+            };
+            self.push(event)?;
+            rest = others;
+        }
+        Ok(rest)
+    }
+}

@@ -1,0 +1,206 @@
+//! A tape that is played in turns: while the lines that were read are played, another thread writes what was told before,
+//! and reads on.
+ghost use Rattle.std.specs.Prelude.{◌≡◌, ◌<◌, ◌+◌, ◌^◌, ℕ, List, Option, [], length, OnOk, OnErr, IfOk, IfErr, IfSome};
+ghost use Rattle.std.specs.Io.KnownBytes.{Appends};
+ghost use Rattle.hx_replay.specs.Text.{Entry};
+ghost use Rattle.hx_replay.specs.Run.{Progress, Writes, Replays, Stops, IsFew};
+ghost use Rattle.hx_replay.specs.Ahead.{AreOf, IsAhead, IsAtTurn, IsUnwritten, PlaysAll, FailsAmong};
+
+use crate::ahead::Ahead;
+use crate::delivery::{write_before, write_told};
+use crate::fault::TapeError;
+use crate::messages::Messages;
+use crate::run::Run;
+use crate::telling::Lines;
+use hx_levels::Book;
+use hx_market::Event;
+use std::alloc::Global;
+use std::io::Write;
+use std::mem::{replace, swap};
+use std::thread::{Threads, join_mut};
+
+/// What goes from turn to turn: the lines that are read and not yet played, and what is told and not yet written.
+#[derive(Drop)]
+pub(crate) struct Turns {
+    now: Ahead,
+    told: Messages,
+    // Those of the next turn, while this one lasts.
+    next: Ahead,
+    telling: Messages,
+}
+
+impl Turns {
+    /// Nothing is read, and nothing told.
+    pub(crate) fn new(alloc: Global) -> Turns {
+        Turns {
+            now: Ahead::new(alloc),
+            told: Messages::new(alloc),
+            next: Ahead::new(alloc),
+            telling: Messages::new(alloc),
+        }
+    }
+}
+
+// Plays the events, and keeps what they told in the place of what was told before.
+fn play_all<B: Book + Drop>(
+    run: &mut Run<B>,
+    events: &[Event],
+    telling: &mut Messages,
+) -> Result<(), TapeError>
+    requires events { run.old.events + length events.now < 2 ^ 48 }
+    requires few { IsFew run.old }
+    requires read { (entries : List Entry) × AreOf entries events.now }
+    ensures ok { OnOk result ((entries : List Entry) → AreOf entries events.now
+        → PlaysAll run.old run.new entries telling.new) }
+    ensures err { IfErr result (λ e. (entries : List Entry) → AreOf entries events.now
+        → FailsAmong run.old entries telling.new e) }
+{
+    telling.clear();
+    for event in events {
+        run.play_event(event, telling)?;
+    }
+    Ok(())
+}
+
+// Writes what was told, and reads on: the part of a turn that needs no market.
+fn write_and_read<'a, W: Write>(
+    alloc: Global,
+    told: &Messages,
+    spelled: &mut Lines,
+    writer: &mut W,
+    next: &mut Ahead,
+    text: &'a [u8],
+) -> Result<&'a [u8], TapeError>
+    ensures wrote { OnOk result
+        (Appends (W.contents writer.old) (W.contents writer.new) told.now) }
+    ensures ahead { IfOk result (λ rest. IsAhead text.now next.new rest.now) }
+    ensures err { OnErr result (
+        (rest : List ℕ) × Writes (W.contents writer.old) (W.contents writer.new) told.now rest) }
+    ensures fault { IfErr result IsUnwritten }
+{
+    // In places of this thread's own, since what stands beside them is written by the other one.
+    let mut lines = replace(spelled, Lines::new(alloc));
+    let mut ahead = replace(next, Ahead::new(alloc));
+    write_told(told, &mut lines, writer)?;
+    let rest = ahead.read(alloc, text)?;
+    *spelled = lines;
+    *next = ahead;
+    Ok(rest)
+}
+
+// Both parts of a turn at once: the events are played in this thread, and what was told is written in another.
+fn play_and_write<'a, B: Book + Drop, W: Write + Send, T: Threads>(
+    rt: &T,
+    alloc: Global,
+    run: &mut Run<B>,
+    now: &[Event],
+    telling: &mut Messages,
+    told: &Messages,
+    spelled: &mut Lines,
+    writer: &mut W,
+    next: &mut Ahead,
+    text: &'a [u8],
+) -> (Result<&'a [u8], TapeError>, Result<(), TapeError>)
+    requires events { run.old.events + length now.now < 2 ^ 48 }
+    requires few { IsFew run.old }
+    requires read { (entries : List Entry) × AreOf entries now.now }
+    ensures wrote { OnOk result.0
+        (Appends (W.contents writer.old) (W.contents writer.new) told.now) }
+    ensures ahead { IfOk result.0 (λ rest. IsAhead text.now next.new rest.now) }
+    ensures err { OnErr result.0 (
+        (rest : List ℕ) × Writes (W.contents writer.old) (W.contents writer.new) told.now rest) }
+    ensures fault { IfErr result.0 IsUnwritten }
+    ensures played { OnOk result.1 ((entries : List Entry) → AreOf entries now.now
+        → PlaysAll run.old run.new entries telling.new) }
+    ensures failed { IfErr result.1 (λ e. (entries : List Entry) → AreOf entries now.now
+        → FailsAmong run.old entries telling.new e) }
+{
+    let mut write = || -> Result<&[u8], TapeError>
+        ensures wrote { OnOk result (Appends
+            (W.contents writer.entry.now) (W.contents writer.exit.now) told.entry.now) }
+        ensures ahead { IfOk result (λ rest. IsAhead text.entry.now next.exit.now rest.now) }
+        ensures err { OnErr result ((rest : List ℕ) × Writes
+            (W.contents writer.entry.now) (W.contents writer.exit.now) told.entry.now rest) }
+        ensures fault { IfErr result IsUnwritten }
+    { write_and_read(alloc, told, spelled, writer, next, text) };
+    let mut play = || -> Result<(), TapeError>
+        requires events { run.now.events + length now.now < 2 ^ 48 }
+        requires few { IsFew run.now }
+        requires read { (entries : List Entry) × AreOf entries now.now }
+        ensures played { OnOk result ((entries : List Entry) → AreOf entries now.entry.now
+            → PlaysAll run.entry.now run.exit.now entries telling.exit.now) }
+        ensures failed { IfErr result (λ e. (entries : List Entry) → AreOf entries now.entry.now
+            → FailsAmong run.entry.now entries telling.exit.now e) }
+    { play_all(run, now, telling) };
+    join_mut(rt, &mut write, &mut play)
+}
+
+// One turn.
+fn play_turn<'a, B: Book + Drop, W: Write + Send, T: Threads>(
+    rt: &T,
+    alloc: Global,
+    run: &mut Run<B>,
+    turns: &mut Turns,
+    spelled: &mut Lines,
+    writer: &mut W,
+    text: &'a [u8],
+) -> Result<&'a [u8], TapeError>
+    requires events { run.old.events + length turns.old.now < 2 ^ 48 }
+    requires few { IsFew run.old }
+    requires read { (entries : List Entry) × AreOf entries turns.old.now }
+    ensures ok { IfOk result (λ rest. (old : Progress) (all : List ℕ) (w : Option (List ℕ))
+        → IsAtTurn old run.old all w (W.contents writer.old) turns.old.told turns.old.now text.now
+        → IsAtTurn old run.new all w (W.contents writer.new) turns.new.told turns.new.now
+        rest.now) }
+    ensures ahead { IfOk result (λ rest. IsAhead text.now turns.new.now rest.now) }
+    ensures err { IfErr result (λ e. (old : Progress) (all : List ℕ) (w : Option (List ℕ))
+        → IsAtTurn old run.old all w (W.contents writer.old) turns.old.told turns.old.now text.now
+        → Stops ⊥ old all w (W.contents writer.new) e) }
+{
+    let (read, played) = play_and_write(
+        rt,
+        alloc,
+        run,
+        turns.now.events(),
+        &mut turns.telling,
+        &turns.told,
+        spelled,
+        writer,
+        &mut turns.next,
+        text,
+    );
+    let rest = read?;
+    if let Err(error) = played {
+        return Err(write_before(error, &turns.telling, spelled, writer));
+    }
+    swap(&mut turns.told, &mut turns.telling);
+    swap(&mut turns.now, &mut turns.next);
+    Ok(rest)
+}
+
+/// Plays lines of the text in turns, has what they tell written, and answers what stands behind them: no whole line, or
+/// one that is none.
+pub(crate) fn play_turns<'a, B: Book + Drop, W: Write + Send, T: Threads>(
+    rt: &T,
+    alloc: Global,
+    run: &mut Run<B>,
+    turns: &mut Turns,
+    spelled: &mut Lines,
+    writer: &mut W,
+    text: &'a [u8],
+) -> Result<&'a [u8], TapeError>
+    requires events { run.old.events + length text.now < 2 ^ 48 }
+    requires few { IsFew run.old }
+    ensures ok { IfOk result (λ rest. Replays run.old run.new text.now
+        (W.contents writer.old) (W.contents writer.new) rest.now) }
+    ensures err { IfErr result
+        (Stops ⊥ run.old text.now (W.contents writer.old) (W.contents writer.new)) }
+{
+    turns.told.clear();
+    let mut rest = turns.now.read(alloc, text)?;
+    'turns: while !turns.now.is_empty() {
+        rest = play_turn(rt, alloc, run, turns, spelled, writer, rest)?;
+    }
+    write_told(&turns.told, spelled, writer)?;
+    Ok(rest)
+}
