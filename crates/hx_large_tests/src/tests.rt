@@ -1,5 +1,6 @@
 //! What is large.
 
+mod ahead;
 mod chains;
 mod day;
 mod desk;

@@ -7,13 +7,14 @@ pub mod Eights
 pub mod Lines
 pub mod DigitCounts
 pub mod Behind
+pub mod Waiting
 pub mod Writing
 pub mod Told
 pub mod Few
 pub mod Playing
 pub mod Runs
 pub mod Gathering
-pub mod Pieces
+pub mod PieceByPiece
 pub mod OneReading
 pub mod OutputIsTold
 pub mod NoTrace

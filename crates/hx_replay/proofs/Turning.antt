@@ -13,7 +13,7 @@ use Rattle.hx_replay.specs.Run.{Progress, event_of, tape, after, after_all, outp
 use Rattle.hx_replay.specs.Ahead.{AreOf, IsAhead, Gathers, PlaysAll, FailsAmong, IsAtTurn, IsUnwritten}
 use Rattle.hx_replay.proofs.OneReading.{line_same, line_no_feed, tape-cons}
 use Rattle.hx_replay.proofs.Runs.{tape-append, after-append, output-append, events-append, length-tape, events_counted, few_all}
-use Rattle.hx_replay.proofs.Pieces.{replays_then, stops_then}
+use Rattle.hx_replay.proofs.PieceByPiece.{replays_then, stops_then}
 use Rattle.hx_replay.proofs.Gathering.{all_written, gathers_none, gathers_counts, stops_gathering}
 
 -- ---- one event of those that were read

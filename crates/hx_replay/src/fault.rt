@@ -51,7 +51,7 @@ pub enum TapeError {
     /// The writer failed.
     #[error("write failed")]
     Write,
-    /// All reads are used up.
+    /// All reads are used up, or all numbers of lines.
     #[error("too many reads")]
     Turns,
 }

@@ -10,6 +10,8 @@ pub mod laws;
 mod line;
 mod messages;
 mod operator;
+mod pending;
+mod pieces;
 mod replaying;
 mod replaying_ahead;
 mod room;

@@ -1,14 +1,16 @@
 //! A tape from its lines to its output lines.
-ghost use Rattle.std.specs.Prelude.{List, ℕ, ◌≡◌, ◌≤◌, ◌<◌, ◌^◌, ◌+◌, ◌*◌, ◌++◌, [], OnOk, OnErr, IfOk, IfErr, length};
+ghost use Rattle.std.specs.Prelude.{List, ℕ, ◌≡◌, ◌<◌, ◌^◌, ◌+◌, [], OnOk, OnErr, IfOk, IfErr, length};
 ghost use Rattle.std.specs.Io.KnownBytes.{Appends, Keeps};
+ghost use Rattle.hx_units.specs.Letters.{line_feed};
 ghost use Rattle.hx_text.specs.Cuts.{Lacks};
-ghost use Rattle.hx_replay.specs.Run.{Writes, Replays, Stops, IsFew, counts_of};
+ghost use Rattle.hx_replay.specs.Run.{Writes, Replays, Stops, IsFew};
 ghost use Rattle.hx_replay.specs.Whole.{ReplaysAll, StopsAt};
 ghost use Rattle.hx_replay.specs.declared.fault.TapeError.TheVariants as fault;
-ghost use Rattle.hx_replay.specs.declared.fault.Kind.TheVariants as kinds;
 
 use crate::delivery::{write_before, write_told};
-use crate::fault::{Kind, TapeError};
+use crate::fault::TapeError;
+use crate::pending::Pending;
+use crate::pieces::{LINES, READS, finish, keep_rest};
 use crate::room::Room;
 use crate::run::{Counts, Run};
 use crate::telling::Lines;
@@ -91,7 +93,7 @@ pub fn play_lines<'a, B: Book + Drop, W: Write>(
     requires few { IsFew run.old }
     ensures ok { IfOk result (λ rest.
         Replays run.old run.new text.now (W.contents writer.old) (W.contents writer.new) rest.now
-        × Lacks 10 rest.now) }
+        × Lacks line_feed rest.now) }
     ensures err { IfErr result
         (Stops ⊥ run.old text.now (W.contents writer.old) (W.contents writer.new)) }
 {
@@ -108,14 +110,12 @@ pub fn play_lines<'a, B: Book + Drop, W: Write>(
     Ok(rest)
 }
 
-pub const READS: u64 = 1_000_000_000;
-
-/// The greatest line, without its line feed.
-pub(crate) const LONGEST: usize = 2066;
+// So many bytes are read at once, or fewer.
+const PIECE: usize = 65_536;
 
 /// Replays a tape over the market of a setup: reads it to its end, and before it reads on it writes the output lines of
 /// all that it has read and flushes the writer, so that who types into a pipe is answered line by line. A read is one call
-/// of the reader, and 1,000,000,000 of them are too many.
+/// of the reader, and 1,000,000,000 of them are too many, as are 2^47 lines.
 pub fn replay<R: Read, W: Write>(
     alloc: Global,
     setup: &Setup,
@@ -147,79 +147,17 @@ pub fn replay_on<B: Book + Drop, R: Read, W: Write>(
         StopsAt setup.now e (R.remaining reader.old) (R.remaining reader.new) (W.contents writer.old) (W.contents writer.new)) }
 {
     let mut run = Run::new(alloc, setup.copy(alloc)?, book)?;
-    let mut pending = Vec::new(alloc);
+    let mut pending = Pending::new(alloc, PIECE)?;
     let mut room = Room::new(alloc);
-    let mut chunk = [0; 65536];
     for _ in 0..READS {
-        match reader.read(&mut chunk) {
-            Ok(0) => return finish(run.counts(), &pending),
-            Ok(count) => {
-                play_piece(
-                    alloc,
-                    &mut run,
-                    &mut room,
-                    writer,
-                    &mut pending,
-                    &chunk[..count],
-                )?;
-            }
-            Err(e) => {
-                if e.kind() != ErrorKind::Interrupted {
-                    return Err(TapeError::Read);
-                }
-            }
+        if run.counts().events > LINES {
+            return Err(TapeError::Turns);
         }
+        if !pending.read(reader)? {
+            return finish(run.counts(), pending.text());
+        }
+        let rest = play_lines(&mut run, &mut room, writer, pending.text())?.len();
+        keep_rest(&mut pending, rest, run.counts())?;
     }
     Err(TapeError::Turns)
-}
-
-// Plays the next piece of a tape. What is pending are the bytes behind the last whole line.
-fn play_piece<B: Book + Drop, W: Write>(
-    alloc: Global,
-    run: &mut Run<B>,
-    room: &mut Room,
-    writer: &mut W,
-    pending: &mut Vec<u8>,
-    piece: &[u8],
-) -> Result<(), TapeError>
-    requires events { run.old.events + length (pending.old.items ++ piece.now) < 2 ^ 48 }
-    requires few { IsFew run.old }
-    ensures ok { OnOk result (Replays run.old run.new (pending.old.items ++ piece.now)
-        (W.contents writer.old) (W.contents writer.new)
-        pending.new.items × Lacks 10 pending.new.items × (length pending.new.items ≤ 2066)) }
-    ensures err { IfErr result
-        (Stops ⊥ run.old (pending.old.items ++ piece.now) (W.contents writer.old)
-        (W.contents writer.new)) }
-{
-    pending.extend_from_slice(piece)?;
-    let rest = play_lines(run, room, writer, pending)?;
-    let rest = Vec::from_slice(alloc, rest)?;
-    *pending = rest;
-    if pending.len() > LONGEST {
-        return Err(bad_line(run.counts()));
-    }
-    Ok(())
-}
-
-// The answer at the end of a tape.
-pub fn finish(counts: Counts, pending: &[u8]) -> Result<Counts, TapeError>
-    requires { counts.events < 2 ^ 63 }
-    ensures ok { IfOk result (λ c. (c ≡ counts) × (length pending.now ≡ 0)) }
-    ensures err { IfErr result (λ e.
-        (e ≡ fault.Line (counts.events + 1) kinds.Bad) × (0 < length pending.now)) }
-{
-    if !pending.is_empty() {
-        return Err(bad_line(counts));
-    }
-    Ok(counts)
-}
-
-pub fn bad_line(counts: Counts) -> TapeError
-    requires { counts.events < 2 ^ 63 }
-    ensures { result ≡ fault.Line (counts.events + 1) kinds.Bad }
-{
-    TapeError::Line {
-        line: counts.events + 1,
-        kind: Kind::Bad,
-    }
 }

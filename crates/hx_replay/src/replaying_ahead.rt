@@ -1,19 +1,21 @@
 //! A tape from its lines to its output lines, where another thread reads ahead, and writes what was told before.
-ghost use Rattle.std.specs.Prelude.{◌≡◌, ◌≤◌, ◌<◌, ◌^◌, ◌+◌, ◌++◌, IfOk, IfErr, OnOk, length};
+ghost use Rattle.std.specs.Prelude.{◌<◌, ◌^◌, ◌+◌, IfOk, IfErr, length};
+ghost use Rattle.hx_units.specs.Letters.{line_feed};
 ghost use Rattle.hx_text.specs.Cuts.{Lacks};
-ghost use Rattle.hx_members.specs.Setups.{IsSetup};
-ghost use Rattle.hx_replay.specs.Run.{start, Replays, Stops, IsFew};
+ghost use Rattle.hx_replay.specs.Run.{Replays, Stops, IsFew};
 ghost use Rattle.hx_replay.specs.Whole.{ReplaysAll, StopsAt};
 
 use crate::fault::TapeError;
-use crate::replaying::{LONGEST, bad_line, finish, play_lines};
+use crate::pending::Pending;
+use crate::pieces::{LINES, READS, finish, keep_rest};
+use crate::replaying::play_lines;
 use crate::room::Room;
 use crate::run::{Counts, Run};
 use crate::turns::{Turns, play_turns};
 use hx_levels::{Book, LevelBook};
 use hx_members::Setup;
 use std::alloc::Global;
-use std::io::{ErrorKind, Read, Write};
+use std::io::{Read, Write};
 use std::thread::Threads;
 
 // A text of so many bytes, or fewer, is not worth a thread.
@@ -21,9 +23,6 @@ const FEW: usize = 65_536;
 
 // So many bytes are read at once, or fewer.
 const PIECE: usize = 4_194_304;
-
-// So many reads are too many.
-const READS: u64 = 60_000_000;
 
 // Plays the whole lines of the text, has their output sent out, and answers the bytes behind them.
 fn play_text<'a, B: Book + Drop, W: Write + Send, T: Threads>(
@@ -39,7 +38,7 @@ fn play_text<'a, B: Book + Drop, W: Write + Send, T: Threads>(
     requires few { IsFew run.old }
     ensures ok { IfOk result (λ rest.
         Replays run.old run.new text.now (W.contents writer.old) (W.contents writer.new) rest.now
-        × Lacks 10 rest.now) }
+        × Lacks line_feed rest.now) }
     ensures err { IfErr result
         (Stops ⊥ run.old text.now (W.contents writer.old) (W.contents writer.new)) }
 {
@@ -51,86 +50,10 @@ fn play_text<'a, B: Book + Drop, W: Write + Send, T: Threads>(
     Ok(rest)
 }
 
-// Plays the next piece of a tape. What is pending are the bytes behind the last whole line.
-fn play_piece<B: Book + Drop, W: Write + Send, T: Threads>(
-    rt: &T,
-    alloc: Global,
-    run: &mut Run<B>,
-    room: &mut Room,
-    turns: &mut Turns,
-    writer: &mut W,
-    pending: &mut Vec<u8>,
-    piece: &[u8],
-) -> Result<(), TapeError>
-    requires events { run.old.events + length (pending.old.items ++ piece.now) < 2 ^ 48 }
-    requires few { IsFew run.old }
-    ensures ok { OnOk result (Replays run.old run.new (pending.old.items ++ piece.now)
-        (W.contents writer.old) (W.contents writer.new)
-        pending.new.items × Lacks 10 pending.new.items × (length pending.new.items ≤ 2066)) }
-    ensures err { IfErr result
-        (Stops ⊥ run.old (pending.old.items ++ piece.now) (W.contents writer.old)
-        (W.contents writer.new)) }
-{
-    pending.extend_from_slice(piece)?;
-    let rest = play_text(rt, alloc, run, room, turns, writer, pending)?;
-    let rest = Vec::from_slice(alloc, rest)?;
-    *pending = rest;
-    if pending.len() > LONGEST {
-        return Err(bad_line(run.counts()));
-    }
-    Ok(())
-}
-
-// Reads a tape to its end into this room, and plays it, where nothing is played yet.
-fn play_pieces<B: Book + Drop, T: Threads, R: Read, W: Write + Send>(
-    rt: &T,
-    alloc: Global,
-    run: &mut Run<B>,
-    chunk: &mut [u8],
-    reader: &mut R,
-    writer: &mut W,
-) -> Result<Counts, TapeError>
-    requires start { run.old ≡ start run.old.setup }
-    requires setup { IsSetup run.old.setup }
-    requires some { 0 < length chunk.old }
-    requires fits { length chunk.old ≤ 4194304 }
-    ensures ok { IfOk result (λ counts.
-        ReplaysAll run.old.setup counts (R.remaining reader.old) (R.remaining reader.new) (W.contents writer.old) (W.contents writer.new)) }
-    ensures err { IfErr result (λ e.
-        StopsAt run.old.setup e (R.remaining reader.old) (R.remaining reader.new) (W.contents writer.old) (W.contents writer.new)) }
-{
-    let mut pending = Vec::new(alloc);
-    let mut room = Room::new(alloc);
-    let mut turns = Turns::new(alloc);
-    for _ in 0..READS {
-        match reader.read(chunk) {
-            Ok(0) => return finish(run.counts(), &pending),
-            Ok(count) => {
-                play_piece(
-                    rt,
-                    alloc,
-                    run,
-                    &mut room,
-                    &mut turns,
-                    writer,
-                    &mut pending,
-                    &chunk[..count],
-                )?;
-            }
-            Err(e) => {
-                if e.kind() != ErrorKind::Interrupted {
-                    return Err(TapeError::Read);
-                }
-            }
-        }
-    }
-    Err(TapeError::Turns)
-}
-
 /// Replays a tape over the market of a setup, as `replay` does, but where much is read at once its lines are played in
 /// turns: while some thousand lines are played, another thread writes what those before them told, and reads the next
 /// ones. Before it reads on, it writes the output lines of all that it has read and flushes the writer. A read is one call
-/// of the reader, and 60,000,000 of them are too many.
+/// of the reader, and 1,000,000,000 of them are too many, as are 2^47 lines.
 pub fn replay_ahead<T: Threads, R: Read, W: Write + Send>(
     rt: &T,
     alloc: Global,
@@ -145,7 +68,19 @@ pub fn replay_ahead<T: Threads, R: Read, W: Write + Send>(
     ensures err { IfErr result (λ e.
         StopsAt setup.now e (R.remaining reader.old) (R.remaining reader.new) (W.contents writer.old) (W.contents writer.new)) }
 {
-    let mut chunk = vec![in alloc; 0; PIECE]?;
     let mut run = Run::new(alloc, setup.copy(alloc)?, LevelBook::new(alloc))?;
-    play_pieces(rt, alloc, &mut run, &mut chunk, reader, writer)
+    let mut pending = Pending::new(alloc, PIECE)?;
+    let (mut room, mut turns) = (Room::new(alloc), Turns::new(alloc));
+    for _ in 0..READS {
+        if run.counts().events > LINES {
+            return Err(TapeError::Turns);
+        }
+        if !pending.read(reader)? {
+            return finish(run.counts(), pending.text());
+        }
+        let text = pending.text();
+        let rest = play_text(rt, alloc, &mut run, &mut room, &mut turns, writer, text)?.len();
+        keep_rest(&mut pending, rest, run.counts())?;
+    }
+    Err(TapeError::Turns)
 }

@@ -40,6 +40,8 @@ pub struct Run<B: Book> {
     counts: Counts,
     // How many replies went to each member number.
     replies: Vec<u64>,
+    // What was seen of events before their turn: of no other use than that it was looked at.
+    glanced: u64,
     alloc: Global,
 }
 
@@ -50,6 +52,7 @@ impl<B: Book + Drop> Drop for Run<B> {
             market: _,
             counts: _,
             replies: _,
+            glanced: _,
             alloc: _,
         } = self;
     }
@@ -155,6 +158,7 @@ impl<B: Book + Drop> Run<B> {
                 replies: 0,
             },
             replies: no_replies(alloc)?,
+            glanced: 0,
             alloc,
         })
     }
@@ -164,6 +168,17 @@ impl<B: Book + Drop> Run<B> {
         ensures { result ≡ counts_of self.now }
     {
         self.counts
+    }
+
+    /// Looks at an event before its turn, so that its bytes, which another thread wrote, are at hand then.
+    pub fn glance(&mut self, event: Option<&Event>)
+        ensures { self.new ≡ self.old }
+    {
+        if let Some(Event::Message { bytes, .. }) = event {
+            if let Some(byte) = bytes.as_slice().first() {
+                self.glanced = self.glanced.wrapping_add(u64::from(*byte));
+            }
+        }
     }
 
     /// Plays the next line, and appends its output lines to the room's. Where the line fails, those before it stay.

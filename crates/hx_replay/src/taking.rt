@@ -10,7 +10,8 @@ ghost use Rattle.hx_replay.specs.Taking.{Takes, IsFaultOf, StopsReading};
 
 use crate::ahead::read_event;
 use crate::fault::{Kind, TapeError};
-use crate::replaying::{LONGEST, READS};
+use crate::pending::LONGEST;
+use crate::pieces::READS;
 use crate::run::fault_of;
 use hx_audit::{Auditor, Bearing, Whose};
 use hx_market::Event;

@@ -41,6 +41,9 @@ impl Turns {
     }
 }
 
+// So many events before its turn an event is looked at.
+const FAR: usize = 8;
+
 // Plays the events, and keeps what they told in the place of what was told before.
 fn play_all<B: Book + Drop>(
     run: &mut Run<B>,
@@ -56,7 +59,10 @@ fn play_all<B: Book + Drop>(
         → FailsAmong run.old entries telling.new e) }
 {
     telling.clear();
+    let mut later = FAR;
     for event in events {
+        run.glance(events.get(later));
+        later = later.wrapping_add(1);
         run.play_event(event, telling)?;
     }
     Ok(())

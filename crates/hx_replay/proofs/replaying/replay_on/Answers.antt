@@ -1,56 +1,10 @@
-use Rattle.std.proofs.Common.{◌≡◌, length, arith, sym, ap, ◌∙◌, take}
-use Rattle.std.proofs.lemmas.List.{length-append, length-take}
+use Rattle.std.proofs.Common.{◌≡◌, length, arith, sym, ap, refl, ◌∙◌, rules}
 use Rattle.std.proofs.lemmas.Result.{err_from_is_err_and, IfOk-weaker, IfErr-weaker}
 use Rattle.hx_replay.specs.declared.run.Counts.{Counts}
 use Rattle.hx_replay.specs.Whole.{ReplaysAll, StopsAt}
-use Rattle.hx_replay.proofs.Pieces.{so_far_counts, so_far_more, so_far_kept, ends_well, ends_in_line, stops_in_piece, stops_at_start, stops_in_read, stops_after_turns, starts_so, at_end_after}
+use Rattle.hx_replay.proofs.Runs.{replays_counts}
+use Rattle.hx_replay.proofs.PieceByPiece.{so_far_counts, so_far_played, ends_well, ends_in_line, stops_in_text, stops_long, stops_at_start, stops_in_read, stops_after_turns, starts_so}
 use Rattle.hx_replay.proofs.replaying.replay_on.Goals as goal
-use Rattle.hx_replay.proofs.replaying.replay_on.Goals.{in-Ok+in_ok-play_piece-in-Ok, in-Err+else-ne}
-
-pub finish-requires : goal.finish-requires
-finish-requires g c = let n = so_far_counts _ _ _ _ _ _ _ _ c.loop.invariant in omega (arith, n, ap (λ (x : Counts). x.events) c.counts.ensures)
-
-pub returns-in-Ok-eq0-clause-ok : goal.returns-in-Ok-eq0-clause-ok
-returns-in-Ok-eq0-clause-ok g c =
-    let w = g.W.Write.contents c.args.writer.now in
-    let v = g.W.Write.contents c.loop.writer in
-    let r = g.R.Read.remaining c.args.reader.now in
-    let s = g.R.Read.remaining c.loop.reader in
-    let s' = g.R.Read.remaining c.read.new.self in
-    let end = at_end_after s s' c.in-Ok-eq0.field-0 c.read.new.buf c.in-Ok-eq0.field-0-test (omega arith) c.in-Ok-eq0.ensures.bytes in
-    let same : length c.deref.result.now ≡ length c.loop.pending.items = ap length c.deref.ensures.value in
-    IfOk-weaker c.finish.result _ (λ counts. ReplaysAll c.args.setup.now counts r s' w v)
-    (λ y p. rw (p.0, c.counts.ensures) (ends_well c.args.setup.now r s s' w v c.loop.run c.loop.pending.items c.loop.counter c.loop.invariant end.0 end.1 (sym same ∙ p.1))) c.finish.ensures.ok
-
-pub returns-in-Ok-eq0-clause-err : goal.returns-in-Ok-eq0-clause-err
-returns-in-Ok-eq0-clause-err g c =
-    let w = g.W.Write.contents c.args.writer.now in
-    let v = g.W.Write.contents c.loop.writer in
-    let r = g.R.Read.remaining c.args.reader.now in
-    let s = g.R.Read.remaining c.loop.reader in
-    let s' = g.R.Read.remaining c.read.new.self in
-    let end = at_end_after s s' c.in-Ok-eq0.field-0 c.read.new.buf c.in-Ok-eq0.field-0-test (omega arith) c.in-Ok-eq0.ensures.bytes in
-    let same : length c.deref.result.now ≡ length c.loop.pending.items = ap length c.deref.ensures.value in
-    IfErr-weaker c.finish.result _ (λ e. StopsAt c.args.setup.now e r s' w v)
-    (λ y p. rw (p.0, c.counts.ensures) (ends_in_line c.args.setup.now r s s' w v c.loop.run c.loop.pending.items c.loop.counter c.loop.invariant end.0 end.1 (omega (arith, same, p.1)))) c.finish.ensures.err
-
-pub play_piece-requires-clause-events : goal.play_piece-requires-clause-events
-play_piece-requires-clause-events g c = let n = so_far_counts _ _ _ _ _ _ _ _ c.loop.invariant in omega (arith, n, length-append c.loop.pending.items (take c.in-Ok.count c.read.new.buf), length-take c.in-Ok.count c.read.new.buf)
-
-pub play_piece-requires-clause-few : goal.play_piece-requires-clause-few
-play_piece-requires-clause-few g c = (so_far_counts _ _ _ _ _ _ _ _ c.loop.invariant).1
-
-pub returns-in_err-play_piece-in-Ok-clause-err : goal.returns-in_err-play_piece-in-Ok-clause-err
-returns-in_err-play_piece-in-Ok-clause-err g c =
-    let p = err_from_is_err_and c.from_residual-in_err-play_piece-in-Ok.result c.from_residual-in_err-play_piece-in-Ok.ensures.1 in
-    rw (p.1, p.2) (stops_in_piece _ _ _ _ _ _ _ _ _ _ _ _ c.loop.invariant c.in-Ok.ensures.bytes.0 c.in_err-play_piece-in-Ok.ensures.err)
-
-pub loop-preserved : goal.loop-preserved
-loop-preserved g c =
-    elim c.match-read.branch [
-      | in-Ok+in_ok-play_piece-in-Ok w ↦ rw (w.writer-is, w.run-is, w.pending-is) (so_far_more _ _ _ _ _ _ _ _ _ _ _ _ _ c.loop.invariant w.in-Ok.ensures.bytes.0 (omega (arith, length-take w.in-Ok.count c.read.new.buf)) w.in_ok-play_piece-in-Ok.ensures.ok.0 w.in_ok-play_piece-in-Ok.ensures.ok.1)
-      | in-Err+else-ne w ↦ rw (w.writer-is, w.run-is, w.pending-is) (so_far_kept _ _ _ _ _ _ _ _ _ c.loop.invariant w.in-Err.ensures.bytes)
-    ]
 
 pub returns-in_err-copy-clause-err : goal.returns-in_err-copy-clause-err
 returns-in_err-copy-clause-err g c =
@@ -62,15 +16,63 @@ returns-in_err-run-clause-err g c =
     let p = err_from_is_err_and c.from_residual-in_err-run.result c.from_residual-in_err-run.ensures.1 in
     rw (p.1, p.2) (stops_at_start c.args.setup.now (g.R.Read.remaining c.args.reader.now) (g.W.Write.contents c.args.writer.now))
 
-pub loop-init : goal.loop-init
-loop-init g c =
-    starts_so c.args.setup.now c.in_ok-copy.field-0 c.in_ok-run.run' c.new-pending.result.items (g.R.Read.remaining c.args.reader.now) (g.W.Write.contents c.args.writer.now)
-    c.in_ok-copy.ensures.equal c.in_ok-copy.ensures.is_setup c.in_ok-run.ensures c.new-pending.ensures.items
+pub returns-in_err-pending-clause-err : goal.returns-in_err-pending-clause-err
+returns-in_err-pending-clause-err g c =
+    let p = err_from_is_err_and c.from_residual-in_err-pending.result c.from_residual-in_err-pending.ensures.1 in
+    rw (p.1, p.2) (stops_at_start c.args.setup.now (g.R.Read.remaining c.args.reader.now) (g.W.Write.contents c.args.writer.now))
 
-pub returns-then-ne-clause-err : goal.returns-then-ne-clause-err
-returns-then-ne-clause-err g c =
-    stops_in_read c.args.setup.now (g.R.Read.remaining c.args.reader.now) (g.R.Read.remaining c.loop.reader) (g.R.Read.remaining c.read.new.self) (g.W.Write.contents c.args.writer.now) (g.W.Write.contents c.loop.writer)
-    c.loop.run c.loop.pending.items c.loop.counter c.loop.invariant c.in-Err.ensures.bytes
+pub loop-init : goal.loop-init
+loop-init g c = starts_so c.args.setup.now c.in_ok-copy.field-0 c.in_ok-run.run' c.in_ok-pending.pending _ _ c.in_ok-copy.ensures.equal c.in_ok-copy.ensures.is_setup c.in_ok-run.ensures c.in_ok-pending.ensures
+
+pub returns-then-counts-gt-LINES-clause-err : goal.returns-then-counts-gt-LINES-clause-err
+returns-then-counts-gt-LINES-clause-err g c = stops_after_turns c.args.setup.now _ _ _ _ c.loop.run c.loop.pending c.loop.invariant
+
+pub returns-in_err-read-clause-err : goal.returns-in_err-read-clause-err
+returns-in_err-read-clause-err g c =
+    let p = err_from_is_err_and c.from_residual-in_err-read.result c.from_residual-in_err-read.ensures.1 in
+    rw (p.1, p.2, c.in_err-read.ensures.err.0) (stops_in_read c.args.setup.now _ _ _ _ _ c.loop.run c.loop.pending c.loop.invariant c.in_err-read.ensures.err.2)
+
+pub returns-then-not-branch-clause-ok : goal.returns-then-not-branch-clause-ok
+returns-then-not-branch-clause-ok g c =
+    let end = c.in_ok-read.ensures.end (search rules) in
+    let same = ap length (c.text.ensures ∙ end.0) in
+    IfOk-weaker c.finish.result _ (λ counts. ReplaysAll c.args.setup.now counts _ _ _ _)
+    (λ y p. rw (p.0, c.counts-then-not-branch.ensures) (ends_well c.args.setup.now _ _ _ _ _ c.loop.run c.loop.pending c.loop.invariant end.1 end.2 (sym same ∙ p.1))) c.finish.ensures.ok
+
+pub returns-then-not-branch-clause-err : goal.returns-then-not-branch-clause-err
+returns-then-not-branch-clause-err g c =
+    let end = c.in_ok-read.ensures.end (search rules) in
+    let same = ap length (c.text.ensures ∙ end.0) in
+    IfErr-weaker c.finish.result _ (λ e. StopsAt c.args.setup.now e _ _ _ _)
+    (λ y p. rw (p.0, c.counts-then-not-branch.ensures) (ends_in_line c.args.setup.now _ _ _ _ _ c.loop.run c.loop.pending c.loop.invariant end.1 end.2 (omega (arith, same, p.1)))) c.finish.ensures.err
+
+pub play_lines-requires-clause-few : goal.play_lines-requires-clause-few
+play_lines-requires-clause-few g c = so_far_counts _ _ _ _ _ _ _ c.loop.invariant
+
+pub returns-in_err-rest-clause-err : goal.returns-in_err-rest-clause-err
+returns-in_err-rest-clause-err g c =
+    let p = err_from_is_err_and c.from_residual-in_err-rest.result c.from_residual-in_err-rest.ensures.1 in
+    let piece = c.in_ok-read.ensures.piece in
+    rw (p.1, p.2) (stops_in_text _ _ _ _ _ _ _ _ _ _ _ _ c.loop.invariant piece.2 (c.text-in-loop.ensures ∙ piece.1) c.in_err-rest.ensures.err)
+
+pub keep_rest-requires-clause-events : goal.keep_rest-requires-clause-events
+keep_rest-requires-clause-events g c =
+    let few = so_far_counts _ _ _ _ _ _ _ c.loop.invariant in
+    let counted = replays_counts _ _ _ _ _ _ c.in_ok-rest.ensures.ok.0 few in
+    omega (arith, counted.0, ap length c.text-in-loop.ensures, c.in_ok-read.ensures.fits, ap (λ (x : Counts). x.events) c.counts-in-loop.ensures, ap (λ (x : Counts). x.events) c.counts.ensures)
+
+pub returns-in_err-keep_rest-clause-err : goal.returns-in_err-keep_rest-clause-err
+returns-in_err-keep_rest-clause-err g c =
+    let p = err_from_is_err_and c.from_residual-in_err-keep_rest.result c.from_residual-in_err-keep_rest.ensures.1 in
+    let piece = c.in_ok-read.ensures.piece in
+    let long = c.in_err-keep_rest.ensures.err in
+    rw (p.1, p.2, long.0, c.counts-in-loop.ensures) (stops_long _ _ _ _ _ _ _ _ _ _ _ _ _ c.loop.invariant piece.2 (c.text-in-loop.ensures ∙ piece.1) c.in_ok-rest.ensures.ok.0 c.in_ok-rest.ensures.ok.1 long.1)
+
+pub loop-preserved : goal.loop-preserved
+loop-preserved g c =
+    let piece = c.in_ok-read.ensures.piece in
+    let kept = c.in_ok-keep_rest.ensures.ok in
+    so_far_played _ _ _ _ _ _ _ _ _ _ _ _ _ _ c.loop.invariant piece.2 (c.text-in-loop.ensures ∙ piece.1) c.in_ok-rest.ensures.ok.0 c.in_ok-rest.ensures.ok.1 kept.0 (rw c.text-in-loop.ensures kept.1)
 
 pub returns-clause-err : goal.returns-clause-err
-returns-clause-err g c = stops_after_turns c.args.setup.now (g.R.Read.remaining c.args.reader.now) (g.R.Read.remaining c.loop.reader) (g.W.Write.contents c.args.writer.now) (g.W.Write.contents c.loop.writer) c.loop.run c.loop.pending.items c.loop.counter c.loop.invariant
+returns-clause-err g c = stops_after_turns c.args.setup.now _ _ _ _ c.loop.run c.loop.pending c.loop.invariant

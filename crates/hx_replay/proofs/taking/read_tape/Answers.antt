@@ -4,7 +4,7 @@ use Rattle.std.proofs.KnownBytes.{Consumes-kept, Consumes-trans}
 use Rattle.std.proofs.lemmas.List.{append-nil}
 use Rattle.std.proofs.lemmas.Result.{err_from_is_err_and, IfOk-weaker, IfErr-weaker}
 use Rattle.hx_replay.specs.Taking.{Takes, StopsReading}
-use Rattle.hx_replay.proofs.Pieces.{at_end_after}
+use Rattle.hx_replay.proofs.PieceByPiece.{at_end_after}
 use Rattle.hx_replay.proofs.Taken.{nothing_left, ends_in_line, stops_in_piece}
 use Rattle.hx_replay.proofs.taking.read_tape.Goals as goal
 use Rattle.hx_replay.proofs.taking.read_tape.Goals.{in-Ok+in_ok-take_piece-in-Ok, in-Err+else-ne}

@@ -1,15 +1,16 @@
 -- A tape that is read piece by piece.
-use Rattle.std.proofs.Common.{◌≡◌, ℕ, ◌+◌, ◌*◌, ◌≤◌, ◌<◌, List, [], ◌++◌, length, map, take, Option, refl, sym, ap, ◌∙◌, subst, append_assoc, inl, inr, arith}
+use Rattle.std.proofs.Common.{◌≡◌, ℕ, ◌+◌, ◌-◌, ◌≤◌, ◌<◌, List, [], ◌++◌, length, take, drop, map, Option, refl, sym, ap, ◌∙◌, subst, append_assoc, inl, inr, arith}
 use Rattle.std.specs.Io.KnownBytes.{Appends, Keeps, Consumes, IsAtEnd}
 use Rattle.std.proofs.KnownBytes.{Appends-nil, Appends-trans, Keeps-refl, Consumes-nil, Consumes-trans, Consumes-kept}
 use Rattle.std.proofs.lemmas.List.{append-nil, length-append, nil_from_length}
+use Rattle.std.proofs.Math.Seq.{drop-append_seam}
 use Rattle.hx_replay.specs.declared.fault.TapeError.{TapeError}
 use Rattle.hx_replay.specs.declared.fault.TapeError.TheVariants as fault
 use Rattle.hx_replay.specs.declared.fault.Kind.{Kind}
 use Rattle.hx_replay.specs.declared.fault.Kind.TheVariants as kinds
 use Rattle.hx_members.specs.Setups.{Setup, IsSetup}
 use Rattle.hx_text.specs.Cuts.{Lacks}
-use Rattle.hx_replay.specs.Text.{Entry}
+use Rattle.hx_replay.specs.Text.{Entry, longest_line}
 use Rattle.hx_replay.specs.Run.{Progress, event_of, tape, after_all, output_all, start, counts_of, FailsAs, IsFew, AreEvents, Replays, Stops, EndsBy, BeginsBadly, IsFront}
 use Rattle.hx_replay.specs.Whole.{ReplaysAll, StopsAt}
 use Rattle.hx_replay.proofs.NoTrace.{no_trace, tells_nothing}
@@ -17,13 +18,13 @@ use Rattle.hx_replay.proofs.StruckTapes.{texts_tell_nothing}
 use Rattle.hx_replay.proofs.Few.{few-start}
 use Rattle.hx_replay.proofs.Runs.{tape-append, after-append, output-append, events-append, events_counted, replays_none, replays_counts, stops_at_rest}
 
-pub record SoFar (setup : Setup) (r s w v : Option (List ℕ)) (counts : Progress) (pending : List ℕ) (turn : ℕ) : Type 0 where
+pub record SoFar (setup : Setup) (r s w v : Option (List ℕ)) (counts : Progress) (pending : List ℕ) : Type 0 where
   pub is_setup : IsSetup setup
   pub text : List ℕ
   pub read : Consumes r s text
   pub plays : Replays (start setup) counts text w v pending
   pub no_feed : Lacks 10 pending
-  pub short : length text ≤ 65536 * turn
+  pub fits : length pending ≤ longest_line
 
 -- ---- joined replays
 
@@ -75,65 +76,49 @@ stops_then End b c text pending piece w v u e p q = record {
 
 -- ---- the loop
 
-pub so_far_none : (setup : Setup) (r w : Option (List ℕ)) → IsSetup setup → SoFar setup r r w w (start setup) [] 0
-so_far_none setup r w i = record { is_setup = i; text = []; read = Consumes-nil r; plays = replays_none (start setup) [] w; no_feed = λ k d below. absurd (omega arith); short = omega arith }
+pub so_far_none : (setup : Setup) (r w : Option (List ℕ)) → IsSetup setup → SoFar setup r r w w (start setup) []
+so_far_none setup r w i = record { is_setup = i; text = []; read = Consumes-nil r; plays = replays_none (start setup) [] w; no_feed = λ k d below. absurd (omega arith); fits = omega arith }
 
 -- the same over an equal setup
-pub starts_so : (setup copied : Setup) (c : Progress) (pending : List ℕ) (r w : Option (List ℕ)) → copied ≡ setup → IsSetup setup → c ≡ start copied → pending ≡ [] → SoFar setup r r w w c pending 0
+pub starts_so : (setup copied : Setup) (c : Progress) (pending : List ℕ) (r w : Option (List ℕ)) → copied ≡ setup → IsSetup setup → c ≡ start copied → pending ≡ [] → SoFar setup r r w w c pending
 starts_so setup copied c pending r w copy i is none =
     let start_is : start setup ≡ c = ap start (sym copy) ∙ sym is in
-    subst (λ (x : List ℕ). SoFar setup r r w w c x 0) (sym none) (subst (λ (x : Progress). SoFar setup r r w w x [] 0) start_is (so_far_none setup r w i))
+    subst (λ (x : List ℕ). SoFar setup r r w w c x) (sym none) (subst (λ (x : Progress). SoFar setup r r w w x []) start_is (so_far_none setup r w i))
 
 -- the setup of a replay at its start
 pub setup_at_start : (setup : Setup) (c : Progress) → c ≡ start setup → c.setup ≡ setup
 unfolding start
 setup_at_start setup c is = ap (λ (x : Progress). x.setup) is
 
--- so many bytes more, of a piece that is as long as so many reads at most
-pub so_far_much : (setup : Setup) (r s s' w v u : Option (List ℕ)) (c c' : Progress) (pending piece pending' : List ℕ) (turn n : ℕ) → SoFar setup r s w v c pending turn → Consumes s s' piece → length piece ≤ 65536 * n
-    → Replays c c' (pending ++ piece) v u pending' → Lacks 10 pending' → SoFar setup r s' w u c' pending' (turn + n)
-so_far_much setup r s s' w v u c c' pending piece pending' turn n h took small plays none = record {
+-- a piece more, of which this is pending
+pub so_far_more : (setup : Setup) (r s s' w v u : Option (List ℕ)) (c c' : Progress) (pending piece pending' : List ℕ) → SoFar setup r s w v c pending → Consumes s s' piece
+    → Replays c c' (pending ++ piece) v u pending' → Lacks 10 pending' → length pending' ≤ longest_line → SoFar setup r s' w u c' pending'
+so_far_more setup r s s' w v u c c' pending piece pending' h took plays none fits = record {
   is_setup = h.is_setup;
   text = h.text ++ piece;
   read = Consumes-trans r s s' h.text piece h.read took;
   plays = replays_then (start setup) c c' h.text pending piece pending' w v u h.plays plays;
   no_feed = none;
-  short = omega (arith, length-append h.text piece, h.short);
+  fits = fits;
 }
 
-pub so_far_more : (setup : Setup) (r s s' w v u : Option (List ℕ)) (c c' : Progress) (pending piece pending' : List ℕ) (turn : ℕ) → SoFar setup r s w v c pending turn → Consumes s s' piece → length piece ≤ 65536
-    → Replays c c' (pending ++ piece) v u pending' → Lacks 10 pending' → SoFar setup r s' w u c' pending' (turn + 1)
-so_far_more setup r s s' w v u c c' pending piece pending' turn h took small plays none = so_far_much setup r s s' w v u c c' pending piece pending' turn 1 h took (omega arith) plays none
-
-pub so_far_later : (setup : Setup) (r s w v : Option (List ℕ)) (c : Progress) (pending : List ℕ) (turn later : ℕ) → turn ≤ later → SoFar setup r s w v c pending turn → SoFar setup r s w v c pending later
-so_far_later setup r s w v c pending turn later after h = record {
-  is_setup = h.is_setup;
-  text = h.text;
-  read = h.read;
-  plays = h.plays;
-  no_feed = h.no_feed;
-  short = omega (arith, h.short);
-}
-
-pub so_far_kept : (setup : Setup) (r s s' w v : Option (List ℕ)) (c : Progress) (pending : List ℕ) (turn : ℕ) → SoFar setup r s w v c pending turn → Keeps s s' → SoFar setup r s' w v c pending (turn + 1)
-so_far_kept setup r s s' w v c pending turn h kept = record {
+pub so_far_kept : (setup : Setup) (r s s' w v : Option (List ℕ)) (c : Progress) (pending : List ℕ) → SoFar setup r s w v c pending → Keeps s s' → SoFar setup r s' w v c pending
+so_far_kept setup r s s' w v c pending h kept = record {
   is_setup = h.is_setup;
   text = h.text;
   read = Consumes-kept r s s' h.text h.read kept;
   plays = h.plays;
   no_feed = h.no_feed;
-  short = omega (arith, h.short);
+  fits = h.fits;
 }
 
 -- how large the counts are
-pub so_far_counts : (setup : Setup) (r s w v : Option (List ℕ)) (c : Progress) (pending : List ℕ) (turn : ℕ) → SoFar setup r s w v c pending turn → (c.events + length pending ≤ 65536 * turn) × IsFew c
+pub so_far_counts : (setup : Setup) (r s w v : Option (List ℕ)) (c : Progress) (pending : List ℕ) → SoFar setup r s w v c pending → IsFew c
 unfolding start
-so_far_counts setup r s w v c pending turn h =
-    let counted = replays_counts (start setup) c h.text w v pending h.plays (few-start setup h.is_setup) in
-    (omega (arith, counted, h.short), counted.1)
+so_far_counts setup r s w v c pending h = (replays_counts (start setup) c h.text w v pending h.plays (few-start setup h.is_setup)).1
 
-pub stops_in_piece : (setup : Setup) (r s s' w v u : Option (List ℕ)) (c : Progress) (pending piece : List ℕ) (turn : ℕ) (e : TapeError) → SoFar setup r s w v c pending turn → Consumes s s' piece → Stops ⊥ c (pending ++ piece) v u e → StopsAt setup e r s' w u
-stops_in_piece setup r s s' w v u c pending piece turn e h took stops =
+pub stops_in_piece : (setup : Setup) (r s s' w v u : Option (List ℕ)) (c : Progress) (pending piece : List ℕ) (e : TapeError) → SoFar setup r s w v c pending → Consumes s s' piece → Stops ⊥ c (pending ++ piece) v u e → StopsAt setup e r s' w u
+stops_in_piece setup r s s' w v u c pending piece e h took stops =
     let all : Stops (IsAtEnd s') (start setup) (h.text ++ piece) w u e = stops_then (IsAtEnd s') (start setup) c h.text pending piece w v u e h.plays stops in
     record {
       text = h.text ++ piece;
@@ -144,9 +129,35 @@ stops_in_piece setup r s s' w v u c pending piece turn e h took stops =
       texts = texts_tell_nothing setup all.events all.are_events;
     }
 
-stops_between : (setup : Setup) (e : TapeError) (r s s' w v : Option (List ℕ)) (c : Progress) (pending : List ℕ) (turn : ℕ) → ((events : List Entry) → EndsBy (IsAtEnd s') (start setup) events pending (output_all (start setup) events) e) → SoFar setup r s w v c pending turn
+-- the bytes behind the last whole line are the last ones
+rest_of : (c c' : Progress) (text : List ℕ) (v u : Option (List ℕ)) (rest : List ℕ) → Replays c c' text v u rest → drop (length text - length rest) text ≡ rest
+rest_of c c' text v u rest h =
+    let lines = tape h.events in
+    let size : length text - length rest ≡ length lines = omega (arith, ap length h.text_is, length-append lines rest) in
+    ap (λ k. drop k text) size ∙ ap (λ (l : List ℕ). drop (length lines) l) h.text_is ∙ drop-append_seam lines rest
+
+-- the lines of a piece are played, and this is kept
+pub so_far_played : (setup : Setup) (r s s' w v u : Option (List ℕ)) (c c' : Progress) (pending piece text rest kept : List ℕ) → SoFar setup r s w v c pending → Consumes s s' piece → text ≡ pending ++ piece
+    → Replays c c' text v u rest → Lacks 10 rest → length rest ≤ longest_line → kept ≡ drop (length text - length rest) text → SoFar setup r s' w u c' kept
+so_far_played setup r s s' w v u c c' pending piece text rest kept h took is plays none fits keeps =
+    let same : kept ≡ rest = keeps ∙ rest_of c c' text v u rest plays in
+    let played : Replays c c' (pending ++ piece) v u rest = subst (λ (t : List ℕ). Replays c c' t v u rest) is plays in
+    rw same (so_far_more setup r s s' w v u c c' pending piece rest h took played none fits)
+
+-- a line of a piece fails
+pub stops_in_text : (setup : Setup) (r s s' w v u : Option (List ℕ)) (c : Progress) (pending piece text : List ℕ) (e : TapeError) → SoFar setup r s w v c pending → Consumes s s' piece → text ≡ pending ++ piece → Stops ⊥ c text v u e → StopsAt setup e r s' w u
+stops_in_text setup r s s' w v u c pending piece text e h took is stops =
+    stops_in_piece setup r s s' w v u c pending piece e h took (subst (λ (t : List ℕ). Stops ⊥ c t v u e) is stops)
+
+-- more bytes than those of a line lack a line feed
+pub stops_long : (setup : Setup) (r s s' w v u : Option (List ℕ)) (c c' : Progress) (pending piece text rest : List ℕ) → SoFar setup r s w v c pending → Consumes s s' piece → text ≡ pending ++ piece
+    → Replays c c' text v u rest → Lacks 10 rest → longest_line < length rest → StopsAt setup (fault.Line (c'.events + 1) kinds.Bad) r s' w u
+stops_long setup r s s' w v u c c' pending piece text rest h took is plays none long =
+    stops_in_text setup r s s' w v u c pending piece text (fault.Line (c'.events + 1) kinds.Bad) h took is (stops_at_rest ⊥ c c' text v u rest plays none (inl long))
+
+stops_between : (setup : Setup) (e : TapeError) (r s s' w v : Option (List ℕ)) (c : Progress) (pending : List ℕ) → ((events : List Entry) → EndsBy (IsAtEnd s') (start setup) events pending (output_all (start setup) events) e) → SoFar setup r s w v c pending
     → Keeps s s' → StopsAt setup e r s' w v
-stops_between setup e r s s' w v c pending turn why h kept = record {
+stops_between setup e r s s' w v c pending why h kept = record {
   text = h.text;
   read = Consumes-kept r s s' h.text h.read kept;
   stops = record { events = h.plays.events; are_events = h.plays.are_events; rest = pending; text_is = h.plays.text_is; written = output_all (start setup) h.plays.events; wrote = h.plays.wrote; why = why h.plays.events };
@@ -155,11 +166,11 @@ stops_between setup e r s s' w v c pending turn why h kept = record {
   texts = texts_tell_nothing setup h.plays.events h.plays.are_events;
 }
 
-pub stops_in_read : (setup : Setup) (r s s' w v : Option (List ℕ)) (c : Progress) (pending : List ℕ) (turn : ℕ) → SoFar setup r s w v c pending turn → Keeps s s' → StopsAt setup fault.Read r s' w v
-stops_in_read setup r s s' w v c pending turn h kept = stops_between setup fault.Read r s s' w v c pending turn (λ _. (refl, h.no_feed)) h kept
+pub stops_in_read : (setup : Setup) (r s s' w v : Option (List ℕ)) (c : Progress) (pending : List ℕ) → SoFar setup r s w v c pending → Keeps s s' → StopsAt setup fault.Read r s' w v
+stops_in_read setup r s s' w v c pending h kept = stops_between setup fault.Read r s s' w v c pending (λ _. (refl, h.no_feed)) h kept
 
-pub stops_after_turns : (setup : Setup) (r s w v : Option (List ℕ)) (c : Progress) (pending : List ℕ) (turn : ℕ) → SoFar setup r s w v c pending turn → StopsAt setup fault.Turns r s w v
-stops_after_turns setup r s w v c pending turn h = stops_between setup fault.Turns r s s w v c pending turn (λ _. (refl, h.no_feed)) h (Keeps-refl s)
+pub stops_after_turns : (setup : Setup) (r s w v : Option (List ℕ)) (c : Progress) (pending : List ℕ) → SoFar setup r s w v c pending → StopsAt setup fault.Turns r s w v
+stops_after_turns setup r s w v c pending h = stops_between setup fault.Turns r s s w v c pending (λ _. (refl, h.no_feed)) h (Keeps-refl s)
 
 -- nothing is read, for want of memory
 pub stops_at_start : (setup : Setup) (r w : Option (List ℕ)) → StopsAt setup fault.NoMemory r r w w
@@ -177,8 +188,8 @@ stops_at_start setup r w = record {
 pub read_on : (r s s' : Option (List ℕ)) (text : List ℕ) → Consumes r s text → Consumes s s' [] → Consumes r s' text
 read_on r s s' text p q = subst (Consumes r s') (append-nil text) (Consumes-trans r s s' text [] p q)
 
-pub ends_well : (setup : Setup) (r s s' w v : Option (List ℕ)) (c : Progress) (pending : List ℕ) (turn : ℕ) → SoFar setup r s w v c pending turn → Consumes s s' [] → IsAtEnd s' → length pending ≡ 0 → ReplaysAll setup (counts_of c) r s' w v
-ends_well setup r s s' w v c pending turn h took end empty =
+pub ends_well : (setup : Setup) (r s s' w v : Option (List ℕ)) (c : Progress) (pending : List ℕ) → SoFar setup r s w v c pending → Consumes s s' [] → IsAtEnd s' → length pending ≡ 0 → ReplaysAll setup (counts_of c) r s' w v
+ends_well setup r s s' w v c pending h took end empty =
     let whole : h.text ≡ tape h.plays.events = h.plays.text_is ∙ ap (λ (x : List ℕ). tape h.plays.events ++ x) (nil_from_length pending empty) ∙ append-nil (tape h.plays.events) in
     record {
       events = h.plays.events;
@@ -192,8 +203,8 @@ ends_well setup r s s' w v c pending turn h took end empty =
       texts = texts_tell_nothing setup h.plays.events h.plays.are_events;
     }
 
-pub ends_in_line : (setup : Setup) (r s s' w v : Option (List ℕ)) (c : Progress) (pending : List ℕ) (turn : ℕ) → SoFar setup r s w v c pending turn → Consumes s s' [] → IsAtEnd s' → 0 < length pending → StopsAt setup (fault.Line (c.events + 1) kinds.Bad) r s' w v
-ends_in_line setup r s s' w v c pending turn h took end some =
+pub ends_in_line : (setup : Setup) (r s s' w v : Option (List ℕ)) (c : Progress) (pending : List ℕ) → SoFar setup r s w v c pending → Consumes s s' [] → IsAtEnd s' → 0 < length pending → StopsAt setup (fault.Line (c.events + 1) kinds.Bad) r s' w v
+ends_in_line setup r s s' w v c pending h took end some =
     let all : Stops (IsAtEnd s') (start setup) h.text w v (fault.Line (c.events + 1) kinds.Bad) = stops_at_rest (IsAtEnd s') (start setup) c h.text w v pending h.plays h.no_feed (inr (some, end)) in
     record {
       text = h.text;

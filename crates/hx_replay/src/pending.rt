@@ -1,0 +1,88 @@
+//! The bytes of a tape that are read and not yet played.
+ghost use Rattle.std.specs.Prelude.{◌≡◌, ◌≤◌, ◌-◌, ◌++◌, ℕ, List, [], IfOk, OnOk, IfErr, false, length, drop};
+ghost use Rattle.std.specs.Io.KnownBytes.{Consumes, IsAtEnd, Keeps};
+ghost use Rattle.hx_replay.specs.Text.{longest_line};
+ghost use Rattle.hx_replay.specs.declared.fault.TapeError.TheVariants as fault;
+
+use crate::fault::TapeError;
+use std::alloc::{AllocError, Global};
+use std::io::{ErrorKind, Read};
+use std::marker::Model;
+
+/// The greatest line, without its line feed.
+pub(crate) const LONGEST: usize = 2066;
+
+/// Bytes that are read and not yet played. They stand in one piece of memory, at whose front a line that is not yet whole
+/// waits for its end. Contracts see them.
+#[derive(Drop)]
+pub(crate) struct Pending {
+    // They, and behind them room for those that are read next.
+    bytes: Vec<u8>,
+    count: usize,
+}
+
+impl Model for Pending {
+    ghost use Rattle.std.specs.Prelude.{◌≤◌, ◌<◌, ℕ, List, length, take};
+    ghost use Rattle.hx_replay.specs.Text.{longest_line};
+
+    ghost Value = { List ℕ };
+
+    ghost view = { λ p. take p.count p.bytes.items };
+
+    ghost invariant = { λ p. (p.count ≤ length p.bytes.items)
+        × (longest_line < length p.bytes.items) × (length p.bytes.items ≤ 16777216) };
+}
+
+impl Pending {
+    /// None yet, and room for pieces of this size.
+    pub(crate) fn new(alloc: Global, piece: usize) -> Result<Pending, AllocError>
+        requires some { 1 ≤ piece }
+        requires fits { piece ≤ 8388608 }
+        ensures { IfOk result (λ pending. pending ≡ []) }
+    {
+        Ok(Pending {
+            bytes: vec![in alloc; 0; LONGEST + piece]?,
+            count: 0,
+        })
+    }
+
+    /// The bytes.
+    pub(crate) fn text(&self) -> &[u8]
+        ensures { result.now ≡ self.now }
+    {
+        &self.bytes[..self.count]
+    }
+
+    /// Reads a piece behind them, if the reader is not interrupted, and answers whether there may be more: `false` at the
+    /// end of what is read.
+    pub(crate) fn read<R: Read>(&mut self, reader: &mut R) -> Result<bool, TapeError>
+        requires { length self.old ≤ longest_line }
+        ensures piece { OnOk result ((piece : List ℕ) × (self.new ≡ self.old ++ piece)
+            × Consumes (R.remaining reader.old) (R.remaining reader.new) piece) }
+        ensures fits { OnOk result (length self.new ≤ 16777216) }
+        ensures end { IfOk result (λ more. more ≡ false → (self.new ≡ self.old)
+            × Consumes (R.remaining reader.old) (R.remaining reader.new) []
+            × IsAtEnd (R.remaining reader.new)) }
+        ensures err { IfErr result (λ e. (e ≡ fault.Read) × (self.new ≡ self.old)
+            × Keeps (R.remaining reader.old) (R.remaining reader.new)) }
+    {
+        match reader.read(&mut self.bytes[self.count..]) {
+            Ok(count) => {
+                self.count += count;
+                Ok(count > 0)
+            }
+            Err(e) if e.kind() == ErrorKind::Interrupted => Ok(true),
+            Err(_) => Err(TapeError::Read),
+        }
+    }
+
+    /// Lets all go but the last ones, so many.
+    pub(crate) fn keep(&mut self, count: usize)
+        requires { count ≤ length self.old }
+        ensures { self.new ≡ drop (length self.old - count) self.old }
+    {
+        let from = self.count - count;
+        self.bytes.copy_within(from..self.count, 0);
+        self.count = count;
+    }
+}
