@@ -15,11 +15,7 @@ pub(crate) const READS: u64 = 1_000_000_000;
 pub(crate) const LINES: u64 = 1 << 47;
 
 /// Keeps the last bytes, so many, where they can be the front of a line: those behind the last whole one.
-pub(crate) fn keep_rest(
-    pending: &mut Pending,
-    rest: usize,
-    counts: Counts,
-) -> Result<(), TapeError>
+pub(crate) fn keep_rest(pending: &mut Pending, rest: usize, counts: Counts) -> Result<(), TapeError>
     requires within { rest ≤ length pending.old }
     requires events { counts.events < 2 ^ 63 }
     ensures ok { OnOk result ((rest ≤ longest_line)

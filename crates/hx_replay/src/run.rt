@@ -170,15 +170,11 @@ impl<B: Book + Drop> Run<B> {
         self.counts
     }
 
-    /// Looks at an event before its turn, so that its bytes, which another thread wrote, are at hand then.
-    pub fn glance(&mut self, event: Option<&Event>)
+    /// Takes what was seen of events before their turn.
+    pub fn take_glance(&mut self, seen: u64)
         ensures { self.new ≡ self.old }
     {
-        if let Some(Event::Message { bytes, .. }) = event {
-            if let Some(byte) = bytes.as_slice().first() {
-                self.glanced = self.glanced.wrapping_add(u64::from(*byte));
-            }
-        }
+        self.glanced = self.glanced.wrapping_add(seen);
     }
 
     /// Plays the next line, and appends its output lines to the room's. Where the line fails, those before it stay.

@@ -41,8 +41,32 @@ impl Turns {
     }
 }
 
-// So many events before its turn an event is looked at.
-const FAR: usize = 8;
+// So many events are looked at together.
+const BATCH: usize = 16;
+
+// The first byte of a message.
+fn first_byte(event: &Event) -> u64 {
+    match event {
+        Event::Message { bytes, .. } => match bytes.as_slice().first() {
+            Some(byte) => u64::from(*byte),
+            None => 0,
+        },
+        Event::Tick { .. } | Event::Hours { .. } | Event::Halt { .. } | Event::Break { .. } => 0,
+    }
+}
+
+// Looks at events before their turn, so that their bytes, which another thread wrote, are at hand then: at a place where a
+// batch begins, at those of the batch, all at once.
+fn glance(events: &[Event], place: usize) -> u64 {
+    if place % BATCH != 0 || place > events.len() {
+        return 0;
+    }
+    let mut seen: u64 = 0;
+    for event in events[place..].iter().take(BATCH) {
+        seen = seen.wrapping_add(first_byte(event));
+    }
+    seen
+}
 
 // Plays the events, and keeps what they told in the place of what was told before.
 fn play_all<B: Book + Drop>(
@@ -59,10 +83,10 @@ fn play_all<B: Book + Drop>(
         → FailsAmong run.old entries telling.new e) }
 {
     telling.clear();
-    let mut later = FAR;
+    let mut place = 0;
     for event in events {
-        run.glance(events.get(later));
-        later = later.wrapping_add(1);
+        run.take_glance(glance(events, place));
+        place = place.wrapping_add(1);
         run.play_event(event, telling)?;
     }
     Ok(())

@@ -16,18 +16,18 @@ pub play_event-requires-clause-events : goal.play_event-requires-clause-events
 play_event-requires-clause-events g c =
     let es = c.requires.read.0 in
     let are = c.requires.read.1 in
-    omega (arith, played_count c.args.run.now c.loop-event.run es c.args.events.now c.loop-event.event-index c.loop-event.telling are (c.loop-event.invariant es are), c.loop-event-test.true, ap (λ (q : Progress). q.events) c.glance.ensures)
+    omega (arith, played_count c.args.run.now c.loop-event.run es c.args.events.now c.loop-event.event-index c.loop-event.telling are (c.loop-event.invariant es are), c.loop-event-test.true, ap (λ (q : Progress). q.events) c.take_glance.ensures)
 
 pub play_event-requires-clause-few : goal.play_event-requires-clause-few
 play_event-requires-clause-few g c =
     let es = c.requires.read.0 in
-    rw c.glance.ensures (plays_few c.args.run.now c.loop-event.run _ c.loop-event.telling (c.loop-event.invariant es c.requires.read.1) c.requires.few)
+    rw c.take_glance.ensures (plays_few c.args.run.now c.loop-event.run _ c.loop-event.telling (c.loop-event.invariant es c.requires.read.1) c.requires.few)
 
 pub loop-event-preserved : goal.loop-event-preserved
 loop-event-preserved g c = λ es are.
     let i = c.loop-event.event-index in
     let at = entry_at es c.args.events.now i c.event-item.result are.are_known are.events_are c.loop-event-test.true c.event-item.is in
-    let one = rw c.glance.ensures at (c.in_ok-play_event.ensures.ok at.entry at.known at.event_is) in
+    let one = rw c.take_glance.ensures at (c.in_ok-play_event.ensures.ok at.entry at.known at.event_is) in
     let d' = c.play_event.new.self in
     let more = c.play_event.new.lines in
     rw add-one (subst (λ (l : List Entry). PlaysAll c.args.run.now d' l more) (sym at.before)
@@ -46,7 +46,7 @@ returns-in_err-play_event-clause-err g c =
       others = drop (suc i) es;
       events_are = at.all;
       are_events = h.are_events;
-      faults = subst (λ (q : Progress). Faults q (line at.entry) c.in_err-play_event.field-0.0) h.after_is (rw c.glance.ensures at (c.in_err-play_event.ensures.faults at.entry at.known at.event_is));
+      faults = subst (λ (q : Progress). Faults q (line at.entry) c.in_err-play_event.field-0.0) h.after_is (rw c.take_glance.ensures at (c.in_err-play_event.ensures.faults at.entry at.known at.event_is));
       output_is = λ other. c.in_err-play_event.ensures.kept other ∙ h.output_is;
     })
 
