@@ -222,6 +222,7 @@ impl<B: Book + Drop> Run<B> {
     }
 
     // The market takes back what it gave.
+    #[inline(always)]
     fn take_back(&mut self, output: Output)
         ensures { self.new ≡ self.old }
     {
@@ -229,6 +230,7 @@ impl<B: Book + Drop> Run<B> {
     }
 
     // One step of the market.
+    #[inline(always)]
     fn step(&mut self, event: &Event) -> Result<Output, TapeError>
         requires { self.old.events < 2 ^ 48 }
         ensures passes { OnOk result
