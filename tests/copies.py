@@ -11,12 +11,21 @@ def lines_of_crates():
     return {line.split(':')[0].split()[0]: line for line in lines}
 
 
+def with_those_below(names, lines):
+    """The crates, those that they use, and so on down."""
+    found, left = set(), list(names)
+    while left:
+        name = left.pop()
+        if name not in found:
+            found.add(name)
+            left.extend(low for low in lines[name].split(':')[1].split() if low in lines)
+    return found
+
+
 def copy_crates(names, folder):
     """Copies the crates and those below them, with what earlier checks kept of them, into a folder of their own."""
     lines = lines_of_crates()
-    wanted = set(names)
-    for name in names:
-        wanted.update(lines[name].split(':')[1].split())
+    wanted = with_those_below(names, lines)
     kept = [name for name in lines if name in wanted]
     for name in kept:
         crate = os.path.join('crates', name)
