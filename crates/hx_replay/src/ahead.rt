@@ -41,8 +41,21 @@ impl Model for Ahead {
     ghost invariant = { λ a. a.count ≤ length a.events.items };
 }
 
-// So many lines are read ahead at most.
+// So many lines are read ahead at least, where a text has them.
+const LEAST: usize = 512;
+
+// So many at most.
 const MOST: usize = 4096;
+
+// A text has a line, more or less, for each so many of its bytes.
+const LINE: usize = 96;
+
+// How many lines of a text are read ahead while so many are played. Before the first turn of a text, and behind its last
+// one, one thread waits for the other: so turns are small there.
+fn turn_lines(played: usize, text: usize) -> usize {
+    let half = text / (2 * LINE);
+    played.saturating_mul(2).min(half).max(LEAST).min(MOST)
+}
 
 impl Ahead {
     /// None yet.
@@ -96,14 +109,19 @@ impl Ahead {
         Ok(())
     }
 
-    /// Reads the next lines of a text in place of those before, and answers what stands behind them: nothing, or a line
-    /// that is none, or lines that are too many.
-    pub(crate) fn read<'a>(&mut self, alloc: Global, text: &'a [u8]) -> Result<&'a [u8], AllocError>
+    /// Reads the next lines of a text in place of those before, while so many others are played, and answers what stands
+    /// behind them: nothing, or a line that is none, or lines that are too many.
+    pub(crate) fn read<'a>(
+        &mut self,
+        alloc: Global,
+        played: usize,
+        text: &'a [u8],
+    ) -> Result<&'a [u8], AllocError>
         ensures { IfOk result (λ rest. IsAhead text.now self.new rest.now) }
     {
         self.count = 0;
         let mut rest = text;
-        for _ in 0..MOST {
+        for _ in 0..turn_lines(played, text.len()) {
             let Some((line, others)) = split_once(rest, b'\n') else {
                 return Ok(rest);
             };

@@ -99,6 +99,7 @@ fn write_and_read<'a, W: Write>(
     spelled: &mut Lines,
     writer: &mut W,
     next: &mut Ahead,
+    played: usize,
     text: &'a [u8],
 ) -> Result<&'a [u8], TapeError>
     ensures wrote { OnOk result
@@ -112,7 +113,7 @@ fn write_and_read<'a, W: Write>(
     let mut lines = replace(spelled, Lines::new(alloc));
     let mut ahead = replace(next, Ahead::new(alloc));
     write_told(told, &mut lines, writer)?;
-    let rest = ahead.read(alloc, text)?;
+    let rest = ahead.read(alloc, played, text)?;
     *spelled = lines;
     *next = ahead;
     Ok(rest)
@@ -145,6 +146,7 @@ fn play_and_write<'a, B: Book + Drop, W: Write + Send, T: Threads>(
     ensures failed { IfErr result.1 (λ e. (entries : List Entry) → AreOf entries now.now
         → FailsAmong run.old entries telling.new e) }
 {
+    let played = now.len();
     let mut write = || -> Result<&[u8], TapeError>
         ensures wrote { OnOk result (Appends
             (W.contents writer.entry.now) (W.contents writer.exit.now) told.entry.now) }
@@ -152,7 +154,7 @@ fn play_and_write<'a, B: Book + Drop, W: Write + Send, T: Threads>(
         ensures err { OnErr result ((rest : List ℕ) × Writes
             (W.contents writer.entry.now) (W.contents writer.exit.now) told.entry.now rest) }
         ensures fault { IfErr result IsUnwritten }
-    { write_and_read(alloc, told, spelled, writer, next, text) };
+    { write_and_read(alloc, told, spelled, writer, next, played, text) };
     let mut play = || -> Result<(), TapeError>
         requires events { run.now.events + length now.now < 2 ^ 48 }
         requires few { IsFew run.now }
@@ -227,7 +229,7 @@ pub(crate) fn play_turns<'a, B: Book + Drop, W: Write + Send, T: Threads>(
         (Stops ⊥ run.old text.now (W.contents writer.old) (W.contents writer.new)) }
 {
     turns.told.clear();
-    let mut rest = turns.now.read(alloc, text)?;
+    let mut rest = turns.now.read(alloc, 0, text)?;
     'turns: while !turns.now.is_empty() {
         rest = play_turn(rt, alloc, run, turns, spelled, writer, rest)?;
     }
