@@ -10,3 +10,4 @@ pub mod BookWalks
 pub mod FeedTimes
 pub mod Entered
 pub mod Ending
+pub mod StayingMarkets

@@ -1,6 +1,7 @@
 -- What a Replace tells.
-use Rattle.std.proofs.Common.{◌≡◌, ℕ, suc, Bool, true, false, ltb, ◌&&◌, if◌then◌else◌, nat_lt, List, [], ◌∷◌, ◌++◌, length, refl, ap, arith}
+use Rattle.std.proofs.Common.{◌≡◌, ℕ, suc, Bool, true, false, ltb, ◌&&◌, if◌then◌else◌, nat_lt, List, [], ◌∷◌, ◌++◌, length, refl, ap, arith, ◌∙◌}
 use Rattle.std.specs.Option.{option_map_or}
+use Rattle.std.proofs.lemmas.List.{append_assoc}
 use Rattle.std.proofs.lemmas.Bool.{and_parts}
 use Rattle.std.proofs.lemmas.Bool.Decides.{nat_tests}
 use Rattle.hx_units.specs.declared.names.Token.{Token}
@@ -10,14 +11,18 @@ use Rattle.hx_match.specs.Matching.{Execution}
 use Rattle.hx_members.specs.Chains.{Used, entered_at, IsEnteredAt}
 use Rattle.hx_rules.specs.Executions.{feed_of_executions}
 
-assoc : (xs ys zs : List Feed) → (xs ++ ys) ++ zs ≡ xs ++ (ys ++ zs)
-assoc [] ys zs = refl
-assoc (x ∷ xs) ys zs = ap (λ l. x ∷ l) (assoc xs ys zs)
-
 -- one message alone, or what is told of the old order, of the executions, and of the new one
-pub told_of : (b : Bool) (one gone done new : List Feed) → (b ≡ true → done ≡ []) → ((if b then [] else gone) ++ done) ++ (if b then one else new) ≡ (if b then one else gone ++ (done ++ new))
+told_of : (b : Bool) (one gone done new : List Feed) → (b ≡ true → done ≡ []) → ((if b then [] else gone) ++ done) ++ (if b then one else new) ≡ (if b then one else gone ++ (done ++ new))
 told_of true one gone done new h = ap (λ l. l ++ one) (h refl)
-told_of false one gone done new h = assoc gone done new
+told_of false one gone done new h = append_assoc gone done new
+
+-- the same behind what was told before
+pub told_behind : (before : List Feed) (b : Bool) (one gone done new : List Feed) → (b ≡ true → done ≡ [])
+    → ((before ++ (if b then [] else gone)) ++ done) ++ (if b then one else new) ≡ before ++ (if b then one else gone ++ (done ++ new))
+told_behind before b one gone done new h =
+    ap (λ l. l ++ (if b then one else new)) (append_assoc before (if b then [] else gone) done)
+    ∙ append_assoc before ((if b then [] else gone) ++ done) (if b then one else new)
+    ∙ ap (λ l. before ++ l) (told_of b one gone done new h)
 
 -- one message tells of both only where nothing trades
 pub none_done : (time : ℕ) (stock : Symbol) (number : ℕ) (es : List Execution) (shown : Bool) → (shown && nat_lt (length es) 1) ≡ true → feed_of_executions time stock number es ≡ []

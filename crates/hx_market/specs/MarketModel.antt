@@ -3,7 +3,6 @@ use Rattle.std.specs.Prelude.{ℕ, List, [], ◌∷◌, Option, Some, None, if�
 use Rattle.hx_units.specs.declared.names.Token.{Token}
 use Rattle.hx_levels.specs.declared.order.Live.{Live}
 use Rattle.hx_levels.specs.Book.{lives}
-use Rattle.hx_match.specs.declared.fills.Fill.{Fill}
 use Rattle.hx_members.specs.Setups.{Setup}
 use Rattle.hx_members.specs.Chains.{Used, Chain, is_used, entered_of}
 use Rattle.hx_members.specs.Tokens.{TokenList, facts_of}
@@ -12,7 +11,6 @@ use Rattle.hx_members.specs.declared.name.Name.{Name}
 use Rattle.hx_refs.specs.Numbers.{Numbers}
 use Rattle.hx_day.specs.Day.{TradingState}
 use Rattle.hx_rules.specs.declared.event.Event.{Event}
-use Rattle.hx_market.specs.declared.effect.Effect.{Effect}
 use Rattle.hx_market.specs.declared.next_step.NextStep.{NextStep}
 use Rattle.hx_rules.specs.Orders.{Order}
 use Rattle.hx_rules.specs.Markets.{Market}
@@ -23,20 +21,11 @@ pub record Planned : Type 0 where
   pub event : Event
   pub feed_count : ℕ
   pub reply_members : List ℕ
-  pub number : ℕ
-  pub effect : Effect
-  pub fills : List Fill
-  pub left : ℕ
+  pub next : NextStep
 
 -- the same, of this next step of the market
 abbrev pub with_step : NextStep → Planned → Planned
-with_step next p =
-    record p {
-      number = next.number;
-      effect = next.effect;
-      fills = next.fills.items;
-      left = next.left;
-    }
+with_step next p = record p { next = next }
 
 -- what contracts see of a market over its book: the setup, the market of the definitions, and what
 -- its last `prepare` gave and no `commit` took

@@ -15,6 +15,8 @@ use Rattle.hx_members.specs.declared.name.Name.{Name}
 use Rattle.hx_refs.specs.Numbers.{Numbers}
 use Rattle.hx_market.specs.Bounds.{CanAccept}
 use Rattle.hx_day.specs.Day.{MayRecord, TradingState}
+use Rattle.hx_rules.specs.declared.event.Event.{Event}
+use Rattle.hx_market.specs.declared.next_step.NextStep.{NextStep}
 use Rattle.hx_market.specs.MarketModel.{Planned, name_of, market_of}
 use Rattle.hx_market.specs.declared.effect.Effect.{Effect}
 use Rattle.hx_market.specs.declared.effect.Effect.TheVariants.{Nothing, Reject, Accept, Fail, Replace, Cancel, End, Halt, Break}
@@ -153,27 +155,33 @@ FitsEffect market (End e) = ⊤
 FitsEffect market (Halt h) = ⊤
 FitsEffect market (Break b) = ⊤
 
--- it was made for this event, over this market: it does what the event does, and its growths are
--- made
+-- the next step was made for this event, over this market: it does what the event does, and its
+-- growths are made
+pub record IsReady (setup : Setup) (market : Market) (orders : List Live)
+    (book_place : Option Terms) (name_place : Option Name) (room : ℕ) (entries : List Entry)
+    (event : Event) (next : NextStep) : Type 0 where
+  pub number : next.number ≡ sender event
+  pub may_record : MayRecord market.recorded next.number
+  pub does :
+      happens setup (with_record event market) event
+      ≡ outcome_of (with_record event market) next.effect
+  pub is_effect : IsEffect setup next.effect
+  pub suits : SuitsTokens market.tokens market.chains next.effect
+  pub about : IsAbout orders next.effect
+  pub sender : IsOf next.number next.effect
+  pub places : HasPlaces orders book_place name_place next.fills.items next.left next.effect
+  -- each of its executions has a place among all executions
+  pub has_room : length next.fills.items ≤ room
+  -- its order is entered where it ends at a time
+  pub end_entered : IsEndEntered entries (length market.tokens) next.effect
+
+-- what was prepared is ready, and its counts are those of what the event tells
 pub record IsPlanned (setup : Setup) (market : Market) (orders : List Live)
     (book_place : Option Terms) (name_place : Option Name) (room : ℕ) (entries : List Entry)
     (p : Planned) : Type 0 where
-  pub number : p.number ≡ sender p.event
-  pub may_record : MayRecord market.recorded p.number
-  pub does :
-      happens setup (with_record p.event market) p.event
-      ≡ outcome_of (with_record p.event market) p.effect
-  pub is_effect : IsEffect setup p.effect
-  pub suits : SuitsTokens market.tokens market.chains p.effect
-  pub about : IsAbout orders p.effect
-  pub sender : IsOf p.number p.effect
-  pub places : HasPlaces orders book_place name_place p.fills p.left p.effect
-  -- each of its executions has a place among all executions
-  pub has_room : length p.fills ≤ room
-  -- its order is entered where it ends at a time
-  pub end_entered : IsEndEntered entries (length market.tokens) p.effect
+  pub ready : IsReady setup market orders book_place name_place room entries p.event p.next
   pub feed_count :
-      p.feed_count ≡ length (outcome_of (with_record p.event market) p.effect).told.feed
+      p.feed_count ≡ length (outcome_of (with_record p.event market) p.next.effect).told.feed
   pub reply_members :
       p.reply_members
-      ≡ map (λ r. r.0) (outcome_of (with_record p.event market) p.effect).told.replies
+      ≡ map (λ r. r.0) (outcome_of (with_record p.event market) p.next.effect).told.replies

@@ -1,13 +1,32 @@
 -- Room for what an event tells.
-use Rattle.std.specs.Prelude.{◌≡◌, ℕ, ◌+◌, ◌*◌, ◌≤◌, []}
+use Rattle.std.specs.Prelude.{◌≡◌, ℕ, ◌+◌, ◌*◌, ◌≤◌, [], length}
 use Rattle.std.specs.Vec.{vec_len, vec_capacity}
 use Rattle.hx_rules.specs.declared.output.Output.{Output}
+use Rattle.hx_market.specs.declared.effect.Effect.{Effect}
+use Rattle.hx_market.specs.declared.effect.Effect.TheVariants.{Nothing, Reject, Accept, Fail, Replace, Cancel, End, Halt, Break}
 
--- room for all that so many fills tell, and for what else an event tells
-pub record HasRoom (fills : ℕ) (out : Output) : Type 0 where
+-- room behind what stands in the lists for so many messages of the feed, and so many replies
+pub record RoomFor (feed replies : ℕ) (out : Output) : Type 0 where
+  pub feed_room : vec_len out.feed + feed ≤ vec_capacity out.feed
+  pub replies_room : vec_len out.replies + replies ≤ vec_capacity out.replies
+
+-- room for all that so many fills tell, and for what else an event tells that ends no order
+abbrev pub RoomForFills : (fills : ℕ) → Output → Type 0
+RoomForFills fills out = RoomFor (fills + 2) (2 * fills + 2) out
+
+-- room for all that an effect of so many fills tells
+abbrev pub HasRoom : Effect → (fills : ℕ) → Output → Type 0
+HasRoom Nothing fills out = RoomForFills fills out
+HasRoom (Reject r) fills out = RoomForFills fills out
+HasRoom (Accept a) fills out = RoomForFills fills out
+HasRoom (Fail a) fills out = RoomForFills fills out
+HasRoom (Replace a) fills out = RoomForFills fills out
+HasRoom (Cancel a) fills out = RoomForFills fills out
+HasRoom (End e) fills out = RoomFor (length e.told.feed.items) (length e.told.replies.items) out
+HasRoom (Halt h) fills out = RoomForFills fills out
+HasRoom (Break b) fills out = RoomForFills fills out
+
+-- lists in which nothing stands yet
+pub record IsEmpty (out : Output) : Type 0 where
   pub feed : out.feed.items ≡ []
   pub replies : out.replies.items ≡ []
-  pub feed_len : vec_len out.feed ≡ 0
-  pub replies_len : vec_len out.replies ≡ 0
-  pub feed_room : fills + 2 ≤ vec_capacity out.feed
-  pub replies_room : 2 * fills + 2 ≤ vec_capacity out.replies

@@ -1,18 +1,16 @@
 //! The market: each event is prepared, and then committed.
-ghost use Rattle.std.specs.Prelude.{◌≡◌, ◌<◌, ◌^◌, [], Some, None, IfOk, OnOk, OnErr, IfErr, length, map};
+ghost use Rattle.std.specs.Prelude.{◌≡◌, ◌<◌, ◌^◌, ◌++◌, [], Some, None, IfOk, OnOk, OnErr, IfErr, length, map};
 ghost use Rattle.std.specs.List.{AllByRecursion};
 ghost use Rattle.hx_itch.specs.Message.{feed_time};
 ghost use Rattle.hx_rules.specs.Refusals.{refusal, or_no_memory};
 ghost use Rattle.hx_rules.specs.Markets.{opening, opening_hours};
 ghost use Rattle.hx_rules.specs.Steps.{step};
-ghost use Rattle.hx_market.specs.Effects.{hours_after};
 ghost use Rattle.hx_market.specs.MarketModel.{chain_facts};
 
-use crate::commit::commit_effect;
-use crate::effect::{Effect, over_until};
+use crate::commit::commit_step;
 use crate::live_orders::list_orders;
-use crate::next_step::{NextStep, no_output};
-use crate::prepare::{Prepared, make};
+use crate::next_step::{NextStep, make_room, no_output};
+use crate::prepare::{Prepared, make, plan_step};
 use hx_day::{Ends, EventCounts, Trading};
 use hx_levels::{Book, Order};
 use hx_members::{ChainFacts, Seed, Setup, Tokens};
@@ -22,6 +20,7 @@ use hx_units::{Known, MemberNo, NoMemory, Token};
 use std::alloc::Global;
 use std::marker::Model;
 use std::mem::replace;
+use std::snapshot::Snapshot;
 
 /// The market over a book.
 pub struct Market<B: Book> {
@@ -64,7 +63,7 @@ impl<B: Book + Drop> Drop for Market<B> {
 impl<B: Book> Model for Market<B> {
     ghost use Rattle.std.specs.Prelude.{◌≡◌, Some, length};
     ghost use Rattle.std.specs.Option.{option_map};
-    ghost use Rattle.hx_market.specs.Room.{HasRoom};
+    ghost use Rattle.hx_market.specs.Room.{HasRoom, IsEmpty};
     ghost use Rattle.hx_market.specs.OrderKeys.{AreKeyed};
     ghost use Rattle.hx_market.specs.Bounds.{IsSound};
     ghost use Rattle.hx_market.specs.Expiries.{AreEntered};
@@ -88,7 +87,8 @@ impl<B: Book> Model for Market<B> {
         → IsPlanned m.setup
         (market_of (B.orders m.book) m.tokens m.refs m.hours m.recorded m.trading)
         (B.orders m.book) (B.place m.book) m.tokens.place m.trading.room m.ends p
-        × HasRoom (length m.next.fills.items) m.next.out)
+        × IsEmpty m.next.out
+        × HasRoom m.next.effect (length m.next.fills.items) m.next.out)
         × AreEntered m.ends m.tokens.tokens (lives (B.orders m.book)) };
 }
 
@@ -97,23 +97,6 @@ fn opening_hours(setup: &Setup) -> u8
     ensures { result ≡ opening_hours setup.now }
 {
     if setup.start_open() { 2 } else { 0 }
-}
-
-// How many of the hours codes are past after an effect.
-fn hours_after(effect: &Effect, hours: u8) -> u8
-    ensures { result ≡ hours_after effect.now hours }
-{
-    match effect {
-        Effect::Nothing
-        | Effect::Reject(_)
-        | Effect::Accept(_)
-        | Effect::Fail(_)
-        | Effect::Replace(_)
-        | Effect::Cancel(_)
-        | Effect::Halt(_)
-        | Effect::Break(_) => hours,
-        Effect::End(ending) => ending.hours,
-    }
 }
 
 impl<B: Book + Drop> Market<B> {
@@ -206,22 +189,82 @@ impl<B: Book + Drop> Market<B> {
         ensures times { AllByRecursion (λ f. feed_time f < 2 ^ 48) result.feed.items }
     {
         self.ready = None;
-        let Prepared { reply_members, .. } = prepared;
-        self.recorded.raise(self.next.number);
-        self.hours = hours_after(&self.next.effect, self.hours);
-        self.ends.done(over_until(&self.next.effect));
-        commit_effect(
+        let Prepared {
+            event,
+            reply_members,
+            ..
+        } = prepared;
+        let mut out = replace(&mut self.next.out, no_output(self.alloc));
+        commit_step(
+            Snapshot::of(&self.setup),
+            event,
             &mut self.book,
             &mut self.tokens,
             &mut self.refs,
+            &mut self.hours,
+            &mut self.recorded,
             &mut self.trading,
-            &mut self.next.out,
-            &mut self.next.effect,
-            &self.next.fills,
-            self.next.left,
+            &mut self.ends,
+            &self.next,
+            &mut out,
         );
         self.next.members = reply_members;
-        replace(&mut self.next.out, no_output(self.alloc))
+        out
+    }
+
+    /// Prepares an event and commits it at once: one step of the market, told behind what stands in the lists. What was
+    /// prepared before is void. It is refused as by `prepare`: then the market and what stands in the lists stay.
+    pub fn play(&mut self, event: &Event, told: &mut Output) -> Result<(), PrepareError>
+        ensures setup { self.new.setup ≡ self.old.setup }
+        ensures ready { self.new.ready ≡ None }
+        ensures passes { OnOk result (refusal self.old.setup self.old.market.recorded event.now
+            ≡ None) }
+        ensures market { OnOk result (self.new.market
+            ≡ (step self.old.setup self.old.market event.now).market) }
+        ensures feed { OnOk result (told.new.feed.items
+            ≡ told.old.feed.items ++ (step self.old.setup self.old.market event.now).told.feed) }
+        ensures replies { OnOk result (told.new.replies.items
+            ≡ told.old.replies.items
+            ++ (step self.old.setup self.old.market event.now).told.replies) }
+
+        // The feed's times have room in its messages.
+        ensures times { OnOk result (AllByRecursion (λ f. feed_time f < 2 ^ 48)
+            (step self.old.setup self.old.market event.now).told.feed) }
+        ensures refused { IfErr result (λ e. e
+            ≡ or_no_memory (refusal self.old.setup self.old.market.recorded event.now)) }
+        ensures market_stays { OnErr result (self.new.market ≡ self.old.market) }
+        ensures feed_stays { OnErr result (told.new.feed.items ≡ told.old.feed.items) }
+        ensures replies_stay { OnErr result (told.new.replies.items ≡ told.old.replies.items) }
+    {
+        self.ready = None;
+        self.ends.forget(self.tokens.count());
+        plan_step(
+            self.alloc,
+            &self.setup,
+            self.hours,
+            &mut self.ends,
+            &self.recorded,
+            &mut self.trading,
+            &mut self.book,
+            &mut self.tokens,
+            &mut self.next,
+            event,
+        )?;
+        make_room(told, &self.next.effect, self.next.fills.len())?;
+        commit_step(
+            Snapshot::of(&self.setup),
+            Snapshot::of(event),
+            &mut self.book,
+            &mut self.tokens,
+            &mut self.refs,
+            &mut self.hours,
+            &mut self.recorded,
+            &mut self.trading,
+            &mut self.ends,
+            &self.next,
+            told,
+        );
+        Ok(())
     }
 
     /// Takes back what a `commit` gave, once it is told: the lists are room for the next event, unless that is prepared

@@ -1,6 +1,6 @@
 //! The next step of the market, as it was prepared.
 ghost use Rattle.std.specs.Prelude.{◌≡◌, ◌<◌, ◌^◌, [], OnOk};
-ghost use Rattle.hx_market.specs.Room.{HasRoom};
+ghost use Rattle.hx_market.specs.Room.{HasRoom, IsEmpty};
 
 use crate::effect::Effect;
 use hx_match::Fill;
@@ -58,14 +58,34 @@ pub fn take_empty<T: Copy>(alloc: Global, list: &mut Vec<T>) -> Vec<T>
     taken
 }
 
-/// Empties the lists, and makes room for what so many fills tell, and for what else an event tells.
-pub fn make_room(out: &mut Output, fills: usize) -> Result<(), NoMemory>
-    requires { fills < 2 ^ 60 }
-    ensures { OnOk result (HasRoom fills out.new) }
+/// Empties the lists of messages.
+pub fn empty(out: &mut Output)
+    ensures { IsEmpty out.new }
 {
     out.feed.clear();
-    out.feed.reserve(fills + 2)?;
     out.replies.clear();
-    out.replies.reserve(2 * fills + 2)?;
+}
+
+/// Makes room for what an effect of so many fills tells, behind what stands in the lists.
+#[inline(always)]
+pub fn make_room(out: &mut Output, effect: &Effect, fills: usize) -> Result<(), NoMemory>
+    requires { fills < 2 ^ 60 }
+    ensures room { OnOk result (HasRoom effect.now fills out.new) }
+    ensures feed { out.new.feed.items ≡ out.old.feed.items }
+    ensures replies { out.new.replies.items ≡ out.old.replies.items }
+{
+    let (feed, replies) = match effect {
+        Effect::End(ending) => (ending.told.feed.len(), ending.told.replies.len()),
+        Effect::Nothing
+        | Effect::Reject(_)
+        | Effect::Accept(_)
+        | Effect::Fail(_)
+        | Effect::Replace(_)
+        | Effect::Cancel(_)
+        | Effect::Halt(_)
+        | Effect::Break(_) => (fills + 2, 2 * fills + 2),
+    };
+    out.feed.reserve(feed)?;
+    out.replies.reserve(replies)?;
     Ok(())
 }

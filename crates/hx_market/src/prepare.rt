@@ -1,5 +1,5 @@
 //! What the market prepares for an event.
-ghost use Rattle.std.specs.Prelude.{◌≡◌, ℕ, None, IfOk, OnOk, IfErr, length};
+ghost use Rattle.std.specs.Prelude.{◌≡◌, ◌<◌, ◌^◌, ℕ, None, IfOk, OnOk, IfErr, length};
 ghost use Rattle.hx_refs.specs.Numbers.{Numbers};
 ghost use Rattle.hx_rules.specs.Refusals.{refusal, or_no_memory};
 ghost use Rattle.hx_market.specs.OrderKeys.{AreKeyed};
@@ -7,15 +7,17 @@ ghost use Rattle.hx_levels.specs.Book.{lives};
 ghost use Rattle.hx_expiries.specs.Expiries.{Holds};
 ghost use Rattle.hx_market.specs.Expiries.{AreEntered};
 ghost use Rattle.hx_market.specs.MarketModel.{market_of, with_step};
-ghost use Rattle.hx_market.specs.Room.{HasRoom};
-ghost use Rattle.hx_market.specs.Prepared.{IsPlanned};
+ghost use Rattle.hx_market.specs.Room.{HasRoom, IsEmpty};
+ghost use Rattle.hx_market.specs.Prepared.{IsReady, IsPlanned};
 
-mod draft;
+mod counts;
+mod places;
 
 use crate::decision::effect_of;
 use crate::effect::end_of;
-use crate::next_step::{NextStep, make_room, take_empty};
-use crate::prepare::draft::{Lists, draft_effect};
+use crate::next_step::{NextStep, empty, make_room, take_empty};
+use crate::prepare::counts::{feed_count, reply_members};
+use crate::prepare::places::plan_effect;
 use hx_day::{Ends, EventCounts, Trading, admit};
 use hx_levels::Book;
 use hx_members::{Setup, Tokens};
@@ -44,10 +46,7 @@ impl Model for Prepared {
       event = p.event.value;
       feed_count = p.feed_count;
       reply_members = p.reply_members.items;
-      number = p.next.value.number;
-      effect = p.next.value.effect;
-      fills = p.next.value.fills.items;
-      left = p.next.value.left;
+      next = p.next.value;
     } };
 }
 
@@ -65,6 +64,54 @@ impl Prepared {
     {
         &self.reply_members
     }
+}
+
+/// Plans the next step for an event, with all growths that it needs but room for what it tells. What contracts see of
+/// book, tokens and executions stays, but for their reserved places.
+#[inline(always)]
+pub fn plan_step<B: Book>(
+    alloc: Global,
+    setup: &Setup,
+    hours: u8,
+    ends: &mut Ends,
+    recorded: &EventCounts,
+    trading: &mut Trading,
+    book: &mut B,
+    tokens: &mut Tokens,
+    next: &mut NextStep,
+    event: &Event,
+) -> Result<(), PrepareError>
+    requires keyed { AreKeyed tokens.old.tokens tokens.old.keys (B.orders book.old) }
+    requires entered { AreEntered ends.old tokens.old.tokens (lives (B.orders book.old)) }
+    ensures ends { (e p : ℕ) → Holds ends.old e p → Holds ends.new e p }
+    ensures orders { B.orders book.new ≡ B.orders book.old }
+    ensures tokens { tokens.new.tokens ≡ tokens.old.tokens }
+    ensures keys { tokens.new.keys ≡ tokens.old.keys }
+    ensures chains { tokens.new.chains ≡ tokens.old.chains }
+    ensures halted { trading.new.halted ≡ trading.old.halted }
+    ensures executions { trading.new.executions ≡ trading.old.executions }
+    ensures ready { OnOk result ((n : Numbers)
+        → IsReady setup.now
+        (market_of (B.orders book.new) tokens.new n hours recorded.now trading.new)
+        (B.orders book.new) (B.place book.new) tokens.new.place trading.new.room ends.new
+        event.now next.new) }
+    ensures few { OnOk result (length next.new.fills.items < 2 ^ 60) }
+    ensures passes { OnOk result (refusal setup.now recorded.now event.now ≡ None) }
+    ensures refused { IfErr result (λ e. e
+        ≡ or_no_memory (refusal setup.now recorded.now event.now)) }
+{
+    next.number = admit(setup, recorded, event)?;
+    let effect = &mut next.effect;
+    effect_of(
+        alloc, setup, hours, ends, trading, tokens, book, event, effect,
+    )?;
+    let room = take_empty(alloc, &mut next.fills);
+    let plan = plan_effect(room, book, tokens, &next.effect)?;
+    ends.enter(tokens.count(), end_of(&next.effect))?;
+    trading.reserve_for(&plan.fills)?;
+    next.fills = plan.fills;
+    next.left = plan.left;
+    Ok(())
 }
 
 /// Prepares the next step for an event, with all growths that its commit needs. What contracts see of book, tokens and
@@ -96,30 +143,24 @@ pub fn make<B: Book>(
         (market_of (B.orders book.new) tokens.new n hours recorded.now trading.new)
         (B.orders book.new) (B.place book.new) tokens.new.place trading.new.room ends.new p) }
     ensures next { IfOk result (λ p. p ≡ with_step next.new p) }
-    ensures room { OnOk result (HasRoom (length next.new.fills.items) next.new.out) }
+    ensures empty { OnOk result (IsEmpty next.new.out) }
+    ensures room { OnOk result
+        (HasRoom next.new.effect (length next.new.fills.items) next.new.out) }
     ensures passes { OnOk result (refusal setup.now recorded.now event.now ≡ None) }
     ensures refused { IfErr result (λ e. e
         ≡ or_no_memory (refusal setup.now recorded.now event.now)) }
 {
-    next.number = admit(setup, recorded, event)?;
-    let effect = &mut next.effect;
-    effect_of(
-        alloc, setup, hours, ends, trading, tokens, book, event, effect,
+    plan_step(
+        alloc, setup, hours, ends, recorded, trading, book, tokens, next, event,
     )?;
-    let lists = Lists {
-        fills: take_empty(alloc, &mut next.fills),
-        members: take_empty(alloc, &mut next.members),
-    };
-    let draft = draft_effect(lists, book, tokens, &next.effect)?;
-    ends.enter(tokens.count(), end_of(&next.effect))?;
-    trading.reserve_for(&draft.fills)?;
-    make_room(&mut next.out, draft.fills.len())?;
-    next.fills = draft.fills;
-    next.left = draft.left;
+    let room = take_empty(alloc, &mut next.members);
+    let reply_members = reply_members(room, book, &next.effect, &next.fills, next.left)?;
+    empty(&mut next.out);
+    make_room(&mut next.out, &next.effect, next.fills.len())?;
     Ok(Prepared {
         event: Snapshot::of(event),
         next: Snapshot::of(next),
-        feed_count: draft.feed_count,
-        reply_members: draft.reply_members,
+        feed_count: feed_count(&next.effect, &next.fills, next.left),
+        reply_members,
     })
 }

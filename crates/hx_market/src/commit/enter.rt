@@ -1,5 +1,5 @@
 //! An Enter that is accepted, done.
-ghost use Rattle.std.specs.Prelude.{◌≡◌, ◌<◌, ◌≤◌, ◌^◌, Some, [], false, length};
+ghost use Rattle.std.specs.Prelude.{◌≡◌, ◌<◌, ◌≤◌, ◌^◌, ◌++◌, Some, [], false, length};
 ghost use Rattle.hx_units.specs.Limits.{day};
 ghost use Rattle.hx_levels.specs.Book.{lives};
 ghost use Rattle.hx_members.specs.Chains.{is_used};
@@ -10,7 +10,7 @@ ghost use Rattle.hx_market.specs.Effects.{incoming_of_enter, terms_of_enter, ord
 ghost use Rattle.hx_market.specs.declared.effect.Effect.TheVariants.{Accept};
 ghost use Rattle.hx_market.specs.OrderKeys.{AreKeyed};
 ghost use Rattle.hx_market.specs.MarketModel.{name_of, market_of};
-ghost use Rattle.hx_market.specs.Room.{HasRoom};
+ghost use Rattle.hx_market.specs.Room.{RoomForFills};
 ghost use Rattle.hx_market.specs.Prepared.{HasRoomFor, outcome_over};
 
 use crate::commit::execute::Taker;
@@ -119,7 +119,7 @@ pub fn accept<B: Book>(
     requires fits { HasRoomFor
         (market_of (B.orders book.old) tokens.old refs.old 0 [] trading.old) effect.now }
     requires executions_room { length fills.now ≤ trading.old.room }
-    requires room { HasRoom (length fills.now) out.old }
+    requires room { RoomForFills (length fills.now) out.old }
     ensures live { lives (B.orders book.new)
         ≡ (outcome_over (B.orders book.old) tokens.old refs.old trading.old
         (Accept effect.now)).market.live }
@@ -138,10 +138,12 @@ pub fn accept<B: Book>(
         ≡ (outcome_over (B.orders book.old) tokens.old refs.old trading.old
         (Accept effect.now)).market.executions }
     ensures feed { out.new.feed.items
-        ≡ (outcome_over (B.orders book.old) tokens.old refs.old trading.old
+        ≡ out.old.feed.items
+        ++ (outcome_over (B.orders book.old) tokens.old refs.old trading.old
         (Accept effect.now)).told.feed }
     ensures replies { out.new.replies.items
-        ≡ (outcome_over (B.orders book.old) tokens.old refs.old trading.old
+        ≡ out.old.replies.items
+        ++ (outcome_over (B.orders book.old) tokens.old refs.old trading.old
         (Accept effect.now)).told.replies }
 {
     let chain = tokens.count();

@@ -1,15 +1,19 @@
 //! Orders that end leave the book.
-ghost use Rattle.std.specs.Prelude.{◌≡◌, not};
+ghost use Rattle.std.specs.Prelude.{◌≡◌, ◌≤◌, ◌+◌, ◌++◌, length, not};
 ghost use Rattle.std.specs.List.{filter};
 ghost use Rattle.hx_levels.specs.Book.{lives};
 ghost use Rattle.hx_members.specs.Tokens.{TokenList};
 ghost use Rattle.hx_market.specs.OrderKeys.{AreKeyed};
 ghost use Rattle.hx_market.specs.Effects.{IsExpiry, is_due};
+ghost use Rattle.hx_market.specs.Room.{RoomFor};
+ghost use Rattle.std.specs.Vec.{vec_len, vec_capacity};
 
 use crate::effect::Expiry;
+use hx_itch::Feed;
 use hx_levels::Book;
+use hx_ouch::Outbound;
 use hx_rules::Output;
-use std::mem::swap;
+use hx_units::MemberNo;
 
 // Takes the orders that end out of the book.
 fn remove_ended<B: Book>(book: &mut B, effect: &Expiry)
@@ -24,16 +28,40 @@ fn remove_ended<B: Book>(book: &mut B, effect: &Expiry)
     }
 }
 
+// Tells the feed so many messages.
+fn tell_feed(feed: &mut Vec<Feed>, told: &[Feed])
+    requires { vec_len feed.old + length told.now ≤ vec_capacity feed.old }
+    ensures { feed.new.items ≡ feed.old.items ++ told.now }
+{
+    for message in told {
+        feed.push_reserved(*message);
+    }
+}
+
+// Gives so many replies.
+fn give_replies(replies: &mut Vec<(MemberNo, Outbound)>, told: &[(MemberNo, Outbound)])
+    requires { vec_len replies.old + length told.now ≤ vec_capacity replies.old }
+    ensures { replies.new.items ≡ replies.old.items ++ told.now }
+{
+    for reply in told {
+        replies.push_reserved(*reply);
+    }
+}
+
 /// The orders end, and what was prepared is told.
-pub fn end<B: Book>(book: &mut B, out: &mut Output, effect: &mut Expiry)
-    requires { IsExpiry (B.orders book.old) effect.old }
+pub fn end<B: Book>(book: &mut B, out: &mut Output, effect: &Expiry)
+    requires ended { IsExpiry (B.orders book.old) effect.now }
+    requires room { RoomFor (length effect.now.told.feed.items)
+        (length effect.now.told.replies.items) out.old }
     ensures live { lives (B.orders book.new)
-        ≡ filter (λ x. not (is_due effect.old.due effect.old.time x)) (lives (B.orders book.old)) }
+        ≡ filter (λ x. not (is_due effect.now.due effect.now.time x)) (lives (B.orders book.old)) }
     ensures keyed { (t : TokenList) → AreKeyed t.tokens t.keys (B.orders book.old)
         → AreKeyed t.tokens t.keys (B.orders book.new) }
-    ensures feed { out.new.feed.items ≡ effect.old.told.feed.items }
-    ensures replies { out.new.replies.items ≡ effect.old.told.replies.items }
+    ensures feed { out.new.feed.items ≡ out.old.feed.items ++ effect.now.told.feed.items }
+    ensures replies { out.new.replies.items
+        ≡ out.old.replies.items ++ effect.now.told.replies.items }
 {
     remove_ended(book, effect);
-    swap(out, &mut effect.told);
+    tell_feed(&mut out.feed, &effect.told.feed);
+    give_replies(&mut out.replies, &effect.told.replies);
 }

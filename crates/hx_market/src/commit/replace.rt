@@ -15,7 +15,7 @@ ghost use Rattle.hx_rules.specs.Replace.{replaced_of, is_one_display};
 ghost use Rattle.hx_market.specs.OrderKeys.{AreKeyed, AreBefore};
 ghost use Rattle.hx_market.specs.Effects.{IsOnly, IsReplacement, incoming_of_replacement, terms_of_replacement, replacement_order};
 ghost use Rattle.hx_market.specs.MarketModel.{listed, name_of, market_of};
-ghost use Rattle.hx_market.specs.Room.{HasRoom};
+ghost use Rattle.hx_market.specs.Room.{RoomForFills};
 ghost use Rattle.hx_market.specs.Prepared.{HasRoomToReplace, IsChainOf, outcome_over};
 
 use crate::commit::execute::Taker;
@@ -265,7 +265,7 @@ pub fn replace<B: Book>(
     requires executions_room { length fills.now ≤ trading.old.room }
     requires chain { IsChainOf tokens.old.tokens effect.now.member
         effect.now.replace.existing_token effect.now.old.order.chain }
-    requires room { HasRoom (length fills.now) out.old }
+    requires room { RoomForFills (length fills.now) out.old }
     ensures live { lives (B.orders book.new)
         ≡ (outcome_over (B.orders book.old) tokens.old refs.old trading.old
         (ToReplaceBy effect.now)).market.live }
@@ -284,10 +284,12 @@ pub fn replace<B: Book>(
         ≡ (outcome_over (B.orders book.old) tokens.old refs.old trading.old
         (ToReplaceBy effect.now)).market.executions }
     ensures feed { out.new.feed.items
-        ≡ (outcome_over (B.orders book.old) tokens.old refs.old trading.old
+        ≡ out.old.feed.items
+        ++ (outcome_over (B.orders book.old) tokens.old refs.old trading.old
         (ToReplaceBy effect.now)).told.feed }
     ensures replies { out.new.replies.items
-        ≡ (outcome_over (B.orders book.old) tokens.old refs.old trading.old
+        ≡ out.old.replies.items
+        ++ (outcome_over (B.orders book.old) tokens.old refs.old trading.old
         (ToReplaceBy effect.now)).told.replies }
 {
     let replace = &effect.replace;

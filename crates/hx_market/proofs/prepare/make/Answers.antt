@@ -1,65 +1,39 @@
+use Rattle.std.proofs.Common.{List, refl, ap, sym, ◌∙◌, subst}
 use Rattle.hx_match.specs.declared.fills.Fill.{Fill}
-use Rattle.std.proofs.Common.{◌≡◌, ◌≤◌, ℕ, Bool, List, length, sym, ◌∙◌, subst, refl}
-use Rattle.hx_levels.specs.declared.order.Live.{Live}
-use Rattle.hx_levels.specs.Book.{lives}
-use Rattle.hx_members.specs.Chains.{Used, Chain}
-use Rattle.hx_members.specs.Setups.{Setup}
-use Rattle.hx_members.specs.Tokens.{TokenList}
-use Rattle.hx_refs.specs.Numbers.{Numbers, raised}
 use Rattle.hx_rules.specs.declared.event.Event.{Event}
-use Rattle.hx_market.specs.declared.effect.Effect.{Effect}
-use Rattle.hx_market.specs.declared.next_step.NextStep.{NextStep}
-use Rattle.hx_rules.specs.declared.matches.Match.{Match}
 use Rattle.hx_rules.specs.Markets.{Market}
-use Rattle.hx_rules.specs.Steps.{happens, sender, with_record}
-use Rattle.hx_market.specs.Effects.{SuitsTokens, IsOf, IsAbout, outcome_of}
-use Rattle.hx_day.specs.Day.{TradingState}
+use Rattle.hx_rules.specs.Steps.{with_record}
+use Rattle.hx_market.specs.declared.next_step.NextStep.{NextStep}
 use Rattle.hx_market.specs.MarketModel.{Planned, market_of}
-use Rattle.std.specs.Option.{IfSome}
-use Rattle.hx_expiries.specs.Expiries.{Holds}
-use Rattle.hx_market.specs.Expiries.{IsEndEntered}
-use Rattle.hx_market.specs.Prepared.{IsPlanned}
+use Rattle.hx_market.specs.Prepared.{IsPlanned, effect_feed_count, effect_members}
 use Rattle.hx_market.proofs.PreparedCounts.{tells}
 use Rattle.hx_market.proofs.prepare.make.Goals as goal
 
--- what was made over the book and the tokens as they were is so over them as they are
-does_here : (setup : Setup) (e : Event) (effect : Effect) (n : Numbers) (hours : ℕ) (counts : List ℕ) (os ps : List Live) (t u : TokenList) (r q : TradingState) → os ≡ ps → t.tokens ≡ u.tokens → t.chains ≡ u.chains → r.halted ≡ q.halted → r.executions ≡ q.executions
-    → happens setup (market_of os t n hours counts r) e ≡ outcome_of (market_of os t n hours counts r) effect → happens setup (market_of ps u n hours counts q) e ≡ outcome_of (market_of ps u n hours counts q) effect
-does_here setup e effect n hours counts os ps t u r q o k c d x h =
-    let at : List Live → List Used → List Chain → List Bool → List Match → Market = λ os ts cs hs es. record { live = lives os; tokens = ts; chains = cs; numbers = n; hours = hours; halted = hs; executions = es; recorded = counts } in
-    subst (λ (es : List Match). happens setup (at ps u.tokens u.chains q.halted es) e ≡ outcome_of (at ps u.tokens u.chains q.halted es) effect) x
-    (subst (λ (hs : List Bool). happens setup (at ps u.tokens u.chains hs r.executions) e ≡ outcome_of (at ps u.tokens u.chains hs r.executions) effect) d
-    (subst (λ (cs : List Chain). happens setup (at ps u.tokens cs r.halted r.executions) e ≡ outcome_of (at ps u.tokens cs r.halted r.executions) effect) c
-    (subst (λ (ts : List Used). happens setup (at ps ts t.chains r.halted r.executions) e ≡ outcome_of (at ps ts t.chains r.halted r.executions) effect) k
-    (subst (λ (xs : List Live). happens setup (at xs t.tokens t.chains r.halted r.executions) e ≡ outcome_of (at xs t.tokens t.chains r.halted r.executions) effect) o h))))
-
 pub returns-clause-planned : goal.returns-clause-planned
 returns-clause-planned g c = λ n.
-    let orders = g.B.Book.orders c.draft_effect.new.book in
-    let place = g.B.Book.place c.draft_effect.new.book in
-    let name = c.draft_effect.new.tokens.place in
-    let m : Market = market_of orders c.draft_effect.new.tokens n c.args.hours c.args.recorded.now c.reserve_for.new.self in
+    let orders = g.B.Book.orders c.plan_step.new.book in
+    let m : Market = market_of orders c.plan_step.new.tokens n c.args.hours c.args.recorded.now c.plan_step.new.trading in
+    let ready = c.in_ok-plan_step.ensures.ready n in
     let e : Event = c.args.event.now in
-    let effect : Effect = c.effect_of.new.effect in
-    let d = c.in_ok-draft.draft in
-    let about : IsAbout orders effect = subst (λ (xs : List Live). IsAbout xs effect) (sym c.draft_effect.ensures.orders) c.in_ok-effect_of.ensures.about in
-    let told = tells (with_record e m) effect orders place name d.fills.items d.left refl about c.in_ok-draft.ensures.places in
-    let made : Event → NextStep → Planned = λ ev step. record { event = ev; feed_count = d.feed_count; reply_members = d.reply_members.items; number = step.number; effect = step.effect; fills = step.fills.items; left = step.left } in
-    let planned : Planned → Type 0 = IsPlanned c.args.setup.now m orders place name c.reserve_for.new.self.room c.enter.new.self in
+    let next = c.plan_step.new.next in
+    let told = tells (with_record e m) next.effect orders (g.B.Book.place c.plan_step.new.book) c.plan_step.new.tokens.place next.fills.items next.left refl ready.about ready.places in
+    let made : Event → NextStep → Planned = λ ev step. record { event = ev; feed_count = c.feed_count.result; reply_members = c.in_ok-reply_members.reply_members.items; next = step } in
+    let planned : Planned → Type 0 = IsPlanned c.args.setup.now m orders (g.B.Book.place c.plan_step.new.book) c.plan_step.new.tokens.place c.plan_step.new.trading.room c.plan_step.new.ends in
     subst (λ (ev : Event). planned (made ev c.of-2.result.value)) (sym c.of.ensures)
     (subst (λ (step : NextStep). planned (made e step)) (sym c.of-2.ensures)
     (record {
-      number = c.in_ok-next.ensures.number;
-      may_record = c.in_ok-next.ensures.may_record;
-      does = does_here c.args.setup.now e effect n c.args.hours (raised c.args.recorded.now (sender e)) (g.B.Book.orders c.args.book.now) orders c.args.tokens.now c.draft_effect.new.tokens c.args.trading.now c.reserve_for.new.self (sym c.draft_effect.ensures.orders) (sym c.draft_effect.ensures.tokens) (sym c.draft_effect.ensures.chains) (sym c.reserve_for.ensures.halted) (sym c.reserve_for.ensures.executions) (c.in_ok-effect_of.ensures.does n (raised c.args.recorded.now (sender e)));
-      is_effect = c.in_ok-effect_of.ensures.is_effect;
-      suits = subst (λ (us : List Used). SuitsTokens us c.draft_effect.new.tokens.chains effect) (sym c.draft_effect.ensures.tokens) (subst (λ (cs : List Chain). SuitsTokens c.args.tokens.now.tokens cs effect) (sym c.draft_effect.ensures.chains) c.in_ok-effect_of.ensures.suits);
-      about = about;
-      sender = subst (λ i. IsOf i effect) (sym c.in_ok-next.ensures.number) c.in_ok-effect_of.ensures.sender;
-      places = c.in_ok-draft.ensures.places;
-      has_room = subst (λ (fs : List Fill). length fs ≤ c.reserve_for.new.self.room) c.deref.ensures.value c.in_ok-reserve_for.ensures.room;
-      end_entered = subst (λ n. IsEndEntered c.enter.new.self n effect) c.count.ensures (λ e is.
-          subst (λ o. IfSome o (λ expiry. Holds c.enter.new.self expiry c.count.result)) (c.end_of.ensures ∙ is) c.in_ok-enter.ensures.entered);
-      feed_count = c.in_ok-draft.ensures.feed_count ∙ told.0;
-      reply_members = c.in_ok-draft.ensures.members ∙ told.1;
+      ready = record {
+        number = ready.number;
+        may_record = ready.may_record;
+        does = ready.does;
+        is_effect = ready.is_effect;
+        suits = ready.suits;
+        about = ready.about;
+        sender = ready.sender;
+        places = ready.places;
+        has_room = ready.has_room;
+        end_entered = ready.end_entered;
+      };
+      feed_count = c.feed_count.ensures ∙ ap (λ (fs : List Fill). effect_feed_count next.effect fs next.left) c.deref-2.ensures.value ∙ told.0;
+      reply_members = c.in_ok-reply_members.ensures ∙ ap (λ (fs : List Fill). effect_members next.effect orders fs next.left) c.deref.ensures.value ∙ told.1;
     }))

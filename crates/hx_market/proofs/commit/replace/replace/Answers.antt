@@ -1,5 +1,6 @@
 use Rattle.std.proofs.Common.{◌≡◌, ℕ, ◌+◌, ◌<◌, ◌++◌, ◌∷◌, [], List, Bool, true, ◌&&◌, nat_lt, if◌then◌else◌, length, map, sym, ap, ◌∙◌, subst, arith}
 use Rattle.std.specs.Global.{Vec}
+use Rattle.std.proofs.lemmas.List.{append_assoc}
 use Rattle.hx_units.specs.declared.names.Token.{Token}
 use Rattle.hx_levels.specs.declared.order.Order.{Order}
 use Rattle.hx_levels.specs.declared.order.Live.{Live}
@@ -26,7 +27,7 @@ use Rattle.hx_market.proofs.Bounds.UsedTokens.{same-name}
 use Rattle.hx_market.proofs.Bounds.AfterEnter.{draws}
 use Rattle.hx_market.proofs.Plans.{length-done}
 use Rattle.hx_market.proofs.OrdersByToken.{has_found, others_lives}
-use Rattle.hx_market.proofs.Replacements.{told_of, none_done, entered_there}
+use Rattle.hx_market.proofs.Replacements.{told_behind, none_done, entered_there}
 use Rattle.hx_market.proofs.commit.replace.replace.Goals as goal
 
 pub hand_over-requires-clause-there : goal.hand_over-requires-clause-there
@@ -223,22 +224,23 @@ returns-clause-feed g c =
     let gone : Bool → List Feed = λ b. if b then [] else deleted a.time a.old.order in
     let number : c.draw.new.refs.matches ≡ refs.matches = ap (λ (n : Numbers). n.matches) c.draw.ensures.drawn ∙ (draws refs a.member c.is_shown-shown.result).1 in
     let E : List Feed = feed_of_executions a.time a.stock refs.matches m.fills in
-    let told : c.arrive-resting.new.out.feed.items ≡ gone in_one ++ E =
+    let before : List Feed = c.args.out.now.feed.items in
+    let told : c.arrive-resting.new.out.feed.items ≡ (before ++ gone in_one) ++ E =
     c.arrive-resting.ensures.feed
-    ∙ ap (λ (l : List Feed). l ++ feed_of_executions c.taker_of-taker.result.time c.taker_of-taker.result.stock c.draw.new.refs.matches (done_by fills (g.B.Book.orders c.hand_over.new.book))) (c.tell_old.ensures.feed ∙ ap (λ (l : List Feed). l ++ gone c.tells_in_one-in_one.result) c.requires.room.feed)
-    ∙ ap (λ (t : Taker). gone c.tells_in_one-in_one.result ++ feed_of_executions t.time t.stock c.draw.new.refs.matches (done_by fills (g.B.Book.orders c.hand_over.new.book))) c.taker_of-taker.ensures
-    ∙ ap (λ n. gone c.tells_in_one-in_one.result ++ feed_of_executions a.time a.stock n (done_by fills (g.B.Book.orders c.hand_over.new.book))) number
-    ∙ ap (λ (es : List Execution). gone c.tells_in_one-in_one.result ++ feed_of_executions a.time a.stock refs.matches es) done
-    ∙ ap (λ b. gone b ++ E) one in
+    ∙ ap (λ (l : List Feed). l ++ feed_of_executions c.taker_of-taker.result.time c.taker_of-taker.result.stock c.draw.new.refs.matches (done_by fills (g.B.Book.orders c.hand_over.new.book))) c.tell_old.ensures.feed
+    ∙ ap (λ (t : Taker). (before ++ gone c.tells_in_one-in_one.result) ++ feed_of_executions t.time t.stock c.draw.new.refs.matches (done_by fills (g.B.Book.orders c.hand_over.new.book))) c.taker_of-taker.ensures
+    ∙ ap (λ n. (before ++ gone c.tells_in_one-in_one.result) ++ feed_of_executions a.time a.stock n (done_by fills (g.B.Book.orders c.hand_over.new.book))) number
+    ∙ ap (λ (es : List Execution). (before ++ gone c.tells_in_one-in_one.result) ++ feed_of_executions a.time a.stock refs.matches es) done
+    ∙ ap (λ b. (before ++ gone b) ++ E) one in
     let rests : listed c.arrive-resting.result ≡ resting_of Y imm m.left =
     c.arrive-resting.ensures.rests ∙ ap (λ (o : Order). resting_of o imm c.args.left) x ∙ ap (λ n. resting_of Y imm n) left in
     let new : List Order → List Feed = λ xs. map (published a.time a.stock) (shown_of xs) in
     c.tell_new.ensures.feed
     ∙ ap (λ (l : List Feed). l ++ (if c.tells_in_one-in_one.result then U c.order_of-order.result else new (listed c.arrive-resting.result))) told
-    ∙ ap (λ b. (gone in_one ++ E) ++ (if b then U c.order_of-order.result else new (listed c.arrive-resting.result))) one
-    ∙ ap (λ (o : Order). (gone in_one ++ E) ++ (if in_one then U o else new (listed c.arrive-resting.result))) x
-    ∙ ap (λ (xs : List Order). (gone in_one ++ E) ++ (if in_one then U Y else new xs)) rests
-    ∙ told_of in_one (U Y) (deleted a.time a.old.order) E (new (resting_of Y imm m.left)) (none_done a.time a.stock refs.matches m.fills (is_one_display a.old.order Y))
+    ∙ ap (λ b. ((before ++ gone in_one) ++ E) ++ (if b then U c.order_of-order.result else new (listed c.arrive-resting.result))) one
+    ∙ ap (λ (o : Order). ((before ++ gone in_one) ++ E) ++ (if in_one then U o else new (listed c.arrive-resting.result))) x
+    ∙ ap (λ (xs : List Order). ((before ++ gone in_one) ++ E) ++ (if in_one then U Y else new xs)) rests
+    ∙ told_behind before in_one (U Y) (deleted a.time a.old.order) E (new (resting_of Y imm m.left)) (none_done a.time a.stock refs.matches m.fills (is_one_display a.old.order Y))
 
 pub returns-clause-replies : goal.returns-clause-replies
 returns-clause-replies g c =
@@ -261,17 +263,19 @@ returns-clause-replies g c =
     let left : c.args.left ≡ m.left = c.requires.executions.remains ∙ ap (λ (xs : List Order). (matched (incoming_of_replacement a) (open_shares a) xs).left) left_over in
     let drawn : c.draw.new.refs ≡ after_draw refs a.member shown = c.draw.ensures.drawn ∙ ap (after_draw refs a.member) c.is_shown-shown.ensures in
     let R : List Reply = replaced_of a.member a.time a.stock a.replace Y ∷ [] in
-    let first : c.tell_old.new.out.replies.items ≡ R =
-    ap (λ (v : Vec Reply). v.items) c.tell_old.ensures.replies ∙ c.push_reserved.ensures.items ∙ ap (λ (l : List Reply). l ++ c.replaced.result ∷ []) c.requires.room.replies
-    ∙ ap (λ (r : Reply). r ∷ []) (c.replaced.ensures ∙ ap (λ (o : Order). replaced_of a.member a.time a.stock a.replace o) x) in
+    let before : List Reply = c.args.out.now.replies.items in
+    let first : c.tell_old.new.out.replies.items ≡ before ++ R =
+    ap (λ (v : Vec Reply). v.items) c.tell_old.ensures.replies ∙ c.push_reserved.ensures.items
+    ∙ ap (λ (r : Reply). before ++ r ∷ []) (c.replaced.ensures ∙ ap (λ (o : Order). replaced_of a.member a.time a.stock a.replace o) x) in
     let tail : Taker → ℕ → List Reply = λ t n. replies_of_executions t.time t.member t.token n (done_by fills (g.B.Book.orders c.hand_over.new.book)) ++ canceled_of t.time t.member t.token imm c.args.left in
     let number : c.draw.new.refs.matches ≡ (after_draw refs a.member shown).matches = ap (λ (n : Numbers). n.matches) drawn in
     c.tell_new.ensures.replies ∙ c.arrive-resting.ensures.replies
     ∙ ap (λ (l : List Reply). l ++ tail c.taker_of-taker.result c.draw.new.refs.matches) first
-    ∙ ap (λ (t : Taker). R ++ tail t c.draw.new.refs.matches) c.taker_of-taker.ensures
-    ∙ ap (λ n. R ++ (replies_of_executions a.time a.old.order.member token n (done_by fills (g.B.Book.orders c.hand_over.new.book)) ++ canceled_of a.time a.old.order.member token imm c.args.left)) number
-    ∙ ap (λ (es : List Execution). R ++ (replies_of_executions a.time a.old.order.member token (after_draw refs a.member shown).matches es ++ canceled_of a.time a.old.order.member token imm c.args.left)) done
-    ∙ ap (λ n. R ++ (replies_of_executions a.time a.old.order.member token (after_draw refs a.member shown).matches m.fills ++ canceled_of a.time a.old.order.member token imm n)) left
+    ∙ ap (λ (t : Taker). (before ++ R) ++ tail t c.draw.new.refs.matches) c.taker_of-taker.ensures
+    ∙ ap (λ n. (before ++ R) ++ (replies_of_executions a.time a.old.order.member token n (done_by fills (g.B.Book.orders c.hand_over.new.book)) ++ canceled_of a.time a.old.order.member token imm c.args.left)) number
+    ∙ ap (λ (es : List Execution). (before ++ R) ++ (replies_of_executions a.time a.old.order.member token (after_draw refs a.member shown).matches es ++ canceled_of a.time a.old.order.member token imm c.args.left)) done
+    ∙ ap (λ n. (before ++ R) ++ (replies_of_executions a.time a.old.order.member token (after_draw refs a.member shown).matches m.fills ++ canceled_of a.time a.old.order.member token imm n)) left
+    ∙ append_assoc before R (replies_of_executions a.time a.old.order.member token (after_draw refs a.member shown).matches m.fills ++ canceled_of a.time a.old.order.member token imm m.left)
 
 pub returns-clause-executions : goal.returns-clause-executions
 returns-clause-executions g c =

@@ -18,34 +18,10 @@ use Rattle.hx_market.specs.Expiries.{AreEntered}
 use Rattle.hx_day.specs.Ends.{StaysElsewhere}
 use Rattle.hx_market.specs.Prepared.{IsPlanned}
 use Rattle.hx_market.specs.MarketModel.{Planned, Seen, market_of, with_step}
-use Rattle.hx_market.proofs.Entered.{entered_kept, entered_elsewhere}
+use Rattle.hx_market.proofs.Entered.{entered_elsewhere}
+use Rattle.hx_market.proofs.StayingMarkets.{stays, held}
 use Rattle.hx_market.proofs.PreparedCounts.{step_is}
 use Rattle.hx_market.proofs.market.Market.prepare.Goals as goal
-
--- the market stays where its parts do
-stays : (os ps : List Live) (ts us : List Used) (cs ds : List Chain) (n : Numbers) (hours : ℕ) (hs is : List Bool) (es fs : List Match) (rs : List ℕ) → os ≡ ps → ts ≡ us → cs ≡ ds → hs ≡ is → es ≡ fs
-    → (let m : Market = record { live = lives os; tokens = ts; chains = cs; numbers = n; hours = hours; halted = hs; executions = es; recorded = rs } in m) ≡ (let m : Market = record { live = lives ps; tokens = us; chains = ds; numbers = n; hours = hours; halted = is; executions = fs; recorded = rs } in m)
-stays os ps ts us cs ds n hours hs is es fs rs o t k h x =
-    ap (λ (z : List Live). (let m : Market = record { live = lives z; tokens = ts; chains = cs; numbers = n; hours = hours; halted = hs; executions = es; recorded = rs } in m)) o
-    ∙ ap (λ (z : List Used). (let m : Market = record { live = lives ps; tokens = z; chains = cs; numbers = n; hours = hours; halted = hs; executions = es; recorded = rs } in m)) t
-    ∙ ap (λ (z : List Chain). (let m : Market = record { live = lives ps; tokens = us; chains = z; numbers = n; hours = hours; halted = hs; executions = es; recorded = rs } in m)) k
-    ∙ ap (λ (z : List Bool). (let m : Market = record { live = lives ps; tokens = us; chains = ds; numbers = n; hours = hours; halted = z; executions = es; recorded = rs } in m)) h
-    ∙ ap (λ (z : List Match). (let m : Market = record { live = lives ps; tokens = us; chains = ds; numbers = n; hours = hours; halted = is; executions = z; recorded = rs } in m)) x
-
--- what was made leaves the market sound, keyed and entered
-record Held (orders : List Live) (t : TokenList) (n : Numbers) (hours : ℕ) (rs : List ℕ) (r : TradingState) (entries : List Entry) : Type 0 where
-  sound : IsSound (market_of orders t n hours rs r)
-  keyed : AreKeyed t.tokens t.keys orders
-  entered : AreEntered entries t.tokens (lives orders)
-
-held : (os ps : List Live) (t u : TokenList) (n : Numbers) (hours : ℕ) (rs : List ℕ) (r q : TradingState) (old new : List Entry) → ps ≡ os → u.tokens ≡ t.tokens → u.keys ≡ t.keys → u.chains ≡ t.chains
-    → q.halted ≡ r.halted → q.executions ≡ r.executions → ((e p : ℕ) → Holds old e p → Holds new e p) → Held os t n hours rs r old → Held ps u n hours rs q new
-held os ps t u n hours rs r q old new o k y c h x keep was = record {
-  sound = subst IsSound (sym (stays ps os u.tokens t.tokens u.chains t.chains n hours q.halted r.halted q.executions r.executions rs o k c h x)) was.sound;
-  keyed = subst (λ (ts : List Used). AreKeyed ts u.keys ps) (sym k) (subst (λ (ks : List (Option ℕ)). AreKeyed t.tokens ks ps) (sym y) (subst (λ (xs : List Live). AreKeyed t.tokens t.keys xs) (sym o) was.keyed));
-  entered = entered_kept old new u.tokens (lives ps) keep
-      (subst (λ (ts : List Used). AreEntered old ts (lives ps)) (sym k) (subst (λ (xs : List Live). AreEntered old t.tokens (lives xs)) (sym o) was.entered));
-}
 
 pub make-requires-clause-entered : goal.make-requires-clause-entered
 make-requires-clause-entered g c =
@@ -77,7 +53,7 @@ invariant_of-self-2 g c =
       h.keyed,
       (λ p is.
           let same : c.in_ok-prepared.prepared ≡ p = e.next ∙ ap (with_step c.make.new.next) (sym c.of.ensures) ∙ (let z : Some (with_step c.make.new.next c.of.result.value) ≡ Some p = is in cc) in
-          (subst planned same (e.planned s.refs), e.room)),
+          (subst planned same (e.planned s.refs), e.empty, e.room)),
       h.entered,
     )
 
@@ -93,7 +69,7 @@ returns-clause-feed_count g c =
     ∙ ap (λ (v : Seen). v.market) c.self.view_is in
     i.feed_count
     ∙ ap (λ (o : Outcome). length o.told.feed)
-    (step_is s.setup c.args.self.now.setup m c.args.self.now.market p.event c.args.event.now (outcome_of (with_record p.event m) p.effect) i.does (ap (λ (v : Seen). v.setup) c.self.view_is) same c.in_ok-prepared.ensures.event)
+    (step_is s.setup c.args.self.now.setup m c.args.self.now.market p.event c.args.event.now (outcome_of (with_record p.event m) p.next.effect) i.ready.does (ap (λ (v : Seen). v.setup) c.self.view_is) same c.in_ok-prepared.ensures.event)
 
 pub returns-clause-reply_members : goal.returns-clause-reply_members
 returns-clause-reply_members g c =
@@ -107,4 +83,4 @@ returns-clause-reply_members g c =
     ∙ ap (λ (v : Seen). v.market) c.self.view_is in
     i.reply_members
     ∙ ap (λ (o : Outcome). map (λ r. r.0) o.told.replies)
-    (step_is s.setup c.args.self.now.setup m c.args.self.now.market p.event c.args.event.now (outcome_of (with_record p.event m) p.effect) i.does (ap (λ (v : Seen). v.setup) c.self.view_is) same c.in_ok-prepared.ensures.event)
+    (step_is s.setup c.args.self.now.setup m c.args.self.now.market p.event c.args.event.now (outcome_of (with_record p.event m) p.next.effect) i.ready.does (ap (λ (v : Seen). v.setup) c.self.view_is) same c.in_ok-prepared.ensures.event)

@@ -1,5 +1,5 @@
 use Rattle.std.proofs.Common.{◌≡◌, ◌++◌, drop, map}
-use Rattle.hx_market.proofs.prepare.draft.told_members.Given as goal
+use Rattle.hx_market.proofs.prepare.counts.told_members.Given as goal
 
 -- the members so far, and those of the rest, are all
 abbrev pub invariant-loop-member : goal.invariant-loop-member

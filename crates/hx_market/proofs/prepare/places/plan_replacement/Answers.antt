@@ -11,7 +11,7 @@ use Rattle.hx_match.specs.Executing.{fills_of}
 use Rattle.hx_match.specs.Rules.{AreFills}
 use Rattle.hx_match.proofs.Unmet.{unmet}
 use Rattle.hx_market.specs.Effects.{incoming_of_replacement}
-use Rattle.hx_market.proofs.prepare.draft.draft_replacement.Goals as goal
+use Rattle.hx_market.proofs.prepare.places.plan_replacement.Goals as goal
 
 -- an order of the same side is not met
 own_side : (side : Side) → is_other_side side side ≡ false

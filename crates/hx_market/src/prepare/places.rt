@@ -1,0 +1,153 @@
+//! The plan of an effect: its executions, and a place for what it adds.
+ghost use Rattle.std.specs.Prelude.{◌≡◌, [], Some, IfOk, OnOk, false};
+ghost use Rattle.hx_levels.specs.Book.{order_of, without, KeysDiffer};
+ghost use Rattle.hx_match.specs.Matching.{terms, matched_live};
+ghost use Rattle.hx_match.specs.Executing.{fills_of};
+ghost use Rattle.hx_match.specs.Rules.{AreFills};
+ghost use Rattle.hx_rules.specs.Orders.{is_immediate};
+ghost use Rattle.hx_market.specs.Effects.{IsReplacement, IsInRange, IsAbout, incoming_of_enter, terms_of_enter, incoming_of_replacement, terms_of_replacement};
+ghost use Rattle.hx_market.specs.Prepared.{HasPlaces};
+
+use crate::effect::{AcceptedEnter, Effect, Replacement};
+use hx_levels::Book;
+use hx_match::{Fill, Incoming, Plan, plan_in};
+use hx_members::Tokens;
+use hx_units::NoMemory;
+
+fn incoming_of(effect: &AcceptedEnter) -> Incoming
+    ensures { result ≡ incoming_of_enter effect.now }
+{
+    Incoming {
+        locate: effect.locate,
+        side: effect.side,
+        price: effect.price,
+        shares: effect.enter.shares,
+        minimum: effect.enter.minimum_quantity,
+    }
+}
+
+fn incoming_by(effect: &Replacement) -> Incoming
+    requires { IsReplacement effect.now }
+    ensures { result ≡ incoming_of_replacement effect.now }
+{
+    let open = effect.replace.shares - effect.executed;
+    Incoming {
+        locate: effect.old.order.locate,
+        side: effect.old.order.side,
+        price: effect.price,
+        shares: open,
+        minimum: effect.replace.minimum_quantity.min(open),
+    }
+}
+
+// The plan of an order, in this room, and a place for what rests of it: none of an immediate one does.
+fn plan_order<B: Book>(
+    room: Vec<Fill>,
+    book: &mut B,
+    incoming: &Incoming,
+    immediate: bool,
+) -> Result<Plan, NoMemory>
+    ensures orders { B.orders book.new ≡ B.orders book.old }
+    ensures place { OnOk result (immediate ≡ false
+        → B.place book.new ≡ Some (terms incoming.now)) }
+    ensures fills { IfOk result (λ plan. plan.fills.items
+        ≡ fills_of incoming.now (B.orders book.new)) }
+    ensures left { IfOk result (λ plan. plan.left
+        ≡ (matched_live incoming.now (B.orders book.new)).left) }
+    ensures executions { IfOk result
+        (λ plan. AreFills incoming.now (B.orders book.new) plan.fills.items plan.left) }
+    ensures keys { OnOk result (KeysDiffer (B.orders book.new)) }
+{
+    if !immediate {
+        book.reserve(incoming.locate, incoming.side, incoming.price)?;
+    }
+    plan_in(room, book, incoming)
+}
+
+// The plan of an order that is accepted.
+fn plan_enter<B: Book>(
+    room: Vec<Fill>,
+    book: &mut B,
+    effect: &AcceptedEnter,
+) -> Result<Plan, NoMemory>
+    ensures orders { B.orders book.new ≡ B.orders book.old }
+    ensures place { OnOk result (is_immediate effect.now.enter.time_in_force ≡ false
+        → B.place book.new ≡ Some (terms_of_enter effect.now)) }
+    ensures executions { IfOk result (λ plan. AreFills
+        (incoming_of_enter effect.now) (B.orders book.new) plan.fills.items plan.left) }
+    ensures keys { OnOk result (KeysDiffer (B.orders book.new)) }
+{
+    let immediate = effect.enter.time_in_force == 0;
+    plan_order(room, book, &incoming_of(effect), immediate)
+}
+
+// The plan of an order that replaces another, which it does not meet.
+fn plan_replacement<B: Book>(
+    room: Vec<Fill>,
+    book: &mut B,
+    effect: &Replacement,
+) -> Result<Plan, NoMemory>
+    requires is_replacement { IsReplacement effect.now }
+    requires old { order_of effect.now.old.key.0 (B.orders book.old) ≡ Some effect.now.old.order }
+    ensures orders { B.orders book.new ≡ B.orders book.old }
+    ensures place { OnOk result (is_immediate effect.now.replace.time_in_force ≡ false
+        → B.place book.new ≡ Some (terms_of_replacement effect.now)) }
+    ensures executions { IfOk result (λ plan. AreFills (incoming_of_replacement effect.now)
+        (without effect.now.old.key.0 (B.orders book.new)) plan.fills.items plan.left) }
+{
+    let immediate = effect.replace.time_in_force == 0;
+    let plan = plan_order(room, book, &incoming_by(effect), immediate)?;
+    Ok(plan)
+}
+
+// The plan of no order.
+fn no_plan(room: Vec<Fill>) -> Plan
+    ensures fills { result.fills.items ≡ room.items }
+    ensures left { result.left ≡ 0 }
+{
+    Plan {
+        fills: room,
+        left: 0,
+    }
+}
+
+/// The plan of an effect, in this room, with a place for the token that it uses and one for the order that may rest.
+#[inline(always)]
+pub fn plan_effect<B: Book>(
+    room: Vec<Fill>,
+    book: &mut B,
+    tokens: &mut Tokens,
+    effect: &Effect,
+) -> Result<Plan, NoMemory>
+    requires empty { room.items ≡ [] }
+    requires range { IsInRange effect.now }
+    requires about { IsAbout (B.orders book.old) effect.now }
+    ensures orders { B.orders book.new ≡ B.orders book.old }
+    ensures tokens { tokens.new.tokens ≡ tokens.old.tokens }
+    ensures chains { tokens.new.chains ≡ tokens.old.chains }
+    ensures token_keys { tokens.new.keys ≡ tokens.old.keys }
+    ensures places { IfOk result
+        (λ plan. HasPlaces (B.orders book.new)
+        (B.place book.new) tokens.new.place plan.fills.items plan.left effect.now) }
+{
+    match effect {
+        Effect::Reject(effect) => {
+            tokens.reserve(effect.member, &effect.token)?;
+            Ok(no_plan(room))
+        }
+        Effect::Accept(effect) => {
+            tokens.reserve(effect.member, &effect.enter.token)?;
+            plan_enter(room, book, effect)
+        }
+        Effect::Fail(effect) => {
+            tokens.reserve(effect.member, &effect.replacement)?;
+            Ok(no_plan(room))
+        }
+        Effect::Replace(effect) => {
+            tokens.reserve(effect.member, &effect.replace.replacement_token)?;
+            plan_replacement(room, book, effect)
+        }
+        Effect::Nothing | Effect::Cancel(_) | Effect::End(_) | Effect::Halt(_) | Effect::Break(_) =>
+            Ok(no_plan(room)),
+    }
+}
