@@ -22,7 +22,7 @@ raised-most (x ∷ xs) zero (suc k) = omega arith
 raised-most (x ∷ xs) (suc i) zero = omega arith
 raised-most (x ∷ xs) (suc i) (suc k) = raised-most xs i k
 
-counts-length : (counts : List ℕ) (rs : List Reply) → length (counts_after counts rs) ≡ length counts
+pub counts-length : (counts : List ℕ) (rs : List Reply) → length (counts_after counts rs) ≡ length counts
 counts-length counts [] = refl
 counts-length counts (r ∷ rs) = counts-length (raised counts r.0) rs ∙ raised-length counts r.0
 

@@ -26,4 +26,5 @@ pub mod StruckTapes
 pub mod Operators
 pub mod Reading
 pub mod Spelled
+pub mod Marked
 pub mod Turning

@@ -19,8 +19,8 @@ use Rattle.hx_replay.specs.Text.{Entry}
 use Rattle.hx_replay.specs.Output.{feed_lines, counts_after, told_lines}
 use Rattle.hx_replay.specs.Output as output
 use Rattle.hx_replay.specs.Run.{start, event_of, output_all}
-use Rattle.hx_replay.specs.declared.messages.Numbered.{Numbered}
-use Rattle.hx_replay.specs.declared.messages.Numbered.TheVariants.{OfFeed, OfMember}
+use Rattle.hx_replay.specs.Seen.{Numbered}
+use Rattle.hx_replay.specs.Seen.Numbered.{OfFeed, OfMember}
 use Rattle.hx_replay.specs.Seen.{texts_of, numbered, output_lines, not_to, is_to, LeavesNoTrace}
 use Rattle.hx_replay.specs.Quiet.{is_of_feed, TellsNothing}
 use Rattle.hx_replay.proofs.OutputIsTold.{output_is_told}

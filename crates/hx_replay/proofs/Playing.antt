@@ -2,6 +2,8 @@
 use Rattle.std.proofs.Common.{◌≡◌, ℕ, ◌+◌, true, false, List, ◌++◌, length, Option, Some, None, refl, sym, ap, ◌∙◌, subst, inr}
 use Rattle.std.proofs.lemmas.Bool.{cond-true, cond-false}
 use Rattle.hx_itch.specs.declared.message.Feed.{Feed}
+use Rattle.hx_members.specs.Setups.{Setup}
+use Rattle.hx_market.specs.Markets.{Market}
 use Rattle.hx_rules.specs.declared.fault.PrepareError.{PrepareError}
 use Rattle.hx_rules.specs.declared.fault.PrepareError.TheVariants as refused
 use Rattle.hx_rules.specs.declared.event.Event.{Event}
@@ -49,3 +51,20 @@ plays_line p run new text output e event feed replies entry is_line same known p
   output_is = output_is ∙ rw (run_is, feed_is, replies_is, same) refl;
   after_is = new_is ∙ rw (run_is, feed_is, replies_is, same) refl;
 }
+
+-- the line of an event that a market plays
+pub plays_event : (p : Progress) (setup s : Setup) (market m : Market) (events feed replies fs rs : ℕ) (counts ds : List ℕ) (e : Entry) (event : Event)
+    → (let q : Progress = record { setup = setup; market = market; events = events; feed = feed; replies = replies; counts = counts } in q) ≡ p
+    → s ≡ setup → refusal setup market.recorded event ≡ None → m ≡ (step setup market event).market
+    → fs ≡ length (step setup market event).told.feed → rs ≡ length (step setup market event).told.replies → ds ≡ counts_after counts (step setup market event).told.replies
+    → IsEntry e → is_unknown e ≡ false → event ≡ event_of e
+    → Plays p (record { setup = s; market = m; events = events + 1; feed = feed + fs; replies = replies + rs; counts = ds }) (line e)
+    (feed_lines feed (step setup market event).told.feed ++ reply_lines counts (step setup market event).told.replies)
+plays_event p setup s market m events feed replies fs rs counts ds e event is setup_is passes market_is fs_is rs_is ds_is entry known same =
+    let q : Progress = record { setup = setup; market = market; events = events; feed = feed; replies = replies; counts = counts } in
+    let told = (step setup market event).told in
+    let new : Progress = record { setup = s; market = m; events = events + 1; feed = feed + fs; replies = replies + rs; counts = ds } in
+    let output : List ℕ = feed_lines feed told.feed ++ reply_lines counts told.replies in
+    subst (λ (v : Progress). Plays v new (line e) output) is
+    (plays_line q (record q { market = (step setup market event).market }) new (line e) output e event told.feed told.replies entry refl same known passes refl refl refl refl
+    (rw (setup_is, market_is, fs_is, rs_is, ds_is) refl))

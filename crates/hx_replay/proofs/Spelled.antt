@@ -3,13 +3,12 @@ use Rattle.std.proofs.Common.{◌≡◌, ℕ, ◌+◌, ◌<◌, ◌≤◌, suc, 
 use Rattle.std.specs.Io.KnownBytes.{Appends}
 use Rattle.std.proofs.KnownBytes.{Appends-nil, Appends-trans}
 use Rattle.std.proofs.lemmas.List.{append-nil, nil_from_length}
-use Rattle.hx_replay.specs.declared.messages.Numbered.{Numbered}
-use Rattle.hx_replay.specs.Seen.{text_of, texts_of}
+use Rattle.hx_itch.specs.declared.message.Feed.{Feed}
+use Rattle.hx_market.specs.Outputs.{Reply}
+use Rattle.hx_replay.specs.declared.messages.Mark.{Mark}
+use Rattle.hx_replay.specs.Marks.{lines_of}
+use Rattle.hx_replay.specs.Seen.{texts_of}
 use Rattle.hx_replay.specs.Run.{Writes}
-
-pub texts_pushed : (xs : List Numbered) (x : Numbered) → texts_of (xs ++ x ∷ []) ≡ texts_of xs ++ text_of x
-texts_pushed [] x = append-nil (text_of x)
-texts_pushed (y ∷ ys) x = ap (λ (t : List ℕ). text_of y ++ t) (texts_pushed ys x) ∙ sym (append_assoc (text_of y) (texts_of ys) (text_of x))
 
 pub writes_then : (a b c : Option (List ℕ)) (bytes rest left : List ℕ) → Writes a b bytes rest → Writes b c rest left → Writes a c bytes left
 writes_then a b c bytes rest left h k = record {
@@ -25,38 +24,39 @@ writes_whole a b c bytes rest h more = subst (Appends a c) (sym h.bytes_are) (Ap
 pub writes_from : (a b : Option (List ℕ)) (bytes : List ℕ) → Appends a b bytes → Writes a b bytes []
 writes_from a b bytes h = record { front = bytes; bytes_are = sym (append-nil bytes); wrote = h }
 
--- of all these lines these are left, and those before them are written but for what is spelled
-pub record IsSpelled (w v : Option (List ℕ)) (all : List ℕ) (left : List Numbered) (spelled : List ℕ) : Type 0 where
-  pub wrote : Writes w v all (spelled ++ texts_of left)
+-- of all these lines this text is left, and that before it is written but for what is spelled
+pub record IsSpelled (w v : Option (List ℕ)) (all left spelled : List ℕ) : Type 0 where
+  pub wrote : Writes w v all (spelled ++ left)
 
-pub spelled_none : (w : Option (List ℕ)) (all : List ℕ) (list : List Numbered) (spelled : List ℕ) → spelled ≡ [] → texts_of list ≡ all → IsSpelled w w all list spelled
-spelled_none w all list spelled none text = record {
-  wrote = record { front = []; bytes_are = sym text ∙ ap (λ (x : List ℕ). x ++ texts_of list) (sym none); wrote = Appends-nil w };
+pub spelled_none : (w : Option (List ℕ)) (all text spelled : List ℕ) → spelled ≡ [] → text ≡ all → IsSpelled w w all text spelled
+spelled_none w all text spelled none is = record {
+  wrote = record { front = []; bytes_are = sym is ∙ ap (λ (x : List ℕ). x ++ text) (sym none); wrote = Appends-nil w };
 }
 
 -- one line more
-pub spelled_one : (w v : Option (List ℕ)) (all : List ℕ) (x : Numbered) (left : List Numbered) (spelled more : List ℕ) → IsSpelled w v all (x ∷ left) spelled → more ≡ spelled ++ text_of x → IsSpelled w v all left more
-spelled_one w v all x left spelled more h one = record {
-  wrote = subst (Writes w v all) (sym (append_assoc spelled (text_of x) (texts_of left)) ∙ ap (λ (t : List ℕ). t ++ texts_of left) (sym one)) h.wrote;
+pub spelled_one : (w v : Option (List ℕ)) (all now left spelled more : List ℕ) → IsSpelled w v all (now ++ left) spelled → more ≡ spelled ++ now → IsSpelled w v all left more
+spelled_one w v all now left spelled more h one = record {
+  wrote = subst (Writes w v all) (sym (append_assoc spelled now left) ∙ ap (λ (t : List ℕ). t ++ left) (sym one)) h.wrote;
 }
 
 -- some of what is spelled is written
-pub spelled_less : (w v u : Option (List ℕ)) (all : List ℕ) (left : List Numbered) (spelled rest : List ℕ) → IsSpelled w v all left spelled → Writes v u spelled rest → IsSpelled w u all left rest
+pub spelled_less : (w v u : Option (List ℕ)) (all left spelled rest : List ℕ) → IsSpelled w v all left spelled → Writes v u spelled rest → IsSpelled w u all left rest
 spelled_less w v u all left spelled rest h some = record {
-  wrote = writes_then w v u all (spelled ++ texts_of left) (rest ++ texts_of left) h.wrote
+  wrote = writes_then w v u all (spelled ++ left) (rest ++ left) h.wrote
       (record {
         front = some.front;
-        bytes_are = ap (λ (t : List ℕ). t ++ texts_of left) some.bytes_are ∙ append_assoc some.front rest (texts_of left);
+        bytes_are = ap (λ (t : List ℕ). t ++ left) some.bytes_are ∙ append_assoc some.front rest left;
         wrote = some.wrote;
       });
 }
 
--- the line at a place is the first of those from there on
-pub item_first : (xs : List Numbered) (i : ℕ) (x : Numbered) → i < length xs → x ≡ get_or xs i x → drop i xs ≡ x ∷ drop (i + 1) xs
-item_first xs i x below is = rw add-one (drop-cons xs i x below ∙ ap (λ (y : Numbered). y ∷ drop (suc i) xs) (sym is))
+-- the mark at a place is the first of those from there on
+pub mark_first : (xs : List Mark) (i : ℕ) (x : Mark) → i < length xs → drop i xs ≡ get_or xs i x ∷ drop (i + 1) xs
+mark_first xs i x below = rw add-one (drop-cons xs i x below)
 
--- no line is left
-pub spelled_all : (w v : Option (List ℕ)) (all : List ℕ) (xs : List Numbered) (i : ℕ) (spelled : List ℕ) → length xs ≤ i → IsSpelled w v all (drop i xs) spelled → Writes w v all spelled
-spelled_all w v all xs i spelled behind h =
-    let none : drop i xs ≡ [] = nil_from_length (drop i xs) (omega (arith, length-drop i xs)) in
-    subst (Writes w v all) (ap (λ (l : List Numbered). spelled ++ texts_of l) none ∙ append-nil spelled) h.wrote
+-- no mark is left
+pub spelled_all : (w v : Option (List ℕ)) (all : List ℕ) (marks : List Mark) (i : ℕ) (feed : List Feed) (replies : List Reply) (spelled : List ℕ)
+    → length marks ≤ i → IsSpelled w v all (texts_of (lines_of (drop i marks) feed replies)) spelled → Writes w v all spelled
+spelled_all w v all marks i feed replies spelled behind h =
+    let none : drop i marks ≡ [] = nil_from_length (drop i marks) (omega (arith, length-drop i marks)) in
+    subst (Writes w v all) (ap (λ (l : List Mark). spelled ++ texts_of (lines_of l feed replies)) none ∙ append-nil spelled) h.wrote

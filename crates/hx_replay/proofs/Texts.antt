@@ -11,8 +11,8 @@ use Rattle.hx_itch.specs.Message.{feed_bytes}
 use Rattle.hx_ouch.specs.declared.outbound.Outbound.{Outbound}
 use Rattle.hx_ouch.specs.Outbound.{outbound_bytes}
 use Rattle.hx_replay.specs.Grep.{lines_in, begins_with, of_feed, of_member, lines_except, lines_of_feed}
-use Rattle.hx_replay.specs.declared.messages.Numbered.{Numbered}
-use Rattle.hx_replay.specs.declared.messages.Numbered.TheVariants.{OfFeed, OfMember}
+use Rattle.hx_replay.specs.Seen.{Numbered}
+use Rattle.hx_replay.specs.Seen.Numbered.{OfFeed, OfMember}
 use Rattle.hx_replay.specs.Seen.{text_of, texts_of, not_to, is_to}
 use Rattle.hx_replay.specs.Quiet.{is_of_feed, feed_among}
 

@@ -2,13 +2,10 @@
 use Rattle.std.specs.Prelude.{◌≡◌, ◌⊎◌, ◌∷◌, ℕ, ◌<◌, ◌^◌, List, ◌++◌, map, Option}
 use Rattle.std.specs.List.{AllByRecursion}
 use Rattle.std.specs.Io.KnownBytes.{Appends}
-use Rattle.hx_itch.specs.Message.{feed_time}
 use Rattle.hx_rules.specs.declared.event.Event.{Event}
 use Rattle.hx_replay.specs.Text.{Entry, line}
 use Rattle.hx_replay.specs.declared.fault.TapeError.{TapeError}
 use Rattle.hx_replay.specs.declared.fault.TapeError.TheVariants as fault
-use Rattle.hx_replay.specs.declared.messages.Numbered.{Numbered}
-use Rattle.hx_replay.specs.declared.messages.Numbered.TheVariants.{OfFeed, OfMember}
 use Rattle.hx_replay.specs.Run.{Progress, event_of, tape, Faults, AreEvents, after_all, output_all}
 use Rattle.hx_replay.specs.Struck.{IsKnown}
 
@@ -22,11 +19,6 @@ pub record IsAhead (text : List ℕ) (events : List Event) (rest : List ℕ) : T
   pub entries : List Entry
   pub are : AreOf entries events
   pub text_is : text ≡ tape entries ++ rest
-
--- the time of a message of the feed fits into its six bytes
-abbrev pub HasRoomForTime : Numbered → Type 0
-HasRoomForTime (OfFeed number message) = feed_time message < 2 ^ 48
-HasRoomForTime (OfMember member number reply) = Unit {0}
 
 -- the text is that of events and a rest, and of the output text of the events all was written but what is gathered
 pub record Gathers (old new : Progress) (text : List ℕ) (w v : Option (List ℕ))

@@ -11,3 +11,4 @@ pub mod Quiet
 pub mod Operators
 pub mod Histories
 pub mod Ahead
+pub mod Marks

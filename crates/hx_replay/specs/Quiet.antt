@@ -12,8 +12,8 @@ use Rattle.hx_replay.specs.Text.{Entry}
 use Rattle.hx_replay.specs.Grep.{lines_except, lines_of_feed}
 use Rattle.hx_replay.specs.Run.{start, output_all, AreEvents}
 use Rattle.hx_replay.specs.Seen.{output_lines, not_to, is_to}
-use Rattle.hx_replay.specs.declared.messages.Numbered.{Numbered}
-use Rattle.hx_replay.specs.declared.messages.Numbered.TheVariants.{OfFeed, OfMember}
+use Rattle.hx_replay.specs.Seen.{Numbered}
+use Rattle.hx_replay.specs.Seen.Numbered.{OfFeed, OfMember}
 use Rattle.hx_replay.specs.Struck.{struck, struck_all}
 
 -- a message of the feed

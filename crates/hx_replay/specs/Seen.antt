@@ -10,13 +10,16 @@ use Rattle.hx_rules.specs.declared.event.Event.{Event}
 use Rattle.hx_market.specs.Steps.{told}
 use Rattle.hx_market.specs.QuietChains.{Line, lines_of_all, strike_one}
 use Rattle.hx_market.specs.QuietChains.Line.{ToFeed, ToMember}
-use Rattle.hx_replay.specs.declared.messages.Numbered.{Numbered}
-use Rattle.hx_replay.specs.declared.messages.Numbered.TheVariants.{OfFeed, OfMember}
 use Rattle.hx_replay.specs.Text.{Entry}
 use Rattle.hx_replay.specs.Output.{feed_line, reply_line}
 use Rattle.hx_replay.specs.Run.{start, event_of, output_all}
 
--- the text of a line of output with its number: message n of the feed, or reply n to a member
+-- a line of output with its number: a message of the feed, or a reply to a member
+pub data Numbered : Type 0 where
+  OfFeed : (number : ℕ) (message : Feed) → Numbered
+  OfMember : (member number : ℕ) (reply : Outbound) → Numbered
+
+-- its text
 abbrev pub text_of : Numbered → List ℕ
 text_of (OfFeed number message) = feed_line number message
 text_of (OfMember member number reply) = reply_line member number reply

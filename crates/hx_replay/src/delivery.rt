@@ -1,16 +1,57 @@
 //! What is told, spelled and written.
-ghost use Rattle.std.specs.Prelude.{◌≡◌, ◌++◌, ◌∷◌, ℕ, List, Option, OnOk, OnErr, IfErr};
+ghost use Rattle.std.specs.Prelude.{◌≡◌, ◌++◌, ◌∷◌, ℕ, List, Option, OnOk, OnErr, IfOk, IfErr};
 ghost use Rattle.std.specs.Io.KnownBytes.{Appends};
 ghost use Rattle.hx_text.specs.Cuts.{Lacks};
 ghost use Rattle.hx_replay.specs.Run.{Progress, Writes, Faults, Stops};
 ghost use Rattle.hx_replay.specs.Ahead.{Gathers, IsUnwritten};
+ghost use Rattle.hx_replay.specs.Marks.{lines_of, HaveRoomForTimes};
+ghost use Rattle.hx_replay.specs.Seen.{texts_of};
+ghost use Rattle.hx_replay.specs.declared.messages.Mark.{Mark};
 ghost use Rattle.hx_replay.specs.declared.fault.TapeError.TheVariants as fault;
 
 use crate::fault::TapeError;
-use crate::messages::Messages;
+use crate::messages::{Mark, Messages};
 use crate::replaying::{write_many, write_whole};
 use crate::telling::Lines;
+use hx_itch::Feed;
+use hx_ouch::Outbound;
+use hx_units::MemberNo;
+use std::alloc::AllocError;
 use std::io::Write;
+
+// Spells the line that a mark marks, and answers what is left of the messages of the feed and of the replies.
+#[inline(always)]
+fn spell_next<'a>(
+    mark: &Mark,
+    feed: &'a [Feed],
+    replies: &'a [(MemberNo, Outbound)],
+    lines: &mut Lines,
+) -> Result<(&'a [Feed], &'a [(MemberNo, Outbound)]), AllocError>
+    requires { HaveRoomForTimes feed.now }
+    ensures ok { IfOk result (λ left. (marks : List Mark) → (now : List ℕ)
+        × (texts_of (lines_of (mark.now ∷ marks) feed.now replies.now)
+        ≡ now ++ texts_of (lines_of marks left.0.now left.1.now))
+        × (lines.new ≡ lines.old ++ now)) }
+    ensures times { IfOk result (λ left. HaveRoomForTimes left.0.now) }
+    ensures err { OnErr result (lines.new ≡ lines.old) }
+{
+    match mark {
+        Mark::OfFeed(number) => {
+            let Some((message, others)) = feed.split_first() else {
+                return Ok((feed, replies));
+            };
+            lines.add_feed_line(*number, message)?;
+            Ok((others, replies))
+        }
+        Mark::OfMember(number) => {
+            let Some(((member, reply), others)) = replies.split_first() else {
+                return Ok((feed, replies));
+            };
+            lines.add_reply_line(*member, *number, reply)?;
+            Ok((feed, others))
+        }
+    }
+}
 
 /// Spells the lines of output, and writes them. Where it fails, a front of them was written.
 pub fn write_told<W: Write>(
@@ -25,9 +66,11 @@ pub fn write_told<W: Write>(
     ensures fault { IfErr result IsUnwritten }
 {
     lines.clear();
-    let list = told.list();
-    for message in list {
-        message.spell(lines)?;
+    let (marks, mut feed, mut replies) = told.parts();
+    for mark in marks {
+        let left = spell_next(mark, feed, replies, lines)?;
+        feed = left.0;
+        replies = left.1;
         write_many(writer, lines)?;
     }
     write_whole(writer, lines.text())?;

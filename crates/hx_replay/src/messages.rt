@@ -1,60 +1,122 @@
 //! What events told, with its numbers, before it is spelled.
-ghost use Rattle.std.specs.Prelude.{◌≡◌, ◌<◌, ◌^◌, ◌++◌, [], OnOk, OnErr};
-ghost use Rattle.std.specs.List.{AllByRecursion};
-ghost use Rattle.hx_itch.specs.Message.{feed_time};
-ghost use Rattle.hx_replay.specs.Output.{feed_line, reply_line};
-ghost use Rattle.hx_replay.specs.Seen.{text_of, texts_of};
-ghost use Rattle.hx_replay.specs.Ahead.{HasRoomForTime};
+ghost use Rattle.std.specs.Prelude.{◌≡◌, ◌<◌, ◌+◌, ◌^◌, ◌++◌, [], ℕ, None, IfOk, OnOk, IfErr, length, slice_index};
+ghost use Rattle.hx_market.specs.Refusals.{refusal, or_no_memory};
+ghost use Rattle.hx_market.specs.Steps.{step};
+ghost use Rattle.hx_rules.specs.declared.fault.PrepareError.TheVariants as refused;
+ghost use Rattle.hx_replay.specs.Marks.{lines_of, feed_marks, reply_marks, HaveRoomForTimes};
+ghost use Rattle.hx_replay.specs.Output.{feed_lines, reply_lines, counts_after};
+ghost use Rattle.hx_replay.specs.Seen.{texts_of};
 
-use crate::telling::Lines;
 use hx_itch::Feed;
+use hx_levels::Book;
+use hx_market::{Event, Market, Output, PrepareError};
 use hx_ouch::Outbound;
 use hx_units::MemberNo;
 use std::alloc::{AllocError, Global};
 use std::marker::Model;
 
-/// A line of output with its number.
+/// Where what is told next stands, with its number.
 #[derive(Clone, Copy)]
-pub enum Numbered {
-    /// A message of the feed, with its number.
-    OfFeed(u64, Feed),
-    /// A reply to a member, with its number.
-    OfMember(MemberNo, u64, Outbound),
+pub enum Mark {
+    /// Among the messages of the feed.
+    OfFeed(u64),
+    /// Among the replies.
+    OfMember(u64),
 }
 
-impl Numbered {
-    /// Appends its line.
-    pub(crate) fn spell(&self, lines: &mut Lines) -> Result<(), AllocError>
-        requires { HasRoomForTime self.now }
-        ensures ok { OnOk result (lines.new ≡ lines.old ++ text_of self.now) }
-        ensures err { OnErr result (lines.new ≡ lines.old) }
-    {
-        match self {
-            Numbered::OfFeed(number, message) => lines.add_feed_line(*number, message),
-            Numbered::OfMember(member, number, reply) => {
-                lines.add_reply_line(*member, *number, reply)
-            }
-        }
-    }
+/// How much an event told.
+#[derive(Clone, Copy)]
+pub(crate) struct ToldCounts {
+    /// The messages of the feed.
+    pub(crate) feed: u64,
+    /// The replies.
+    pub(crate) replies: u64,
 }
 
 /// Lines of output before they are spelled. Contracts see their text.
 #[derive(Drop)]
 pub(crate) struct Messages {
-    list: Vec<Numbered>,
+    // The market writes what it tells into these lists, where it stays.
+    told: Output,
+    marks: Vec<Mark>,
 }
 
 impl Model for Messages {
     ghost use Rattle.std.specs.Prelude.{ℕ, List};
-    ghost use Rattle.std.specs.List.{AllByRecursion};
     ghost use Rattle.hx_replay.specs.Seen.{texts_of};
-    ghost use Rattle.hx_replay.specs.Ahead.{HasRoomForTime};
+    ghost use Rattle.hx_replay.specs.Marks.{lines_of, AreMarked, HaveRoomForTimes};
 
     ghost Value = { List ℕ };
 
-    ghost view = { λ m. texts_of m.list.items };
+    ghost view = { λ m. texts_of
+        (lines_of m.marks.items m.told.feed.items m.told.replies.items) };
 
-    ghost invariant = { λ m. AllByRecursion HasRoomForTime m.list.items };
+    ghost invariant = { λ m. AreMarked m.marks.items m.told.feed.items m.told.replies.items
+        × HaveRoomForTimes m.told.feed.items };
+}
+
+// Marks messages of the feed, after so many others.
+fn mark_feed(marks: &mut Vec<Mark>, before: u64, feed: &[Feed]) -> Result<(), AllocError>
+    requires { before + length feed.now < 2 ^ 64 }
+    ensures { OnOk result (marks.new.items ≡ marks.old.items ++ feed_marks before feed.now) }
+{
+    let mut number = before;
+    for _ in feed {
+        number += 1;
+        marks.push(Mark::OfFeed(number))?;
+    }
+    Ok(())
+}
+
+// Marks replies, after so many others of each member.
+fn mark_replies(
+    marks: &mut Vec<Mark>,
+    counts: &mut [u64],
+    replies: &[(MemberNo, Outbound)],
+) -> Result<(), AllocError>
+    requires numbered { length counts.old ≡ 4096 }
+    requires room { (member : ℕ) → slice_index counts.old member + length replies.now < 2 ^ 64 }
+    ensures marks { OnOk result (marks.new.items
+        ≡ marks.old.items ++ reply_marks counts.old replies.now) }
+    ensures counts { OnOk result (counts.new ≡ counts_after counts.old replies.now) }
+{
+    for (member, _) in replies {
+        let count = &mut counts[member.get() as usize];
+        *count += 1;
+        marks.push(Mark::OfMember(*count))?;
+    }
+    Ok(())
+}
+
+// Marks what an event told.
+fn mark_told(
+    marks: &mut Vec<Mark>,
+    before: u64,
+    counts: &mut [u64],
+    feed: &[Feed],
+    replies: &[(MemberNo, Outbound)],
+) -> Result<(), AllocError>
+    requires feed { before + length feed.now < 2 ^ 64 }
+    requires numbered { length counts.old ≡ 4096 }
+    requires room { (member : ℕ) → slice_index counts.old member + length replies.now < 2 ^ 64 }
+    ensures marks { OnOk result (marks.new.items
+        ≡ marks.old.items
+        ++ (feed_marks before feed.now ++ reply_marks counts.old replies.now)) }
+    ensures counts { OnOk result (counts.new ≡ counts_after counts.old replies.now) }
+{
+    mark_feed(marks, before, feed)?;
+    mark_replies(marks, counts, replies)
+}
+
+// Lets all messages go, and their marks.
+fn forget(told: &mut Output, marks: &mut Vec<Mark>)
+    ensures feed { told.new.feed.items ≡ [] }
+    ensures replies { told.new.replies.items ≡ [] }
+    ensures marks { marks.new.items ≡ [] }
+{
+    told.feed.clear();
+    told.replies.clear();
+    marks.clear();
 }
 
 impl Messages {
@@ -63,48 +125,77 @@ impl Messages {
         ensures { result ≡ [] }
     {
         Messages {
-            list: Vec::new(alloc),
+            told: Output {
+                feed: Vec::new(alloc),
+                replies: Vec::new(alloc),
+            },
+            marks: Vec::new(alloc),
         }
     }
 
-    /// The lines, one by one.
-    pub(crate) fn list(&self) -> &[Numbered]
-        ensures text { texts_of result.now ≡ self.now }
-        ensures times { AllByRecursion HasRoomForTime result.now }
+    /// Their marks, and what these mark: messages of the feed, and replies.
+    pub(crate) fn parts(&self) -> (&[Mark], &[Feed], &[(MemberNo, Outbound)])
+        ensures text { texts_of (lines_of result.0.now result.1.now result.2.now) ≡ self.now }
+        ensures times { HaveRoomForTimes result.1.now }
     {
-        &self.list
+        (&self.marks, &self.told.feed, &self.told.replies)
     }
 
     /// Lets them go. Their memory stays for others.
     pub(crate) fn clear(&mut self)
         ensures { self.new ≡ [] }
     {
-        self.list.clear();
+        forget(&mut self.told, &mut self.marks);
     }
 
-    /// Appends message `number` of the feed.
-    #[tactic(auto, using(crate::proofs::Spelled::texts_pushed))]
-    pub(crate) fn add_feed_line(&mut self, number: u64, message: &Feed) -> Result<(), AllocError>
-        requires { feed_time message.now < 2 ^ 48 }
-        ensures ok { OnOk result (self.new ≡ self.old ++ feed_line number message.now) }
-        ensures err { OnErr result (self.new ≡ self.old) }
-    {
-        self.list.push(Numbered::OfFeed(number, *message))?;
-        Ok(())
-    }
-
-    /// Appends reply `number` to a member.
-    #[tactic(auto, using(crate::proofs::Spelled::texts_pushed))]
-    pub(crate) fn add_reply_line(
+    /// Has a market play an event, and appends what it tells, after so many messages of the feed, and so many replies of
+    /// each member, which are counted on. Where the market refuses the event, what was told before stays.
+    pub(crate) fn play<B: Book + Drop>(
         &mut self,
-        member: MemberNo,
-        number: u64,
-        reply: &Outbound,
-    ) -> Result<(), AllocError>
-        ensures ok { OnOk result (self.new ≡ self.old ++ reply_line member number reply.now) }
-        ensures err { OnErr result (self.new ≡ self.old) }
+        market: &mut Market<B>,
+        event: &Event,
+        before: u64,
+        counts: &mut [u64],
+    ) -> Result<ToldCounts, PrepareError>
+        requires feed { before < 2 ^ 62 }
+        requires numbered { length counts.old ≡ 4096 }
+        requires each { (member : ℕ) → slice_index counts.old member < 2 ^ 62 }
+        ensures setup { market.new.setup ≡ market.old.setup }
+        ensures passes { OnOk result
+            (refusal market.old.setup market.old.market.recorded event.now ≡ None) }
+        ensures market { OnOk result (market.new.market
+            ≡ (step market.old.setup market.old.market event.now).market) }
+        ensures told { OnOk result (self.new
+            ≡ self.old
+            ++ (feed_lines before (step market.old.setup market.old.market event.now).told.feed
+            ++ reply_lines counts.old
+            (step market.old.setup market.old.market event.now).told.replies)) }
+        ensures counted { OnOk result (counts.new
+            ≡ counts_after counts.old
+            (step market.old.setup market.old.market event.now).told.replies) }
+        ensures feed_count { IfOk result (λ c. c.feed
+            ≡ length (step market.old.setup market.old.market event.now).told.feed) }
+        ensures reply_count { IfOk result (λ c. c.replies
+            ≡ length (step market.old.setup market.old.market event.now).told.replies) }
+        ensures few { IfOk result (λ c. (c.feed < 2 ^ 62) × (c.replies < 2 ^ 62)) }
+        ensures refused { IfErr result (λ e. e
+            ≡ or_no_memory (refusal market.old.setup market.old.market.recorded event.now)) }
+        ensures kept { IfErr result (λ e. (e ≡ refused.NoMemory → ⊥) → self.new ≡ self.old) }
     {
-        self.list.push(Numbered::OfMember(member, number, *reply))?;
-        Ok(())
+        let (feed_from, replies_from) = (self.told.feed.len(), self.told.replies.len());
+        market.play(event, &mut self.told)?;
+        let (_, feed) = self.told.feed.split_at(feed_from);
+        let (_, replies) = self.told.replies.split_at(replies_from);
+        let count = ToldCounts {
+            feed: feed.len() as u64,
+            replies: replies.len() as u64,
+        };
+        match mark_told(&mut self.marks, before, counts, feed, replies) {
+            Ok(()) => Ok(count),
+            Err(_) => {
+                forget(&mut self.told, &mut self.marks);
+                Err(PrepareError::NoMemory)
+            }
+        }
     }
 }

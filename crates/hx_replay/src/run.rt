@@ -12,14 +12,12 @@ ghost use Rattle.hx_replay.specs.Run.{event_of, is_unknown, fault_of, counts_of,
 
 use crate::fault::{Kind, TapeError};
 use crate::line::{self, Fields};
-use crate::messages::Messages;
+use crate::messages::{Messages, ToldCounts};
 use crate::room::Room;
-use hx_itch::Feed;
 use hx_levels::Book;
-use hx_market::{Bytes, Event, Market, Output, PrepareError, decode_operator};
+use hx_market::{Bytes, Event, Market, PrepareError, decode_operator};
 use hx_members::Setup;
-use hx_ouch::Outbound;
-use hx_units::{MemberNo, NoMemory};
+use hx_units::NoMemory;
 use std::alloc::{AllocError, Global};
 use std::marker::Model;
 
@@ -32,6 +30,26 @@ pub struct Counts {
     pub feed: u64,
     /// The replies.
     pub replies: u64,
+}
+
+impl Counts {
+    // The counts after one event more, which told so much.
+    fn after(self, told: ToldCounts) -> Counts
+        requires events { self.events < 2 ^ 63 }
+        requires feed { self.feed + told.feed < 2 ^ 64 }
+        requires replies { self.replies + told.replies < 2 ^ 64 }
+        ensures { result ≡ record {
+          events = self.events + 1;
+          feed = self.feed + told.feed;
+          replies = self.replies + told.replies;
+        } }
+    {
+        Counts {
+            events: self.events + 1,
+            feed: self.feed + told.feed,
+            replies: self.replies + told.replies,
+        }
+    }
 }
 
 /// A replay as it goes. Contracts see its progress.
@@ -71,41 +89,6 @@ impl<B: Book> Model for Run<B> {
       replies = r.counts.replies;
       counts = r.replies.items;
     } };
-}
-
-// Appends the lines of messages of the feed, after so many others.
-fn write_feed(lines: &mut Messages, before: u64, feed: &[Feed]) -> Result<(), AllocError>
-    requires times { AllByRecursion (λ message. feed_time message < 2 ^ 48) feed.now }
-    requires room { before + length feed.now < 2 ^ 64 }
-    ensures ok { OnOk result (lines.new ≡ lines.old ++ feed_lines before feed.now) }
-    ensures err { OnErr result (IsFront lines.old lines.new) }
-{
-    let mut number = before;
-    for message in feed {
-        number += 1;
-        lines.add_feed_line(number, message)?;
-    }
-    Ok(())
-}
-
-// Appends the lines of replies, after so many others of each member.
-fn write_replies(
-    lines: &mut Messages,
-    counts: &mut [u64],
-    replies: &[(MemberNo, Outbound)],
-) -> Result<(), AllocError>
-    requires numbered { length counts.old ≡ 4096 }
-    requires room { (member : ℕ) → slice_index counts.old member + length replies.now < 2 ^ 64 }
-    ensures lines { OnOk result (lines.new ≡ lines.old ++ reply_lines counts.old replies.now) }
-    ensures counts { OnOk result (counts.new ≡ counts_after counts.old replies.now) }
-    ensures err { OnErr result (IsFront lines.old lines.new) }
-{
-    for (member, reply) in replies {
-        let count = &mut counts[member.get() as usize];
-        *count += 1;
-        lines.add_reply_line(*member, *count, reply)?;
-    }
-    Ok(())
 }
 
 // The counts of no reply to any member number.
@@ -215,69 +198,13 @@ impl<B: Book + Drop> Run<B> {
             → Faults self.old (line e) x) }
         ensures kept { IfErr result (λ e. (e ≡ fault.NoMemory → ⊥) → lines.new ≡ lines.old) }
     {
-        let output = self.step(event)?;
-        self.tell(&output, lines)?;
-        self.take_back(output);
-        Ok(())
-    }
-
-    // The market takes back what it gave.
-    #[inline(always)]
-    fn take_back(&mut self, output: Output)
-        ensures { self.new ≡ self.old }
-    {
-        self.market.take_back(output);
-    }
-
-    // One step of the market.
-    #[inline(always)]
-    fn step(&mut self, event: &Event) -> Result<Output, TapeError>
-        requires { self.old.events < 2 ^ 48 }
-        ensures passes { OnOk result
-            (refusal self.old.setup self.old.market.recorded event.now ≡ None) }
-        ensures run { OnOk result (
-            self.new ≡ with_market self.old (step self.old.setup self.old.market event.now).market) }
-        ensures feed { IfOk result (λ output.
-            output.feed.items ≡ (step self.old.setup self.old.market event.now).told.feed) }
-        ensures replies { IfOk result (λ output.
-            output.replies.items ≡ (step self.old.setup self.old.market event.now).told.replies) }
-        ensures times { IfOk result (λ output.
-            AllByRecursion (λ message. feed_time message < 2 ^ 48) output.feed.items) }
-        ensures refused { IfErr result (λ e.
-            e ≡ fault_of (self.old.events + 1) (or_no_memory
-            (refusal self.old.setup self.old.market.recorded event.now))) }
-    {
-        match self.market.prepare(event) {
-            Ok(prepared) => Ok(self.market.commit(prepared)),
+        let before = self.counts.feed;
+        match lines.play(&mut self.market, event, before, &mut self.replies) {
+            Ok(told) => {
+                self.counts = self.counts.after(told);
+                Ok(())
+            }
             Err(error) => Err(fault_of(self.counts.events + 1, error)),
         }
-    }
-
-    // Counts what a step gave, and appends its output lines.
-    fn tell(&mut self, output: &Output, lines: &mut Messages) -> Result<(), AllocError>
-        requires times { AllByRecursion (λ message.
-            feed_time message < 2 ^ 48) output.now.feed.items }
-        requires events { self.old.events < 2 ^ 48 }
-        requires feed { self.old.feed + length output.now.feed.items < 2 ^ 64 }
-        requires replies { self.old.replies + length output.now.replies.items < 2 ^ 64 }
-        requires numbered { length self.old.counts ≡ 4096 }
-        requires each { (member : ℕ) → slice_index self.old.counts member ≤ self.old.replies }
-        ensures lines { OnOk result (
-            lines.new ≡ lines.old ++ (feed_lines self.old.feed output.now.feed.items
-            ++ reply_lines self.old.counts output.now.replies.items)) }
-        ensures run { OnOk result (self.new ≡ record self.old {
-          events = self.old.events + 1;
-          feed = self.old.feed + length output.now.feed.items;
-          replies = self.old.replies + length output.now.replies.items;
-          counts = counts_after self.old.counts output.now.replies.items;
-        }) }
-        ensures err { OnErr result (IsFront lines.old lines.new) }
-    {
-        write_feed(lines, self.counts.feed, &output.feed)?;
-        write_replies(lines, &mut self.replies, &output.replies)?;
-        self.counts.events += 1;
-        self.counts.feed += output.feed.len() as u64;
-        self.counts.replies += output.replies.len() as u64;
-        Ok(())
     }
 }

@@ -1,12 +1,12 @@
 use Rattle.std.proofs.Common.{drop}
-use Rattle.std.specs.List.{AllByRecursion}
-use Rattle.hx_replay.specs.Ahead.{HasRoomForTime}
+use Rattle.hx_replay.specs.Marks.{lines_of, HaveRoomForTimes}
+use Rattle.hx_replay.specs.Seen.{texts_of}
 use Rattle.hx_replay.proofs.Spelled.{IsSpelled}
 use Rattle.hx_replay.proofs.delivery.write_told.Given as goal
 
-abbrev pub invariant-loop-message : goal.invariant-loop-message
-invariant-loop-message g l =
+abbrev pub invariant-loop-mark : goal.invariant-loop-mark
+invariant-loop-mark g l =
     record {
-      spelled : IsSpelled (g.W.Write.contents l.fn.writer) (g.W.Write.contents l.writer) l.fn.told (drop l.message-index l.list) l.lines;
-      times : AllByRecursion HasRoomForTime (drop l.message-index l.list);
+      spelled : IsSpelled (g.W.Write.contents l.fn.writer) (g.W.Write.contents l.writer) l.fn.told (texts_of (lines_of (drop l.mark-index l.marks) l.feed l.replies)) l.lines;
+      times : HaveRoomForTimes l.feed;
     }

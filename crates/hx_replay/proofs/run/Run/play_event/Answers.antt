@@ -1,20 +1,32 @@
-use Rattle.std.proofs.Common.{◌≡◌, ◌++◌, ℕ, List, sym, subst, refl}
-use Rattle.std.proofs.lemmas.Result.{err_from_is_err_and}
+use Rattle.std.proofs.Common.{◌≡◌, ◌+◌, ◌++◌, ℕ, List, length, refl, ap, ◌∙◌}
+use Rattle.std.specs.Vec.{with_items}
+use Rattle.std.proofs.lemmas.List.{with_items_is}
+use Rattle.hx_market.specs.Refusals.{refusal, or_no_memory}
+use Rattle.hx_market.specs.Steps.{step}
 use Rattle.hx_replay.specs.Text.{Entry, line}
-use Rattle.hx_replay.specs.Run.{Progress, event_of, Plays}
+use Rattle.hx_replay.specs.Run.{Progress, event_of, fault_of}
 use Rattle.hx_replay.specs.Struck.{IsKnown}
 use Rattle.hx_replay.specs.Output.{feed_lines, reply_lines}
-use Rattle.hx_replay.proofs.Playing.{refused_line, plays_line}
+use Rattle.hx_replay.proofs.Few.{counts-length}
+use Rattle.hx_replay.proofs.Playing.{refused_line, plays_event}
 use Rattle.hx_replay.proofs.run.Run.play_event.Goals as goal
 
-pub returns-in_err-output-clause-faults : goal.returns-in_err-output-clause-faults
-returns-in_err-output-clause-faults g c =
-    let p = err_from_is_err_and c.from_residual.result c.from_residual.ensures.1 in
-    rw (p.1, p.2) (λ (e : Entry) (known : IsKnown e) (same : c.args.event.now ≡ event_of e). refused_line c.args.self.now (line e) e c.args.event.now _ known.entry refl same known.known c.in_err-output.ensures.refused)
+pub returns-in-Err-clause-faults : goal.returns-in-Err-clause-faults
+returns-in-Err-clause-faults g c = λ (e : Entry) (known : IsKnown e) (same : c.args.event.now ≡ event_of e).
+    refused_line c.args.self.now (line e) e c.args.event.now c.fault_of.result known.entry refl same known.known
+    (c.fault_of.ensures ∙ ap (fault_of (c.self.inside.counts.events + 1)) c.in-Err.ensures.refused
+    ∙ ap (λ (p : Progress). fault_of (p.events + 1) (or_no_memory (refusal p.setup p.market.recorded c.args.event.now))) c.self.view_is)
 
-pub returns-clause-ok : goal.returns-clause-ok
-returns-clause-ok g c = λ (e : Entry) (known : IsKnown e) (same : c.args.event.now ≡ event_of e).
-    let output = feed_lines c.step.new.self.feed c.in_ok-output.output.feed.items ++ reply_lines c.step.new.self.counts c.in_ok-output.output.replies.items in
-    let plays = plays_line c.args.self.now c.step.new.self c.tell.new.self (line e) output e c.args.event.now c.in_ok-output.output.feed.items c.in_ok-output.output.replies.items known.entry refl
-    same known.known c.in_ok-output.ensures.passes c.in_ok-output.ensures.run c.in_ok-output.ensures.feed c.in_ok-output.ensures.replies refl c.in_ok-tell.ensures.run in
-    (output, subst (λ (p : Progress). Plays c.args.self.now p (line e) output) (sym c.take_back.ensures) plays, c.in_ok-tell.ensures.lines)
+pub returns-in-Ok-clause-ok : goal.returns-in-Ok-clause-ok
+returns-in-Ok-clause-ok g c = λ (e : Entry) (known : IsKnown e) (same : c.args.event.now ≡ event_of e).
+    let s = c.self.inside in
+    let told = (step s.market.setup s.market.market c.args.event.now).told in
+    let counts : List ℕ = c.deref_mut.result.now in
+    let k = c.in-Ok.ensures in
+    let as_many : length c.play.new.counts ≡ s.replies.len = ap (λ (l : List ℕ). length l) k.counted ∙ counts-length counts told.replies ∙ c.deref_mut.ensures.len in
+    let kept : (with_items s.replies c.play.new.counts).items ≡ c.play.new.counts = with_items_is s.replies c.play.new.counts as_many in (
+      feed_lines s.counts.feed told.feed ++ reply_lines counts told.replies,
+      rw (c.after-self-inside.ensures, kept) (plays_event c.args.self.now s.market.setup c.play.new.market.setup s.market.market c.play.new.market.market s.counts.events s.counts.feed s.counts.replies c.in-Ok.told.feed c.in-Ok.told.replies counts c.play.new.counts e c.args.event.now
+          (rw c.deref_mut.ensures.value c.self.view_is) k.setup k.passes k.market k.feed_count k.reply_count k.counted known.entry known.known same),
+      k.told,
+    )

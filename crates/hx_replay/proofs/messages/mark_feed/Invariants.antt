@@ -1,0 +1,11 @@
+use Rattle.std.proofs.Common.{◌≡◌, ◌+◌, ◌++◌, drop}
+use Rattle.hx_replay.specs.Marks.{feed_marks}
+use Rattle.hx_replay.proofs.messages.mark_feed.Given as goal
+
+-- the marks so far, and those of the rest
+abbrev pub invariant-loop : goal.invariant-loop
+invariant-loop l =
+    record {
+      number : l.number ≡ l.fn.before + l.index;
+      marks : l.marks.items ++ feed_marks l.number (drop l.index l.feed) ≡ l.fn.marks.items ++ feed_marks l.fn.before l.feed;
+    }
