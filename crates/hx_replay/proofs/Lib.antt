@@ -27,3 +27,4 @@ pub mod Operators
 pub mod Reading
 pub mod Spelled
 pub mod Turning
+pub mod ReadingOn
