@@ -28,3 +28,4 @@ pub mod Reading
 pub mod Spelled
 pub mod Marked
 pub mod Turning
+pub mod ReadingOn

@@ -130,7 +130,7 @@ stops_in_piece setup r s s' w v u c pending piece e h took stops =
     }
 
 -- the bytes behind the last whole line are the last ones
-rest_of : (c c' : Progress) (text : List ℕ) (v u : Option (List ℕ)) (rest : List ℕ) → Replays c c' text v u rest → drop (length text - length rest) text ≡ rest
+pub rest_of : (c c' : Progress) (text : List ℕ) (v u : Option (List ℕ)) (rest : List ℕ) → Replays c c' text v u rest → drop (length text - length rest) text ≡ rest
 rest_of c c' text v u rest h =
     let lines = tape h.events in
     let size : length text - length rest ≡ length lines = omega (arith, ap length h.text_is, length-append lines rest) in

@@ -1,13 +1,15 @@
 //! Lines that are read before they are played.
-ghost use Rattle.std.specs.Prelude.{◌≡◌, ◌<◌, ◌++◌, ◌∷◌, [], IfOk, OnOk, IfSome, IfNone, length, true, false};
+ghost use Rattle.std.specs.Prelude.{◌≡◌, ◌<◌, ◌++◌, ◌∷◌, [], ℕ, List, IfOk, OnOk, OnErr, IfSome, IfNone, length, true, false};
 ghost use Rattle.hx_replay.specs.Struck.{IsLineOf, IsNoLine};
-ghost use Rattle.hx_replay.specs.Ahead.{IsAhead};
+ghost use Rattle.hx_replay.specs.Ahead.{TakesLines, ReadsOn, ReadsAhead};
 
 use crate::line;
+use crate::pending::Pending;
 use crate::run::event_of;
 use hx_market::Event;
 use hx_text::split_once;
 use std::alloc::{AllocError, Global};
+use std::io::Read;
 use std::marker::Model;
 use std::mem::replace;
 
@@ -50,11 +52,16 @@ const MOST: usize = 4096;
 // A text has a line, more or less, for each so many of its bytes.
 const LINE: usize = 96;
 
-// How many lines of a text are read ahead while so many are played. Before the first turn of a text, and behind its last
-// one, one thread waits for the other: so turns are small there.
-fn turn_lines(played: usize, text: usize) -> usize {
-    let half = text / (2 * LINE);
-    played.saturating_mul(2).min(half).max(LEAST).min(MOST)
+// How many lines are read ahead while so many are played. Before the first turn of a text, and behind its last one, one
+// thread waits for the other: so turns are small there. Where the last read gave as much as there was room for, more is read
+// on behind the last lines.
+fn turn_lines(played: usize, pending: &Pending) -> usize {
+    let most = if pending.is_full() {
+        MOST
+    } else {
+        pending.text().len() / (2 * LINE)
+    };
+    played.saturating_mul(2).min(most).max(LEAST).min(MOST)
 }
 
 impl Ahead {
@@ -109,19 +116,18 @@ impl Ahead {
         Ok(())
     }
 
-    /// Reads the next lines of a text in place of those before, while so many others are played, and answers what stands
-    /// behind them: nothing, or a line that is none, or lines that are too many.
-    pub(crate) fn read<'a>(
+    // Takes lines of a text behind those that are here, until they are so many, and answers what stands behind them:
+    // nothing, or a line that is none, or lines that are too many.
+    fn take_lines<'a>(
         &mut self,
         alloc: Global,
-        played: usize,
+        many: usize,
         text: &'a [u8],
     ) -> Result<&'a [u8], AllocError>
-        ensures { IfOk result (λ rest. IsAhead text.now self.new rest.now) }
+        ensures { IfOk result (λ rest. TakesLines text.now self.old self.new rest.now) }
     {
-        self.count = 0;
         let mut rest = text;
-        for _ in 0..turn_lines(played, text.len()) {
+        for _ in self.count..many {
             let Some((line, others)) = split_once(rest, b'\n') else {
                 return Ok(rest);
             };
@@ -132,5 +138,45 @@ impl Ahead {
             rest = others;
         }
         Ok(rest)
+    }
+
+    // The same of bytes that are pending.
+    fn take_pending(
+        &mut self,
+        alloc: Global,
+        many: usize,
+        pending: &mut Pending,
+    ) -> Result<(), AllocError>
+        ensures taken { OnOk result (TakesLines pending.old self.old self.new pending.new) }
+    {
+        let rest = self.take_lines(alloc, many, pending.text())?.len();
+        pending.keep(rest);
+        Ok(())
+    }
+
+    /// Reads the next lines of what is pending in place of those before, while so many others are played. Where they are
+    /// fewer than wanted, it has more bytes read ahead, if such a read is left, and answers how many of them are left then.
+    pub(crate) fn read<R: Read>(
+        &mut self,
+        alloc: Global,
+        played: usize,
+        pending: &mut Pending,
+        reader: &mut R,
+        left: u64,
+    ) -> Result<u64, AllocError>
+        ensures ok { IfOk result (λ after. ReadsAhead pending.old self.new pending.new
+            (R.remaining reader.old) (R.remaining reader.new) left after) }
+        ensures err { OnErr result ((text : List ℕ)
+            × ReadsOn pending.old text (R.remaining reader.old) (R.remaining reader.new) left 0) }
+    {
+        self.count = 0;
+        let many = turn_lines(played, pending);
+        self.take_pending(alloc, many, pending)?;
+        if left == 0 || self.count == many {
+            return Ok(left);
+        }
+        pending.read_ahead(reader);
+        self.take_pending(alloc, many, pending)?;
+        Ok(left - 1)
     }
 }

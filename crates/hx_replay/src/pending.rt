@@ -1,35 +1,42 @@
 //! The bytes of a tape that are read and not yet played.
-ghost use Rattle.std.specs.Prelude.{◌≡◌, ◌≤◌, ◌-◌, ◌++◌, ℕ, List, [], IfOk, OnOk, IfErr, false, length, drop};
+ghost use Rattle.std.specs.Prelude.{◌≡◌, ◌≤◌, ◌-◌, ◌++◌, ℕ, List, [], IfOk, OnOk, IfErr, OnErr, false, length, drop};
 ghost use Rattle.std.specs.Io.KnownBytes.{Consumes, IsAtEnd, Keeps};
+ghost use Rattle.hx_replay.specs.Ahead.{ReadsOn};
 ghost use Rattle.hx_replay.specs.Text.{longest_line};
 ghost use Rattle.hx_replay.specs.declared.fault.TapeError.TheVariants as fault;
 
 use crate::fault::TapeError;
 use std::alloc::{AllocError, Global};
-use std::io::{ErrorKind, Read};
+use std::io::{self, ErrorKind, Read};
 use std::marker::Model;
 
 /// The greatest line, without its line feed.
 pub(crate) const LONGEST: usize = 2066;
 
-/// Bytes that are read and not yet played. They stand in one piece of memory, at whose front a line that is not yet whole
-/// waits for its end. Contracts see them.
+/// Bytes that are read and not yet played. They stand in one piece of memory, in which the place where they begin moves on
+/// as they are played: before more is read, a line that is not yet whole is moved to the front, where it waits for its end.
+/// Contracts see them.
 #[derive(Drop)]
 pub(crate) struct Pending {
-    // They, and behind them room for those that are read next.
+    // Those that are played, then they, and behind them room for those that are read next.
     bytes: Vec<u8>,
+    start: usize,
     count: usize,
+    // Whether the last read gave as much as there was room for: then the next one will hardly have to wait.
+    full: bool,
+    // Whether a read ahead failed.
+    failed: bool,
 }
 
 impl Model for Pending {
-    ghost use Rattle.std.specs.Prelude.{◌≤◌, ◌<◌, ℕ, List, length, take};
+    ghost use Rattle.std.specs.Prelude.{◌≤◌, ◌<◌, ◌+◌, ℕ, List, length, take, drop};
     ghost use Rattle.hx_replay.specs.Text.{longest_line};
 
     ghost Value = { List ℕ };
 
-    ghost view = { λ p. take p.count p.bytes.items };
+    ghost view = { λ p. take p.count (drop p.start p.bytes.items) };
 
-    ghost invariant = { λ p. (p.count ≤ length p.bytes.items)
+    ghost invariant = { λ p. (p.start + p.count ≤ length p.bytes.items)
         × (longest_line < length p.bytes.items) × (length p.bytes.items ≤ 16777216) };
 }
 
@@ -42,7 +49,10 @@ impl Pending {
     {
         Ok(Pending {
             bytes: vec![in alloc; 0; LONGEST + piece]?,
+            start: 0,
             count: 0,
+            full: false,
+            failed: false,
         })
     }
 
@@ -50,11 +60,40 @@ impl Pending {
     pub(crate) fn text(&self) -> &[u8]
         ensures { result.now ≡ self.now }
     {
-        &self.bytes[..self.count]
+        &self.bytes[self.start..self.start + self.count]
+    }
+
+    /// Whether the last read gave as much as there was room for.
+    pub(crate) fn is_full(&self) -> bool {
+        self.full
+    }
+
+    // Moves them to the front, reads a piece behind them, and answers how many bytes that gave.
+    fn read_piece<R: Read>(&mut self, reader: &mut R) -> io::Result<usize>
+        requires { length self.old ≤ longest_line }
+        ensures piece { IfOk result (λ count. (piece : List ℕ)
+            × (self.new ≡ self.old ++ piece) × (length piece ≡ count)
+            × Consumes (R.remaining reader.old) (R.remaining reader.new) piece) }
+        ensures fits { OnOk result (length self.new ≤ 16777216) }
+        ensures end { IfOk result (λ count. count ≡ 0 → IsAtEnd (R.remaining reader.new)) }
+        ensures err { OnErr result ((self.new ≡ self.old)
+            × Keeps (R.remaining reader.old) (R.remaining reader.new)) }
+    {
+        self.bytes
+            .copy_within(self.start..self.start + self.count, 0);
+        self.start = 0;
+        match reader.read(&mut self.bytes[self.count..]) {
+            Ok(count) => {
+                self.count += count;
+                self.full = self.count == self.bytes.len();
+                Ok(count)
+            }
+            Err(e) => Err(e),
+        }
     }
 
     /// Reads a piece behind them, if the reader is not interrupted, and answers whether there may be more: `false` at the
-    /// end of what is read.
+    /// end of what is read. Where a read ahead failed, this answers its failure and reads nothing.
     pub(crate) fn read<R: Read>(&mut self, reader: &mut R) -> Result<bool, TapeError>
         requires { length self.old ≤ longest_line }
         ensures piece { OnOk result ((piece : List ℕ) × (self.new ≡ self.old ++ piece)
@@ -66,13 +105,29 @@ impl Pending {
         ensures err { IfErr result (λ e. (e ≡ fault.Read) × (self.new ≡ self.old)
             × Keeps (R.remaining reader.old) (R.remaining reader.new)) }
     {
-        match reader.read(&mut self.bytes[self.count..]) {
-            Ok(count) => {
-                self.count += count;
-                Ok(count > 0)
-            }
+        if self.failed {
+            return Err(TapeError::Read);
+        }
+        match self.read_piece(reader) {
+            Ok(count) => Ok(count > 0),
             Err(e) if e.kind() == ErrorKind::Interrupted => Ok(true),
             Err(_) => Err(TapeError::Read),
+        }
+    }
+
+    /// Reads a piece behind them before all of them are played, where the last read gave as much as there was room for and
+    /// they are no more than a line. A failure is kept for the next `read`.
+    pub(crate) fn read_ahead<R: Read>(&mut self, reader: &mut R)
+        ensures { ReadsOn self.old self.new (R.remaining reader.old) (R.remaining reader.new) 1 0 }
+    {
+        if !self.full || self.count > LONGEST {
+            return;
+        }
+        if let Err(e) = self.read_piece(reader) {
+            if e.kind() != ErrorKind::Interrupted {
+                self.failed = true;
+                self.full = false;
+            }
         }
     }
 
@@ -81,8 +136,7 @@ impl Pending {
         requires { count ≤ length self.old }
         ensures { self.new ≡ drop (length self.old - count) self.old }
     {
-        let from = self.count - count;
-        self.bytes.copy_within(from..self.count, 0);
+        self.start += self.count - count;
         self.count = count;
     }
 }

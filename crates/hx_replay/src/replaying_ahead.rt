@@ -1,8 +1,7 @@
 //! A tape from its lines to its output lines, where another thread reads ahead, and writes what was told before.
-ghost use Rattle.std.specs.Prelude.{◌<◌, ◌^◌, ◌+◌, IfOk, IfErr, length};
-ghost use Rattle.hx_units.specs.Letters.{line_feed};
-ghost use Rattle.hx_text.specs.Cuts.{Lacks};
-ghost use Rattle.hx_replay.specs.Run.{Replays, Stops, IsFew};
+ghost use Rattle.std.specs.Prelude.{◌<◌, ◌^◌, ◌+◌, IfOk, IfErr, OnOk, length};
+ghost use Rattle.hx_replay.specs.Run.{IsFew};
+ghost use Rattle.hx_replay.specs.Ahead.{PlaysOn, StopsOn};
 ghost use Rattle.hx_replay.specs.Whole.{ReplaysAll, StopsAt};
 
 use crate::fault::TapeError;
@@ -21,40 +20,52 @@ use std::thread::Threads;
 // A text of so many bytes, or fewer, is not worth a thread.
 const FEW: usize = 65_536;
 
-// So many bytes are read at once, or fewer.
-const PIECE: usize = 4_194_304;
+// So many bytes are read at once, or fewer: more than a pipe holds, so that a read gives all of them only where the next one
+// will hardly have to wait.
+const PIECE: usize = 1_052_672;
 
-// Plays the whole lines of the text, has their output sent out, and answers the bytes behind them.
-fn play_text<'a, B: Book + Drop, W: Write + Send, T: Threads>(
+// Plays lines of what is pending in turns, where they are worth a thread.
+fn play_many<B: Book + Drop, R: Read + Send, W: Write + Send, T: Threads>(
     rt: &T,
     alloc: Global,
     run: &mut Run<B>,
     room: &mut Room,
     turns: &mut Turns,
+    pending: &mut Pending,
+    reader: &mut R,
     writer: &mut W,
-    text: &'a [u8],
-) -> Result<&'a [u8], TapeError>
-    requires events { run.old.events + length text.now < 2 ^ 48 }
+) -> Result<(), TapeError>
+    requires events { run.old.events + length pending.old + 2 ^ 44 < 2 ^ 48 }
     requires few { IsFew run.old }
-    ensures ok { IfOk result (λ rest.
-        Replays run.old run.new text.now (W.contents writer.old) (W.contents writer.new) rest.now
-        × Lacks line_feed rest.now) }
-    ensures err { IfErr result
-        (Stops ⊥ run.old text.now (W.contents writer.old) (W.contents writer.new)) }
+    ensures ok { OnOk result (PlaysOn run.old run.new pending.old
+        (R.remaining reader.old) (R.remaining reader.new)
+        (W.contents writer.old) (W.contents writer.new) pending.new) }
+    ensures err { IfErr result (StopsOn run.old pending.old
+        (R.remaining reader.old) (R.remaining reader.new)
+        (W.contents writer.old) (W.contents writer.new)) }
 {
-    if text.len() <= FEW {
-        return play_lines(run, room, writer, text);
+    if pending.text().len() > FEW {
+        play_turns(
+            rt,
+            alloc,
+            run,
+            turns,
+            &mut room.spelled,
+            pending,
+            reader,
+            writer,
+        )?;
     }
-    let rest = play_turns(rt, alloc, run, turns, &mut room.spelled, writer, text)?;
-    let rest = play_lines(run, room, writer, rest)?;
-    Ok(rest)
+    Ok(())
 }
 
 /// Replays a tape over the market of a setup, as `replay` does, but where much is read at once its lines are played in
 /// turns: while some thousand lines are played, another thread writes what those before them told, and reads the next
-/// ones. Before it reads on, it writes the output lines of all that it has read and flushes the writer. A read is one call
-/// of the reader, and 1,000,000,000 of them are too many, as are 2^47 lines.
-pub fn replay_ahead<T: Threads, R: Read, W: Write + Send>(
+/// ones. Where a read gave as much as there was room for, which is more than a megabyte, that thread makes the next read as
+/// well, before all lines of this one are played. Before any other read it writes the output lines of all that it has read
+/// and flushes the writer. A read is one call of the reader: of those that are made while nothing is played 1,000,000,000
+/// are too many, as are 2^47 lines.
+pub fn replay_ahead<T: Threads, R: Read + Send, W: Write + Send>(
     rt: &T,
     alloc: Global,
     setup: &Setup,
@@ -78,8 +89,17 @@ pub fn replay_ahead<T: Threads, R: Read, W: Write + Send>(
         if !pending.read(reader)? {
             return finish(run.counts(), pending.text());
         }
-        let text = pending.text();
-        let rest = play_text(rt, alloc, &mut run, &mut room, &mut turns, writer, text)?.len();
+        play_many(
+            rt,
+            alloc,
+            &mut run,
+            &mut room,
+            &mut turns,
+            &mut pending,
+            reader,
+            writer,
+        )?;
+        let rest = play_lines(&mut run, &mut room, writer, pending.text())?.len();
         keep_rest(&mut pending, rest, run.counts())?;
     }
     Err(TapeError::Turns)

@@ -3,19 +3,20 @@
 ghost use Rattle.std.specs.Prelude.{◌≡◌, ◌<◌, ◌+◌, ◌^◌, ℕ, List, Option, [], length, OnOk, OnErr, IfOk, IfErr, IfSome};
 ghost use Rattle.std.specs.Io.KnownBytes.{Appends};
 ghost use Rattle.hx_replay.specs.Text.{Entry};
-ghost use Rattle.hx_replay.specs.Run.{Progress, Writes, Replays, Stops, IsFew};
-ghost use Rattle.hx_replay.specs.Ahead.{AreOf, IsAhead, IsAtTurn, IsUnwritten, PlaysAll, FailsAmong};
+ghost use Rattle.hx_replay.specs.Run.{Progress, Writes, Stops, IsFew};
+ghost use Rattle.hx_replay.specs.Ahead.{AreOf, IsAhead, IsAtTurn, IsUnwritten, PlaysAll, FailsAmong, ReadsOn, ReadsAhead, PlaysOn, StopsOn};
 
 use crate::ahead::Ahead;
 use crate::delivery::{write_before, write_told};
 use crate::fault::TapeError;
 use crate::messages::Messages;
+use crate::pending::Pending;
 use crate::run::Run;
 use crate::telling::Lines;
 use hx_levels::Book;
 use hx_market::Event;
 use std::alloc::Global;
-use std::io::Write;
+use std::io::{Read, Write};
 use std::mem::{replace, swap};
 use std::thread::{Threads, join_mut};
 
@@ -93,34 +94,39 @@ fn play_all<B: Book + Drop>(
 }
 
 // Writes what was told, and reads on: the part of a turn that needs no market.
-fn write_and_read<'a, W: Write>(
+fn write_and_read<R: Read, W: Write>(
     alloc: Global,
     told: &Messages,
     spelled: &mut Lines,
     writer: &mut W,
     next: &mut Ahead,
     played: usize,
-    text: &'a [u8],
-) -> Result<&'a [u8], TapeError>
+    pending: &mut Pending,
+    reader: &mut R,
+    left: u64,
+) -> Result<u64, TapeError>
     ensures wrote { OnOk result
         (Appends (W.contents writer.old) (W.contents writer.new) told.now) }
-    ensures ahead { IfOk result (λ rest. IsAhead text.now next.new rest.now) }
+    ensures ahead { IfOk result (λ after. ReadsAhead pending.old next.new pending.new
+        (R.remaining reader.old) (R.remaining reader.new) left after) }
     ensures err { OnErr result (
         (rest : List ℕ) × Writes (W.contents writer.old) (W.contents writer.new) told.now rest) }
+    ensures read { OnErr result ((text : List ℕ)
+        × ReadsOn pending.old text (R.remaining reader.old) (R.remaining reader.new) left 0) }
     ensures fault { IfErr result IsUnwritten }
 {
     // In places of this thread's own, since what stands beside them is written by the other one.
     let mut lines = replace(spelled, Lines::new(alloc));
     let mut ahead = replace(next, Ahead::new(alloc));
     write_told(told, &mut lines, writer)?;
-    let rest = ahead.read(alloc, played, text)?;
+    let after = ahead.read(alloc, played, pending, reader, left)?;
     *spelled = lines;
     *next = ahead;
-    Ok(rest)
+    Ok(after)
 }
 
 // Both parts of a turn at once: the events are played in this thread, and what was told is written in another.
-fn play_and_write<'a, B: Book + Drop, W: Write + Send, T: Threads>(
+fn play_and_write<B: Book + Drop, R: Read + Send, W: Write + Send, T: Threads>(
     rt: &T,
     alloc: Global,
     run: &mut Run<B>,
@@ -130,16 +136,21 @@ fn play_and_write<'a, B: Book + Drop, W: Write + Send, T: Threads>(
     spelled: &mut Lines,
     writer: &mut W,
     next: &mut Ahead,
-    text: &'a [u8],
-) -> (Result<&'a [u8], TapeError>, Result<(), TapeError>)
+    pending: &mut Pending,
+    reader: &mut R,
+    left: u64,
+) -> (Result<u64, TapeError>, Result<(), TapeError>)
     requires events { run.old.events + length now.now < 2 ^ 48 }
     requires few { IsFew run.old }
     requires read { (entries : List Entry) × AreOf entries now.now }
     ensures wrote { OnOk result.0
         (Appends (W.contents writer.old) (W.contents writer.new) told.now) }
-    ensures ahead { IfOk result.0 (λ rest. IsAhead text.now next.new rest.now) }
+    ensures ahead { IfOk result.0 (λ after. ReadsAhead pending.old next.new pending.new
+        (R.remaining reader.old) (R.remaining reader.new) left after) }
     ensures err { OnErr result.0 (
         (rest : List ℕ) × Writes (W.contents writer.old) (W.contents writer.new) told.now rest) }
+    ensures read { OnErr result.0 ((text : List ℕ)
+        × ReadsOn pending.old text (R.remaining reader.old) (R.remaining reader.new) left 0) }
     ensures fault { IfErr result.0 IsUnwritten }
     ensures played { OnOk result.1 ((entries : List Entry) → AreOf entries now.now
         → PlaysAll run.old run.new entries telling.new) }
@@ -147,14 +158,22 @@ fn play_and_write<'a, B: Book + Drop, W: Write + Send, T: Threads>(
         → FailsAmong run.old entries telling.new e) }
 {
     let played = now.len();
-    let mut write = || -> Result<&[u8], TapeError>
+    let mut write = || -> Result<u64, TapeError>
         ensures wrote { OnOk result (Appends
             (W.contents writer.entry.now) (W.contents writer.exit.now) told.entry.now) }
-        ensures ahead { IfOk result (λ rest. IsAhead text.entry.now next.exit.now rest.now) }
+        ensures ahead { IfOk result (λ after. ReadsAhead
+            pending.entry.now next.exit.now pending.exit.now
+            (R.remaining reader.entry.now) (R.remaining reader.exit.now) left after) }
         ensures err { OnErr result ((rest : List ℕ) × Writes
             (W.contents writer.entry.now) (W.contents writer.exit.now) told.entry.now rest) }
+        ensures read { OnErr result ((text : List ℕ) × ReadsOn pending.entry.now text
+            (R.remaining reader.entry.now) (R.remaining reader.exit.now) left 0) }
         ensures fault { IfErr result IsUnwritten }
-    { write_and_read(alloc, told, spelled, writer, next, played, text) };
+    {
+        write_and_read(
+            alloc, told, spelled, writer, next, played, pending, reader, left,
+        )
+    };
     let mut play = || -> Result<(), TapeError>
         requires events { run.now.events + length now.now < 2 ^ 48 }
         requires few { IsFew run.now }
@@ -168,26 +187,32 @@ fn play_and_write<'a, B: Book + Drop, W: Write + Send, T: Threads>(
 }
 
 // One turn.
-fn play_turn<'a, B: Book + Drop, W: Write + Send, T: Threads>(
+fn play_turn<B: Book + Drop, R: Read + Send, W: Write + Send, T: Threads>(
     rt: &T,
     alloc: Global,
     run: &mut Run<B>,
     turns: &mut Turns,
     spelled: &mut Lines,
+    pending: &mut Pending,
+    reader: &mut R,
     writer: &mut W,
-    text: &'a [u8],
-) -> Result<&'a [u8], TapeError>
+    left: u64,
+) -> Result<u64, TapeError>
     requires events { run.old.events + length turns.old.now < 2 ^ 48 }
     requires few { IsFew run.old }
     requires read { (entries : List Entry) × AreOf entries turns.old.now }
-    ensures ok { IfOk result (λ rest. (old : Progress) (all : List ℕ) (w : Option (List ℕ))
-        → IsAtTurn old run.old all w (W.contents writer.old) turns.old.told turns.old.now text.now
+    ensures ok { OnOk result ((old : Progress) (all text : List ℕ) (w : Option (List ℕ))
+        → IsAhead text turns.new.now pending.new
+        → IsAtTurn old run.old all w (W.contents writer.old) turns.old.told turns.old.now text
         → IsAtTurn old run.new all w (W.contents writer.new) turns.new.told turns.new.now
-        rest.now) }
-    ensures ahead { IfOk result (λ rest. IsAhead text.now turns.new.now rest.now) }
-    ensures err { IfErr result (λ e. (old : Progress) (all : List ℕ) (w : Option (List ℕ))
-        → IsAtTurn old run.old all w (W.contents writer.old) turns.old.told turns.old.now text.now
+        pending.new) }
+    ensures ahead { IfOk result (λ after. ReadsAhead pending.old turns.new.now pending.new
+        (R.remaining reader.old) (R.remaining reader.new) left after) }
+    ensures err { IfErr result (λ e. (old : Progress) (all text : List ℕ) (w : Option (List ℕ))
+        → IsAtTurn old run.old all w (W.contents writer.old) turns.old.told turns.old.now text
         → Stops ⊥ old all w (W.contents writer.new) e) }
+    ensures read { OnErr result ((text : List ℕ)
+        × ReadsOn pending.old text (R.remaining reader.old) (R.remaining reader.new) left 0) }
 {
     let (read, played) = play_and_write(
         rt,
@@ -199,40 +224,50 @@ fn play_turn<'a, B: Book + Drop, W: Write + Send, T: Threads>(
         spelled,
         writer,
         &mut turns.next,
-        text,
+        pending,
+        reader,
+        left,
     );
-    let rest = read?;
+    let after = read?;
     if let Err(error) = played {
         return Err(write_before(error, &turns.telling, spelled, writer));
     }
     swap(&mut turns.told, &mut turns.telling);
     swap(&mut turns.now, &mut turns.next);
-    Ok(rest)
+    Ok(after)
 }
 
-/// Plays lines of the text in turns, has what they tell written, and answers what stands behind them: no whole line, or
-/// one that is none.
-pub(crate) fn play_turns<'a, B: Book + Drop, W: Write + Send, T: Threads>(
+// So many reads are made at most before all that was read is played.
+const READS: u64 = 1_000_000;
+
+/// Plays lines of what is pending in turns, and has what they tell written. Where the last read gave as much as there was
+/// room for, it reads on before all lines are played. What stands then behind them is no whole line, or one that is none.
+pub(crate) fn play_turns<B: Book + Drop, R: Read + Send, W: Write + Send, T: Threads>(
     rt: &T,
     alloc: Global,
     run: &mut Run<B>,
     turns: &mut Turns,
     spelled: &mut Lines,
+    pending: &mut Pending,
+    reader: &mut R,
     writer: &mut W,
-    text: &'a [u8],
-) -> Result<&'a [u8], TapeError>
-    requires events { run.old.events + length text.now < 2 ^ 48 }
+) -> Result<(), TapeError>
+    requires events { run.old.events + length pending.old + 2 ^ 44 < 2 ^ 48 }
     requires few { IsFew run.old }
-    ensures ok { IfOk result (λ rest. Replays run.old run.new text.now
-        (W.contents writer.old) (W.contents writer.new) rest.now) }
-    ensures err { IfErr result
-        (Stops ⊥ run.old text.now (W.contents writer.old) (W.contents writer.new)) }
+    ensures ok { OnOk result (PlaysOn run.old run.new pending.old
+        (R.remaining reader.old) (R.remaining reader.new)
+        (W.contents writer.old) (W.contents writer.new) pending.new) }
+    ensures err { IfErr result (StopsOn run.old pending.old
+        (R.remaining reader.old) (R.remaining reader.new)
+        (W.contents writer.old) (W.contents writer.new)) }
 {
     turns.told.clear();
-    let mut rest = turns.now.read(alloc, 0, text)?;
+    let mut left = turns.now.read(alloc, 0, pending, reader, READS)?;
     'turns: while !turns.now.is_empty() {
-        rest = play_turn(rt, alloc, run, turns, spelled, writer, rest)?;
+        left = play_turn(
+            rt, alloc, run, turns, spelled, pending, reader, writer, left,
+        )?;
     }
     write_told(&turns.told, spelled, writer)?;
-    Ok(rest)
+    Ok(())
 }
