@@ -1,5 +1,6 @@
 //! What events told, with its numbers, before it is spelled.
-ghost use Rattle.std.specs.Prelude.{◌≡◌, ◌<◌, ◌+◌, ◌^◌, ◌++◌, [], ℕ, None, IfOk, OnOk, IfErr, length, slice_index};
+ghost use Rattle.std.specs.Prelude.{◌≡◌, ◌<◌, ◌≤◌, ◌+◌, ◌^◌, ◌++◌, [], ℕ, None, IfOk, OnOk, IfErr, length, slice_index};
+ghost use Rattle.std.specs.Vec.{vec_len, vec_capacity};
 ghost use Rattle.hx_market.specs.Refusals.{refusal, or_no_memory};
 ghost use Rattle.hx_market.specs.Steps.{step};
 ghost use Rattle.hx_rules.specs.declared.fault.PrepareError.TheVariants as refused;
@@ -55,37 +56,35 @@ impl Model for Messages {
         × HaveRoomForTimes m.told.feed.items };
 }
 
-// Marks messages of the feed, after so many others.
-fn mark_feed(marks: &mut Vec<Mark>, before: u64, feed: &[Feed]) -> Result<(), AllocError>
-    requires { before + length feed.now < 2 ^ 64 }
-    ensures { OnOk result (marks.new.items ≡ marks.old.items ++ feed_marks before feed.now) }
+// Marks messages of the feed, after so many others. There is room for the marks.
+fn mark_feed(marks: &mut Vec<Mark>, before: u64, feed: &[Feed])
+    requires numbers { before + length feed.now < 2 ^ 64 }
+    requires room { vec_len marks.old + length feed.now ≤ vec_capacity marks.old }
+    ensures marked { marks.new.items ≡ marks.old.items ++ feed_marks before feed.now }
+    ensures room { (vec_len marks.new ≡ vec_len marks.old + length feed.now)
+        × (vec_capacity marks.new ≡ vec_capacity marks.old) }
 {
     let mut number = before;
     for _ in feed {
         number += 1;
-        marks.push(Mark::OfFeed(number))?;
+        marks.push_reserved(Mark::OfFeed(number));
     }
-    Ok(())
 }
 
-// Marks replies, after so many others of each member.
-fn mark_replies(
-    marks: &mut Vec<Mark>,
-    counts: &mut [u64],
-    replies: &[(MemberNo, Outbound)],
-) -> Result<(), AllocError>
+// Marks replies, after so many others of each member. There is room for the marks.
+fn mark_replies(marks: &mut Vec<Mark>, counts: &mut [u64], replies: &[(MemberNo, Outbound)])
     requires numbered { length counts.old ≡ 4096 }
-    requires room { (member : ℕ) → slice_index counts.old member + length replies.now < 2 ^ 64 }
-    ensures marks { OnOk result (marks.new.items
-        ≡ marks.old.items ++ reply_marks counts.old replies.now) }
-    ensures counts { OnOk result (counts.new ≡ counts_after counts.old replies.now) }
+    requires numbers { (member : ℕ)
+        → slice_index counts.old member + length replies.now < 2 ^ 64 }
+    requires room { vec_len marks.old + length replies.now ≤ vec_capacity marks.old }
+    ensures marks { marks.new.items ≡ marks.old.items ++ reply_marks counts.old replies.now }
+    ensures counts { counts.new ≡ counts_after counts.old replies.now }
 {
     for (member, _) in replies {
         let count = &mut counts[member.get() as usize];
         *count += 1;
-        marks.push(Mark::OfMember(*count))?;
+        marks.push_reserved(Mark::OfMember(*count));
     }
-    Ok(())
 }
 
 // Marks what an event told.
@@ -98,14 +97,17 @@ fn mark_told(
 ) -> Result<(), AllocError>
     requires feed { before + length feed.now < 2 ^ 64 }
     requires numbered { length counts.old ≡ 4096 }
-    requires room { (member : ℕ) → slice_index counts.old member + length replies.now < 2 ^ 64 }
+    requires numbers { (member : ℕ)
+        → slice_index counts.old member + length replies.now < 2 ^ 64 }
     ensures marks { OnOk result (marks.new.items
         ≡ marks.old.items
         ++ (feed_marks before feed.now ++ reply_marks counts.old replies.now)) }
     ensures counts { OnOk result (counts.new ≡ counts_after counts.old replies.now) }
 {
-    mark_feed(marks, before, feed)?;
-    mark_replies(marks, counts, replies)
+    marks.reserve(feed.len() + replies.len())?;
+    mark_feed(marks, before, feed);
+    mark_replies(marks, counts, replies);
+    Ok(())
 }
 
 // Lets all messages go, and their marks.

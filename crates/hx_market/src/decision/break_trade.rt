@@ -12,6 +12,7 @@ use crate::effect::{BrokenMatch, Effect};
 use hx_day::Trading;
 
 /// What a break does: nothing for a match number that was never drawn, or whose execution is broken.
+#[inline(never)]
 pub fn break_effect(trading: &Trading, time: u64, number: u64) -> Effect
     requires { time < day }
     ensures does { (m : Market) → m.executions ≡ trading.now.executions

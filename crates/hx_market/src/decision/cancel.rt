@@ -44,12 +44,13 @@ pub fn cancel_effect<B: Book>(
     ensures suits { SuitsTokens tokens.now.tokens tokens.now.chains effect.new }
     ensures about { IsAbout (B.orders book.now) effect.new }
 {
-    *effect = Effect::Nothing;
     let Some(found) = find_order(book, tokens, member, &message.token) else {
+        *effect = Effect::Nothing;
         return;
     };
     let by = cancelled_shares(&found, &message);
     if by == 0 {
+        *effect = Effect::Nothing;
         return;
     }
     *effect = Effect::Cancel(Reduction {

@@ -91,6 +91,7 @@ pub fn end_orders(
 
 /// What a tick does, at so many hours codes past. `NoMemory` where the orders that end, and what they tell, find no
 /// room.
+#[inline(never)]
 pub fn tick_effect<B: Book>(
     alloc: Global,
     hours: u8,

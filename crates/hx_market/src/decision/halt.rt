@@ -19,6 +19,7 @@ fn is_trading_state(state: u8) -> bool
 }
 
 /// What a halt does, or its end: nothing for a stock that the setup does not have, or for another letter.
+#[inline(never)]
 pub fn halt_effect(setup: &Setup, time: u64, stock: Symbol, state: u8, reason: [u8; 4]) -> Effect
     requires { time < day }
     ensures does { (m : Market) → halt setup.now m time stock state reason ≡ outcome_of m result }

@@ -90,6 +90,7 @@ fn is_next(hours: u8, code: u8) -> bool
 }
 
 /// What an hours code does, at so many past. `NoMemory` as for a tick.
+#[inline(never)]
 pub fn hours_effect<B: Book>(
     alloc: Global,
     setup: &Setup,
