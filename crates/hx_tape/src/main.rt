@@ -45,7 +45,10 @@ fn ended(run: Result<Counts, TapeError>, written: io::Result<()>) -> Result<(), 
 fn replay_input<R: AllocGlobal + Input + Print + Files + Threads + Sync>(
     rt: &R,
     matches: &ArgMatches<'_>,
-) -> Result<(), Failure> {
+) -> Result<(), Failure>
+where
+    R::Reader: Send,
+{
     let alloc = rt.alloc();
     let setup = read_setup(rt, matches)?;
     let Ok(mut writer) = BufWriter::with_capacity(alloc, BUFFER, io::writer(rt)) else {
@@ -89,7 +92,10 @@ fn answer<
         + Threads
         + Wait
         + Sync,
->(rt: &R) -> Result<(), Failure> {
+>(rt: &R) -> Result<(), Failure>
+where
+    R::Reader: Send,
+{
     let alloc = rt.alloc();
     let words = match env::args(rt) {
         Ok(words) => words,
@@ -117,7 +123,10 @@ fn perform<
         + Threads
         + Wait
         + Sync,
->(rt: &R, matches: &ArgMatches<'_>) -> Result<(), Failure> {
+>(rt: &R, matches: &ArgMatches<'_>) -> Result<(), Failure>
+where
+    R::Reader: Send,
+{
     match matches.subcommand() {
         Some(("replay", matches)) => replay_input(rt, matches),
         Some(("strike", matches)) => strike_input(rt, matches),
