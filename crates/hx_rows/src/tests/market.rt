@@ -1,7 +1,7 @@
 //! The market's own calls over a worked day.
 
 use hx_levels::ListBook;
-use hx_market::{Event, Market};
+use hx_market::{Event, Market, Output, PrepareError};
 use hx_members::Setup;
 use hx_testing::Day;
 use hx_testing::lines::{event_of, split_line};
@@ -102,4 +102,67 @@ fn replaces_that_trade_leave_one_order(rt: HostRuntime) -> Result<(), Fail> {
     play_day(&rt, &mut market)?;
     expect_live(&rt, &market)?;
     expect_chains(&rt, &market)
+}
+
+// Lists of no messages.
+fn no_output(alloc: Global) -> Output {
+    Output {
+        feed: Vec::new(alloc),
+        replies: Vec::new(alloc),
+    }
+}
+
+// Has one market play an event, and the other prepare and commit it; what each tells goes behind what it told before.
+fn play_both(
+    markets: &mut [Market<ListBook>; 2],
+    event: &Event,
+    told: &mut Output,
+    committed: &mut Output,
+) -> Result<(), Fail> {
+    let [player, other] = markets;
+    player.play(event, told)?;
+    let prepared = other.prepare(event)?;
+    let output = other.commit(prepared);
+    committed.feed.extend_from_slice(&output.feed)?;
+    committed.replies.extend_from_slice(&output.replies)?;
+    Ok(())
+}
+
+#[test]
+fn events_played_at_once_tell_the_same(rt: HostRuntime) -> Result<(), Fail> {
+    let alloc = rt.alloc();
+    let mut markets = [opened(alloc)?, opened(alloc)?];
+    let (mut told, mut committed) = (no_output(alloc), no_output(alloc));
+    let day = Day::of(alloc, REPLACES_THAT_TRADE)?;
+    let mut tape = day.tape.as_slice();
+    for _ in 0..8 {
+        let (text, others) = split_line(tape).ok_or("no line")?;
+        tape = others;
+        play_both(
+            &mut markets,
+            &event_of(alloc, text)?,
+            &mut told,
+            &mut committed,
+        )?;
+    }
+    assert_eq!(rt; told.feed.len(), 6);
+    assert_eq!(rt; told.replies.len(), 9);
+    assert_eq!(rt; told.feed, committed.feed);
+    assert_eq!(rt; told.replies, committed.replies);
+    expect_live(&rt, &markets[0])
+}
+
+#[test]
+fn an_event_that_is_refused_tells_nothing(rt: HostRuntime) -> Result<(), Fail> {
+    let mut market = opened(rt.alloc())?;
+    let mut told = no_output(rt.alloc());
+    market.play(&Event::Tick { time: 0 }, &mut told)?;
+    let late = Event::Tick {
+        time: 86_400_000_000_000,
+    };
+    let refused = market.play(&late, &mut told);
+    assert_eq!(rt; refused, Err(PrepareError::BadTime));
+    assert!(rt; told.feed.is_empty());
+    assert!(rt; told.replies.is_empty());
+    Ok(())
 }
