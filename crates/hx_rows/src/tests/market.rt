@@ -114,12 +114,12 @@ fn no_output(alloc: Global) -> Output {
 
 // Has one market play an event, and the other prepare and commit it; what each tells goes behind what it told before.
 fn play_both(
-    markets: &mut [Market<ListBook>; 2],
+    player: &mut Market<ListBook>,
+    other: &mut Market<ListBook>,
     event: &Event,
     told: &mut Output,
     committed: &mut Output,
 ) -> Result<(), Fail> {
-    let [player, other] = markets;
     player.play(event, told)?;
     let prepared = other.prepare(event)?;
     let output = other.commit(prepared);
@@ -131,7 +131,7 @@ fn play_both(
 #[test]
 fn events_played_at_once_tell_the_same(rt: HostRuntime) -> Result<(), Fail> {
     let alloc = rt.alloc();
-    let mut markets = [opened(alloc)?, opened(alloc)?];
+    let (mut player, mut other) = (opened(alloc)?, opened(alloc)?);
     let (mut told, mut committed) = (no_output(alloc), no_output(alloc));
     let day = Day::of(alloc, REPLACES_THAT_TRADE)?;
     let mut tape = day.tape.as_slice();
@@ -139,7 +139,8 @@ fn events_played_at_once_tell_the_same(rt: HostRuntime) -> Result<(), Fail> {
         let (text, others) = split_line(tape).ok_or("no line")?;
         tape = others;
         play_both(
-            &mut markets,
+            &mut player,
+            &mut other,
             &event_of(alloc, text)?,
             &mut told,
             &mut committed,
@@ -149,7 +150,7 @@ fn events_played_at_once_tell_the_same(rt: HostRuntime) -> Result<(), Fail> {
     assert_eq!(rt; told.replies.len(), 9);
     assert_eq!(rt; told.feed, committed.feed);
     assert_eq!(rt; told.replies, committed.replies);
-    expect_live(&rt, &markets[0])
+    expect_live(&rt, &player)
 }
 
 #[test]
