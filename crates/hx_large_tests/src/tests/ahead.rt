@@ -2,9 +2,10 @@
 
 use super::day::{SETUP, day};
 use hx_replay::{Kind, TapeError, replay, replay_ahead};
-use hx_testing::lines::first_lines;
-use hx_testing::memory::{Bad, Output};
+use hx_testing::lines::{first_lines, front, last_lines};
+use hx_testing::memory::{Bad, Behind, Input, Output};
 use hx_testing::setups::setup_of;
+use std::io::ErrorKind;
 use std::process::Abort;
 use std::sync::atomic::AtomicU64;
 use std::test::Fail;
@@ -22,24 +23,106 @@ fn the_day_in_turns(rt: HostRuntime) -> Result<(), Fail> {
     Ok(())
 }
 
-// Behind 10,000 lines of the day, in the middle of a turn, stands a line with this fault: what those lines tell is written,
+// The reader gives as much as there is room for, five times and the last time less, and then ends. What is written is what
+// is written line by line: of 15,000 lines of the day, of the same once more, and of the whole day.
+#[test]
+fn pieces_that_fill_their_room(rt: HostRuntime) -> Result<(), Fail> {
+    let setup = setup_of(rt.alloc(), SETUP)?;
+    let day = day(rt.alloc())?;
+    let most = first_lines(&day.tape, 15_000);
+    let mut tape = Vec::from_slice(rt.alloc(), most)?;
+    tape.extend_from_slice(most)?;
+    tape.extend_from_slice(&day.tape)?;
+    let (mut told, mut output) = (Vec::new(rt.alloc()), Vec::new(rt.alloc()));
+    replay(rt.alloc(), &setup, &mut tape.as_slice(), &mut told)?;
+    let mut reader = Input::new(&tape);
+    let counts = replay_ahead(&rt, rt.alloc(), &setup, &mut reader, &mut output)?;
+    assert_eq!(rt; (counts.events, reader.calls), (50_000, 6));
+    assert!(rt; output.as_slice() == told.as_slice());
+    Ok(())
+}
+
+// The first read gives as much as there was room for, and the second one fails. What the whole lines of the first one tell
+// is written, and nothing more is read.
+#[test]
+fn a_second_read_that_fails(rt: HostRuntime) -> Result<(), Fail> {
+    let setup = setup_of(rt.alloc(), SETUP)?;
+    let day = day(rt.alloc())?;
+    let (mut told, mut output) = (Vec::new(rt.alloc()), Vec::new(rt.alloc()));
+    let mut reader = Input {
+        bad: Bad {
+            call: 2,
+            kind: Some(ErrorKind::BrokenPipe),
+        },
+        ..Input::new(&day.tape)
+    };
+    let ended = replay_ahead(&rt, rt.alloc(), &setup, &mut reader, &mut output);
+    assert!(rt; matches!(ended, Err(TapeError::Read)));
+    assert_eq!(rt; reader.calls, 2);
+    let read = day.tape.len().saturating_sub(reader.bytes.len());
+    assert!(rt; read > 1 << 20);
+    // It breaks off in a line, of which nothing is told.
+    let whole = replay(rt.alloc(), &setup, &mut front(&day.tape, read), &mut told);
+    assert!(rt;
+        matches!(
+            whole,
+            Err(TapeError::Line {
+                kind: Kind::Bad,
+                ..
+            })
+        )
+    );
+    assert!(rt; output.as_slice() == told.as_slice());
+    Ok(())
+}
+
+// The first read gives 5,000 lines, which is less than there was room for. The second one waits until all that they tell is
+// written.
+#[test]
+fn all_is_written_before_more_is_waited_for(rt: HostRuntime) -> Result<(), Fail> {
+    let setup = setup_of(rt.alloc(), SETUP)?;
+    let day = day(rt.alloc())?;
+    let few = first_lines(&day.tape, 5_000);
+    let (mut lines, mut told) = (few, Vec::new(rt.alloc()));
+    replay(rt.alloc(), &setup, &mut lines, &mut told)?;
+    let written = AtomicU64::new(0);
+    let mut reader = Input {
+        behind: Behind::Waits {
+            count: &written,
+            wanted: told.len() as u64,
+            last: last_lines(&day.tape, 5_000),
+        },
+        ..Input::new(few)
+    };
+    let mut output = Output::new(rt.alloc(), &written);
+    let counts = replay_ahead(&rt, rt.alloc(), &setup, &mut reader, &mut output)?;
+    assert_eq!(rt; counts.events, 20_000);
+    assert!(rt; output.taken.as_slice() == day.output.as_slice());
+    Ok(())
+}
+
+// Behind so many lines of the day, in the middle of a turn, stands a line with this fault: what those lines tell is written,
 // as it is line by line.
 fn expect_stop<R: AllocGlobal + Abort + Threads>(
     rt: &R,
+    lines: u64,
     bad: &[u8],
     want: Kind,
 ) -> Result<(), Fail> {
     let setup = setup_of(rt.alloc(), SETUP)?;
     let day = day(rt.alloc())?;
-    let mut front = first_lines(&day.tape, 10_000);
+    let mut front = first_lines(&day.tape, lines);
     let mut tape = Vec::from_slice(rt.alloc(), front)?;
     tape.extend_from_slice(bad)?;
     tape.extend_from_slice(&day.tape)?;
     let (mut told, mut output) = (Vec::new(rt.alloc()), Vec::new(rt.alloc()));
     replay(rt.alloc(), &setup, &mut front, &mut told)?;
     match replay_ahead(rt, rt.alloc(), &setup, &mut tape.as_slice(), &mut output) {
-        Err(TapeError::Line { line, kind }) => assert_eq!(rt; (line, kind), (10_001, want)),
-        _ => panic!(rt; "line 10,001 is at fault"),
+        Err(TapeError::Line { line, kind }) => assert_eq!(rt;
+            (line, kind),
+            (lines.saturating_add(1), want)
+        ),
+        _ => panic!(rt; "the line behind those is at fault"),
     }
     assert!(rt; output.as_slice() == told.as_slice());
     Ok(())
@@ -47,13 +130,25 @@ fn expect_stop<R: AllocGlobal + Abort + Threads>(
 
 #[test]
 fn a_line_that_is_none(rt: HostRuntime) -> Result<(), Fail> {
-    expect_stop(&rt, b"no line\n", Kind::Bad)
+    expect_stop(&rt, 5_000, b"no line\n", Kind::Bad)
 }
 
 // A message that comes as the day is over.
 #[test]
 fn a_line_that_is_refused(rt: HostRuntime) -> Result<(), Fail> {
-    expect_stop(&rt, b"86400000000000 1 58\n", Kind::Time)
+    expect_stop(&rt, 5_000, b"86400000000000 1 58\n", Kind::Time)
+}
+
+// The first read gives less than 10,000 lines, so the same two lines stand in what the second one gives, which is made
+// before all lines of the first one are played.
+#[test]
+fn a_line_of_the_second_read_that_is_none(rt: HostRuntime) -> Result<(), Fail> {
+    expect_stop(&rt, 10_000, b"no line\n", Kind::Bad)
+}
+
+#[test]
+fn a_line_of_the_second_read_that_is_refused(rt: HostRuntime) -> Result<(), Fail> {
+    expect_stop(&rt, 10_000, b"86400000000000 1 58\n", Kind::Time)
 }
 
 // Each write takes at least 65,536 bytes, and the fourth one fails.
