@@ -1,10 +1,9 @@
 -- The orders that are over stand at the places that are entered.
-use Rattle.std.proofs.Common.{◌≡◌, ℕ, ◌+◌, ◌≤◌, ◌<◌, Bool, true, false, cond, eqb, ltb, List, [], ◌∷◌, ◌++◌, length, Option, Some, None, Contains, refl, sym, ap, ◌∙◌, subst, inl, inr, arith, eq-eqb, eqb-true, slice_get}
+use Rattle.std.proofs.Common.{◌≡◌, ℕ, ◌+◌, ◌<◌, Bool, true, false, cond, eqb, ltb, List, [], ◌∷◌, ◌++◌, length, Option, Some, None, Contains, refl, sym, ap, ◌∙◌, subst, inl, inr, arith, eq-eqb, eqb-true, slice_get}
 use Rattle.std.specs.Option.{option_map}
 use Rattle.std.specs.List.{AllByRecursion, filter, find}
-use Rattle.std.proofs.lemmas.Bool.{cond-true, cond-false, cond_both}
+use Rattle.std.proofs.lemmas.Bool.{cond-true, cond-false}
 use Rattle.std.proofs.lemmas.Bool.Decides.{nat_tests}
-use Rattle.std.proofs.lemmas.Option.{slice_get_past, slice_get_within}
 use Rattle.hx_units.specs.declared.names.Token.{Token}
 use Rattle.hx_expiries.specs.Increasing.{AreIncreasing}
 use Rattle.hx_expiries.specs.declared.entry.Entry.{Entry}

@@ -11,7 +11,6 @@ use Rattle.hx_levels.specs.declared.order.Life.{Life}
 use Rattle.hx_levels.specs.declared.order.Life.TheVariants.{Market as ToMarket, System as ToSystem, Until}
 use Rattle.hx_levels.specs.declared.order.Order.{Order}
 use Rattle.hx_levels.specs.declared.order.Live.{Live}
-use Rattle.hx_levels.specs.Book.{lives}
 use Rattle.hx_levels.proofs.Lists.{all_weaker, all_filtered}
 use Rattle.hx_match.specs.declared.fills.Incoming.{Incoming}
 use Rattle.hx_match.specs.Matching.{Place, matched, matched_by, matched_entries, itself, with_shares}
@@ -19,7 +18,7 @@ use Rattle.hx_match.proofs.First.{all_append}
 use Rattle.hx_members.specs.Chains.{Used, is_used, place_of, entered_of, entered_used, replacing_used}
 use Rattle.hx_members.proofs.ChainLaws.{place_of-pushed, place_of-new}
 use Rattle.hx_rules.specs.Markets.{Market}
-use Rattle.hx_rules.specs.Orders.{is_shown, is_immediate, is_called, expiry_of, life_of}
+use Rattle.hx_rules.specs.Orders.{is_shown, is_immediate, is_called, expiry_of}
 use Rattle.hx_rules.specs.Executions.{incoming_of, resting_of, arrive}
 use Rattle.hx_rules.specs.Enter.{next_reference, consumed, drawn}
 use Rattle.hx_rules.specs.Replace.{handed_over}

@@ -5,7 +5,7 @@ use Rattle.hx_units.specs.Limits.{day, most_shares}
 use Rattle.hx_units.specs.declared.names.Token.{Token}
 use Rattle.hx_levels.specs.declared.order.Live.{Live}
 use Rattle.hx_levels.specs.declared.order.Terms.{Terms}
-use Rattle.hx_levels.specs.Book.{order_of, is_under, KeysDiffer, lives}
+use Rattle.hx_levels.specs.Book.{order_of, is_under, KeysDiffer}
 use Rattle.hx_match.specs.declared.fills.Incoming.{Incoming}
 use Rattle.hx_members.specs.Setups.{Setup, locate_of}
 use Rattle.hx_members.specs.Chains.{Used, Chain, is_used, entered_of, executed_by}
@@ -17,7 +17,7 @@ use Rattle.hx_market.specs.declared.effect.Expiry.{Expiry}
 use Rattle.hx_market.specs.declared.effect.AcceptedEnter.{AcceptedEnter}
 use Rattle.hx_market.specs.declared.effect.Replacement.{Replacement}
 use Rattle.hx_market.specs.declared.effect.Reduction.{Reduction}
-use Rattle.hx_rules.specs.Orders.{Order, side_of, is_shown, is_called, life_of}
+use Rattle.hx_rules.specs.Orders.{Order, side_of, is_shown, is_called}
 use Rattle.hx_rules.specs.Markets.{Market}
 use Rattle.hx_itch.specs.Message.{feed_time}
 use Rattle.hx_rules.specs.Outputs.{Outcome, nothing}

@@ -7,8 +7,7 @@ use Rattle.std.proofs.Math.Seq.{take-append_seam}
 use Rattle.hx_text.specs.Cuts.{Lacks}
 use Rattle.hx_replay.specs.declared.fault.TapeError.{TapeError}
 use Rattle.hx_replay.specs.declared.fault.TapeError.TheVariants as fault
-use Rattle.hx_replay.specs.Text.{Entry}
-use Rattle.hx_replay.specs.Run.{Progress, AreEvents, tape, after_all, output_all, Plays, Replays, Stops, EndsBy, Faults, Writes, IsFront, IsFew}
+use Rattle.hx_replay.specs.Run.{Progress, tape, output_all, Plays, Replays, Stops, EndsBy, Faults, Writes, IsFront, IsFew}
 use Rattle.hx_replay.specs.Ahead.{Gathers, IsUnwritten}
 use Rattle.hx_replay.proofs.Runs.{grows, stops_at_line, events_counted, few_all, length-tape}
 

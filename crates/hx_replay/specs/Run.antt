@@ -35,10 +35,6 @@ pub record Progress : Type 0 where
   pub replies : ℕ
   pub counts : List ℕ
 
--- the same with this market
-abbrev pub with_market : Progress → Market → Progress
-with_market p market = record p { market = market }
-
 unfoldable pub start : Setup → Progress
 start setup =
     record {

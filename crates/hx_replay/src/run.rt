@@ -1,14 +1,9 @@
 //! A replay as it goes: its market, and what was counted.
-ghost use Rattle.std.specs.Prelude.{◌≡◌, ◌≢◌, ◌≤◌, ◌<◌, ◌^◌, ◌+◌, ◌++◌, [], ℕ, List, None, true, false, IfOk, IfErr, IfSome, IfNone, OnSome, OnOk, OnErr, length, replicate, slice_index};
-ghost use Rattle.std.specs.List.{AllByRecursion};
-ghost use Rattle.hx_itch.specs.Message.{feed_time};
-ghost use Rattle.hx_market.specs.Steps.{step};
-ghost use Rattle.hx_market.specs.Refusals.{refusal, or_no_memory};
+ghost use Rattle.std.specs.Prelude.{◌≡◌, ◌<◌, ◌^◌, ◌+◌, ◌++◌, [], ℕ, List, true, false, IfOk, IfErr, IfSome, IfNone, OnSome, OnOk, replicate};
 ghost use Rattle.hx_replay.specs.declared.fault.TapeError.TheVariants as fault;
 ghost use Rattle.hx_replay.specs.Struck.{IsKnown};
 ghost use Rattle.hx_replay.specs.Text.{Entry, entry_of, line};
-ghost use Rattle.hx_replay.specs.Output.{feed_lines, reply_lines, counts_after};
-ghost use Rattle.hx_replay.specs.Run.{event_of, is_unknown, fault_of, counts_of, start, with_market, Plays, Faults, IsFew, IsFront};
+ghost use Rattle.hx_replay.specs.Run.{event_of, is_unknown, fault_of, counts_of, start, Plays, Faults, IsFew};
 
 use crate::fault::{Kind, TapeError};
 use crate::line::{self, Fields};

@@ -1,6 +1,6 @@
 //! A tape that is played in turns: while the lines that were read are played, another thread writes what was told before,
 //! and reads on.
-ghost use Rattle.std.specs.Prelude.{◌≡◌, ◌<◌, ◌+◌, ◌^◌, ℕ, List, Option, [], length, OnOk, OnErr, IfOk, IfErr, IfSome};
+ghost use Rattle.std.specs.Prelude.{◌<◌, ◌+◌, ◌^◌, ℕ, List, Option, length, OnOk, OnErr, IfOk, IfErr};
 ghost use Rattle.std.specs.Io.KnownBytes.{Appends};
 ghost use Rattle.hx_replay.specs.Text.{Entry};
 ghost use Rattle.hx_replay.specs.Run.{Progress, Writes, Stops, IsFew};

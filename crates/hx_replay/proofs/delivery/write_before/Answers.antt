@@ -1,7 +1,5 @@
-use Rattle.std.proofs.Common.{◌≡◌, ◌++◌, ◌∷◌, ℕ, List, Option, sym, subst}
-use Rattle.hx_text.specs.Cuts.{Lacks}
-use Rattle.hx_replay.specs.Run.{Progress, Writes, Faults}
-use Rattle.hx_replay.specs.Ahead.{Gathers}
+use Rattle.std.proofs.Common.{◌≡◌, ℕ, List, subst}
+use Rattle.hx_replay.specs.Run.{Writes}
 use Rattle.hx_replay.specs.declared.fault.TapeError.TheVariants as fault
 use Rattle.hx_replay.proofs.Gathering.{stops_gathering, stops_behind}
 use Rattle.hx_replay.proofs.delivery.write_before.Goals as goal

@@ -1,11 +1,8 @@
-use Rattle.std.proofs.Common.{◌≡◌, ◌+◌, ℕ, List, length, take, drop, ap, sym, subst, arith, ◌∙◌, suc, add-one}
+use Rattle.std.proofs.Common.{List, take, drop, ap, sym, subst, arith, ◌∙◌, suc, add-one}
 use Rattle.std.proofs.lemmas.Result.{err_from_is_err_and}
-use Rattle.std.proofs.lemmas.List.{length-map, length-take}
-use Rattle.hx_rules.specs.declared.event.Event.{Event}
 use Rattle.hx_replay.specs.Text.{Entry, line}
-use Rattle.hx_replay.specs.Run.{Progress, event_of, Faults, IsFew}
-use Rattle.hx_replay.specs.Ahead.{AreOf, PlaysAll, FailsAmong}
-use Rattle.hx_replay.proofs.Runs.{events_counted, few_all}
+use Rattle.hx_replay.specs.Run.{Progress, Faults}
+use Rattle.hx_replay.specs.Ahead.{PlaysAll}
 use Rattle.hx_replay.proofs.Turning.{entry_at, plays_none, plays_one, played_count, plays_few, plays_whole}
 use Rattle.hx_replay.proofs.turns.play_all.Goals as goal
 

@@ -1,6 +1,5 @@
-use Rattle.std.proofs.Common.{◌≡◌, ◌+◌, List, take}
+use Rattle.std.proofs.Common.{List, take}
 use Rattle.hx_replay.specs.Text.{Entry}
-use Rattle.hx_replay.specs.Run.{IsFew}
 use Rattle.hx_replay.specs.Ahead.{AreOf, PlaysAll}
 use Rattle.hx_replay.proofs.turns.play_all.Given as goal
 

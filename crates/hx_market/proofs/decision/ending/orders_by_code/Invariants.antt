@@ -1,4 +1,4 @@
-use Rattle.std.proofs.Common.{◌≡◌, ◌++◌, ℕ, List, length, true}
+use Rattle.std.proofs.Common.{◌≡◌, ◌++◌, length, true}
 use Rattle.std.specs.Option.{IfSome}
 use Rattle.std.specs.List.{filter}
 use Rattle.hx_levels.specs.Book.{has_key, KeysDiffer}

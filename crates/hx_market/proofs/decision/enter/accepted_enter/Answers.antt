@@ -1,4 +1,4 @@
-use Rattle.std.proofs.Common.{◌≡◌, ℕ, Option, subst, sym, ◌∙◌}
+use Rattle.std.proofs.Common.{◌≡◌, ℕ, Option, subst, ◌∙◌}
 use Rattle.std.specs.Option.{IfSome}
 use Rattle.hx_market.proofs.Rejections.{passes}
 use Rattle.hx_market.proofs.decision.enter.accepted_enter.Goals as goal

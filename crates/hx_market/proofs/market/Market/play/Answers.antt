@@ -1,11 +1,8 @@
-use Rattle.std.proofs.Common.{◌≡◌, List, Some, None, sym, subst}
-use Rattle.hx_levels.specs.declared.order.Live.{Live}
+use Rattle.std.proofs.Common.{◌≡◌, Some, None, sym, subst}
 use Rattle.hx_levels.specs.Book.{lives}
 use Rattle.hx_members.specs.Setups.{Setup}
 use Rattle.hx_rules.specs.declared.event.Event.{Event}
 use Rattle.hx_day.specs.Ends.{StaysElsewhere}
-use Rattle.hx_members.specs.Chains.{Used}
-use Rattle.hx_market.specs.Expiries.{AreEntered}
 use Rattle.hx_market.specs.MarketModel.{market_of}
 use Rattle.hx_market.specs.Prepared.{IsReady}
 use Rattle.hx_market.proofs.Entered.{entered_elsewhere}

@@ -1,20 +1,9 @@
-use Rattle.std.proofs.Common.{◌≡◌, ℕ, Bool, List, Option, Some, None, length, map, sym, ap, ◌∙◌, subst}
-use Rattle.hx_levels.specs.declared.order.Live.{Live}
+use Rattle.std.proofs.Common.{◌≡◌, Some, None, length, map, sym, ap, ◌∙◌, subst}
 use Rattle.hx_levels.specs.Book.{lives}
-use Rattle.hx_members.specs.Chains.{Used, Chain}
-use Rattle.hx_refs.specs.Numbers.{Numbers}
-use Rattle.hx_rules.specs.declared.matches.Match.{Match}
 use Rattle.hx_rules.specs.Markets.{Market}
 use Rattle.hx_rules.specs.Outputs.{Outcome}
 use Rattle.hx_rules.specs.Steps.{with_record}
 use Rattle.hx_market.specs.Effects.{outcome_of}
-use Rattle.hx_expiries.specs.declared.entry.Entry.{Entry}
-use Rattle.hx_expiries.specs.Expiries.{Holds}
-use Rattle.hx_members.specs.Tokens.{TokenList}
-use Rattle.hx_day.specs.Day.{TradingState}
-use Rattle.hx_market.specs.Bounds.{IsSound}
-use Rattle.hx_market.specs.OrderKeys.{AreKeyed}
-use Rattle.hx_market.specs.Expiries.{AreEntered}
 use Rattle.hx_day.specs.Ends.{StaysElsewhere}
 use Rattle.hx_market.specs.Prepared.{IsPlanned}
 use Rattle.hx_market.specs.MarketModel.{Planned, Seen, market_of, with_step}
