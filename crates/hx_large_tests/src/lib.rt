@@ -1,5 +1,5 @@
-//! Tests of what is large: a day of 20,000 lines, a stream of 200,000 bytes, a feed of thousands of messages, and a setup
-//! of as many stocks and members as may be.
+//! Tests of what is large: a day of 20,000 lines, a stream of 200,000 bytes, a feed of thousands of messages, 10,000 used
+//! tokens, and a setup of as many stocks and members as may be.
 #![tactic(auto)]
 
 #[cfg(test)]

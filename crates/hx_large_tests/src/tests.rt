@@ -10,4 +10,5 @@ mod packets;
 mod replaying;
 mod script;
 mod striking;
+mod tokens;
 mod widest;

@@ -11,3 +11,6 @@ pub mod WholeSetups
 pub mod SetupLines
 pub mod BadLines
 pub mod TextLaws
+pub mod Packing
+pub mod Walks
+pub mod Indexes

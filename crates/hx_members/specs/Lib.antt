@@ -1,6 +1,8 @@
 pub mod Chains
 pub mod Rows
+pub mod Slots
 pub mod Tokens
+pub mod Packed
 pub mod Seeds
 pub mod Setups
 pub mod SetupText

@@ -6,10 +6,12 @@ mod fields;
 pub mod laws;
 mod lines;
 mod name;
+mod packed;
 mod reading;
 mod rows;
 mod seed;
 mod setup;
+mod slots;
 mod stock;
 mod tokens;
 
@@ -18,4 +20,4 @@ pub use name::{ChainFacts, Name, TokenState};
 pub use seed::Seed;
 pub use setup::Setup;
 pub use stock::{Member, Stock};
-pub use tokens::Tokens;
+pub use tokens::{Tokens, is_same_name, name_hash};

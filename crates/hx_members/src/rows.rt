@@ -1,13 +1,16 @@
 //! The rows of the used tokens, in order of use.
-ghost use Rattle.std.specs.Prelude.{◌≡◌, ◌+◌, ◌<◌, ◌^◌, ◌++◌, [], ◌∷◌, length, Some, None, OnOk, OnErr, slice_get, true};
+ghost use Rattle.std.specs.Prelude.{◌≡◌, ◌+◌, ◌%◌, ◌<◌, ◌≤◌, ◌^◌, ◌++◌, [], ◌∷◌, length, Some, None, IsSome, IfSome, IfOk, OnOk, OnErr, slice_get};
 ghost use Rattle.std.specs.Option.{option_map, option_copied};
+ghost use Rattle.hx_members.specs.declared.name.Name.{Name};
 ghost use Rattle.hx_members.specs.Chains.{entered_at, IsChainAt};
-ghost use Rattle.hx_members.specs.Rows.{Row, IsUnused, AreDistinct, is_name, tokens_of, row_place, row_state, noted_rows, settled_rows};
+ghost use Rattle.hx_members.specs.Rows.{Row, AreDistinct, tokens_of, row_place, row_state, noted_rows, settled_rows};
+ghost use Rattle.hx_members.specs.Slots.{IsReserved, is_at, is_word_of};
 
 use crate::name::{ChainFacts, Name, TokenState};
+use crate::packed::PackedName;
 use crate::seed::Seed;
+use crate::slots::{Slots, word_of};
 use hx_units::{Known, NoMemory, Token};
-use indexmap::IndexMap;
 use std::alloc::Global;
 use std::marker::Model;
 
@@ -28,7 +31,7 @@ pub(crate) struct UsedToken {
 }
 
 impl UsedToken {
-    ghost use Rattle.hx_members.specs.Rows.{fresh, key_of, row_facts};
+    ghost use Rattle.hx_members.specs.Rows.{fresh, key_of, row_facts, with_key, with_note};
 
     /// A token that is just used, in the chain of the entered token at a place.
     pub(crate) fn fresh(entered: Token, chain: u64) -> UsedToken
@@ -52,6 +55,24 @@ impl UsedToken {
         if self.has_key { Some(self.key) } else { None }
     }
 
+    /// Sets the key of its live order.
+    pub(crate) fn settle(&mut self, key: Option<usize>)
+        ensures { self.new ≡ with_key key self.old }
+    {
+        self.key = key.unwrap_or(0);
+        self.has_key = key.is_some();
+    }
+
+    /// Adds to what its chain has done, where it begins one.
+    pub(crate) fn note(&mut self, shares: u32, displayed: bool)
+        requires { self.old.executed + shares < 2 ^ 32 }
+        ensures { self.new ≡ with_note shares displayed self.old }
+    {
+        self.executed += shares;
+        self.displayed = self.displayed || displayed;
+        self.traded = self.traded || shares > 0;
+    }
+
     /// What its chain has done, where it begins one.
     pub(crate) fn facts(&self) -> ChainFacts
         ensures { result ≡ row_facts self.now }
@@ -64,94 +85,207 @@ impl UsedToken {
     }
 }
 
-/// The rows, and the name for which a place is reserved.
+/// The place of the next row: its name, the slot that leads to it, and the word for that slot.
+#[derive(Drop)]
+pub(crate) struct Reserved {
+    name: PackedName,
+    at: usize,
+    word: u64,
+}
+
+/// The rows, and the name for which a place is reserved. A row is found by the slots, from the hash of its name.
 #[derive(Drop)]
 pub(crate) struct Rows {
-    map: IndexMap<Name, UsedToken, Seed>,
-    place: Option<Name>,
+    rows: Vec<(PackedName, UsedToken)>,
+    slots: Slots,
+    place: Option<Reserved>,
+    seed: Seed,
+    alloc: Global,
 }
 
 impl Model for Rows {
     ghost use Rattle.hx_members.specs.Rows.{RowList};
-    ghost use Rattle.indexmap.specs.IndexMap.{spare};
-    ghost use Rattle.std.specs.Prelude.{IsSome, ◌<◌};
+    ghost use Rattle.hx_members.specs.Slots.{IsIndex, IsReserved};
+    ghost use Rattle.std.specs.Prelude.{◌<◌, vec_len, vec_capacity, IfSome};
+    ghost use Rattle.std.specs.Option.{option_map};
 
     ghost Value = { RowList };
 
-    ghost view = { λ r. record { rows = r.map.entries; place = r.place } };
+    ghost view = { λ r. record { rows = r.rows.items; place = option_map (λ p. p.name) r.place } };
 
-    ghost invariant = { λ r. IsSome r.place → 0 < spare r.map };
+    ghost invariant = { λ r. IsIndex r.seed r.slots r.rows.items
+        × IfSome r.place (λ p. IsReserved r.seed r.slots (vec_len r.rows) p.name p.at p.word
+        × (vec_len r.rows < vec_capacity r.rows)) };
+}
+
+// Whether the row at a place has the name.
+#[inline(always)]
+fn is_at(rows: &[(PackedName, UsedToken)], place: usize, name: PackedName) -> bool
+    ensures { result ≡ is_at rows.now name place }
+{
+    match rows.get(place) {
+        Some((other, _)) => name.is(*other),
+        None => false,
+    }
+}
+
+// Whether a word is that of a hash, and the row at its place has the name.
+#[inline(always)]
+fn is_word_of(rows: &[(PackedName, UsedToken)], word: u64, hash: u32, name: PackedName) -> bool
+    requires { 0 < word % 2 ^ 32 }
+    ensures { result ≡ is_word_of rows.now hash name word }
+{
+    word / 0x1_0000_0000 == u64::from(hash)
+        && is_at(rows, (word % 0x1_0000_0000) as usize - 1, name)
+}
+
+// Whether one more row would use more than two of three slots, and there may be more of them.
+#[inline(always)]
+fn is_full(rows: usize, slots: usize) -> bool
+    requires rows { rows < 2 ^ 32 }
+    requires slots { slots ≤ 2 ^ 32 }
+{
+    slots < Slots::MOST && (rows + 1) * 3 > slots * 2
+}
+
+// The place of a row of this name behind so many rows, where its walk comes to a free slot and the place fits.
+#[inline(always)]
+fn place_for(
+    slots: &Slots,
+    seed: &Seed,
+    name: PackedName,
+    rows: usize,
+) -> Result<Reserved, NoMemory>
+    ensures name { IfOk result (λ place. place.name ≡ name) }
+    ensures reserved { IfOk result (λ place.
+        IsReserved seed.now slots.now rows name place.at place.word) }
+{
+    if rows >= 0xffff_ffff {
+        return Err(NoMemory);
+    }
+    let hash = seed.hash(name);
+    match slots.free(hash) {
+        Some(at) => Ok(Reserved {
+            name,
+            at,
+            word: word_of(hash, rows as u32),
+        }),
+        None => Err(NoMemory),
+    }
+}
+
+// Sets the key at a place.
+#[inline(always)]
+fn settle_at(rows: &mut [(PackedName, UsedToken)], place: usize, key: Option<usize>)
+    ensures { rows.new ≡ settled_rows place key rows.old }
+{
+    if place < rows.len() {
+        rows[place].1.settle(key);
+    }
+}
+
+// Adds to what the chain at a place has done.
+#[inline(always)]
+fn note_at(rows: &mut [(PackedName, UsedToken)], chain: usize, shares: u32, displayed: bool)
+    requires { (row : Row) × (slice_get rows.old chain ≡ Some row)
+        × (row.1.executed + shares < 2 ^ 32) }
+    ensures { rows.new ≡ noted_rows chain shares displayed rows.old }
+{
+    if chain < rows.len() {
+        rows[chain].1.note(shares, displayed);
+    }
 }
 
 impl Rows {
-    /// No rows, and no reserved place, in a table of this seed. It takes no memory.
+    /// No rows, and no reserved place, with this seed. It takes no memory.
     pub(crate) fn new(alloc: Global, seed: Seed) -> Self
         ensures rows { result.rows ≡ [] }
         ensures place { result.place ≡ None }
     {
         Rows {
-            map: IndexMap::with_hasher(alloc, seed),
+            rows: Vec::new(alloc),
+            slots: Slots::new(alloc),
             place: None,
+            seed,
+            alloc,
         }
     }
 
     /// How many rows there are.
+    #[inline(always)]
     pub(crate) fn len(&self) -> u64
         ensures { result ≡ length self.now.rows }
     {
-        self.map.len() as u64
+        self.rows.len() as u64
     }
 
     /// Makes room for one more row, of this name.
-    pub(crate) fn reserve(&mut self, name: Name) -> Result<(), NoMemory>
+    #[inline(always)]
+    pub(crate) fn reserve(&mut self, name: PackedName) -> Result<(), NoMemory>
         ensures rows { self.new.rows ≡ self.old.rows }
         ensures ok { OnOk result (self.new.place ≡ Some name) }
         ensures err { OnErr result (self.new.place ≡ self.old.place) }
     {
-        self.map.reserve(1)?;
-        self.place = Some(name);
+        self.rows.reserve(1)?;
+        let rows = self.rows.len();
+        if is_full(rows, self.slots.len()) {
+            let slots = self.slots.grown(self.alloc)?;
+            let place = place_for(&slots, &self.seed, name, rows)?;
+            self.slots = slots;
+            self.place = Some(place);
+            return Ok(());
+        }
+        let place = place_for(&self.slots, &self.seed, name, rows)?;
+        self.place = Some(place);
         Ok(())
     }
 
     /// Adds the row for which a place is reserved.
-    pub(crate) fn push(&mut self, name: Name, used: UsedToken)
-        requires place { self.old.place ≡ Some name }
-        requires unused { IsUnused name self.old.rows }
-        ensures rows { self.new.rows ≡ self.old.rows ++ (name, used) ∷ [] }
+    #[inline(always)]
+    pub(crate) fn push(&mut self, used: UsedToken)
+        requires place { IsSome self.old.place }
+        ensures rows { (name : Name) → self.old.place ≡ Some name
+            → self.new.rows ≡ self.old.rows ++ (name, used) ∷ [] }
         ensures place { self.new.place ≡ None }
     {
-        self.place = None;
-        let _ = self.map.insert(name, used);
+        if let Some(place) = self.place.take() {
+            self.slots.set(place.at, place.word);
+            self.rows.push_reserved((place.name, used));
+        }
     }
 
     /// The place of a name.
-    pub(crate) fn place(&self, name: Name) -> Option<usize>
+    #[inline(always)]
+    pub(crate) fn place(&self, name: PackedName) -> Option<usize>
+        requires { AreDistinct (tokens_of self.now.rows) }
         ensures { result ≡ row_place name self.now.rows }
     {
-        self.map.get_index_of(&name)
-    }
-
-    // Whether the row at a place has the name.
-    fn is_at(&self, place: usize, name: &Name) -> bool
-        ensures { result ≡ true → (row : Row) × (slice_get self.now.rows place ≡ Some row)
-            × (is_name name.now row.0 ≡ true) }
-    {
-        match self.map.get_index(place) {
-            Some((other, _)) => *name == *other,
-            None => false,
+        let hash = self.seed.hash(name);
+        let mut at = self.slots.home(hash);
+        for steps in 0..self.slots.len() {
+            let word = self.slots.word(at);
+            if word == 0 {
+                return None;
+            }
+            if is_word_of(&self.rows, word, hash, name) {
+                return Some((word % 0x1_0000_0000) as usize - 1);
+            }
+            at = self.slots.behind(at);
         }
+        None
     }
 
     /// The place of a name. The last row is looked at first: where it has the name nothing is hashed.
-    pub(crate) fn last_or_place(&self, name: &Name) -> Option<usize>
+    #[inline(always)]
+    pub(crate) fn last_or_place(&self, name: PackedName) -> Option<usize>
         requires { AreDistinct (tokens_of self.now.rows) }
-        ensures { result ≡ row_place name.now self.now.rows }
+        ensures { result ≡ row_place name self.now.rows }
     {
-        let last = self.map.len().saturating_sub(1);
-        if self.is_at(last, name) {
+        let last = self.rows.len().saturating_sub(1);
+        if is_at(&self.rows, last, name) {
             return Some(last);
         }
-        self.place(*name)
+        self.place(name)
     }
 
     /// The row at a place, without its name.
@@ -159,7 +293,7 @@ impl Rows {
         ensures { option_copied result
             ≡ option_map (λ (row : Row). row.1) (slice_get self.now.rows place) }
     {
-        let (_, used) = self.map.get_index(place)?;
+        let (_, used) = self.rows.get(place)?;
         Some(used)
     }
 
@@ -167,8 +301,8 @@ impl Rows {
     pub(crate) fn name_at(&self, place: usize) -> Option<Name>
         ensures { result ≡ option_map (λ (row : Row). row.0) (slice_get self.now.rows place) }
     {
-        let (name, _) = self.map.get_index(place)?;
-        Some(*name)
+        let (name, _) = self.rows.get(place)?;
+        Some(name.name())
     }
 
     /// The entered token of the chain that begins at a place: the token of that row's name.
@@ -183,7 +317,9 @@ impl Rows {
     }
 
     /// What is told of a name.
-    pub(crate) fn state(&self, name: Name) -> Option<TokenState>
+    #[inline(always)]
+    pub(crate) fn state(&self, name: PackedName) -> Option<TokenState>
+        requires { AreDistinct (tokens_of self.now.rows) }
         ensures { result ≡ row_state name self.now.rows }
     {
         let used = self.at(self.place(name)?)?;
@@ -200,10 +336,7 @@ impl Rows {
         ensures rows { self.new.rows ≡ settled_rows place key self.old.rows }
         ensures place { self.new.place ≡ self.old.place }
     {
-        if let Some(used) = self.map.get_index_mut(place) {
-            used.key = key.unwrap_or(0);
-            used.has_key = key.is_some();
-        }
+        settle_at(&mut self.rows, place, key);
     }
 
     /// Adds to what the chain at a place has done.
@@ -213,10 +346,37 @@ impl Rows {
         ensures rows { self.new.rows ≡ noted_rows chain shares displayed self.old.rows }
         ensures place { self.new.place ≡ self.old.place }
     {
-        if let Some(used) = self.map.get_index_mut(chain) {
-            used.executed += shares;
-            used.displayed = used.displayed || displayed;
-            used.traded = used.traded || shares > 0;
+        note_at(&mut self.rows, chain, shares, displayed);
+    }
+
+    // For each hash the place that it probably leads to, and one more: 0 where there is none.
+    #[inline(always)]
+    fn likely_places(&self, hashes: &[u32]) -> [usize; 16] {
+        let mut places = [0; 16];
+        for (place, hash) in places.iter_mut().zip(hashes) {
+            *place = self.slots.near(*hash);
+        }
+        places
+    }
+
+    /// For each of up to sixteen hashes the key of the row to which it probably leads, and `usize::MAX` where there is
+    /// none. Nothing is promised: it brings slots and rows near before their turn.
+    #[inline(always)]
+    pub(crate) fn likely_keys(&self, hashes: &[u32]) -> [usize; 16] {
+        let places = self.likely_places(hashes);
+        let mut keys = [usize::MAX; 16];
+        for (key, place) in keys.iter_mut().zip(&places) {
+            *key = self.key_before(*place);
+        }
+        keys
+    }
+
+    // The key at the row before a place.
+    #[inline(always)]
+    fn key_before(&self, place: usize) -> usize {
+        match self.rows.get(place.wrapping_sub(1)) {
+            Some((_, used)) => used.key,
+            None => usize::MAX,
         }
     }
 }

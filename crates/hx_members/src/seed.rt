@@ -1,75 +1,60 @@
-//! How the table of used tokens hashes.
-ghost use Rattle.std.specs.Prelude.{◌≡◌};
-ghost use Rattle.hx_members.specs.Seeds.{hasher_of, written, beside, finished};
+//! How names are hashed.
+ghost use Rattle.std.specs.Prelude.{◌≡◌, ◌%◌, ◌^◌};
+ghost use Rattle.std.specs.Hash.DefaultHasher as sip;
+ghost use Rattle.std.specs.RandomState.{initial_hasher};
+ghost use Rattle.hx_members.specs.Seeds.{hash_of, bytes_of_name};
 
-use std::hash::{BuildHasher, DefaultHasher, FoldHasher, Hasher, RandomState};
+use crate::packed::PackedName;
+use std::hash::{BuildHasher, Hasher, RandomState};
 
 /// What the table of used tokens hashes with. Members choose their tokens: under the fixed seed, which anybody can
 /// read here, whoever computes tokens that fall on one another slows everybody down. No answer depends on the seed.
 #[derive(Clone, Copy, Debug)]
 pub enum Seed {
-    /// A fast hash that is the same in each run: for tapes, whose orders are there already. Tokens that differ in the
-    /// last letter alone lie side by side in the table, since members count their orders.
+    /// A fast hash that is the same in each run: for tapes, whose orders are there already.
     Fixed,
     /// SipHash under keys that were drawn at random, and that nobody knows: for an exchange that runs.
     Drawn(RandomState),
 }
 
-/// The hash of one token, as far as it is computed.
-#[derive(Clone, Copy)]
-pub enum TokenHasher {
-    /// The hash of all bytes but the last one, and that one.
-    Folding { hasher: FoldHasher, near: u8 },
-    Keyed(DefaultHasher),
+impl Seed {
+    /// The hash of a name.
+    #[inline(always)]
+    pub(crate) fn hash(&self, name: PackedName) -> u32
+        ensures { result ≡ hash_of self.now name }
+    {
+        match self {
+            Seed::Fixed => name.fixed_hash(),
+            Seed::Drawn(keys) => drawn_hash(keys, name),
+        }
+    }
 }
 
-// How far a name with this last byte lies from where the hash of its other bytes leads: eight that follow each other are
-// in one group of the table, and the fourth byte of the hash, which the group compares first, tells them apart.
-fn beside(near: u8) -> u64
-    ensures { result ≡ beside near }
+// The hash of a name under keys.
+fn drawn_hash(keys: &RandomState, name: PackedName) -> u32
+    ensures { result ≡ sip.finish (sip.write (initial_hasher keys.now) (bytes_of_name name)) % 2 ^ 32 }
 {
-    u64::from(near) * 0x100_0000 + u64::from(near / 8)
-}
-
-impl Hasher for TokenHasher {
-    ghost write = { written };
-
-    ghost finish = { finished };
-
-    fn finish(&self) -> u64 {
-        match self {
-            TokenHasher::Folding { hasher, near } => hasher.finish().wrapping_add(beside(*near)),
-            TokenHasher::Keyed(hasher) => hasher.finish(),
-        }
-    }
-
-    fn write(&mut self, bytes: &[u8]) {
-        match self {
-            TokenHasher::Folding { hasher, near } => {
-                let last = bytes.len().saturating_sub(1);
-                hasher.write(&bytes[..last]);
-                *near = match bytes.get(last) {
-                    Some(byte) => *byte,
-                    None => 0,
-                };
-            }
-            TokenHasher::Keyed(hasher) => hasher.write(bytes),
-        }
-    }
-}
-
-impl BuildHasher for Seed {
-    type Hasher = TokenHasher;
-
-    ghost build_hasher = { hasher_of };
-
-    fn build_hasher(&self) -> TokenHasher {
-        match self {
-            Seed::Fixed => TokenHasher::Folding {
-                hasher: FoldHasher::default(),
-                near: 0,
-            },
-            Seed::Drawn(keys) => TokenHasher::Keyed(keys.build_hasher()),
-        }
-    }
+    let name = name.name();
+    let member = name.member.get();
+    let t = &name.token.0;
+    let mut hasher = keys.build_hasher();
+    hasher.write(&[
+        (member % 256) as u8,
+        (member / 256) as u8,
+        t[0],
+        t[1],
+        t[2],
+        t[3],
+        t[4],
+        t[5],
+        t[6],
+        t[7],
+        t[8],
+        t[9],
+        t[10],
+        t[11],
+        t[12],
+        t[13],
+    ]);
+    (hasher.finish() % 0x1_0000_0000) as u32
 }

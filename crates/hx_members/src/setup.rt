@@ -211,6 +211,7 @@ impl Setup {
     }
 
     /// The locate of a stock, if it is one of the day's.
+    #[inline(always)]
     pub fn locate(&self, symbol: Symbol) -> Option<u16>
         ensures { result ≡ locate_of self.now symbol }
     {
@@ -218,6 +219,7 @@ impl Setup {
     }
 
     /// The member of this number, if there is one. Where numbers count from 1 without a gap, nothing is hashed.
+    #[inline(always)]
     pub fn member(&self, number: MemberNo) -> Option<&Member>
         ensures { option_map (λ m. m.now) result ≡ member_of self.now number }
     {

@@ -2,10 +2,11 @@
 ghost use Rattle.std.specs.Prelude.{◌≡◌, ℕ, ◌+◌, ◌<◌, ◌^◌, ◌++◌, [], ◌∷◌, length, Some, None, IfSome, OnOk, OnErr, slice_set, true, false};
 ghost use Rattle.hx_units.specs.declared.names.Token.{Token as TokenName};
 ghost use Rattle.hx_members.specs.Chains.{is_used, place_of, entered_of, entered_used, entered_chain, replacing_used, entered_at, executed_at, noted_at, IsEnteredAt, IsChainAt};
-ghost use Rattle.hx_members.specs.Rows.{name_of};
+ghost use Rattle.hx_members.specs.Rows.{name_of, is_name};
 ghost use Rattle.hx_members.specs.Tokens.{state_of, name_at};
 
 use crate::name::{Name, TokenState};
+use crate::packed::PackedName;
 use crate::rows::{Rows, UsedToken};
 use crate::seed::Seed;
 use hx_units::{MemberNo, NoMemory, Token};
@@ -69,16 +70,14 @@ impl Tokens {
     }
 
     /// What is told of a token, if the member has used it.
+    #[inline(always)]
     pub fn state(&self, member: MemberNo, token: &Token) -> Option<TokenState>
         ensures state { result
             ≡ state_of self.now.tokens self.now.chains self.now.keys member token.now }
         ensures entered { IfSome result (λ state. IsEnteredAt self.now.tokens member
             (entered_of self.now.tokens member token.now) state.chain) }
     {
-        self.kept.state(Name {
-            member,
-            token: *token,
-        })
+        self.kept.state(PackedName::of(member, token))
     }
 
     /// The used token at a place in the order of use.
@@ -92,6 +91,7 @@ impl Tokens {
 
     /// Makes a place for this token, which holds until it is used or another place is reserved. It fails only for want
     /// of memory.
+    #[inline(always)]
     pub fn reserve(&mut self, member: MemberNo, token: &Token) -> Result<(), NoMemory>
         ensures tokens { self.new.tokens ≡ self.old.tokens }
         ensures chains { self.new.chains ≡ self.old.chains }
@@ -99,13 +99,11 @@ impl Tokens {
         ensures ok { OnOk result (self.new.place ≡ Some (name_of member token.now)) }
         ensures err { OnErr result (self.new.place ≡ self.old.place) }
     {
-        self.kept.reserve(Name {
-            member,
-            token: *token,
-        })
+        self.kept.reserve(PackedName::of(member, token))
     }
 
     /// The token becomes used, as a chain of its own.
+    #[inline(always)]
     pub fn consume(&mut self, member: MemberNo, token: &Token)
         requires place { self.old.place ≡ Some (name_of member token.now) }
         requires unused { is_used self.old.tokens member token.now ≡ false }
@@ -115,11 +113,7 @@ impl Tokens {
         ensures place { self.new.place ≡ None }
     {
         let chain = self.kept.len();
-        let name = Name {
-            member,
-            token: *token,
-        };
-        self.kept.push(name, UsedToken::fresh(*token, chain));
+        self.kept.push(UsedToken::fresh(*token, chain));
     }
 
     /// The token becomes used, in the chain of the member's entered token at this place.
@@ -134,14 +128,11 @@ impl Tokens {
         ensures place { self.new.place ≡ None }
     {
         let entered = self.kept.entered(chain as usize, *token);
-        let name = Name {
-            member,
-            token: *token,
-        };
-        self.kept.push(name, UsedToken::fresh(entered, chain));
+        self.kept.push(UsedToken::fresh(entered, chain));
     }
 
     /// Sets the key of a used token: that of the order which the book keeps under it.
+    #[inline(always)]
     pub fn settle(&mut self, member: MemberNo, token: &Token, key: Option<usize>)
         requires used { is_used self.old.tokens member token.now ≡ true }
         ensures tokens { self.new.tokens ≡ self.old.tokens }
@@ -150,17 +141,14 @@ impl Tokens {
             (place_of self.old.tokens member token.now) key }
         ensures place { self.new.place ≡ self.old.place }
     {
-        let name = Name {
-            member,
-            token: *token,
-        };
-        if let Some(place) = self.kept.last_or_place(&name) {
+        if let Some(place) = self.kept.last_or_place(PackedName::of(member, token)) {
             self.kept.settle(place, key);
         }
     }
 
     /// Adds to what the chain of the entered token at this place has done: so many shares executed, and displayed or
     /// not. A chain trades by its first executed share.
+    #[inline(always)]
     pub fn note(&mut self, chain: u64, shares: u32, displayed: bool)
         requires there { IsChainAt self.old.tokens chain }
         requires fits { executed_at self.old.tokens self.old.chains chain + shares < 2 ^ 32 }
@@ -172,4 +160,27 @@ impl Tokens {
     {
         self.kept.note(chain as usize, shares, displayed);
     }
+
+    /// For each of up to sixteen hashes, as `name_hash` tells them, the key of the used token that probably has it, and
+    /// `usize::MAX` where there is none. Nothing is promised of the keys: asked for the tokens of coming orders, it brings
+    /// what is kept of them near before their turn.
+    #[inline(always)]
+    pub fn likely_keys(&self, hashes: &[u32]) -> [usize; 16] {
+        self.kept.likely_keys(hashes)
+    }
+}
+
+/// Whether a member calls an order by this token, whom the other member calls by the other one.
+#[inline(always)]
+pub fn is_same_name(member: MemberNo, token: &Token, other: MemberNo, other_token: &Token) -> bool
+    ensures { result
+        ≡ is_name (name_of member token.now) (name_of other other_token.now) }
+{
+    PackedName::of(member, token).is(PackedName::of(other, other_token))
+}
+
+/// The hash of a member's token under the fixed seed, for `likely_keys`. Nothing is promised of it.
+#[inline(always)]
+pub fn name_hash(member: MemberNo, token: &Token) -> u32 {
+    PackedName::of(member, token).fixed_hash()
 }

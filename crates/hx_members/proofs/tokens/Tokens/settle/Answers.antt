@@ -1,6 +1,6 @@
 use Rattle.std.proofs.Common.{◌≡◌, Some, None, ap, sym, ◌∙◌, subst, slice_set}
 use Rattle.hx_members.specs.Chains.{is_used, place_of}
-use Rattle.hx_members.specs.Rows.{tokens_of, chains_of, live_keys_of, IsSound}
+use Rattle.hx_members.specs.Rows.{row_place, tokens_of, chains_of, live_keys_of, IsSound}
 use Rattle.hx_members.proofs.TokenLaws.{row_place-used, some_same}
 use Rattle.hx_members.proofs.UpdateLaws.{tokens_of-settled, live_keys_of-settled, chains_of-settled, sound-settled}
 use Rattle.hx_members.proofs.tokens.Tokens.settle.Goals as goal
@@ -20,7 +20,7 @@ returns-in-Some-clause-keys c =
     let m = c.args.member in
     let t = c.args.token.now in
     let used = ap (λ v. is_used v.tokens m t) c.self.view_is ∙ c.requires.used in
-    let place = some_same c.in-Some.place (place_of (tokens_of rows) m t) (sym c.in-Some.is ∙ c.last_or_place.ensures ∙ row_place-used m t rows used) in
+    let place = some_same c.in-Some.place (place_of (tokens_of rows) m t) (sym c.in-Some.is ∙ c.last_or_place.ensures ∙ ap (λ n. row_place n rows) c.of.ensures ∙ row_place-used m t rows used) in
     ap live_keys_of c.settle.ensures.rows ∙ live_keys_of-settled c.in-Some.place c.args.key rows
     ∙ ap (λ n. slice_set (live_keys_of rows) n c.args.key) place ∙ ap (λ v. slice_set v.keys (place_of v.tokens m t) c.args.key) c.self.view_is
 
@@ -30,4 +30,4 @@ returns-in_default-clause-keys c =
     let m = c.args.member in
     let t = c.args.token.now in
     let used = ap (λ v. is_used v.tokens m t) c.self.view_is ∙ c.requires.used in
-    absurd (let z : None ≡ Some (place_of (tokens_of rows) m t) = sym c.in_default.is ∙ c.last_or_place.ensures ∙ row_place-used m t rows used in cc)
+    absurd (let z : None ≡ Some (place_of (tokens_of rows) m t) = sym c.in_default.is ∙ c.last_or_place.ensures ∙ ap (λ n. row_place n rows) c.of.ensures ∙ row_place-used m t rows used in cc)

@@ -1,0 +1,116 @@
+//! Thousands of used tokens of several members, under either seed: each is found at its place, and no other.
+
+use hx_members::{Seed, Tokens, name_hash};
+use hx_units::{MemberNo, Token};
+use std::hash::RandomState;
+use std::process::Abort;
+use std::test::Fail;
+
+const MEMBERS: u16 = 5;
+
+const COUNT: u32 = 2_000;
+
+// The token that is a number in fourteen digits.
+fn numbered(number: u32) -> Token {
+    let mut letters = *b"00000000000000";
+    let mut left = number;
+    for letter in letters.iter_mut().rev() {
+        *letter = b'0' + (left % 10) as u8;
+        left /= 10;
+    }
+    Token(letters)
+}
+
+fn member_of(number: u16) -> Result<MemberNo, Fail> {
+    Ok(MemberNo::of(number).ok_or("no member")?)
+}
+
+// A token enters, with its place as the key of its order.
+fn enter(tokens: &mut Tokens, member: MemberNo, token: &Token) -> Result<(), Fail> {
+    if tokens.state(member, token).is_some() {
+        return Err(Fail::new("used"));
+    }
+    let place = tokens.count();
+    tokens.reserve(member, token)?;
+    tokens.consume(member, token);
+    tokens.settle(member, token, Some(place as usize));
+    Ok(())
+}
+
+fn enter_all(tokens: &mut Tokens, member: MemberNo) -> Result<(), Fail> {
+    for number in 0..COUNT {
+        enter(tokens, member, &numbered(number))?;
+    }
+    Ok(())
+}
+
+// The tokens of all members, of one member after the other.
+fn fill(tokens: &mut Tokens) -> Result<(), Fail> {
+    for number in 1..=MEMBERS {
+        enter_all(tokens, member_of(number)?)?;
+    }
+    Ok(())
+}
+
+// The tokens of a member stand from a place on, and tokens of other numbers are not used.
+fn expect_tokens<R: Abort>(rt: &R, tokens: &Tokens, number: u16, first: u64) -> Result<(), Fail> {
+    let member = member_of(number)?;
+    for number in 0..COUNT {
+        let told = tokens.state(member, &numbered(number)).ok_or("unused")?;
+        let place = first.wrapping_add(u64::from(number));
+        assert_eq!(rt; told.chain, place);
+        assert_eq!(rt; told.key, Some(place as usize));
+        assert!(rt; tokens.state(member, &numbered(number + COUNT)).is_none());
+    }
+    Ok(())
+}
+
+fn expect_all<R: Abort>(rt: &R, tokens: &Tokens) -> Result<(), Fail> {
+    for number in 1..=MEMBERS {
+        expect_tokens(rt, tokens, number, u64::from(number - 1) * u64::from(COUNT))?;
+    }
+    let stranger = member_of(MEMBERS + 1)?;
+    assert!(rt; tokens.state(stranger, &numbered(1)).is_none());
+    Ok(())
+}
+
+#[test]
+fn tokens_are_found_under_the_fixed_seed(rt: HostRuntime) -> Result<(), Fail> {
+    let mut tokens = Tokens::new(rt.alloc());
+    fill(&mut tokens)?;
+    expect_all(&rt, &tokens)
+}
+
+#[test]
+fn tokens_are_found_under_a_drawn_seed(rt: HostRuntime) -> Result<(), Fail> {
+    let seed = Seed::Drawn(RandomState::new(&rt)?);
+    let mut tokens = Tokens::seeded(rt.alloc(), seed);
+    fill(&mut tokens)?;
+    expect_all(&rt, &tokens)
+}
+
+// How many tokens of a member lead to their keys without a walk.
+fn count_likely(tokens: &Tokens, member: MemberNo) -> Result<u32, Fail> {
+    let mut found: u32 = 0;
+    for number in 0..COUNT {
+        let token = numbered(number);
+        let told = tokens.state(member, &token).ok_or("unused")?;
+        let [key, ..] = tokens.likely_keys(&[name_hash(member, &token)]);
+        if told.key == Some(key) {
+            found = found.wrapping_add(1);
+        }
+    }
+    Ok(found)
+}
+
+#[test]
+fn most_keys_are_likely_ones(rt: HostRuntime) -> Result<(), Fail> {
+    let mut tokens = Tokens::new(rt.alloc());
+    fill(&mut tokens)?;
+    let found = count_likely(&tokens, member_of(1)?)?;
+    assert!(rt; found > COUNT / 2);
+    let [first, .., last] = tokens.likely_keys(&[]);
+    assert_eq!(rt; first, usize::MAX);
+    assert_eq!(rt; last, usize::MAX);
+    Ok(())
+}

@@ -1,0 +1,13 @@
+use Rattle.std.proofs.Common.{◌≡◌, ◌++◌, length, take, drop, List, rules, ap, sym, ◌∙◌, subst}
+use Rattle.hx_members.specs.Rows.{Row, noted_rows}
+use Rattle.hx_members.specs.Slots.{IsIndex}
+use Rattle.hx_members.proofs.Indexes.{took, IsIndex-noted}
+use Rattle.hx_members.proofs.rows.Rows.note.Goals as goal
+
+pub invariant_of-self : goal.invariant_of-self
+invariant_of-self c =
+    let i = c.self.inside in
+    let rows : List Row = c.note_at.new.rows in
+    let new : take i.rows.len (rows ++ drop (length rows) i.rows.items) ≡ rows = took i.rows.len rows i.rows.items (search rules) in
+    let is = new ∙ c.note_at.ensures ∙ ap (λ l. noted_rows c.args.chain c.args.shares c.args.displayed l) c.deref_mut.ensures.value in
+    (subst (λ l. IsIndex i.seed i.slots l) (sym is) (IsIndex-noted i.seed i.slots i.rows.items c.args.chain c.args.shares c.args.displayed c.self.invariant.0), c.self.invariant.1)

@@ -1,0 +1,98 @@
+//! Names in two words.
+ghost use Rattle.std.specs.Prelude.{◌≡◌};
+ghost use Rattle.hx_members.specs.Rows.{name_of, is_name};
+
+use crate::name::Name;
+use hx_units::{MemberNo, Token};
+use std::marker::Model;
+
+/// A name in two words, so that two names are compared in two steps: in the low one the token's fifth and sixth letter,
+/// above these its first four, and above them the member's number; in the high one the token's last eight letters.
+#[derive(Clone, Copy)]
+pub(crate) struct PackedName {
+    low: u64,
+    high: u64,
+}
+
+impl Model for PackedName {
+    ghost use Rattle.std.specs.Prelude.{◌<◌, ◌/◌, ◌^◌};
+    ghost use Rattle.hx_units.specs.Ranges.{IsMember};
+    ghost use Rattle.hx_members.specs.declared.name.Name.{Name};
+    ghost use Rattle.hx_members.specs.Packed.{low_of, high_of, name_of_words, low_of-words, high_of-words};
+
+    ghost Value = { Name };
+
+    ghost view = { λ p. name_of_words p.low p.high };
+
+    ghost invariant = { λ p. (p.low < 2 ^ 64) × (p.high < 2 ^ 64) × IsMember (p.low / 2 ^ 16 / 2 ^ 32) };
+
+    ghost inverse = { λ name. record { low = low_of name; high = high_of name } };
+
+    ghost inverse_ok = { λ p h i. record {
+      low = low_of-words p.low p.high h.0 i;
+      high = high_of-words p.low p.high h.1 i;
+    } };
+}
+
+// What is added to the words, so that few names make one 0; by the first a sum is multiplied besides.
+const LOW_ADDED: u64 = 0x9e37_79b9_7f4a_7c15;
+
+const HIGH_ADDED: u64 = 0xd1b5_4a32_d192_ed03;
+
+impl PackedName {
+    ghost use Rattle.hx_members.specs.Seeds.{fixed_hash};
+
+    /// A member's token in two words. Its letters are read four, two and eight at once.
+    #[inline(always)]
+    pub(crate) fn of(member: MemberNo, token: &Token) -> PackedName
+        ensures { result ≡ name_of member token.now }
+    {
+        let t = &token.0;
+        let first = u32::from_le_bytes([t[0], t[1], t[2], t[3]]);
+        let next = u16::from_le_bytes([t[4], t[5]]);
+        let last = u64::from_le_bytes([t[6], t[7], t[8], t[9], t[10], t[11], t[12], t[13]]);
+        let front = u64::from(member.get()) * 0x1_0000_0000 + u64::from(first);
+        PackedName {
+            low: front * 0x1_0000 + u64::from(next),
+            high: last,
+        }
+    }
+
+    /// The hash under the fixed seed.
+    #[inline(always)]
+    pub(crate) fn fixed_hash(self) -> u32
+        ensures { result ≡ fixed_hash self }
+    {
+        let left = u128::from(self.low.wrapping_add(LOW_ADDED));
+        let right = u128::from(self.high.wrapping_add(HIGH_ADDED));
+        let product = left * right;
+        let lower = (product % 0x1_0000_0000_0000_0000) as u64;
+        let upper = (product / 0x1_0000_0000_0000_0000) as u64;
+        let mixed = lower.wrapping_add(upper).wrapping_mul(LOW_ADDED);
+        (mixed / 0x1_0000_0000) as u32
+    }
+
+    /// Whether two names are the same.
+    #[inline(always)]
+    pub(crate) fn is(self, other: PackedName) -> bool
+        ensures { result ≡ is_name self other }
+    {
+        self.low == other.low && self.high == other.high
+    }
+
+    /// The name in its usual form.
+    pub(crate) fn name(self) -> Name
+        ensures { result ≡ self }
+    {
+        let front = self.low / 0x1_0000;
+        let t = ((front % 0x1_0000_0000) as u32).to_le_bytes();
+        let u = ((self.low % 0x1_0000) as u16).to_le_bytes();
+        let v = self.high.to_le_bytes();
+        Name {
+            member: MemberNo::of((front / 0x1_0000_0000) as u16).unwrap(),
+            token: Token([
+                t[0], t[1], t[2], t[3], u[0], u[1], v[0], v[1], v[2], v[3], v[4], v[5], v[6], v[7],
+            ]),
+        }
+    }
+}
