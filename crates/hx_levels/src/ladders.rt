@@ -42,6 +42,7 @@ impl Ladders {
     }
 
     /// The first order of the first level that is not empty, from a rung up to a distance.
+    #[inline(always)]
     pub fn first_from(&self, from: Rung, limit: u32) -> Option<usize>
         requires single { (a b : Rung) → IsEmptyAt self.now.levels a
             → IsEmptyAt self.now.levels b → a ≡ b }
@@ -65,6 +66,7 @@ impl Ladders {
     }
 
     /// Makes an empty level, where there is none.
+    #[inline(always)]
     pub fn make_level(&mut self, at: Rung) -> Result<(), NoMemory>
         ensures there { OnOk result (IsSome (level_at self.new.levels at)) }
         ensures ends { (s : Bool) → ends_in s (level_at self.new.levels at)
@@ -80,6 +82,7 @@ impl Ladders {
     }
 
     /// Puts a key last in a queue of a level that is there, and gives the key that was last.
+    #[inline(always)]
     pub fn join_queue(&mut self, at: Rung, shown: bool, key: usize) -> Link
         requires level { IsSome (level_at self.old.levels at) }
         requires small { key + 1 < 2 ^ 64 }
@@ -95,6 +98,7 @@ impl Ladders {
     }
 
     // Looks for the best level of the rung's stock and side, where the rung was the best before its level went out.
+    #[inline(always)]
     fn find_best(&mut self, at: Rung)
         ensures { self.new.levels ≡ self.old.levels }
     {
@@ -108,6 +112,7 @@ impl Ladders {
     }
 
     /// Takes the level out where it is empty, unless it is the one to keep.
+    #[inline(always)]
     pub fn drop_empty(&mut self, at: Rung, kept: Option<Rung>)
         ensures { DropsEmpty self.old.levels self.new.levels at kept }
     {
@@ -134,6 +139,7 @@ impl Ladders {
 
     /// Takes the order of these links out of its queue, and its level out where that leaves it empty, unless it is the
     /// one to keep. An order between two others is no end of its queue, and its level is not looked for.
+    #[inline(always)]
     pub fn leave_level(&mut self, at: Rung, shown: bool, links: Links, kept: Option<Rung>)
         requires { IsSome (ends_in shown (level_at self.old.levels at)).first }
         ensures { LeavesLevel self.old.levels self.new.levels at shown links kept }

@@ -63,7 +63,8 @@ fn message_effect<B: Book>(
     ensures suits { SuitsTokens tokens.now.tokens tokens.now.chains effect.new }
     ensures about { IsAbout (B.orders book.now) effect.new }
 {
-    match decode_in(bytes) {
+    let message = decode_in(bytes);
+    match &message {
         Some(Inbound::Enter(enter)) => {
             enter_effect(
                 setup,
@@ -72,17 +73,17 @@ fn message_effect<B: Book>(
                 tokens,
                 member,
                 time,
-                enter,
+                *enter,
                 effect,
             );
         }
         Some(Inbound::Replace(replace)) => {
             replace_effect(
-                setup, hours, trading, tokens, book, member, time, replace, effect,
+                setup, hours, trading, tokens, book, member, time, *replace, effect,
             );
         }
         Some(Inbound::Cancel(cancel)) => {
-            cancel_effect(tokens, book, member, time, cancel, effect);
+            cancel_effect(tokens, book, member, time, *cancel, effect);
         }
         None => *effect = Effect::Nothing,
     }
@@ -128,18 +129,18 @@ pub fn effect_of<B: Book>(
             );
         }
         Event::Tick { time } => {
-            *effect = tick_effect(alloc, hours, ends, tokens, book, *time)?;
+            tick_effect(alloc, hours, ends, tokens, book, *time, effect)?;
         }
         Event::Hours { time, code } => {
-            *effect = hours_effect(alloc, setup, hours, book, *time, *code)?;
+            hours_effect(alloc, setup, hours, book, *time, *code, effect)?;
         }
         Event::Halt {
             time,
             stock,
             state,
             reason,
-        } => *effect = halt_effect(setup, *time, *stock, *state, *reason),
-        Event::Break { time, number } => *effect = break_effect(trading, *time, *number),
+        } => halt_effect(setup, *time, *stock, *state, *reason, effect),
+        Event::Break { time, number } => break_effect(trading, *time, *number, effect),
     }
     Ok(())
 }

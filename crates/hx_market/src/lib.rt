@@ -5,6 +5,7 @@
 mod commit;
 mod decision;
 mod effect;
+mod glance;
 mod live_orders;
 mod market;
 mod messages;

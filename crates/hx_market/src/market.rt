@@ -8,6 +8,7 @@ ghost use Rattle.hx_rules.specs.Steps.{step};
 ghost use Rattle.hx_market.specs.MarketModel.{chain_facts};
 
 use crate::commit::commit_step;
+use crate::glance::glance;
 use crate::live_orders::list_orders;
 use crate::next_step::{NextStep, make_room, no_output};
 use crate::prepare::{Prepared, make, plan_step};
@@ -265,6 +266,12 @@ impl<B: Book + Drop> Market<B> {
             told,
         );
         Ok(())
+    }
+
+    /// Looks at what the first sixteen of coming events are about, so that the memory which they need is at hand when they
+    /// are played. Nothing is promised of the answer, which has no other use than that it was looked for.
+    pub fn glance(&self, events: &[Event]) -> u64 {
+        glance(&self.tokens, &self.book, events)
     }
 
     /// Takes back what a `commit` gave, once it is told: the lists are room for the next event, unless that is prepared

@@ -9,7 +9,7 @@ ghost use Rattle.hx_market.specs.OrderKeys.{AreKeyed};
 ghost use Rattle.hx_market.specs.Effects.{IsOnly, confirmed};
 
 use hx_levels::{Book, Key, Live};
-use hx_members::Tokens;
+use hx_members::{Tokens, is_same_name};
 use hx_units::{MemberNo, Token};
 
 /// A live order, and what its chain has executed.
@@ -29,7 +29,7 @@ fn confirm<B: Book>(book: &B, key: Key, member: MemberNo, token: &Token) -> Opti
     ensures keys { KeysDiffer (B.orders book.now) }
 {
     let order = *book.get(key)?;
-    if order.member == member && order.token == *token {
+    if is_same_name(order.member, &order.token, member, token) {
         Some(Live { key, order })
     } else {
         None
@@ -38,6 +38,7 @@ fn confirm<B: Book>(book: &B, key: Key, member: MemberNo, token: &Token) -> Opti
 
 /// The live order that a member calls by a token. A token keeps the key of the last order under it: whether that one
 /// still lives is asked of the book.
+#[inline(always)]
 pub fn find_order<B: Book>(
     book: &B,
     tokens: &Tokens,

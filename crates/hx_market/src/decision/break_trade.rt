@@ -11,26 +11,28 @@ ghost use Rattle.hx_market.specs.Effects.{outcome_of, IsEffect, IsOf, SuitsToken
 use crate::effect::{BrokenMatch, Effect};
 use hx_day::Trading;
 
-/// What a break does: nothing for a match number that was never drawn, or whose execution is broken.
+/// What a break does, in the place of the effect before: nothing for a match number that was never drawn, or whose
+/// execution is broken.
 #[inline(never)]
-pub fn break_effect(trading: &Trading, time: u64, number: u64) -> Effect
+pub fn break_effect(trading: &Trading, time: u64, number: u64, effect: &mut Effect)
     requires { time < day }
     ensures does { (m : Market) → m.executions ≡ trading.now.executions
-        → break_trade m time number ≡ outcome_of m result }
-    ensures is_effect { (setup : SetupOf) → IsEffect setup result }
-    ensures sender { (i : ℕ) → IsOf i result }
-    ensures suits { (ts : List Used) (cs : List Chain) → SuitsTokens ts cs result }
-    ensures about { (orders : List LiveOrder) → IsAbout orders result }
+        → break_trade m time number ≡ outcome_of m effect.new }
+    ensures is_effect { (setup : SetupOf) → IsEffect setup effect.new }
+    ensures sender { (i : ℕ) → IsOf i effect.new }
+    ensures suits { (ts : List Used) (cs : List Chain) → SuitsTokens ts cs effect.new }
+    ensures about { (orders : List LiveOrder) → IsAbout orders effect.new }
 {
+    *effect = Effect::Nothing;
     let Some(execution) = trading.execution(number) else {
-        return Effect::Nothing;
+        return;
     };
     if execution.broken {
-        return Effect::Nothing;
+        return;
     }
-    Effect::Break(BrokenMatch {
+    *effect = Effect::Break(BrokenMatch {
         time,
         number,
         execution,
-    })
+    });
 }

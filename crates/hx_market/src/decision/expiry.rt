@@ -89,8 +89,8 @@ pub fn end_orders(
     }))
 }
 
-/// What a tick does, at so many hours codes past. `NoMemory` where the orders that end, and what they tell, find no
-/// room.
+/// What a tick does, at so many hours codes past, in the place of the effect before. `NoMemory` where the orders that
+/// end, and what they tell, find no room.
 #[inline(never)]
 pub fn tick_effect<B: Book>(
     alloc: Global,
@@ -99,22 +99,25 @@ pub fn tick_effect<B: Book>(
     tokens: &Tokens,
     book: &B,
     time: u64,
-) -> Result<Effect, NoMemory>
+    effect: &mut Effect,
+) -> Result<(), NoMemory>
     requires time { time < day }
     requires keyed { AreKeyed tokens.now.tokens tokens.now.keys (B.orders book.now) }
     requires entered { AreEntered ends.now tokens.now.tokens (lives (B.orders book.now)) }
-    ensures does { IfOk result (λ a. (t : TokenList) (n : Numbers) (counts : List ℕ)
+    ensures does { OnOk result ((t : TokenList) (n : Numbers) (counts : List ℕ)
         (r : TradingState) → tick (market_of (B.orders book.now) t n hours counts r) time
-        ≡ outcome_of (market_of (B.orders book.now) t n hours counts r) a) }
-    ensures is_effect { IfOk result (λ a. (setup : SetupOf) → IsEffect setup a) }
-    ensures sender { IfOk result (λ a. (i : ℕ) → IsOf i a) }
-    ensures suits { IfOk result (λ a. (ts : List Used) (cs : List Chain) → SuitsTokens ts cs a) }
-    ensures about { IfOk result (λ a. IsAbout (B.orders book.now) a) }
+        ≡ outcome_of (market_of (B.orders book.now) t n hours counts r) effect.new) }
+    ensures is_effect { OnOk result ((setup : SetupOf) → IsEffect setup effect.new) }
+    ensures sender { OnOk result ((i : ℕ) → IsOf i effect.new) }
+    ensures suits { OnOk result ((ts : List Used) (cs : List Chain)
+        → SuitsTokens ts cs effect.new) }
+    ensures about { OnOk result (IsAbout (B.orders book.now) effect.new) }
 {
     let orders = orders_over(alloc, ends, tokens, book, time)?;
     let first = Output {
         feed: Vec::new(alloc),
         replies: Vec::new(alloc),
     };
-    end_orders(orders, Due::Over, time, hours, first)
+    *effect = end_orders(orders, Due::Over, time, hours, first)?;
+    Ok(())
 }

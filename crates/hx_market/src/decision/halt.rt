@@ -18,27 +18,37 @@ fn is_trading_state(state: u8) -> bool
     state == b'H' || state == b'T'
 }
 
-/// What a halt does, or its end: nothing for a stock that the setup does not have, or for another letter.
+/// What a halt does, or its end, in the place of the effect before: nothing for a stock that the setup does not have, or
+/// for another letter.
 #[inline(never)]
-pub fn halt_effect(setup: &Setup, time: u64, stock: Symbol, state: u8, reason: [u8; 4]) -> Effect
+pub fn halt_effect(
+    setup: &Setup,
+    time: u64,
+    stock: Symbol,
+    state: u8,
+    reason: [u8; 4],
+    effect: &mut Effect,
+)
     requires { time < day }
-    ensures does { (m : Market) → halt setup.now m time stock state reason ≡ outcome_of m result }
-    ensures is_effect { IsEffect setup.now result }
-    ensures sender { (i : ℕ) → IsOf i result }
-    ensures suits { (ts : List Used) (cs : List Chain) → SuitsTokens ts cs result }
-    ensures about { (orders : List LiveOrder) → IsAbout orders result }
+    ensures does { (m : Market)
+        → halt setup.now m time stock state reason ≡ outcome_of m effect.new }
+    ensures is_effect { IsEffect setup.now effect.new }
+    ensures sender { (i : ℕ) → IsOf i effect.new }
+    ensures suits { (ts : List Used) (cs : List Chain) → SuitsTokens ts cs effect.new }
+    ensures about { (orders : List LiveOrder) → IsAbout orders effect.new }
 {
+    *effect = Effect::Nothing;
     let Some(locate) = setup.locate(stock) else {
-        return Effect::Nothing;
+        return;
     };
     if !is_trading_state(state) {
-        return Effect::Nothing;
+        return;
     }
-    Effect::Halt(StateChange {
+    *effect = Effect::Halt(StateChange {
         time,
         locate,
         stock,
         state,
         reason,
-    })
+    });
 }

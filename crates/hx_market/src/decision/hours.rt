@@ -89,7 +89,7 @@ fn is_next(hours: u8, code: u8) -> bool
     hours < 6 && CODES[hours as usize] == code
 }
 
-/// What an hours code does, at so many past. `NoMemory` as for a tick.
+/// What an hours code does, at so many past, in the place of the effect before. `NoMemory` as for a tick.
 #[inline(never)]
 pub fn hours_effect<B: Book>(
     alloc: Global,
@@ -98,21 +98,25 @@ pub fn hours_effect<B: Book>(
     book: &B,
     time: u64,
     code: u8,
-) -> Result<Effect, NoMemory>
+    effect: &mut Effect,
+) -> Result<(), NoMemory>
     requires time { time < day }
-    ensures does { IfOk result (λ a. (t : TokenList) (n : Numbers) (counts : List ℕ)
+    ensures does { OnOk result ((t : TokenList) (n : Numbers) (counts : List ℕ)
         (r : TradingState)
         → next_hours setup.now (market_of (B.orders book.now) t n hours counts r) time code
-        ≡ outcome_of (market_of (B.orders book.now) t n hours counts r) a) }
-    ensures is_effect { IfOk result (λ a. IsEffect setup.now a) }
-    ensures sender { IfOk result (λ a. (i : ℕ) → IsOf i a) }
-    ensures suits { IfOk result (λ a. (ts : List Used) (cs : List Chain) → SuitsTokens ts cs a) }
-    ensures about { IfOk result (λ a. IsAbout (B.orders book.now) a) }
+        ≡ outcome_of (market_of (B.orders book.now) t n hours counts r) effect.new) }
+    ensures is_effect { OnOk result (IsEffect setup.now effect.new) }
+    ensures sender { OnOk result ((i : ℕ) → IsOf i effect.new) }
+    ensures suits { OnOk result ((ts : List Used) (cs : List Chain)
+        → SuitsTokens ts cs effect.new) }
+    ensures about { OnOk result (IsAbout (B.orders book.now) effect.new) }
 {
     if !is_next(hours, code) {
-        return Ok(Effect::Nothing);
+        *effect = Effect::Nothing;
+        return Ok(());
     }
     let first = told_by_code(alloc, setup, time, code)?;
     let orders = orders_by_code(alloc, book, code)?;
-    end_orders(orders, Due::ByCode(code), time, hours + 1, first)
+    *effect = end_orders(orders, Due::ByCode(code), time, hours + 1, first)?;
+    Ok(())
 }

@@ -41,6 +41,7 @@ fn incoming_by(effect: &Replacement) -> Incoming
 }
 
 // The plan of an order, in this room, and a place for what rests of it: none of an immediate one does.
+#[inline(always)]
 fn plan_order<B: Book>(
     room: Vec<Fill>,
     book: &mut B,
@@ -65,6 +66,7 @@ fn plan_order<B: Book>(
 }
 
 // The plan of an order that is accepted.
+#[inline(always)]
 fn plan_enter<B: Book>(
     room: Vec<Fill>,
     book: &mut B,
@@ -82,6 +84,7 @@ fn plan_enter<B: Book>(
 }
 
 // The plan of an order that replaces another, which it does not meet.
+#[inline(always)]
 fn plan_replacement<B: Book>(
     room: Vec<Fill>,
     book: &mut B,

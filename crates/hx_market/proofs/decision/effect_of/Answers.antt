@@ -22,17 +22,17 @@ returns-in-Break-clause-suits g c = c.break_effect.ensures.suits c.args.tokens.n
 pub returns-in-Break-clause-about : goal.returns-in-Break-clause-about
 returns-in-Break-clause-about g c = c.break_effect.ensures.about (g.B.Book.orders c.args.book.now)
 
-pub returns-in_ok-effect-in-Tick-clause-is_effect : goal.returns-in_ok-effect-in-Tick-clause-is_effect
-returns-in_ok-effect-in-Tick-clause-is_effect g c = c.in_ok-effect-in-Tick.ensures.is_effect c.args.setup.now
+pub returns-in_ok-tick_effect-in-Tick-clause-is_effect : goal.returns-in_ok-tick_effect-in-Tick-clause-is_effect
+returns-in_ok-tick_effect-in-Tick-clause-is_effect g c = c.in_ok-tick_effect-in-Tick.ensures.is_effect c.args.setup.now
 
-pub returns-in_ok-effect-in-Tick-clause-sender : goal.returns-in_ok-effect-in-Tick-clause-sender
-returns-in_ok-effect-in-Tick-clause-sender g c = c.in_ok-effect-in-Tick.ensures.sender (sender c.args.event.now)
+pub returns-in_ok-tick_effect-in-Tick-clause-sender : goal.returns-in_ok-tick_effect-in-Tick-clause-sender
+returns-in_ok-tick_effect-in-Tick-clause-sender g c = c.in_ok-tick_effect-in-Tick.ensures.sender (sender c.args.event.now)
 
-pub returns-in_ok-effect-in-Tick-clause-suits : goal.returns-in_ok-effect-in-Tick-clause-suits
-returns-in_ok-effect-in-Tick-clause-suits g c = c.in_ok-effect-in-Tick.ensures.suits c.args.tokens.now.tokens c.args.tokens.now.chains
+pub returns-in_ok-tick_effect-in-Tick-clause-suits : goal.returns-in_ok-tick_effect-in-Tick-clause-suits
+returns-in_ok-tick_effect-in-Tick-clause-suits g c = c.in_ok-tick_effect-in-Tick.ensures.suits c.args.tokens.now.tokens c.args.tokens.now.chains
 
-pub returns-in_ok-effect-in-Hours-clause-sender : goal.returns-in_ok-effect-in-Hours-clause-sender
-returns-in_ok-effect-in-Hours-clause-sender g c = c.in_ok-effect-in-Hours.ensures.sender (sender c.args.event.now)
+pub returns-in_ok-hours_effect-in-Hours-clause-sender : goal.returns-in_ok-hours_effect-in-Hours-clause-sender
+returns-in_ok-hours_effect-in-Hours-clause-sender g c = c.in_ok-hours_effect-in-Hours.ensures.sender (sender c.args.event.now)
 
-pub returns-in_ok-effect-in-Hours-clause-suits : goal.returns-in_ok-effect-in-Hours-clause-suits
-returns-in_ok-effect-in-Hours-clause-suits g c = c.in_ok-effect-in-Hours.ensures.suits c.args.tokens.now.tokens c.args.tokens.now.chains
+pub returns-in_ok-hours_effect-in-Hours-clause-suits : goal.returns-in_ok-hours_effect-in-Hours-clause-suits
+returns-in_ok-hours_effect-in-Hours-clause-suits g c = c.in_ok-hours_effect-in-Hours.ensures.suits c.args.tokens.now.tokens c.args.tokens.now.chains

@@ -9,3 +9,6 @@ pub end_orders-requires-clause-times : goal.end_orders-requires-clause-times
 end_orders-requires-clause-times g c =
     let l : c.args.time < 2 ^ 48 = let r = c.requires in omega arith in
     subst (λ (fs : List Feed). AllByRecursion (λ f. feed_time f < 2 ^ 48) fs) (sym c.in_ok-first.ensures.feed) (code_in c.args.setup.now c.args.time c.args.code l)
+
+pub returns-clause-is_effect : goal.returns-clause-is_effect
+returns-clause-is_effect g c = c.in_ok-effect.ensures.is_effect c.args.setup.now

@@ -1,0 +1,71 @@
+//! Events that are looked at before their turn, so that the memory which they need is at hand then.
+
+use hx_levels::{Book, Key};
+use hx_members::{Tokens, name_hash};
+use hx_rules::Event;
+use hx_units::fields::array_at;
+use hx_units::{MemberNo, Token};
+
+/// So many events are looked at together: the memory of each is waited for beside that of the others.
+const BATCH: usize = 16;
+
+// The first byte of a message.
+fn first_byte(event: &Event) -> u64 {
+    match event {
+        Event::Message { bytes, .. } => match bytes.as_slice().first() {
+            Some(byte) => u64::from(*byte),
+            None => 0,
+        },
+        Event::Tick { .. } | Event::Hours { .. } | Event::Halt { .. } | Event::Break { .. } => 0,
+    }
+}
+
+// Looks at the bytes of messages.
+fn sum_of_bytes(events: &[Event]) -> u64 {
+    let mut sum: u64 = 0;
+    for event in events.iter().take(BATCH) {
+        sum = sum.wrapping_add(first_byte(event));
+    }
+    sum
+}
+
+// The hash of the token that a message names first (OUCH 4.2: it stands behind the message's type), or 0.
+#[inline(always)]
+fn hash_of(event: &Event) -> u32 {
+    let Event::Message { member, bytes, .. } = event else {
+        return 0;
+    };
+    let bytes = bytes.as_slice();
+    match MemberNo::of(*member) {
+        Some(member) if bytes.len() >= 15 => name_hash(member, &Token(array_at(bytes, 1))),
+        _ => 0,
+    }
+}
+
+// The hashes of the tokens that messages name first.
+fn hashes_of(events: &[Event]) -> [u32; BATCH] {
+    let mut hashes = [0; BATCH];
+    for (hash, event) in hashes.iter_mut().zip(events) {
+        *hash = hash_of(event);
+    }
+    hashes
+}
+
+// Looks at orders.
+fn sum_of_orders<B: Book>(book: &B, keys: &[usize]) -> u64 {
+    let mut sum: u64 = 0;
+    for key in keys {
+        if let Some(order) = book.get(Key(*key)) {
+            sum = sum.wrapping_add(order.reference ^ u64::from(order.shares));
+        }
+    }
+    sum
+}
+
+/// Looks at what the first sixteen of the events are about, as far as it can be guessed: their bytes, the used tokens that
+/// they name first, and the orders under these. Nothing is promised of the answer.
+pub fn glance<B: Book>(tokens: &Tokens, book: &B, events: &[Event]) -> u64 {
+    let bytes = sum_of_bytes(events);
+    let keys = tokens.likely_keys(&hashes_of(events));
+    bytes.wrapping_add(sum_of_orders(book, &keys))
+}
