@@ -4,7 +4,7 @@ use Rattle.hx_itch.specs.declared.message.Feed.{Feed}
 use Rattle.hx_refs.specs.Numbers.{raised}
 use Rattle.hx_market.specs.Outputs.{Reply}
 use Rattle.hx_replay.specs.declared.messages.Mark.{Mark}
-use Rattle.hx_replay.specs.declared.messages.Mark.TheVariants as mark
+use Rattle.hx_replay.specs.declared.messages.Marked.TheVariants as mark
 use Rattle.hx_replay.specs.Marks.{lines_of, AreMarked, feed_marks, reply_marks, HaveRoomForTimes}
 use Rattle.hx_replay.specs.Output.{feed_line, reply_line, feed_lines, reply_lines}
 use Rattle.hx_replay.specs.Seen.{Numbered, text_of, texts_of}
@@ -65,11 +65,15 @@ pub times_behind : (feed fs : List Feed) → HaveRoomForTimes feed → HaveRoomF
 times_behind [] fs h k = k
 times_behind (m ∷ feed) fs h k = (h.0, times_behind feed fs h.1 k)
 
--- all of it behind what was told before
+-- the text of more marks, behind that of marks that are all used up
+pub all_behind : (marks more : List Mark) (feed fs : List Feed) (replies rs : List Reply) → AreMarked marks feed replies
+    → texts_of (lines_of (marks ++ more) (feed ++ fs) (replies ++ rs)) ≡ texts_of (lines_of marks feed replies) ++ texts_of (lines_of more fs rs)
+all_behind marks more feed fs replies rs h = ap texts_of (lines_behind marks more feed fs replies rs h) ∙ texts_appended (lines_of marks feed replies) (lines_of more fs rs)
+
+-- what an event tells, behind what was told before
 pub texts_behind : (marks : List Mark) (feed : List Feed) (replies : List Reply) (n : ℕ) (counts : List ℕ) (fs : List Feed) (rs : List Reply) → AreMarked marks feed replies
     → texts_of (lines_of (marks ++ (feed_marks n fs ++ reply_marks counts rs)) (feed ++ fs) (replies ++ rs))
     ≡ texts_of (lines_of marks feed replies) ++ (feed_lines n fs ++ reply_lines counts rs)
 texts_behind marks feed replies n counts fs rs h =
-    ap texts_of (lines_behind marks (feed_marks n fs ++ reply_marks counts rs) feed fs replies rs h)
-    ∙ texts_appended (lines_of marks feed replies) (lines_of (feed_marks n fs ++ reply_marks counts rs) fs rs)
+    all_behind marks (feed_marks n fs ++ reply_marks counts rs) feed fs replies rs h
     ∙ ap (λ (t : List ℕ). texts_of (lines_of marks feed replies) ++ t) (told_texts n counts fs rs)

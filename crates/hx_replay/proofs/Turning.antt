@@ -69,6 +69,11 @@ plays_one c d d' es output more e h known p =
           ∙ sym (output-append c es (e ∷ []));
     }
 
+-- where memory is wanting, no more is said than that there are events
+pub fails_without_memory : (c : Progress) (es : List Entry) (events : List Event) (output : List ℕ) → AreOf es events → 0 < length events → FailsAmong c es output fault.NoMemory
+fails_without_memory c [] events output are some = absurd (let none : length events ≡ 0 = ap length are.events_are in omega arith)
+fails_without_memory c (e ∷ es) events output are some = record { played = []; bad = e; others = es; events_are = refl; are_events = tt; faults = tt; output_is = λ other. absurd (other refl) }
+
 -- ---- a turn
 
 -- what was told is written, and the events that were read are played

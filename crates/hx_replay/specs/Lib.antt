@@ -11,4 +11,5 @@ pub mod Quiet
 pub mod Operators
 pub mod Histories
 pub mod Ahead
+pub mod MarkWords
 pub mod Marks

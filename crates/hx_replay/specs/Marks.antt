@@ -6,7 +6,7 @@ use Rattle.hx_itch.specs.Message.{feed_time}
 use Rattle.hx_refs.specs.Numbers.{raised}
 use Rattle.hx_market.specs.Outputs.{Reply}
 use Rattle.hx_replay.specs.declared.messages.Mark.{Mark}
-use Rattle.hx_replay.specs.declared.messages.Mark.TheVariants as mark
+use Rattle.hx_replay.specs.declared.messages.Marked.TheVariants as mark
 use Rattle.hx_replay.specs.Seen.{Numbered}
 use Rattle.hx_replay.specs.Seen.Numbered.{OfFeed, OfMember}
 

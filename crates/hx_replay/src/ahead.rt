@@ -47,7 +47,7 @@ impl Model for Ahead {
 const LEAST: usize = 512;
 
 // So many at most.
-const MOST: usize = 4096;
+const MOST: usize = 2048;
 
 // A text has a line, more or less, for each so many of its bytes.
 const LINE: usize = 96;

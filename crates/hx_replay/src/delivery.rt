@@ -10,7 +10,7 @@ ghost use Rattle.hx_replay.specs.declared.messages.Mark.{Mark};
 ghost use Rattle.hx_replay.specs.declared.fault.TapeError.TheVariants as fault;
 
 use crate::fault::TapeError;
-use crate::messages::{Mark, Messages};
+use crate::messages::{Mark, Marked, Messages};
 use crate::replaying::{write_many, write_whole};
 use crate::telling::Lines;
 use hx_itch::Feed;
@@ -35,19 +35,19 @@ fn spell_next<'a>(
     ensures times { IfOk result (λ left. HaveRoomForTimes left.0.now) }
     ensures err { OnErr result (lines.new ≡ lines.old) }
 {
-    match mark {
-        Mark::OfFeed(number) => {
+    match mark.get() {
+        Marked::OfFeed(number) => {
             let Some((message, others)) = feed.split_first() else {
                 return Ok((feed, replies));
             };
-            lines.add_feed_line(*number, message)?;
+            lines.add_feed_line(number, message)?;
             Ok((others, replies))
         }
-        Mark::OfMember(number) => {
+        Marked::OfMember(number) => {
             let Some(((member, reply), others)) = replies.split_first() else {
                 return Ok((feed, replies));
             };
-            lines.add_reply_line(*member, *number, reply)?;
+            lines.add_reply_line(*member, number, reply)?;
             Ok((feed, others))
         }
     }

@@ -4,6 +4,7 @@ ghost use Rattle.std.specs.Vec.{vec_len, vec_capacity};
 ghost use Rattle.hx_market.specs.Refusals.{refusal, or_no_memory};
 ghost use Rattle.hx_market.specs.Steps.{step};
 ghost use Rattle.hx_rules.specs.declared.fault.PrepareError.TheVariants as refused;
+ghost use Rattle.hx_replay.specs.declared.messages.Marked.TheVariants as marked;
 ghost use Rattle.hx_replay.specs.Marks.{lines_of, feed_marks, reply_marks, HaveRoomForTimes};
 ghost use Rattle.hx_replay.specs.Output.{feed_lines, reply_lines, counts_after};
 ghost use Rattle.hx_replay.specs.Seen.{texts_of};
@@ -18,11 +19,61 @@ use std::marker::Model;
 
 /// Where what is told next stands, with its number.
 #[derive(Clone, Copy)]
-pub enum Mark {
+pub enum Marked {
     /// Among the messages of the feed.
     OfFeed(u64),
     /// Among the replies.
     OfMember(u64),
+}
+
+/// The same in one word, which lists of them hold: twice the number, and one more where it is that of a reply.
+#[derive(Clone, Copy)]
+pub struct Mark {
+    word: u64,
+}
+
+impl Model for Mark {
+    ghost use Rattle.hx_replay.specs.declared.messages.Marked.{Marked};
+    ghost use Rattle.hx_replay.specs.MarkWords.{marked_by, word_of};
+
+    ghost Value = { Marked };
+
+    ghost view = { λ m. marked_by m.word };
+
+    ghost inverse = { λ marked. record { word = word_of marked } };
+}
+
+impl Mark {
+    /// The mark of a message of the feed.
+    #[inline(always)]
+    pub fn of_feed(number: u64) -> Mark
+        requires { number < 2 ^ 63 }
+        ensures { result ≡ marked.OfFeed number }
+    {
+        Mark { word: number * 2 }
+    }
+
+    /// The mark of a reply to a member.
+    #[inline(always)]
+    pub fn of_member(number: u64) -> Mark
+        requires { number < 2 ^ 63 }
+        ensures { result ≡ marked.OfMember number }
+    {
+        Mark {
+            word: number * 2 + 1,
+        }
+    }
+
+    /// What it marks.
+    #[inline(always)]
+    pub fn get(self) -> Marked
+        ensures { result ≡ self }
+    {
+        if self.word % 2 == 0 {
+            return Marked::OfFeed(self.word / 2);
+        }
+        Marked::OfMember(self.word / 2)
+    }
 }
 
 /// How much an event told.
@@ -58,7 +109,7 @@ impl Model for Messages {
 
 // Marks messages of the feed, after so many others. There is room for the marks.
 fn mark_feed(marks: &mut Vec<Mark>, before: u64, feed: &[Feed])
-    requires numbers { before + length feed.now < 2 ^ 64 }
+    requires numbers { before + length feed.now < 2 ^ 63 }
     requires room { vec_len marks.old + length feed.now ≤ vec_capacity marks.old }
     ensures marked { marks.new.items ≡ marks.old.items ++ feed_marks before feed.now }
     ensures room { (vec_len marks.new ≡ vec_len marks.old + length feed.now)
@@ -67,7 +118,7 @@ fn mark_feed(marks: &mut Vec<Mark>, before: u64, feed: &[Feed])
     let mut number = before;
     for _ in feed {
         number += 1;
-        marks.push_reserved(Mark::OfFeed(number));
+        marks.push_reserved(Mark::of_feed(number));
     }
 }
 
@@ -75,7 +126,7 @@ fn mark_feed(marks: &mut Vec<Mark>, before: u64, feed: &[Feed])
 fn mark_replies(marks: &mut Vec<Mark>, counts: &mut [u64], replies: &[(MemberNo, Outbound)])
     requires numbered { length counts.old ≡ 4096 }
     requires numbers { (member : ℕ)
-        → slice_index counts.old member + length replies.now < 2 ^ 64 }
+        → slice_index counts.old member + length replies.now < 2 ^ 63 }
     requires room { vec_len marks.old + length replies.now ≤ vec_capacity marks.old }
     ensures marks { marks.new.items ≡ marks.old.items ++ reply_marks counts.old replies.now }
     ensures counts { counts.new ≡ counts_after counts.old replies.now }
@@ -83,7 +134,7 @@ fn mark_replies(marks: &mut Vec<Mark>, counts: &mut [u64], replies: &[(MemberNo,
     for (member, _) in replies {
         let count = &mut counts[member.get() as usize];
         *count += 1;
-        marks.push_reserved(Mark::OfMember(*count));
+        marks.push_reserved(Mark::of_member(*count));
     }
 }
 
@@ -95,10 +146,10 @@ fn mark_told(
     feed: &[Feed],
     replies: &[(MemberNo, Outbound)],
 ) -> Result<(), AllocError>
-    requires feed { before + length feed.now < 2 ^ 64 }
+    requires feed { before + length feed.now < 2 ^ 63 }
     requires numbered { length counts.old ≡ 4096 }
     requires numbers { (member : ℕ)
-        → slice_index counts.old member + length replies.now < 2 ^ 64 }
+        → slice_index counts.old member + length replies.now < 2 ^ 63 }
     ensures marks { OnOk result (marks.new.items
         ≡ marks.old.items
         ++ (feed_marks before feed.now ++ reply_marks counts.old replies.now)) }
@@ -119,6 +170,26 @@ fn forget(told: &mut Output, marks: &mut Vec<Mark>)
     told.feed.clear();
     told.replies.clear();
     marks.clear();
+}
+
+// Moves all messages behind others, and their marks.
+fn append_all(
+    told: &mut Output,
+    marks: &mut Vec<Mark>,
+    others: &mut Output,
+    other_marks: &mut Vec<Mark>,
+) -> Result<(), AllocError>
+    ensures feed { OnOk result (told.new.feed.items ≡ told.old.feed.items ++ others.old.feed.items) }
+    ensures replies { OnOk result
+        (told.new.replies.items ≡ told.old.replies.items ++ others.old.replies.items) }
+    ensures marks { OnOk result (marks.new.items ≡ marks.old.items ++ other_marks.old.items) }
+    ensures feed_left { OnOk result (others.new.feed.items ≡ []) }
+    ensures replies_left { OnOk result (others.new.replies.items ≡ []) }
+    ensures marks_left { OnOk result (other_marks.new.items ≡ []) }
+{
+    told.feed.append(&mut others.feed)?;
+    told.replies.append(&mut others.replies)?;
+    marks.append(other_marks)
 }
 
 impl Messages {
@@ -148,6 +219,26 @@ impl Messages {
         ensures { self.new ≡ [] }
     {
         forget(&mut self.told, &mut self.marks);
+    }
+
+    /// Takes all of others behind these, by one copy for each list. Where memory is wanting, it lets them all go.
+    pub(crate) fn take_all(&mut self, others: &mut Messages) -> Result<(), AllocError>
+        ensures ok { OnOk result (self.new ≡ self.old ++ others.old) }
+        ensures empty { OnOk result (others.new ≡ []) }
+    {
+        match append_all(
+            &mut self.told,
+            &mut self.marks,
+            &mut others.told,
+            &mut others.marks,
+        ) {
+            Ok(()) => Ok(()),
+            Err(error) => {
+                forget(&mut self.told, &mut self.marks);
+                forget(&mut others.told, &mut others.marks);
+                Err(error)
+            }
+        }
     }
 
     /// Has a market play an event, and appends what it tells, after so many messages of the feed, and so many replies of

@@ -148,11 +148,11 @@ impl<B: Book + Drop> Run<B> {
         self.counts
     }
 
-    /// Takes what was seen of events before their turn.
-    pub fn take_glance(&mut self, seen: u64)
+    /// Looks at the next events before their turn.
+    pub fn glance(&mut self, events: &[Event])
         ensures { self.new ≡ self.old }
     {
-        self.glanced = self.glanced.wrapping_add(seen);
+        self.glanced = self.glanced.wrapping_add(self.market.glance(events));
     }
 
     /// Plays the next line, and appends its output lines to the room's. Where the line fails, those before it stay.

@@ -1,6 +1,6 @@
 //! A tape that is played in turns: while the lines that were read are played, another thread writes what was told before,
 //! and reads on.
-ghost use Rattle.std.specs.Prelude.{◌<◌, ◌+◌, ◌^◌, ℕ, List, Option, length, OnOk, OnErr, IfOk, IfErr};
+ghost use Rattle.std.specs.Prelude.{◌≡◌, ◌<◌, ◌+◌, ◌^◌, ◌++◌, [], ℕ, List, Option, length, OnOk, OnErr, IfOk, IfErr};
 ghost use Rattle.std.specs.Io.KnownBytes.{Appends};
 ghost use Rattle.hx_replay.specs.Text.{Entry};
 ghost use Rattle.hx_replay.specs.Run.{Progress, Writes, Stops, IsFew};
@@ -15,7 +15,7 @@ use crate::run::Run;
 use crate::telling::Lines;
 use hx_levels::Book;
 use hx_market::Event;
-use std::alloc::Global;
+use std::alloc::{AllocError, Global};
 use std::io::{Read, Write};
 use std::mem::{replace, swap};
 use std::thread::{Threads, join_mut};
@@ -28,6 +28,8 @@ pub(crate) struct Turns {
     // Those of the next turn, while this one lasts.
     next: Ahead,
     telling: Messages,
+    // What was told last, and not yet put behind the rest.
+    recent: Messages,
 }
 
 impl Turns {
@@ -38,41 +40,66 @@ impl Turns {
             told: Messages::new(alloc),
             next: Ahead::new(alloc),
             telling: Messages::new(alloc),
+            recent: Messages::new(alloc),
         }
     }
 }
 
-// So many events are looked at together.
+// So many events are looked at together, and what they told is taken over together.
 const BATCH: usize = 16;
 
-// The first byte of a message.
-fn first_byte(event: &Event) -> u64 {
-    match event {
-        Event::Message { bytes, .. } => match bytes.as_slice().first() {
-            Some(byte) => u64::from(*byte),
-            None => 0,
-        },
-        Event::Tick { .. } | Event::Hours { .. } | Event::Halt { .. } | Event::Break { .. } => 0,
+// At a place where a batch begins: what was told last is put behind the rest, and the events of the batch are looked at.
+#[inline(always)]
+fn begin_batch<B: Book + Drop>(
+    run: &mut Run<B>,
+    events: &[Event],
+    place: usize,
+    recent: &mut Messages,
+    telling: &mut Messages,
+) -> Result<(), AllocError>
+    ensures run { run.new ≡ run.old }
+    ensures told { OnOk result (telling.new ++ recent.new ≡ telling.old ++ recent.old) }
+{
+    if place % BATCH != 0 {
+        return Ok(());
     }
+    let (_, next) = events.split_at(place.min(events.len()));
+    run.glance(next);
+    telling.take_all(recent)
 }
 
-// Looks at events before their turn, so that their bytes, which another thread wrote, are at hand then: at a place where a
-// batch begins, at those of the batch, all at once.
-fn glance(events: &[Event], place: usize) -> u64 {
-    if place % BATCH != 0 || place > events.len() {
-        return 0;
+// Plays the events. What they told is what is kept then, and behind it what is recent.
+fn play_each<B: Book + Drop>(
+    run: &mut Run<B>,
+    events: &[Event],
+    recent: &mut Messages,
+    telling: &mut Messages,
+) -> Result<(), TapeError>
+    requires events { run.old.events + length events.now < 2 ^ 48 }
+    requires few { IsFew run.old }
+    requires read { (entries : List Entry) × AreOf entries events.now }
+    requires telling { telling.old ≡ [] }
+    requires recent { recent.old ≡ [] }
+    ensures ok { OnOk result ((entries : List Entry) → AreOf entries events.now
+        → PlaysAll run.old run.new entries (telling.new ++ recent.new)) }
+    ensures err { IfErr result (λ e. (entries : List Entry) → AreOf entries events.now
+        → FailsAmong run.old entries (telling.new ++ recent.new) e) }
+{
+    let mut place = 0;
+    for event in events {
+        begin_batch(run, events, place, recent, telling)?;
+        place = place.wrapping_add(1);
+        run.play_event(event, recent)?;
     }
-    let mut seen: u64 = 0;
-    for event in events[place..].iter().take(BATCH) {
-        seen = seen.wrapping_add(first_byte(event));
-    }
-    seen
+    Ok(())
 }
 
-// Plays the events, and keeps what they told in the place of what was told before.
+// Plays the events, and keeps what they told in the place of what was told before. Another thread read that place, so that
+// each write there waits for its memory: therefore they tell into lists of this thread's own first, a batch at a time.
 fn play_all<B: Book + Drop>(
     run: &mut Run<B>,
     events: &[Event],
+    recent: &mut Messages,
     telling: &mut Messages,
 ) -> Result<(), TapeError>
     requires events { run.old.events + length events.now < 2 ^ 48 }
@@ -84,13 +111,14 @@ fn play_all<B: Book + Drop>(
         → FailsAmong run.old entries telling.new e) }
 {
     telling.clear();
-    let mut place = 0;
-    for event in events {
-        run.take_glance(glance(events, place));
-        place = place.wrapping_add(1);
-        run.play_event(event, telling)?;
+    recent.clear();
+    // Nothing is told then, for which memory might be wanting.
+    if events.is_empty() {
+        return Ok(());
     }
-    Ok(())
+    let played = play_each(run, events, recent, telling);
+    telling.take_all(recent)?;
+    played
 }
 
 // Writes what was told, and reads on: the part of a turn that needs no market.
@@ -131,6 +159,7 @@ fn play_and_write<B: Book + Drop, R: Read + Send, W: Write + Send, T: Threads>(
     alloc: Global,
     run: &mut Run<B>,
     now: &[Event],
+    recent: &mut Messages,
     telling: &mut Messages,
     told: &Messages,
     spelled: &mut Lines,
@@ -182,7 +211,7 @@ fn play_and_write<B: Book + Drop, R: Read + Send, W: Write + Send, T: Threads>(
             → PlaysAll run.entry.now run.exit.now entries telling.exit.now) }
         ensures failed { IfErr result (λ e. (entries : List Entry) → AreOf entries now.entry.now
             → FailsAmong run.entry.now entries telling.exit.now e) }
-    { play_all(run, now, telling) };
+    { play_all(run, now, recent, telling) };
     join_mut(rt, &mut write, &mut play)
 }
 
@@ -219,6 +248,7 @@ fn play_turn<B: Book + Drop, R: Read + Send, W: Write + Send, T: Threads>(
         alloc,
         run,
         turns.now.events(),
+        &mut turns.recent,
         &mut turns.telling,
         &turns.told,
         spelled,

@@ -1,7 +1,6 @@
-use Rattle.std.proofs.Common.{ℕ, ◌+◌, List, ◌++◌, drop, subst, ap, ◌∙◌}
+use Rattle.std.proofs.Common.{ℕ, ◌+◌, List, ◌∷◌, ◌++◌, drop, subst, sym, ap, ◌∙◌}
 use Rattle.std.proofs.lemmas.Result.{err_from_is_err_and}
 use Rattle.hx_replay.specs.declared.messages.Mark.{Mark}
-use Rattle.hx_replay.specs.declared.messages.Mark.TheVariants.{OfFeed}
 use Rattle.hx_replay.specs.Marks.{lines_of}
 use Rattle.hx_replay.specs.Seen.{texts_of}
 use Rattle.hx_replay.proofs.Spelled.{IsSpelled, mark_first, spelled_one, spelled_less, spelled_all, writes_then}
@@ -14,7 +13,7 @@ loop-mark-preserved g c =
     let told : List ℕ = c.args.told.now in
     let marks : List Mark = c.parts.result.0.now in
     let i = c.loop-mark.mark-index in
-    let first = mark_first marks i (OfFeed 0) c.loop-mark-test.true in
+    let first = mark_first marks i c.mark-item.result c.loop-mark-test.true ∙ ap (λ (m : Mark). m ∷ drop (i + 1) marks) (sym c.mark-item.is) in
     let text : List Mark → List ℕ = λ l. texts_of (lines_of l c.loop-mark.feed.now c.loop-mark.replies.now) in
     let one = c.in_ok-left.ensures.ok (drop (i + 1) marks) in
     let left : List ℕ = texts_of (lines_of (drop (i + 1) marks) c.in_ok-left.left.0.now c.in_ok-left.left.1.now) in
@@ -34,7 +33,7 @@ returns-in_err-write_many-clause-err g c =
     let told : List ℕ = c.args.told.now in
     let marks : List Mark = c.parts.result.0.now in
     let i = c.loop-mark.mark-index in
-    let first = mark_first marks i (OfFeed 0) c.loop-mark-test.true in
+    let first = mark_first marks i c.mark-item.result c.loop-mark-test.true ∙ ap (λ (m : Mark). m ∷ drop (i + 1) marks) (sym c.mark-item.is) in
     let text : List Mark → List ℕ = λ l. texts_of (lines_of l c.loop-mark.feed.now c.loop-mark.replies.now) in
     let one = c.in_ok-left.ensures.ok (drop (i + 1) marks) in
     let left : List ℕ = texts_of (lines_of (drop (i + 1) marks) c.in_ok-left.left.0.now c.in_ok-left.left.1.now) in

@@ -2,7 +2,7 @@ use Rattle.std.proofs.Common.{◌≡◌, ◌+◌, ◌++◌, ◌∷◌, [], suc, 
 use Rattle.std.specs.Vec.{vec_len}
 use Rattle.hx_itch.specs.declared.message.Feed.{Feed}
 use Rattle.hx_replay.specs.declared.messages.Mark.{Mark}
-use Rattle.hx_replay.specs.declared.messages.Mark.TheVariants.{OfFeed}
+use Rattle.hx_replay.specs.declared.messages.Marked.TheVariants.{OfFeed}
 use Rattle.hx_replay.specs.Marks.{feed_marks}
 use Rattle.hx_replay.proofs.Marked.{first_left}
 use Rattle.hx_replay.proofs.messages.mark_feed.Goals as goal
@@ -20,7 +20,7 @@ loop-preserved c =
       capacity = c.push_reserved.ensures.capacity ∙ c.loop.invariant.capacity;
       number = ap (λ i. i + 1) c.loop.invariant.number ∙ (let z : (c.args.before + c.loop.index) + 1 ≡ c.args.before + (c.loop.index + 1) = omega arith in z);
       marks =
-          ap (λ (l : List Mark). l ++ feed_marks (n + 1) (drop (c.loop.index + 1) feed)) c.push_reserved.ensures.items
+          ap (λ (l : List Mark). l ++ feed_marks (n + 1) (drop (c.loop.index + 1) feed)) (c.push_reserved.ensures.items ∙ ap (λ (m : Mark). old ++ m ∷ []) c.of_feed.ensures)
           ∙ append_assoc old (OfFeed (n + 1) ∷ []) (feed_marks (n + 1) (drop (c.loop.index + 1) feed))
           ∙ ap (λ (fs : List Feed). old ++ feed_marks n fs) (sym is)
           ∙ c.loop.invariant.marks;
