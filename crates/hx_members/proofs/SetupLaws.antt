@@ -13,7 +13,7 @@ use Rattle.hx_units.specs.declared.names.Symbol.{Symbol}
 use Rattle.hx_members.specs.declared.stock.Stock.{Stock}
 use Rattle.hx_members.specs.declared.stock.Member.{Member}
 use Rattle.hx_text.specs.Spaces.{without_back}
-use Rattle.hx_members.specs.Setups.{places_by, locate_from, names_differ, numbers_rise}
+use Rattle.hx_members.specs.Setups.{Setup, places_by, locate_from, locate_of, stock_at, names_differ, numbers_rise}
 use Rattle.std.proofs.lemmas.Bool.{and_parts}
 use Rattle.hx_units.proofs.Booleans.{same_bools}
 use Rattle.hx_members.proofs.TokenLaws.{some_same}
@@ -112,6 +112,23 @@ member-at (x ∷ xs) zero m number a h e =
     ap (λ b. cond b (Some x) (find (λ (y : Member). number == y.number) xs)) ((Decides-eqb number x.number).1 (e ∙ ap (λ (y : Member). y.number) (sym (some_same x m h)))) ∙ h
 member-at (x ∷ xs) (suc i) m number a h e =
     ap (λ b. cond b (Some x) (find (λ (y : Member). number == y.number) xs)) (ap (λ n. n == x.number) e ∙ a.0 i m h) ∙ member-at xs i m number a.1 h e
+
+-- the locate of a name counts to the stock that stands somewhere and has it
+locate_from-at : (n : ℕ) (stocks : List Stock) (i v : ℕ) (s : Stock) (symbol : Symbol) → AreApart is_symbol (λ (x : Stock). x.symbol) stocks → slice_get stocks i ≡ Some s → is_symbol s.symbol symbol ≡ true → v ≡ n + i
+    → locate_from n stocks symbol ≡ Some v
+locate_from-at n [] i v s symbol a h e is = absurd cc
+locate_from-at n (x ∷ xs) zero v s symbol a h e is =
+    ap (λ b. cond b (Some n) (locate_from (n + 1) xs symbol)) (ap (λ (y : Stock). is_symbol symbol y.symbol) (some_same x s h) ∙ symbol-flip symbol s.symbol ∙ e)
+    ∙ ap Some (let to : n ≡ v = omega (arith, is) in to)
+locate_from-at n (x ∷ xs) (suc i) v s symbol a h e is =
+    ap (λ b. cond b (Some n) (locate_from (n + 1) xs symbol)) (ap (λ l. bytes_eq l x.symbol.0) (sym ((bytes_eq-Decides s.symbol.0 symbol.0).0 e)) ∙ a.0 i s h)
+    ∙ locate_from-at (n + 1) xs i v s symbol a.1 h e (omega (arith, is))
+
+-- the locate of a name is the one whose stock has it
+pub locate-at : (setup : Setup) (locate : ℕ) (s : Stock) (symbol : Symbol) → names_differ setup.stocks ≡ true → stock_at setup locate ≡ Some s → is_symbol s.symbol symbol ≡ true
+    → locate_of setup symbol ≡ Some locate
+locate-at setup zero s symbol d h e = absurd cc
+locate-at setup (suc place) s symbol d h e = locate_from-at 1 setup.stocks place (suc place) s symbol (apart-names setup.stocks d) h e (omega arith)
 
 pub drop-next : {A : Type 0} (xs : List A) (i : ℕ) (x : A) → slice_get xs i ≡ Some x → drop i xs ≡ x ∷ drop (suc i) xs
 drop-next [] i x h = absurd cc

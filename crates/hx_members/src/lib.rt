@@ -3,6 +3,7 @@
 
 mod fault;
 mod fields;
+mod guesses;
 pub mod laws;
 mod lines;
 mod name;
@@ -13,6 +14,7 @@ mod seed;
 mod setup;
 mod slots;
 mod stock;
+mod symbol;
 mod tokens;
 
 pub use fault::SetupError;

@@ -5,9 +5,11 @@ ghost use Rattle.hx_units.specs.Ranges.{IsMember};
 ghost use Rattle.hx_members.specs.Setups.{setup_with, is_login, names_differ, numbers_rise, locates_of, places_of, stock_named, member_with};
 
 use crate::fault::SetupError;
+use crate::guesses::Guesses;
 use crate::lines::{next_session, next_start};
 use crate::reading::{read_members, read_stocks};
 use crate::stock::{Member, Stock};
+use crate::symbol::is_same_symbol;
 use hx_units::{Firm, MemberNo, NoMemory, Symbol};
 use indexmap::IndexMap;
 use std::alloc::Global;
@@ -21,6 +23,7 @@ pub struct Setup {
     members: Vec<Member>,
     locates: IndexMap<Symbol, u16>,
     places: IndexMap<MemberNo, u16>,
+    guesses: Guesses,
 }
 
 // By hand, so that where a value is dropped its owner's proof sees one call.
@@ -33,6 +36,7 @@ impl Drop for Setup {
             members: _,
             locates: _,
             places: _,
+            guesses: _,
         } = self;
     }
 }
@@ -107,6 +111,7 @@ impl Setup {
     {
         let locates = index_stocks(alloc, &stocks)?;
         let places = index_members(alloc, &members)?;
+        let guesses = Guesses::of(alloc, &stocks)?;
         Ok(Setup {
             session,
             start_open,
@@ -114,6 +119,7 @@ impl Setup {
             members,
             locates,
             places,
+            guesses,
         })
     }
 
@@ -201,6 +207,7 @@ impl Setup {
     }
 
     /// The stock of a locate (ITCH 5.0: Stock Locate), if there is one.
+    #[inline(always)]
     pub fn stock(&self, locate: u16) -> Option<&Stock>
         ensures { option_map (λ s. s.now) result ≡ stock_at self.now locate }
     {
@@ -210,9 +217,22 @@ impl Setup {
         self.stocks.get(locate as usize - 1)
     }
 
-    /// The locate of a stock, if it is one of the day's.
+    /// The locate of a stock, if it is one of the day's. Mostly a guess tells it, whose stock has the name: then nothing
+    /// is looked up.
     #[inline(always)]
     pub fn locate(&self, symbol: Symbol) -> Option<u16>
+        ensures { result ≡ locate_of self.now symbol }
+    {
+        let guess = self.guesses.locate(symbol);
+        match self.stock(guess) {
+            Some(stock) if is_same_symbol(stock.symbol, symbol) => Some(guess),
+            _ => self.locate_by_index(symbol),
+        }
+    }
+
+    /// The same, by the index.
+    #[inline(never)]
+    fn locate_by_index(&self, symbol: Symbol) -> Option<u16>
         ensures { result ≡ locate_of self.now symbol }
     {
         self.locates.get(&symbol).copied()

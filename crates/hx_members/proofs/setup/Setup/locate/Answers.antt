@@ -1,11 +1,9 @@
-use Rattle.std.proofs.Common.{ap, ◌∙◌}
-use Rattle.std.specs.Map.{lookup}
-use Rattle.hx_units.specs.Names.{is_symbol}
-use Rattle.hx_members.specs.Setups.{locate_of}
-use Rattle.hx_members.proofs.SetupLaws.{lookup-locates_of}
+use Rattle.std.proofs.Common.{◌≡◌, true, sym, subst}
+use Rattle.hx_members.specs.Setups.{Setup, names_differ}
+use Rattle.hx_members.proofs.SetupLaws.{locate-at}
 use Rattle.hx_members.proofs.setup.Setup.locate.Goals as goal
 
-pub returns : goal.returns
-returns c =
-    c.copied.ensures ∙ c.get.ensures.value ∙ ap (lookup (is_symbol c.args.symbol)) c.self.invariant.1
-    ∙ lookup-locates_of 1 c.self.inside.stocks.items c.args.symbol ∙ ap (λ v. locate_of v c.args.symbol) c.self.view_is
+pub returns-in-Some : goal.returns-in-Some
+returns-in-Some c =
+    let names = subst (λ (v : Setup). names_differ v.stocks ≡ true) c.self.view_is c.self.invariant.0.names in
+    sym (locate-at c.args.self.now c.locate-guess.result c.in-Some.stock.now c.args.symbol names (sym c.in-Some.ensures) (sym c.if-is_same_symbol.ensures))
