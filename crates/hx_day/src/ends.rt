@@ -39,6 +39,7 @@ impl Ends {
 
     /// Enters when an order ends, where it ends at a time, under the place that its token gets. It fails only for want of
     /// memory.
+    #[inline(always)]
     pub fn enter(&mut self, place: u64, end: Option<u64>) -> Result<(), NoMemory>
         ensures entered { OnOk result (IfSome end (λ expiry. Holds self.new expiry place)) }
         ensures kept { (e p : ℕ) → Holds self.old e p → Holds self.new e p }

@@ -132,6 +132,7 @@ impl LevelBook {
         }
     }
 
+    #[inline(always)]
     fn first_contra(&self, terms: &Terms) -> Option<Key>
         ensures exact { result ≡ next_by_rank terms.now None self.now.orders }
         ensures keys { KeysDiffer self.now.orders }
@@ -276,6 +277,7 @@ impl Book for LevelBook {
         self.order(key)
     }
 
+    #[inline(always)]
     fn next_contra(
         &self,
         locate: u16,

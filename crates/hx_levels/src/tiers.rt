@@ -87,6 +87,7 @@ impl Tiers {
     }
 
     // The same, with a hint for the next time.
+    #[inline(always)]
     fn look(&mut self, at: Rung) -> Option<usize>
         ensures slot { result ≡ slot_of self.old at }
         ensures same { self.new ≡ self.old }
@@ -116,6 +117,7 @@ impl Tiers {
     }
 
     /// Puts a key last in a queue of a level that is there, and gives the key that was last.
+    #[inline(always)]
     pub fn join_queue(&mut self, at: Rung, shown: bool, key: usize) -> Link
         requires level { IsSome (level_at self.old at) }
         requires small { key + 1 < 2 ^ 64 }
@@ -130,6 +132,7 @@ impl Tiers {
     }
 
     /// Takes the order of these links out of a queue of a level that is there, and gives the ends that are left.
+    #[inline(always)]
     pub fn leave_queue(&mut self, at: Rung, shown: bool, links: Links) -> Ends
         requires { IsSome (level_at self.old at) }
         ensures left { result ≡ ends_without links (ends_in shown (level_at self.old at)) }

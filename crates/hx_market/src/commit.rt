@@ -40,6 +40,7 @@ use hx_rules::{Event, Output};
 use std::snapshot::Snapshot;
 
 // An Enter is rejected: its token is used, and its member told.
+#[inline(always)]
 fn reject(tokens: &mut Tokens, out: &mut Output, effect: &RejectedEnter)
     requires unused { is_used tokens.old.tokens effect.now.member effect.now.token ≡ false }
     requires place { tokens.old.place ≡ Some (name_of effect.now.member effect.now.token) }
@@ -135,6 +136,7 @@ pub fn commit_effect<B: Book>(
 }
 
 // How many of the hours codes are past after an effect.
+#[inline(always)]
 fn hours_after(effect: &Effect, hours: u8) -> u8
     ensures { result ≡ hours_after effect.now hours }
 {

@@ -38,6 +38,7 @@ use hx_units::{MemberNo, NoMemory};
 use std::alloc::Global;
 
 // What a member's message does, at so many hours codes past.
+#[inline(always)]
 fn message_effect<B: Book>(
     setup: &Setup,
     hours: u8,
@@ -91,6 +92,7 @@ fn message_effect<B: Book>(
 
 /// What an event does that is not refused, at so many hours codes past, in the place of the effect before. `NoMemory`
 /// where the orders that end, and what they tell, find no room.
+#[inline(always)]
 pub fn effect_of<B: Book>(
     alloc: Global,
     setup: &Setup,

@@ -66,6 +66,8 @@ fn sum_of_orders<B: Book>(book: &B, keys: &[usize]) -> u64 {
 /// they name first, and the orders under these. Nothing is promised of the answer.
 pub fn glance<B: Book>(tokens: &Tokens, book: &B, events: &[Event]) -> u64 {
     let bytes = sum_of_bytes(events);
-    let keys = tokens.likely_keys(&hashes_of(events));
-    bytes.wrapping_add(sum_of_orders(book, &keys))
+    let hashes = hashes_of(events);
+    let first = tokens.glance(&hashes);
+    let orders = sum_of_orders(book, &tokens.likely_keys(&hashes));
+    bytes.wrapping_add(first).wrapping_add(orders)
 }

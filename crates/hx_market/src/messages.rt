@@ -12,6 +12,7 @@ use hx_rules::{Output, published_side};
 use hx_units::{MemberNo, Symbol, Token};
 
 // In the feed: an order that rests.
+#[inline(always)]
 fn published(time: u64, stock: Symbol, order: &Order) -> Feed
     ensures { result ≡ published time stock order.now }
 {
@@ -41,6 +42,7 @@ fn published(time: u64, stock: Symbol, order: &Order) -> Feed
 }
 
 /// Tells the feed of an order that rests, if it is shown.
+#[inline(always)]
 pub fn publish(out: &mut Output, time: u64, stock: Symbol, resting: Option<Order>)
     requires { vec_len out.old.feed < vec_capacity out.old.feed }
     ensures feed { out.new.feed.items
@@ -55,6 +57,7 @@ pub fn publish(out: &mut Output, time: u64, stock: Symbol, resting: Option<Order
 }
 
 /// Tells the feed that an order is gone, if it was shown.
+#[inline(always)]
 pub fn delete(out: &mut Output, time: u64, order: &Order)
     requires { vec_len out.old.feed < vec_capacity out.old.feed }
     ensures feed { out.new.feed.items ≡ out.old.feed.items ++ deleted time order.now }
@@ -72,6 +75,7 @@ pub fn delete(out: &mut Output, time: u64, order: &Order)
 }
 
 /// Tells a member that so many shares of his order are off, for a reason.
+#[inline(always)]
 pub fn tell_canceled(
     out: &mut Output,
     time: u64,

@@ -22,6 +22,7 @@ pub struct Found {
 }
 
 // The order under a key, if it is the one that the member calls by this token.
+#[inline(always)]
 fn confirm<B: Book>(book: &B, key: Key, member: MemberNo, token: &Token) -> Option<Live>
     ensures confirmed { option_map (λ live. live.order) result
         ≡ confirmed member token.now (order_of key.0 (B.orders book.now)) }

@@ -33,6 +33,7 @@ pub fn plan<B: Book>(alloc: Global, book: &B, incoming: &Incoming) -> Result<Pla
 }
 
 /// The same in the room of an earlier plan: its list of fills takes memory only where it has to grow.
+#[inline(always)]
 pub fn plan_in<B: Book>(room: Vec<Fill>, book: &B, incoming: &Incoming) -> Result<Plan, NoMemory>
     ensures fills { IfOk result (λ plan.
         plan.fills.items ≡ fills_of incoming.now (B.orders book.now)) }
@@ -63,6 +64,7 @@ pub fn plan_in<B: Book>(room: Vec<Fill>, book: &B, incoming: &Incoming) -> Resul
 }
 
 // The fewest shares for which an order may be executed: no order qualifies where fewer are left.
+#[inline(always)]
 fn least_fill(incoming: &Incoming) -> u32
     ensures { result ≡ max 1 incoming.now.minimum }
 {
@@ -70,6 +72,7 @@ fn least_fill(incoming: &Incoming) -> u32
 }
 
 // The execution of a resting order, where it qualifies for the shares that are left.
+#[inline(always)]
 fn execution(left: u32, incoming: &Incoming, key: Key, order: &Order) -> Option<Fill>
     ensures { MatchOption result (qualifies incoming.now left order.now ≡ false)
         (λ fill. (qualifies incoming.now left order.now ≡ true)

@@ -6,22 +6,22 @@ use hx_units::{NoMemory, Symbol};
 use std::alloc::Global;
 
 /// How many hashes there are.
-const HASHES: usize = 1024;
+const HASHES: usize = 4096;
 
 // An odd number by which names are spread over the hashes.
 const SPREAD: u64 = 0x9e37_79b9_7f4a_7c15;
 
-/// For each of 1,024 hashes of a stock's name the locate of a stock that has it, or 0. It is a guess: stocks may share a
+/// For each of 4,096 hashes of a stock's name the locate of a stock that has it, or 0. It is a guess: stocks may share a
 /// hash, so whether the stock of that locate has the name is asked where the guess is used. Nothing is promised of it.
 #[derive(Drop)]
 pub(crate) struct Guesses {
     locates: Vec<u16>,
 }
 
-/// The hash of a name: the upper ten bits of a product.
+/// The hash of a name: the upper twelve bits of a product.
 #[inline(always)]
 fn hash(symbol: Symbol) -> usize {
-    (symbol_word(symbol).wrapping_mul(SPREAD) / 0x40_0000_0000_0000) as usize
+    (symbol_word(symbol).wrapping_mul(SPREAD) / 0x10_0000_0000_0000) as usize
 }
 
 impl Guesses {

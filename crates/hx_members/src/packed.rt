@@ -24,7 +24,8 @@ impl Model for PackedName {
 
     ghost view = { λ p. name_of_words p.low p.high };
 
-    ghost invariant = { λ p. (p.low < 2 ^ 64) × (p.high < 2 ^ 64) × IsMember (p.low / 2 ^ 16 / 2 ^ 32) };
+    ghost invariant = { λ p. (p.low < 2 ^ 64) × (p.high < 2 ^ 64)
+        × IsMember (p.low / 2 ^ 16 / 2 ^ 32) };
 
     ghost inverse = { λ name. record { low = low_of name; high = high_of name } };
 

@@ -349,6 +349,17 @@ impl Rows {
         note_at(&mut self.rows, chain, shares, displayed);
     }
 
+    /// Looks at the slots at which the walks of hashes begin, and at nothing else in between, so that they are waited for
+    /// together. Nothing is promised of the answer.
+    #[inline(always)]
+    pub(crate) fn sum_of_first_words(&self, hashes: &[u32]) -> u64 {
+        let mut sum: u64 = 0;
+        for hash in hashes {
+            sum = sum.wrapping_add(self.slots.first_word(*hash));
+        }
+        sum
+    }
+
     // For each hash the place that it probably leads to, and one more: 0 where there is none.
     #[inline(always)]
     fn likely_places(&self, hashes: &[u32]) -> [usize; 16] {
@@ -359,8 +370,8 @@ impl Rows {
         places
     }
 
-    /// For each of up to sixteen hashes the key of the row to which it probably leads, and `usize::MAX` where there is
-    /// none. Nothing is promised: it brings slots and rows near before their turn.
+    /// For each of up to sixteen hashes the key of the row to which it probably leads, and that of the first row where
+    /// there is none. Nothing is promised: it brings slots and rows near before their turn.
     #[inline(always)]
     pub(crate) fn likely_keys(&self, hashes: &[u32]) -> [usize; 16] {
         let places = self.likely_places(hashes);
@@ -371,10 +382,10 @@ impl Rows {
         keys
     }
 
-    // The key at the row before a place.
+    // The key at the row before a place, or at the first row: which of them it is, is chosen without a branch.
     #[inline(always)]
     fn key_before(&self, place: usize) -> usize {
-        match self.rows.get(place.wrapping_sub(1)) {
+        match self.rows.get(place.saturating_sub(1)) {
             Some((_, used)) => used.key,
             None => usize::MAX,
         }

@@ -32,7 +32,8 @@ impl Seed {
 
 // The hash of a name under keys.
 fn drawn_hash(keys: &RandomState, name: PackedName) -> u32
-    ensures { result ≡ sip.finish (sip.write (initial_hasher keys.now) (bytes_of_name name)) % 2 ^ 32 }
+    ensures { result
+        ≡ sip.finish (sip.write (initial_hasher keys.now) (bytes_of_name name)) % 2 ^ 32 }
 {
     let name = name.name();
     let member = name.member.get();

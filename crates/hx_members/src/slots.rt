@@ -136,13 +136,13 @@ impl Slots {
         }
     }
 
-    /// Twice as many slots, with the same words, or the first ones.
+    /// Four times as many slots, with the same words, or the first ones.
     #[inline(never)]
     pub(crate) fn grown(&self, alloc: Global) -> Result<Slots, NoMemory>
         ensures led { IfOk result (λ slots. AreLedTo self.now slots) }
         ensures from { IfOk result (λ slots. AreFrom self.now slots) }
     {
-        let len = (self.words.len() * 2).clamp(FIRST, Slots::MOST);
+        let len = (self.words.len() * 4).clamp(FIRST, Slots::MOST);
         let mut slots = Slots::free_ones(alloc, len)?;
         for word in &self.words {
             if *word != 0 {
@@ -150,6 +150,16 @@ impl Slots {
             }
         }
         Ok(slots)
+    }
+
+    /// The word of the slot at which the walk of a hash begins. Nothing is promised: asked for many hashes one after the
+    /// other, it brings their slots near together.
+    #[inline(always)]
+    pub(crate) fn first_word(&self, hash: u32) -> u64 {
+        match self.words.get(self.home(hash)) {
+            Some(word) => *word,
+            None => 0,
+        }
     }
 
     /// One more than the place that a word of this hash has, at its home or in the three slots behind it; 0 where none has

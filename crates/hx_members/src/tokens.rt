@@ -161,16 +161,23 @@ impl Tokens {
         self.kept.note(chain as usize, shares, displayed);
     }
 
+    /// Looks where what is kept of tokens of these hashes is looked for first, as `name_hash` tells them. Nothing is promised
+    /// of the answer: asked for the tokens of coming orders, it brings that memory near, for all of them at once.
+    #[inline(always)]
+    pub fn glance(&self, hashes: &[u32]) -> u64 {
+        self.kept.sum_of_first_words(hashes)
+    }
+
     /// For each of up to sixteen hashes, as `name_hash` tells them, the key of the used token that probably has it, and
-    /// `usize::MAX` where there is none. Nothing is promised of the keys: asked for the tokens of coming orders, it brings
-    /// what is kept of them near before their turn.
+    /// some key where there is none, or `usize::MAX` where no token is used. Nothing is promised of the keys: asked for the
+    /// tokens of coming orders, it brings what is kept of them near before their turn.
     #[inline(always)]
     pub fn likely_keys(&self, hashes: &[u32]) -> [usize; 16] {
         self.kept.likely_keys(hashes)
     }
 }
 
-/// Whether a member calls an order by this token, whom the other member calls by the other one.
+/// Whether two members' tokens are one name: the same token of the same member.
 #[inline(always)]
 pub fn is_same_name(member: MemberNo, token: &Token, other: MemberNo, other_token: &Token) -> bool
     ensures { result

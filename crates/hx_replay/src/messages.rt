@@ -179,7 +179,8 @@ fn append_all(
     others: &mut Output,
     other_marks: &mut Vec<Mark>,
 ) -> Result<(), AllocError>
-    ensures feed { OnOk result (told.new.feed.items ≡ told.old.feed.items ++ others.old.feed.items) }
+    ensures feed { OnOk result
+        (told.new.feed.items ≡ told.old.feed.items ++ others.old.feed.items) }
     ensures replies { OnOk result
         (told.new.replies.items ≡ told.old.replies.items ++ others.old.replies.items) }
     ensures marks { OnOk result (marks.new.items ≡ marks.old.items ++ other_marks.old.items) }

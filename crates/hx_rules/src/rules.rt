@@ -107,6 +107,7 @@ pub fn is_halted(halted: &[bool], locate: u16) -> bool
 
 /// The letter of the first reason to reject a message whose stock has this locate, none where it is not one of the
 /// day's; at this many hours codes past, and with these stocks halted, each under its locate.
+#[inline(always)]
 pub fn rejection(locate: Option<u16>, hours: u8, halted: &[bool], enter: &Enter) -> Option<u8>
     ensures { (setup : SetupOf) → locate_of setup enter.now.stock ≡ locate
         → result ≡ rejection setup hours halted.now enter.now }

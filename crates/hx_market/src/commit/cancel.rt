@@ -15,6 +15,7 @@ use hx_levels::Book;
 use hx_rules::Output;
 
 // Takes the shares off, or the order out.
+#[inline(always)]
 fn take_off<B: Book>(book: &mut B, effect: &Reduction)
     requires only { IsOnly (B.orders book.old) effect.now.member effect.now.token effect.now.old }
     requires shares { IsReduction effect.now }
@@ -31,6 +32,7 @@ fn take_off<B: Book>(book: &mut B, effect: &Reduction)
 }
 
 // In the feed: so many shares are off, or the order is gone.
+#[inline(always)]
 fn tell_feed(out: &mut Output, effect: &Reduction)
     requires { vec_len out.old.feed < vec_capacity out.old.feed }
     ensures feed { out.new.feed.items
@@ -51,6 +53,7 @@ fn tell_feed(out: &mut Output, effect: &Reduction)
 }
 
 /// A Cancel takes shares off an order, or the order out.
+#[inline(always)]
 pub fn cancel<B: Book>(book: &mut B, out: &mut Output, effect: &Reduction)
     requires only { IsOnly (B.orders book.old) effect.now.member effect.now.token effect.now.old }
     requires shares { IsReduction effect.now }

@@ -27,6 +27,7 @@ use hx_rules::{Output, is_shown, life_of};
 use hx_units::MemberNo;
 
 // The reply that an order is accepted.
+#[inline(always)]
 fn accepted(order: &Order, effect: &AcceptedEnter) -> (MemberNo, Outbound)
     requires { order.now.member ≡ effect.now.member }
     ensures { result ≡ accepted_of order.now effect.now.time effect.now.enter }
@@ -55,6 +56,7 @@ fn accepted(order: &Order, effect: &AcceptedEnter) -> (MemberNo, Outbound)
     )
 }
 
+#[inline(always)]
 fn order_of(chain: u64, reference: u64, effect: &AcceptedEnter) -> Order
     requires { effect.now.time < 2 ^ 62 }
     ensures { result ≡ order_of_enter chain reference effect.now }
@@ -77,6 +79,7 @@ fn order_of(chain: u64, reference: u64, effect: &AcceptedEnter) -> Order
     }
 }
 
+#[inline(always)]
 fn taker_of(chain: u64, effect: &AcceptedEnter) -> Taker
     ensures { result ≡ record {
       member = effect.now.member;
@@ -97,6 +100,7 @@ fn taker_of(chain: u64, effect: &AcceptedEnter) -> Taker
 
 /// The order of a message that nothing rejects is accepted, and arrives. Its places are reserved, its plan is made,
 /// and there is room for what it tells.
+#[inline(always)]
 pub fn accept<B: Book>(
     book: &mut B,
     tokens: &mut Tokens,

@@ -135,6 +135,7 @@ fn match_of(taker: &Taker, order: &Order) -> Match
 }
 
 /// Carries out the fills of a plan: each draws a match number, and is told. There is room for what they tell.
+#[inline(always)]
 pub fn execute<B: Book>(
     book: &mut B,
     tokens: &mut Tokens,

@@ -21,6 +21,7 @@ use hx_rules::Output;
 use hx_units::MemberNo;
 
 /// Draws the reference of an order.
+#[inline(always)]
 pub fn draw(refs: &mut Refs, member: MemberNo, shown: bool) -> u64
     requires public { refs.old.public < 2 ^ 62 }
     requires private { slice_index refs.old.private member < 2 ^ 40 - 1 }

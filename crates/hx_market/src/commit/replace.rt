@@ -110,6 +110,7 @@ pub fn fail<B: Book>(book: &mut B, tokens: &mut Tokens, out: &mut Output, effect
 }
 
 // The new order, with its reference.
+#[inline(always)]
 fn order_of(reference: u64, effect: &Replacement) -> Order
     requires { IsReplacement effect.now }
     ensures { result ≡ replacement_order reference effect.now }
@@ -136,6 +137,7 @@ fn order_of(reference: u64, effect: &Replacement) -> Order
 }
 
 // The reply that an order replaces another.
+#[inline(always)]
 fn replaced(order: &Order, effect: &Replacement) -> (MemberNo, Outbound)
     ensures { result ≡ replaced_of effect.now.member effect.now.time effect.now.stock
         effect.now.replace order.now }
@@ -165,6 +167,7 @@ fn replaced(order: &Order, effect: &Replacement) -> (MemberNo, Outbound)
     )
 }
 
+#[inline(always)]
 fn taker_of(effect: &Replacement) -> Taker
     ensures { result ≡ record {
       member = effect.now.old.order.member;
@@ -184,6 +187,7 @@ fn taker_of(effect: &Replacement) -> Taker
 }
 
 // Whether the feed tells of old and new by one message.
+#[inline(always)]
 fn tells_in_one(effect: &Replacement, fills: &[Fill]) -> bool
     ensures { result ≡ (is_one_display effect.now.old.order (replacement_order 0 effect.now)
         && nat_lt (length fills.now) 1) }
@@ -192,6 +196,7 @@ fn tells_in_one(effect: &Replacement, fills: &[Fill]) -> bool
 }
 
 // In the feed, before the executions: the old order is gone, if it was shown and no one message tells of both.
+#[inline(always)]
 fn tell_old(out: &mut Output, effect: &Replacement, in_one: bool)
     requires { vec_len out.old.feed < vec_capacity out.old.feed }
     ensures feed { out.new.feed.items
@@ -206,6 +211,7 @@ fn tell_old(out: &mut Output, effect: &Replacement, in_one: bool)
 }
 
 // In the feed, behind the executions: the one message, or what rests shown.
+#[inline(always)]
 fn tell_new(
     out: &mut Output,
     effect: &Replacement,
@@ -237,6 +243,7 @@ fn tell_new(
 
 /// A Replace replaces: the old order goes, and the new one arrives in its chain. Its places are reserved, its plan is
 /// made, and there is room for what it tells.
+#[inline(always)]
 pub fn replace<B: Book>(
     book: &mut B,
     tokens: &mut Tokens,

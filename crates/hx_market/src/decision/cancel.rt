@@ -17,6 +17,7 @@ use hx_ouch::Cancel;
 use hx_units::MemberNo;
 
 // How many open shares a Cancel takes off.
+#[inline(always)]
 fn cancelled_shares(found: &Found, cancel: &Cancel) -> u32
     ensures { result ≡ cancelled_shares found.now.executed cancel.now found.now.live.order }
 {
@@ -26,6 +27,7 @@ fn cancelled_shares(found: &Found, cancel: &Cancel) -> u32
 }
 
 /// What a Cancel does.
+#[inline(always)]
 pub fn cancel_effect<B: Book>(
     tokens: &Tokens,
     book: &B,

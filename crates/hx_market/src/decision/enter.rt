@@ -15,6 +15,7 @@ use hx_rules::{rejection, side_of};
 use hx_units::{Firm, MemberNo, Price};
 
 // The firm that a message is for: a blank one means the member's.
+#[inline(always)]
 fn resolved_firm(setup: &Setup, member: MemberNo, firm: Firm) -> Firm
     requires { IsSome (member_of setup.now member) }
     ensures { result ≡ resolved_firm setup.now member firm }
@@ -27,6 +28,7 @@ fn resolved_firm(setup: &Setup, member: MemberNo, firm: Firm) -> Firm
 }
 
 // An Enter that nothing rejects.
+#[inline(always)]
 fn accepted_enter(
     setup: &Setup,
     hours: u8,
@@ -55,6 +57,7 @@ fn accepted_enter(
 }
 
 // What an Enter does whose token is not used.
+#[inline(always)]
 fn unused_enter_effect(
     setup: &Setup,
     hours: u8,
@@ -90,6 +93,7 @@ fn unused_enter_effect(
 }
 
 /// What an Enter does, at so many hours codes past, and with these stocks halted.
+#[inline(always)]
 pub fn enter_effect(
     setup: &Setup,
     hours: u8,

@@ -21,6 +21,7 @@ use hx_rules::{is_halted, replace_fails};
 use hx_units::{MemberNo, Price, Symbol};
 
 // The name of the stock with this number.
+#[inline(always)]
 fn symbol_of(setup: &Setup, locate: u16) -> Symbol
     ensures { result ≡ symbol_of setup.now locate }
 {
@@ -31,6 +32,7 @@ fn symbol_of(setup: &Setup, locate: u16) -> Symbol
 }
 
 // What a Replace of a live order does whose replacement token is not used.
+#[inline(always)]
 fn replace_or_fail(
     setup: &Setup,
     hours: u8,
@@ -76,6 +78,7 @@ fn replace_or_fail(
 }
 
 /// What a Replace does, at so many hours codes past, and with these stocks halted.
+#[inline(always)]
 pub fn replace_effect<B: Book>(
     setup: &Setup,
     hours: u8,
