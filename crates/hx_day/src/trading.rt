@@ -5,7 +5,7 @@ ghost use Rattle.hx_rules.specs.Breaks.{execution_of, with_execution};
 
 use hx_match::Fill;
 use hx_rules::Match;
-use hx_units::NoMemory;
+use hx_units::{NoMemory, reserve_ahead};
 use std::alloc::Global;
 use std::marker::Model;
 
@@ -67,8 +67,7 @@ impl Trading {
         ensures room { OnOk result (length fills.now ≤ self.new.room) }
         ensures memory { length fills.now ≤ self.old.room → IsOk result }
     {
-        self.executions.reserve(fills.len())?;
-        Ok(())
+        reserve_ahead(&mut self.executions, fills.len())
     }
 
     /// One more execution, with the next match number. There is room for it.

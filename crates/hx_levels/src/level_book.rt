@@ -8,11 +8,10 @@ ghost use Rattle.std.specs.Option.{option_copied, option_map, is_some};
 use crate::book::Book;
 use crate::ladders::Ladders;
 use crate::link::Link;
-use crate::nodes::{Ends, Node, link_last, store, take_shares, unlink};
+use crate::nodes::{Ends, Nodes, link_last, store, take_shares, unlink};
 use crate::order::{Key, Order, Terms};
 use crate::rung::Rung;
 use hx_units::{NoMemory, Price, Side};
-use slab::Slab;
 use std::alloc::Global;
 use std::marker::Model;
 
@@ -22,7 +21,7 @@ const ABOVE_PRICES: u32 = 2_000_000_000;
 /// A book by levels of price: the orders in a slab, linked in time order, and in queues by price and by
 /// whether they are shown. A call takes time in proportion to the logarithm of the number of levels at most.
 pub struct LevelBook {
-    nodes: Slab<Node>,
+    nodes: Nodes,
     ladders: Ladders,
     time: Ends,
     place: Option<Terms>,
@@ -62,7 +61,7 @@ impl LevelBook {
         ensures place { result.place ≡ None }
     {
         LevelBook {
-            nodes: Slab::new(alloc),
+            nodes: Nodes::new(alloc),
             ladders: Ladders::new(alloc),
             time: Ends::none(),
             place: None,
@@ -126,10 +125,7 @@ impl LevelBook {
         ensures live { is_some result ≡ has_key key.0 self.now.orders }
         ensures keys { KeysDiffer self.now.orders }
     {
-        match self.nodes.get(key.0) {
-            Some(node) => Some(&node.order),
-            None => None,
-        }
+        self.nodes.order(key.0)
     }
 
     #[inline(always)]
@@ -149,14 +145,14 @@ impl LevelBook {
         ensures exact { result ≡ next_by_rank terms.now (Some key) self.now.orders }
         ensures keys { KeysDiffer self.now.orders }
     {
-        let node = self.nodes.get(key.0).unwrap();
-        if let Some(next) = node.queue.after.get() {
+        let order = self.nodes.order(key.0).unwrap();
+        if let Some(next) = self.nodes.links(key.0).queue.after.get() {
             return Some(Key(next));
         }
-        let rung = rung_of(&node.order);
+        let rung = rung_of(order);
         let hidden = self.ladders.ends_at(rung, false).first.get();
         match hidden {
-            Some(next) if node.order.shown => Some(Key(next)),
+            Some(next) if order.shown => Some(Key(next)),
             _ => {
                 let (_, limit) = contra_of(terms);
                 let from = rung.at(rung.distance() + 1);
@@ -186,7 +182,7 @@ impl LevelBook {
     {
         match after {
             None => key_of(self.time.first),
-            Some(key) => key_of(self.nodes.get(key.0).unwrap().time.after),
+            Some(key) => key_of(self.nodes.links(key.0).time.after),
         }
     }
 }
@@ -221,7 +217,7 @@ impl LevelBook {
         ensures err { OnErr result (self.new.place ≡ self.old.place) }
     {
         let rung = rung_at(&terms);
-        self.nodes.reserve(1)?;
+        self.nodes.reserve()?;
         self.ladders.make_level(rung)?;
         if let Some(old) = self.kept {
             self.ladders.drop_empty(old, Some(rung));

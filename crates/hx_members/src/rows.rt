@@ -10,7 +10,7 @@ use crate::name::{ChainFacts, Name, TokenState};
 use crate::packed::PackedName;
 use crate::seed::Seed;
 use crate::slots::{Slots, word_of};
-use hx_units::{Known, NoMemory, Token};
+use hx_units::{Known, NoMemory, Token, reserve_ahead};
 use std::alloc::Global;
 use std::marker::Model;
 
@@ -226,7 +226,7 @@ impl Rows {
         ensures ok { OnOk result (self.new.place ≡ Some name) }
         ensures err { OnErr result (self.new.place ≡ self.old.place) }
     {
-        self.rows.reserve(1)?;
+        reserve_ahead(&mut self.rows, 1)?;
         let rows = self.rows.len();
         if is_full(rows, self.slots.len()) {
             let slots = self.slots.grown(self.alloc)?;

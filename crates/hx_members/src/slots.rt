@@ -162,17 +162,15 @@ impl Slots {
         }
     }
 
-    /// One more than the place that a word of this hash has, at its home or in the three slots behind it; 0 where none has
-    /// one, or where there are not as many before the end. Nothing is promised: it brings the slots near before their
-    /// turn. Which slot it is, is chosen without a branch.
+    /// One more than the place that a word of this hash has, at its home or in the slot behind it; 0 where neither has one,
+    /// or where there is no slot behind it. Nothing is promised: it brings the slots near before their turn. Which slot it
+    /// is, is chosen without a branch.
     #[inline(always)]
     pub(crate) fn near(&self, hash: u32) -> usize {
         match self.words.get(self.home(hash)..) {
-            Some([a, b, c, d, ..]) => {
+            Some([a, b, ..]) => {
                 let hash = u64::from(hash);
                 let mut found = 0;
-                found = if d / 0x1_0000_0000 == hash { *d } else { found };
-                found = if c / 0x1_0000_0000 == hash { *c } else { found };
                 found = if b / 0x1_0000_0000 == hash { *b } else { found };
                 found = if a / 0x1_0000_0000 == hash { *a } else { found };
                 (found % 0x1_0000_0000) as usize

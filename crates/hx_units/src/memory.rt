@@ -1,4 +1,5 @@
-//! Want of memory.
+//! Want of memory, and room ahead of it.
+ghost use Rattle.std.specs.Prelude.{◌≡◌, ◌+◌, ◌≤◌, vec_len, vec_capacity, IsOk, OnOk};
 
 use std::alloc::{AllocError, AllocFailed};
 use thiserror::Error;
@@ -18,4 +19,46 @@ impl<T: Drop> From<AllocFailed<T>> for NoMemory {
     fn from(_error: AllocFailed<T>) -> NoMemory {
         NoMemory
     }
+}
+
+/// A list of so many elements is long.
+const MANY: usize = 2_000;
+
+/// How many places more a full list of so many elements gets beside those that it needs: none where it is short, and
+/// fifteen times as many as it has where it is long. To move a list costs every thread of the program, and places that
+/// nobody has touched yet cost nothing.
+pub fn places_ahead(len: usize) -> usize {
+    if len < MANY {
+        return 0;
+    }
+    len.saturating_mul(15)
+}
+
+/// Makes room for so many elements more behind those of a list. One that is full gets the places ahead, too, where these are to
+/// be had. After `NoMemory` the list has the same elements.
+#[inline(always)]
+pub fn reserve_ahead<T>(list: &mut Vec<T>, more: usize) -> Result<(), NoMemory>
+    ensures items { list.new.items ≡ list.old.items }
+    ensures room { OnOk result (vec_len list.new + more ≤ vec_capacity list.new) }
+    ensures capacity { vec_capacity list.old ≤ vec_capacity list.new }
+    ensures succeeds { vec_len list.old + more ≤ vec_capacity list.old → IsOk result }
+    ensures had_room { vec_len list.old + more ≤ vec_capacity list.old
+        → vec_capacity list.new ≡ vec_capacity list.old }
+{
+    if list.capacity() - list.len() < more {
+        return grow_ahead(list, more);
+    }
+    Ok(())
+}
+
+// Grows a list that is full.
+#[inline(never)]
+fn grow_ahead<T>(list: &mut Vec<T>, more: usize) -> Result<(), NoMemory>
+    ensures items { list.new.items ≡ list.old.items }
+    ensures room { OnOk result (vec_len list.new + more ≤ vec_capacity list.new) }
+    ensures capacity { vec_capacity list.old ≤ vec_capacity list.new }
+{
+    let _refused = list.reserve(places_ahead(list.len()));
+    list.reserve(more)?;
+    Ok(())
 }

@@ -1,6 +1,5 @@
-use Rattle.std.proofs.Common.{◌≡◌, ℕ, Option, Some, None, refl, sym, ap, ◌∙◌, eq-eqb}
+use Rattle.std.proofs.Common.{◌≡◌, ℕ, Option, Some, None, refl, ap, ◌∙◌}
 use Rattle.std.specs.Option.{option_map}
-use Rattle.std.proofs.lemmas.Bool.{true≢false}
 use Rattle.slab.specs.Slab.{get}
 use Rattle.hx_levels.specs.declared.nodes.Node.{Node}
 use Rattle.hx_levels.specs.Nodes.{after_at, before_at, on_time, on_queue, unlinked}
@@ -16,10 +15,10 @@ at_once out k (Some node) = refl
 
 pub returns-clause-others : goal.returns-clause-others
 returns-clause-others c = λ k n.
-    let out = c.remove-node.result in
+    let out = c.take_out-node.result in
     c.set_time_before.ensures.changed k
     ∙ ap (option_map (on_time (before_at out.time.after out.time.before k))) (c.set_time_after.ensures.changed k
     ∙ ap (option_map (on_time (after_at out.time.before out.time.after k))) (c.set_queue_before.ensures.changed k
     ∙ ap (option_map (on_queue (before_at out.queue.after out.queue.before k))) (c.set_queue_after.ensures.changed k
-    ∙ ap (option_map (on_queue (after_at out.queue.before out.queue.after k))) (c.remove-node.ensures.updates.others k (λ e. true≢false (sym (eq-eqb k c.args.key e) ∙ n))))))
+    ∙ ap (option_map (on_queue (after_at out.queue.before out.queue.after k))) (c.take_out-node.ensures.others k n))))
     ∙ at_once out k (get c.args.nodes.now k)

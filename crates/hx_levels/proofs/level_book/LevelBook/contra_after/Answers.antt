@@ -1,5 +1,7 @@
-use Rattle.std.proofs.Common.{◌≡◌, ℕ, ◌≤◌, ◌+◌, Bool, true, false, not, Option, Some, None, sym, ap, ◌∙◌, subst, refl}
-use Rattle.std.specs.Option.{IsSome, option_map, option_copied}
+use Rattle.std.proofs.Common.{◌≡◌, ℕ, ◌≤◌, ◌+◌, Bool, true, false, not, Some, None, Bor, sym, ap, ◌∙◌, subst}
+use Rattle.std.specs.Option.{is_some, option_map, option_copied}
+use Rattle.hx_levels.proofs.Lists.{is_some-map}
+use Rattle.hx_levels.proofs.Joined.{node_by_parts}
 use Rattle.hx_levels.proofs.Next.{next-some, Ranked}
 use Rattle.std.proofs.lemmas.Bool.{true≢false}
 use Rattle.slab.specs.Slab.{get}
@@ -15,27 +17,18 @@ use Rattle.hx_levels.specs.LevelBook.{walked, contra, rung_of}
 use Rattle.hx_levels.proofs.LevelRanks.{distance_of}
 use Rattle.hx_levels.proofs.LevelNext.{rank, node_order, next_queued, next_hidden, next_level, next_none, one_empty, live_rung}
 use Rattle.hx_levels.proofs.level_book.LevelBook.contra_after.Goals as goal
-use Rattle.hx_levels.proofs.level_book.LevelBook.contra_after.Goals.{in_default-hidden-via-in-Some-hidden+else-node, in_default-hidden-via-in_default-hidden}
+use Rattle.hx_levels.proofs.level_book.LevelBook.contra_after.Goals.{in_default-hidden-via-in-Some-hidden+else-order, in_default-hidden-via-in_default-hidden}
 
-is_some_of : {A B : Type 0} (f : A → B) (r : Option A) (y : B) → option_map f r ≡ Some y → IsSome r
-is_some_of f None y h = cc
-is_some_of f (Some x) y h = refl
-
-the_some : {A : Type 0} (r : Option A) → IsSome r → (x : A) × (r ≡ Some x)
-the_some None h = cc
-the_some (Some x) h = (x, refl)
-
-pub unwrap-node-requires : goal.unwrap-node-requires
-unwrap-node-requires c =
+pub unwrap-order-requires : goal.unwrap-order-requires
+unwrap-order-requires c =
     let i = c.self.inside in
     let terms = c.args.terms.now in
     let key = c.args.key.0 in
     let orders = walked i.nodes i.time in
     let ranked : IsRanked terms key orders = subst (λ v. IsRanked terms key v.orders) (sym c.self.view_is) c.requires in
     let r : Ranked terms key orders = next-some terms key orders c.self.invariant.differ ranked in
-    let o : option_map (λ (n : Node). n.order) (get i.nodes key) ≡ Some r.live.order = c.self.invariant.stored key ∙ ap (option_map (λ (y : Live). y.order)) r.found in
-    let n = the_some (get i.nodes key) (is_some_of (λ (n : Node). n.order) (get i.nodes key) r.live.order o) in
-    is_some_of (λ x. x.now) c.get.result n.0 (c.get.ensures ∙ n.1)
+    sym (is_some-map (λ (x : Bor Order). x.now) c.order.result)
+    ∙ ap is_some (c.order.ensures ∙ c.self.invariant.stored key ∙ ap (option_map (λ (y : Live). y.order)) r.found)
 
 pub returns-in-Some-clause-exact : goal.returns-in-Some-clause-exact
 returns-in-Some-clause-exact c =
@@ -44,10 +37,11 @@ returns-in-Some-clause-exact c =
     let key = c.args.key.0 in
     let orders = walked i.nodes i.time in
     let ranked : IsRanked terms key orders = subst (λ v. IsRanked terms key v.orders) (sym c.self.view_is) c.requires in
-    let node = c.unwrap-node.result.now in
-    let stored : get i.nodes key ≡ Some node = sym c.get.ensures ∙ ap option_copied c.unwrap-node.ensures in
+    let node : Node = record { order = c.unwrap-order.result.now; time = c.links.result.time; queue = c.links.result.queue } in
+    let stored : get i.nodes key ≡ Some node =
+    node_by_parts (get i.nodes key) node (sym c.order.ensures ∙ ap option_copied c.unwrap-order.ensures) c.links.ensures.time c.links.ensures.queue in
     let live = (rank i.nodes i.ladders.levels i.time i.place i.kept orders c.self.invariant terms key ranked node stored).live in
-    next_queued i.nodes i.ladders.levels i.time i.place i.kept orders c.self.invariant terms key ranked node stored c.in-Some.next (sym c.get-2.ensures ∙ c.in-Some.is)
+    next_queued i.nodes i.ladders.levels i.time i.place i.kept orders c.self.invariant terms key ranked node stored c.in-Some.next (sym c.get.ensures ∙ c.in-Some.is)
     ∙ ap (λ v. next_by_rank terms (Some c.args.key) v.orders) c.self.view_is
 
 pub first_from-requires-clause-single : goal.first_from-requires-clause-single
@@ -62,8 +56,9 @@ returns-in-Some-hidden-clause-exact c =
     let key = c.args.key.0 in
     let orders = walked i.nodes i.time in
     let ranked : IsRanked terms key orders = subst (λ v. IsRanked terms key v.orders) (sym c.self.view_is) c.requires in
-    let node = c.unwrap-node.result.now in
-    let stored : get i.nodes key ≡ Some node = sym c.get.ensures ∙ ap option_copied c.unwrap-node.ensures in
+    let node : Node = record { order = c.unwrap-order.result.now; time = c.links.result.time; queue = c.links.result.queue } in
+    let stored : get i.nodes key ≡ Some node =
+    node_by_parts (get i.nodes key) node (sym c.order.ensures ∙ ap option_copied c.unwrap-order.ensures) c.links.ensures.time c.links.ensures.queue in
     let live = (rank i.nodes i.ladders.levels i.time i.place i.kept orders c.self.invariant terms key ranked node stored).live in
     let at : c.rung_of-rung.result ≡ contra terms (distance_of live) =
     c.rung_of-rung.ensures.rung
@@ -72,7 +67,7 @@ returns-in-Some-hidden-clause-exact c =
     let shown : node.order.shown ≡ live.order.shown = ap (λ (o : Order). o.shown) (node_order i.nodes i.ladders.levels i.time i.place i.kept orders c.self.invariant terms key ranked node stored) in
     let hidden : c.get-hidden.result ≡ first_at i.ladders.levels terms.locate (not (is_buy terms.side)) (distance_of live) false =
     c.get-hidden.ensures ∙ ap (λ (e : Ends). e.first) (c.ends_at.ensures ∙ ap (λ r. ends_in false (level_at i.ladders.levels r)) at) in
-    next_hidden i.nodes i.ladders.levels i.time i.place i.kept orders c.self.invariant terms key ranked node stored c.in-Some-hidden.next (sym c.get-2.ensures ∙ c.in_default.is) (sym shown ∙ c.if-node.true) (sym hidden ∙ c.in-Some-hidden.is)
+    next_hidden i.nodes i.ladders.levels i.time i.place i.kept orders c.self.invariant terms key ranked node stored c.in-Some-hidden.next (sym c.get.ensures ∙ c.in_default.is) (sym shown ∙ c.if-order.true) (sym hidden ∙ c.in-Some-hidden.is)
     ∙ ap (λ v. next_by_rank terms (Some c.args.key) v.orders) c.self.view_is
 
 pub returns-in-Some-first_from-clause-exact : goal.returns-in-Some-first_from-clause-exact
@@ -82,8 +77,9 @@ returns-in-Some-first_from-clause-exact c =
     let key = c.args.key.0 in
     let orders = walked i.nodes i.time in
     let ranked : IsRanked terms key orders = subst (λ v. IsRanked terms key v.orders) (sym c.self.view_is) c.requires in
-    let node = c.unwrap-node.result.now in
-    let stored : get i.nodes key ≡ Some node = sym c.get.ensures ∙ ap option_copied c.unwrap-node.ensures in
+    let node : Node = record { order = c.unwrap-order.result.now; time = c.links.result.time; queue = c.links.result.queue } in
+    let stored : get i.nodes key ≡ Some node =
+    node_by_parts (get i.nodes key) node (sym c.order.ensures ∙ ap option_copied c.unwrap-order.ensures) c.links.ensures.time c.links.ensures.queue in
     let live = (rank i.nodes i.ladders.levels i.time i.place i.kept orders c.self.invariant terms key ranked node stored).live in
     let at : c.rung_of-rung.result ≡ contra terms (distance_of live) =
     c.rung_of-rung.ensures.rung
@@ -94,12 +90,12 @@ returns-in-Some-first_from-clause-exact c =
     c.get-hidden.ensures ∙ ap (λ (e : Ends). e.first) (c.ends_at.ensures ∙ ap (λ r. ends_in false (level_at i.ladders.levels r)) at) in
     let empty : live.order.shown ≡ true → first_at i.ladders.levels terms.locate (not (is_buy terms.side)) (distance_of live) false ≡ None =
     λ t. sym hidden ∙ elim c.in_default-hidden.branch [
-      | in_default-hidden-via-in-Some-hidden+else-node w ↦ absurd (true≢false (sym t ∙ sym shown ∙ w.if-node.false))
+      | in_default-hidden-via-in-Some-hidden+else-order w ↦ absurd (true≢false (sym t ∙ sym shown ∙ w.if-order.false))
       | in_default-hidden-via-in_default-hidden w ↦ w.in_default-hidden.is
     ] in
     let behind : c.at-from.result ≡ record c.rung_of-rung.result { distance = c.rung_of-rung.result.distance + 1 } =
     c.at-from.ensures ∙ ap (λ n. record c.rung_of-rung.result { distance = n + 1 }) c.distance.ensures in
-    next_level i.nodes i.ladders.levels i.time i.place i.kept orders c.self.invariant terms key ranked node stored (sym c.get-2.ensures ∙ c.in_default.is) empty c.in-Some-first_from.next
+    next_level i.nodes i.ladders.levels i.time i.place i.kept orders c.self.invariant terms key ranked node stored (sym c.get.ensures ∙ c.in_default.is) empty c.in-Some-first_from.next
     (subst (λ n. IsFirstFrom i.ladders.levels terms.locate (not (is_buy terms.side)) (distance_of live + 1) n c.in-Some-first_from.next) c.contra_of-limit.ensures.limit
     (subst (λ (r : Rung). IsFirstFrom i.ladders.levels r.locate r.buy (r.distance + 1) c.contra_of-limit.result.1 c.in-Some-first_from.next) at
     (subst (λ (r : Rung). IsFirstFrom i.ladders.levels r.locate r.buy r.distance c.contra_of-limit.result.1 c.in-Some-first_from.next) behind c.in-Some-first_from.ensures.found)))
@@ -112,8 +108,9 @@ returns-in-None-clause-exact c =
     let key = c.args.key.0 in
     let orders = walked i.nodes i.time in
     let ranked : IsRanked terms key orders = subst (λ v. IsRanked terms key v.orders) (sym c.self.view_is) c.requires in
-    let node = c.unwrap-node.result.now in
-    let stored : get i.nodes key ≡ Some node = sym c.get.ensures ∙ ap option_copied c.unwrap-node.ensures in
+    let node : Node = record { order = c.unwrap-order.result.now; time = c.links.result.time; queue = c.links.result.queue } in
+    let stored : get i.nodes key ≡ Some node =
+    node_by_parts (get i.nodes key) node (sym c.order.ensures ∙ ap option_copied c.unwrap-order.ensures) c.links.ensures.time c.links.ensures.queue in
     let live = (rank i.nodes i.ladders.levels i.time i.place i.kept orders c.self.invariant terms key ranked node stored).live in
     let at : c.rung_of-rung.result ≡ contra terms (distance_of live) =
     c.rung_of-rung.ensures.rung
@@ -124,12 +121,12 @@ returns-in-None-clause-exact c =
     c.get-hidden.ensures ∙ ap (λ (e : Ends). e.first) (c.ends_at.ensures ∙ ap (λ r. ends_in false (level_at i.ladders.levels r)) at) in
     let empty : live.order.shown ≡ true → first_at i.ladders.levels terms.locate (not (is_buy terms.side)) (distance_of live) false ≡ None =
     λ t. sym hidden ∙ elim c.in_default-hidden.branch [
-      | in_default-hidden-via-in-Some-hidden+else-node w ↦ absurd (true≢false (sym t ∙ sym shown ∙ w.if-node.false))
+      | in_default-hidden-via-in-Some-hidden+else-order w ↦ absurd (true≢false (sym t ∙ sym shown ∙ w.if-order.false))
       | in_default-hidden-via-in_default-hidden w ↦ w.in_default-hidden.is
     ] in
     let behind : c.at-from.result ≡ record c.rung_of-rung.result { distance = c.rung_of-rung.result.distance + 1 } =
     c.at-from.ensures ∙ ap (λ n. record c.rung_of-rung.result { distance = n + 1 }) c.distance.ensures in
-    next_none i.nodes i.ladders.levels i.time i.place i.kept orders c.self.invariant terms key ranked node stored (sym c.get-2.ensures ∙ c.in_default.is) empty
+    next_none i.nodes i.ladders.levels i.time i.place i.kept orders c.self.invariant terms key ranked node stored (sym c.get.ensures ∙ c.in_default.is) empty
     (subst (λ n. (d : ℕ) (s : Bool) → distance_of live + 1 ≤ d → d ≤ n → first_at i.ladders.levels terms.locate (not (is_buy terms.side)) d s ≡ None) c.contra_of-limit.ensures.limit
     (subst (λ (r : Rung). (d : ℕ) (s : Bool) → r.distance + 1 ≤ d → d ≤ c.contra_of-limit.result.1 → first_at i.ladders.levels r.locate r.buy d s ≡ None) at
     (subst (λ (r : Rung). (d : ℕ) (s : Bool) → r.distance ≤ d → d ≤ c.contra_of-limit.result.1 → first_at i.ladders.levels r.locate r.buy d s ≡ None) behind c.in-None.ensures.none)))
