@@ -105,12 +105,9 @@ pub fn plan_step<B: Book>(
     effect_of(
         alloc, setup, hours, ends, trading, tokens, book, event, effect,
     )?;
-    let room = take_empty(alloc, &mut next.fills);
-    let plan = plan_effect(room, book, tokens, &next.effect)?;
+    next.left = plan_effect(&mut next.fills, book, tokens, &next.effect)?;
     ends.enter(tokens.count(), end_of(&next.effect))?;
-    trading.reserve_for(&plan.fills)?;
-    next.fills = plan.fills;
-    next.left = plan.left;
+    trading.reserve_for(&next.fills)?;
     Ok(())
 }
 

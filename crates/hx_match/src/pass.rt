@@ -1,5 +1,5 @@
 //! The one pass over the orders that cross.
-ghost use Rattle.std.specs.Prelude.{◌≡◌, ◌<◌, length, IfOk, IfErr, MatchOption, true, false, min, max};
+ghost use Rattle.std.specs.Prelude.{◌≡◌, ◌<◌, length, IfOk, IfErr, OnOk, MatchOption, true, false, min, max};
 ghost use Rattle.hx_levels.specs.Book.{KeysDiffer, lives};
 ghost use Rattle.hx_match.specs.Matching.{qualifies, matched, matched_live};
 ghost use Rattle.hx_match.specs.Executing.{fills_of, AreGood, done_by, left_by};
@@ -29,22 +29,27 @@ pub fn plan<B: Book>(alloc: Global, book: &B, incoming: &Incoming) -> Result<Pla
     ensures memory { IfErr result (λ _. 0 < length (fills_of incoming.now (B.orders book.now))) }
     ensures keys { KeysDiffer (B.orders book.now) }
 {
-    plan_in(Vec::new(alloc), book, incoming)
+    let mut fills = Vec::new(alloc);
+    let left = plan_into(&mut fills, book, incoming)?;
+    Ok(Plan { fills, left })
 }
 
-/// The same in the room of an earlier plan: its list of fills takes memory only where it has to grow.
+/// The same into a list of earlier executions, which go: it takes memory only where the list has to grow. After
+/// `NoMemory` the list holds some executions.
 #[inline(always)]
-pub fn plan_in<B: Book>(room: Vec<Fill>, book: &B, incoming: &Incoming) -> Result<Plan, NoMemory>
-    ensures fills { IfOk result (λ plan.
-        plan.fills.items ≡ fills_of incoming.now (B.orders book.now)) }
-    ensures left { IfOk result (λ plan.
-        plan.left ≡ (matched_live incoming.now (B.orders book.now)).left) }
-    ensures executions { IfOk result (λ plan.
-        AreFills incoming.now (B.orders book.now) plan.fills.items plan.left) }
+pub fn plan_into<B: Book>(
+    fills: &mut Vec<Fill>,
+    book: &B,
+    incoming: &Incoming,
+) -> Result<u32, NoMemory>
+    ensures fills { OnOk result (fills.new.items ≡ fills_of incoming.now (B.orders book.now)) }
+    ensures left { IfOk result (λ left.
+        left ≡ (matched_live incoming.now (B.orders book.now)).left) }
+    ensures executions { IfOk result (λ left.
+        AreFills incoming.now (B.orders book.now) fills.new.items left) }
     ensures memory { IfErr result (λ _. 0 < length (fills_of incoming.now (B.orders book.now))) }
     ensures keys { KeysDiffer (B.orders book.now) }
 {
-    let mut fills = room;
     fills.clear();
     let least = least_fill(incoming);
     let mut left = incoming.shares;
@@ -60,7 +65,7 @@ pub fn plan_in<B: Book>(room: Vec<Fill>, book: &B, incoming: &Incoming) -> Resul
         }
         next = book.next_contra(incoming.locate, incoming.side, incoming.price, Some(key));
     }
-    Ok(Plan { fills, left })
+    Ok(left)
 }
 
 // The fewest shares for which an order may be executed: no order qualifies where fewer are left.

@@ -10,7 +10,7 @@ ghost use Rattle.hx_market.specs.Prepared.{HasPlaces};
 
 use crate::effect::{AcceptedEnter, Effect, Replacement};
 use hx_levels::Book;
-use hx_match::{Fill, Incoming, Plan, plan_in};
+use hx_match::{Fill, Incoming, plan_into};
 use hx_members::Tokens;
 use hx_units::NoMemory;
 
@@ -40,89 +40,86 @@ fn incoming_by(effect: &Replacement) -> Incoming
     }
 }
 
-// The plan of an order, in this room, and a place for what rests of it: none of an immediate one does.
+// The plan of an order, into this list, and a place for what rests of it: none of an immediate one does.
 #[inline(always)]
 fn plan_order<B: Book>(
-    room: Vec<Fill>,
+    fills: &mut Vec<Fill>,
     book: &mut B,
     incoming: &Incoming,
     immediate: bool,
-) -> Result<Plan, NoMemory>
+) -> Result<u32, NoMemory>
     ensures orders { B.orders book.new ≡ B.orders book.old }
     ensures place { OnOk result (immediate ≡ false
         → B.place book.new ≡ Some (terms incoming.now)) }
-    ensures fills { IfOk result (λ plan. plan.fills.items
-        ≡ fills_of incoming.now (B.orders book.new)) }
-    ensures left { IfOk result (λ plan. plan.left
+    ensures fills { OnOk result (fills.new.items ≡ fills_of incoming.now (B.orders book.new)) }
+    ensures left { IfOk result (λ left. left
         ≡ (matched_live incoming.now (B.orders book.new)).left) }
     ensures executions { IfOk result
-        (λ plan. AreFills incoming.now (B.orders book.new) plan.fills.items plan.left) }
+        (λ left. AreFills incoming.now (B.orders book.new) fills.new.items left) }
     ensures keys { OnOk result (KeysDiffer (B.orders book.new)) }
 {
     if !immediate {
         book.reserve(incoming.locate, incoming.side, incoming.price)?;
     }
-    plan_in(room, book, incoming)
+    plan_into(fills, book, incoming)
 }
 
 // The plan of an order that is accepted.
 #[inline(always)]
 fn plan_enter<B: Book>(
-    room: Vec<Fill>,
+    fills: &mut Vec<Fill>,
     book: &mut B,
     effect: &AcceptedEnter,
-) -> Result<Plan, NoMemory>
+) -> Result<u32, NoMemory>
     ensures orders { B.orders book.new ≡ B.orders book.old }
     ensures place { OnOk result (is_immediate effect.now.enter.time_in_force ≡ false
         → B.place book.new ≡ Some (terms_of_enter effect.now)) }
-    ensures executions { IfOk result (λ plan. AreFills
-        (incoming_of_enter effect.now) (B.orders book.new) plan.fills.items plan.left) }
+    ensures executions { IfOk result (λ left. AreFills
+        (incoming_of_enter effect.now) (B.orders book.new) fills.new.items left) }
     ensures keys { OnOk result (KeysDiffer (B.orders book.new)) }
 {
     let immediate = effect.enter.time_in_force == 0;
-    plan_order(room, book, &incoming_of(effect), immediate)
+    plan_order(fills, book, &incoming_of(effect), immediate)
 }
 
 // The plan of an order that replaces another, which it does not meet.
 #[inline(always)]
 fn plan_replacement<B: Book>(
-    room: Vec<Fill>,
+    fills: &mut Vec<Fill>,
     book: &mut B,
     effect: &Replacement,
-) -> Result<Plan, NoMemory>
+) -> Result<u32, NoMemory>
     requires is_replacement { IsReplacement effect.now }
     requires old { order_of effect.now.old.key.0 (B.orders book.old) ≡ Some effect.now.old.order }
     ensures orders { B.orders book.new ≡ B.orders book.old }
     ensures place { OnOk result (is_immediate effect.now.replace.time_in_force ≡ false
         → B.place book.new ≡ Some (terms_of_replacement effect.now)) }
-    ensures executions { IfOk result (λ plan. AreFills (incoming_of_replacement effect.now)
-        (without effect.now.old.key.0 (B.orders book.new)) plan.fills.items plan.left) }
+    ensures executions { IfOk result (λ left. AreFills (incoming_of_replacement effect.now)
+        (without effect.now.old.key.0 (B.orders book.new)) fills.new.items left) }
 {
     let immediate = effect.replace.time_in_force == 0;
-    let plan = plan_order(room, book, &incoming_by(effect), immediate)?;
-    Ok(plan)
+    let left = plan_order(fills, book, &incoming_by(effect), immediate)?;
+    Ok(left)
 }
 
 // The plan of no order.
-fn no_plan(room: Vec<Fill>) -> Plan
-    ensures fills { result.fills.items ≡ room.items }
-    ensures left { result.left ≡ 0 }
+fn no_plan(fills: &mut Vec<Fill>) -> u32
+    ensures fills { fills.new.items ≡ [] }
+    ensures left { result ≡ 0 }
 {
-    Plan {
-        fills: room,
-        left: 0,
-    }
+    fills.clear();
+    0
 }
 
-/// The plan of an effect, in this room, with a place for the token that it uses and one for the order that may rest.
+/// The plan of an effect, into this list, with a place for the token that it uses and one for the order that may rest.
+/// After `NoMemory` the list holds some executions.
 #[inline(always)]
 pub fn plan_effect<B: Book>(
-    room: Vec<Fill>,
+    fills: &mut Vec<Fill>,
     book: &mut B,
     tokens: &mut Tokens,
     effect: &Effect,
-) -> Result<Plan, NoMemory>
-    requires empty { room.items ≡ [] }
+) -> Result<u32, NoMemory>
     requires range { IsInRange effect.now }
     requires about { IsAbout (B.orders book.old) effect.now }
     ensures orders { B.orders book.new ≡ B.orders book.old }
@@ -130,27 +127,27 @@ pub fn plan_effect<B: Book>(
     ensures chains { tokens.new.chains ≡ tokens.old.chains }
     ensures token_keys { tokens.new.keys ≡ tokens.old.keys }
     ensures places { IfOk result
-        (λ plan. HasPlaces (B.orders book.new)
-        (B.place book.new) tokens.new.place plan.fills.items plan.left effect.now) }
+        (λ left. HasPlaces (B.orders book.new)
+        (B.place book.new) tokens.new.place fills.new.items left effect.now) }
 {
     match effect {
         Effect::Reject(effect) => {
             tokens.reserve(effect.member, &effect.token)?;
-            Ok(no_plan(room))
+            Ok(no_plan(fills))
         }
         Effect::Accept(effect) => {
             tokens.reserve(effect.member, &effect.enter.token)?;
-            plan_enter(room, book, effect)
+            plan_enter(fills, book, effect)
         }
         Effect::Fail(effect) => {
             tokens.reserve(effect.member, &effect.replacement)?;
-            Ok(no_plan(room))
+            Ok(no_plan(fills))
         }
         Effect::Replace(effect) => {
             tokens.reserve(effect.member, &effect.replace.replacement_token)?;
-            plan_replacement(room, book, effect)
+            plan_replacement(fills, book, effect)
         }
         Effect::Nothing | Effect::Cancel(_) | Effect::End(_) | Effect::Halt(_) | Effect::Break(_) =>
-            Ok(no_plan(room)),
+            Ok(no_plan(fills)),
     }
 }

@@ -43,7 +43,7 @@ returns-clause-ready g c = λ n.
       suits = subst (λ (us : List Used). SuitsTokens us c.plan_effect.new.tokens.chains effect) (sym c.plan_effect.ensures.tokens) (subst (λ (cs : List Chain). SuitsTokens c.args.tokens.now.tokens cs effect) (sym c.plan_effect.ensures.chains) c.in_ok-effect_of.ensures.suits);
       about = subst (λ (xs : List Live). IsAbout xs effect) (sym c.plan_effect.ensures.orders) c.in_ok-effect_of.ensures.about;
       sender = subst (λ i. IsOf i effect) (sym c.in_ok-next.ensures.number) c.in_ok-effect_of.ensures.sender;
-      places = c.in_ok-plan.ensures.places;
+      places = c.in_ok-next-2.ensures.places;
       has_room = subst (λ (fs : List Fill). length fs ≤ c.reserve_for.new.self.room) c.deref.ensures.value c.in_ok-reserve_for.ensures.room;
       end_entered = subst (λ n. IsEndEntered c.enter.new.self n effect) c.count.ensures (λ e is.
           subst (λ o. IfSome o (λ expiry. Holds c.enter.new.self expiry c.count.result)) (c.end_of.ensures ∙ is) c.in_ok-enter.ensures.entered);

@@ -29,11 +29,12 @@ returns-clause-executions g c =
     let a = c.args.effect.now in
     let inc : Incoming = incoming_of_replacement a in
     let orders = g.B.Book.orders c.plan_order.new.book in
-    let plan = c.in_ok-plan.plan in
+    let fills = c.plan_order.new.fills.items in
+    let left = c.in_ok-left.left in
     let is : c.incoming_by.result ≡ inc = c.incoming_by.ensures in
-    let found : order_of a.old.key.0 orders ≡ Some a.old.order = ap (λ (xs : List Live). order_of a.old.key.0 xs) c.in_ok-plan.ensures.orders ∙ c.requires.old in
-    let all = unmet inc a.old.key.0 a.old.order orders c.in_ok-plan.ensures.keys found (no_cross (a.old.order.locate == a.old.order.locate) (is_other_side a.old.order.side a.old.order.side) (if is_buy a.old.order.side then nat_le a.old.order.price inc.price else nat_le inc.price a.old.order.price) (own_side a.old.order.side)) in
-    let fills : plan.fills.items ≡ fills_of inc orders = c.in_ok-plan.ensures.fills ∙ ap (λ (i : Incoming). fills_of i orders) is in
-    let left : plan.left ≡ (matched_live inc orders).left = c.in_ok-plan.ensures.left ∙ ap (λ (i : Incoming). (matched_live i orders).left) is in
-    subst (λ (fs : List Fill). AreFills inc (without a.old.key.0 orders) fs plan.left) (sym fills)
-    (subst (λ n. AreFills inc (without a.old.key.0 orders) (fills_of inc orders) n) (sym left) all)
+    let found : order_of a.old.key.0 orders ≡ Some a.old.order = ap (λ (xs : List Live). order_of a.old.key.0 xs) c.in_ok-left.ensures.orders ∙ c.requires.old in
+    let all = unmet inc a.old.key.0 a.old.order orders c.in_ok-left.ensures.keys found (no_cross (a.old.order.locate == a.old.order.locate) (is_other_side a.old.order.side a.old.order.side) (if is_buy a.old.order.side then nat_le a.old.order.price inc.price else nat_le inc.price a.old.order.price) (own_side a.old.order.side)) in
+    let fills_are : fills ≡ fills_of inc orders = c.in_ok-left.ensures.fills ∙ ap (λ (i : Incoming). fills_of i orders) is in
+    let left_is : left ≡ (matched_live inc orders).left = c.in_ok-left.ensures.left ∙ ap (λ (i : Incoming). (matched_live i orders).left) is in
+    subst (λ (fs : List Fill). AreFills inc (without a.old.key.0 orders) fs left) (sym fills_are)
+    (subst (λ n. AreFills inc (without a.old.key.0 orders) (fills_of inc orders) n) (sym left_is) all)

@@ -11,11 +11,12 @@ use Rattle.hx_match.specs.declared.fills.Fill.{Fill}
 use Rattle.hx_match.specs.declared.fills.Incoming.{Incoming}
 use Rattle.hx_match.specs.Matching.{terms, qualifies, matched_live}
 use Rattle.hx_match.specs.Executing.{fills_of, AreGood, done_by, left_by}
+use Rattle.hx_match.specs.Rules.{AreFills}
 use Rattle.hx_match.proofs.Steps.{fill, shares_of, steps_of}
 use Rattle.hx_match.proofs.OnePass.{pass, pass-few, rest_from, AtKey, at_key, told_taken, told_passed, steps_of-pass}
 use Rattle.hx_match.proofs.Carried.{Carried, carried, steps_of-fills, steps_of-left}
-use Rattle.hx_match.proofs.pass.plan_in.Goals as goal
-use Rattle.hx_match.proofs.pass.plan_in.Goals.{in-Some-execution+in_ok-push, in_default-execution, in-Some+then-left-least, in_default}
+use Rattle.hx_match.proofs.pass.plan_into.Goals as goal
+use Rattle.hx_match.proofs.pass.plan_into.Goals.{in-Some-execution+in_ok-push, in_default-execution}
 
 is_some_of : {A B : Type 0} (f : A → B) (r : Option A) (y : B) → option_map f r ≡ Some y → IsSome r
 is_some_of f None y h = cc
@@ -100,9 +101,13 @@ loop-next-preserved g c =
           }
     ]
 
+-- these are the executions, and so many shares are left
+abbrev Told : Incoming → List Live → List Fill → ℕ → Type 0
+Told incoming orders front left = (front ≡ fills_of incoming orders) × (left ≡ (matched_live incoming orders).left)
+
 told_at_end : (incoming : Incoming) (orders : List Live) (left : ℕ) (front : List Fill) → KeysDiffer orders
     → front ≡ pass incoming.minimum incoming.shares (ranked (terms incoming) orders) → left + shares_of front ≡ incoming.shares
-    → (front ≡ fills_of incoming orders) × (left ≡ (matched_live incoming orders).left)
+    → Told incoming orders front left
 told_at_end incoming orders left front d e t =
     let f : front ≡ steps_of incoming orders = e ∙ sym (steps_of-pass incoming orders d) in
     let s : shares_of front ≡ shares_of (steps_of incoming orders) = ap shares_of f in
@@ -112,36 +117,55 @@ told_at_end incoming orders left front d e t =
 run_out : (k left : ℕ) (front all : List Fill) (xs : List Live) (next : Option Key) → next ≡ None → front ++ pass k left (rest_from next xs) ≡ all → front ≡ all
 run_out k left front all xs next e t = sym (append-nil front) ∙ ap (λ n. front ++ pass k left (rest_from n xs)) (sym e) ∙ t
 
-both : (g : _) (c : goal.Joined-next g) → (c.loop-next.fills.items ≡ fills_of c.args.incoming.now (g.B.Book.orders c.args.book.now))
-    × (c.loop-next.left ≡ (matched_live c.args.incoming.now (g.B.Book.orders c.args.book.now)).left)
-both g c =
+-- where fewer shares are left than an execution has
+few : (g : _) (c : goal.Then-left-least g) → Told c.args.incoming.now (g.B.Book.orders c.args.book.now) c.loop-next.fills.items c.loop-next.left
+few g c =
     let orders = g.B.Book.orders c.args.book.now in
     let inc = c.args.incoming.now in
     let line = ranked (terms inc) orders in
     told_at_end inc orders c.loop-next.left c.loop-next.fills.items c.next_contra-next.ensures.keys
-    (elim c.match-next.branch [
-      | in-Some+then-left-least w ↦ ended inc.minimum c.loop-next.left c.loop-next.fills.items (pass inc.minimum inc.shares line) (rest_from c.loop-next.next line) (subst (λ n. c.loop-next.left < n) c.least_fill-least.ensures w.if-left-least.true) c.loop-next.invariant.told
-      | in_default w ↦ run_out inc.minimum c.loop-next.left c.loop-next.fills.items (pass inc.minimum inc.shares line) line c.loop-next.next w.in_default.is c.loop-next.invariant.told
-    ])
+    (ended inc.minimum c.loop-next.left c.loop-next.fills.items (pass inc.minimum inc.shares line) (rest_from c.loop-next.next line) (subst (λ n. c.loop-next.left < n) c.least_fill-least.ensures c.if-left-least.true) c.loop-next.invariant.told)
     c.loop-next.invariant.total
 
-pub returns-clause-fills : goal.returns-clause-fills
-returns-clause-fills g c = (both g c).0
+-- where no order is left
+none : (g : _) (c : goal.In_default g) → Told c.args.incoming.now (g.B.Book.orders c.args.book.now) c.loop-next.fills.items c.loop-next.left
+none g c =
+    let orders = g.B.Book.orders c.args.book.now in
+    let inc = c.args.incoming.now in
+    let line = ranked (terms inc) orders in
+    told_at_end inc orders c.loop-next.left c.loop-next.fills.items c.next_contra-next.ensures.keys
+    (run_out inc.minimum c.loop-next.left c.loop-next.fills.items (pass inc.minimum inc.shares line) line c.loop-next.next c.in_default.is c.loop-next.invariant.told)
+    c.loop-next.invariant.total
 
-pub returns-clause-left : goal.returns-clause-left
-returns-clause-left g c = (both g c).1
+pub returns-then-left-least-clause-fills : goal.returns-then-left-least-clause-fills
+returns-then-left-least-clause-fills g c = (few g c).0
 
-known : (g : _) (c : goal.Joined-next g) → Carried c.args.incoming.now (g.B.Book.orders c.args.book.now)
-known g c = carried c.args.incoming.now (g.B.Book.orders c.args.book.now) c.next_contra-next.ensures.keys
+pub returns-in_default-clause-fills : goal.returns-in_default-clause-fills
+returns-in_default-clause-fills g c = (none g c).0
 
-pub returns-clause-executions : goal.returns-clause-executions
-returns-clause-executions g c =
+pub returns-then-left-least-clause-left : goal.returns-then-left-least-clause-left
+returns-then-left-least-clause-left g c = (few g c).1
+
+pub returns-in_default-clause-left : goal.returns-in_default-clause-left
+returns-in_default-clause-left g c = (none g c).1
+
+executed : (incoming : Incoming) (orders : List Live) (front : List Fill) (left : ℕ) → KeysDiffer orders → Told incoming orders front left → AreFills incoming orders front left
+executed incoming orders front left d t =
+    let known : Carried incoming orders = carried incoming orders d in
     record {
-      good = subst (λ l. AreGood l (g.B.Book.orders c.args.book.now)) (sym (both g c).0) (known g c).good;
-      done = ap (λ l. done_by l (g.B.Book.orders c.args.book.now)) (both g c).0 ∙ (known g c).done;
-      rest = ap (λ l. lives (left_by l (g.B.Book.orders c.args.book.now))) (both g c).0 ∙ (known g c).rest;
-      remains = (both g c).1 ∙ (known g c).left;
+      good = subst (λ l. AreGood l orders) (sym t.0) known.good;
+      done = ap (λ l. done_by l orders) t.0 ∙ known.done;
+      rest = ap (λ l. lives (left_by l orders)) t.0 ∙ known.rest;
+      remains = t.1 ∙ known.left;
     }
+
+pub returns-then-left-least-clause-executions : goal.returns-then-left-least-clause-executions
+returns-then-left-least-clause-executions g c =
+    executed c.args.incoming.now (g.B.Book.orders c.args.book.now) c.loop-next.fills.items c.loop-next.left c.next_contra-next.ensures.keys (few g c)
+
+pub returns-in_default-clause-executions : goal.returns-in_default-clause-executions
+returns-in_default-clause-executions g c =
+    executed c.args.incoming.now (g.B.Book.orders c.args.book.now) c.loop-next.fills.items c.loop-next.left c.next_contra-next.ensures.keys (none g c)
 
 some_among : (front more all : List Fill) (f : Fill) → front ++ f ∷ more ≡ all → 0 < length all
 some_among front more all f e = omega (arith, length-append front (f ∷ more), ap length e)

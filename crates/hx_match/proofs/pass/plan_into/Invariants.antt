@@ -4,7 +4,7 @@ use Rattle.hx_levels.specs.Book.{ranked, has_key}
 use Rattle.hx_match.specs.Matching.{terms}
 use Rattle.hx_match.proofs.Steps.{shares_of}
 use Rattle.hx_match.proofs.OnePass.{pass, rest_from}
-use Rattle.hx_match.proofs.pass.plan_in.Given as goal
+use Rattle.hx_match.proofs.pass.plan_into.Given as goal
 
 -- the fills so far and those of what is left of the pass are those of the pass
 abbrev pub invariant-loop-next : goal.invariant-loop-next
