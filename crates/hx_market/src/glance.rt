@@ -1,7 +1,7 @@
 //! Events that are looked at before their turn, so that the memory which they need is at hand then.
 
 use hx_levels::{Book, Key};
-use hx_members::{Tokens, name_hash};
+use hx_members::{Tokens, name_hint};
 use hx_rules::Event;
 use hx_units::fields::array_at;
 use hx_units::{MemberNo, Token};
@@ -29,26 +29,26 @@ fn sum_of_bytes(events: &[Event]) -> u64 {
     sum
 }
 
-// The hash of the token that a message names first (OUCH 4.2: it stands behind the message's type), or 0.
+// The hint of the token that a message names first (OUCH 4.2: it stands behind the message's type), or 0.
 #[inline(always)]
-fn hash_of(event: &Event) -> u32 {
+fn hint_of(event: &Event) -> u64 {
     let Event::Message { member, bytes, .. } = event else {
         return 0;
     };
     let bytes = bytes.as_slice();
     match MemberNo::of(*member) {
-        Some(member) if bytes.len() >= 15 => name_hash(member, &Token(array_at(bytes, 1))),
+        Some(member) if bytes.len() >= 15 => name_hint(member, &Token(array_at(bytes, 1))),
         _ => 0,
     }
 }
 
-// The hashes of the tokens that messages name first.
-fn hashes_of(events: &[Event]) -> [u32; BATCH] {
-    let mut hashes = [0; BATCH];
-    for (hash, event) in hashes.iter_mut().zip(events) {
-        *hash = hash_of(event);
+// The hints of the tokens that messages name first.
+fn hints_of(events: &[Event]) -> [u64; BATCH] {
+    let mut hints = [0; BATCH];
+    for (hint, event) in hints.iter_mut().zip(events) {
+        *hint = hint_of(event);
     }
-    hashes
+    hints
 }
 
 // Looks at orders.
@@ -66,8 +66,8 @@ fn sum_of_orders<B: Book>(book: &B, keys: &[usize]) -> u64 {
 /// they name first, and the orders under these. Nothing is promised of the answer.
 pub fn glance<B: Book>(tokens: &Tokens, book: &B, events: &[Event]) -> u64 {
     let bytes = sum_of_bytes(events);
-    let hashes = hashes_of(events);
-    let first = tokens.glance(&hashes);
-    let orders = sum_of_orders(book, &tokens.likely_keys(&hashes));
+    let hints = hints_of(events);
+    let first = tokens.glance(&hints);
+    let orders = sum_of_orders(book, &tokens.likely_keys(&hints));
     bytes.wrapping_add(first).wrapping_add(orders)
 }

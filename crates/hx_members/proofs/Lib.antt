@@ -14,3 +14,4 @@ pub mod TextLaws
 pub mod Packing
 pub mod Walks
 pub mod Indexes
+pub mod Cells

@@ -1,5 +1,6 @@
 pub mod Chains
 pub mod Rows
+pub mod Series
 pub mod Slots
 pub mod Tokens
 pub mod Packed

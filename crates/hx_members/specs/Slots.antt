@@ -1,10 +1,14 @@
 -- The slots by which the rows of the used tokens are found. Each is a word: 0 where it is free, and else the hash of a
 -- row's name in the upper half, and one more than the row's place in the lower.
-use Rattle.std.specs.Prelude.{◌≡◌, ◌≢◌, ℕ, ◌+◌, ◌-◌, ◌*◌, ◌/◌, ◌%◌, ◌^◌, ◌<◌, ◌==◌, ◌&&◌, nat_lt, Bool, false, List, Some, length, slice_get, slice_index, if◌then◌else◌}
+use Rattle.std.specs.Prelude.{◌≡◌, ◌≢◌, ℕ, ◌+◌, ◌-◌, ◌*◌, ◌/◌, ◌%◌, ◌^◌, ◌<◌, ◌==◌, ◌&&◌, ◌⊎◌, nat_lt, Bool, false, List, Some, length, slice_get, slice_index, if◌then◌else◌}
 use Rattle.std.specs.Option.{option_map_or}
 use Rattle.hx_members.specs.declared.name.Name.{Name}
 use Rattle.hx_members.specs.declared.seed.Seed.{Seed}
+use Rattle.hx_members.specs.declared.series.AllSeries.{AllSeries}
+use Rattle.hx_members.specs.declared.rows.Spot.{Spot}
+use Rattle.hx_members.specs.declared.rows.Spot.TheVariants.{InSeries, InSlots}
 use Rattle.hx_members.specs.Seeds.{hash_of}
+use Rattle.hx_members.specs.Series.{place_in, HasCell}
 use Rattle.hx_members.specs.Rows.{Row, is_name}
 
 -- the word of a hash and a place
@@ -15,8 +19,8 @@ word_of hash place = hash * 2 ^ 32 + (place + 1)
 abbrev pub hash_in : ℕ → ℕ
 hash_in word = word / 2 ^ 32
 
-abbrev pub place_in : ℕ → ℕ
-place_in word = word % 2 ^ 32 - 1
+abbrev pub place_in_word : ℕ → ℕ
+place_in_word word = word % 2 ^ 32 - 1
 
 -- the slot behind one: behind the last one is the first one again
 abbrev pub behind : (at len : ℕ) → ℕ
@@ -69,14 +73,21 @@ AreFrom old new =
 abbrev pub row_word : Seed → Row → (place : ℕ) → ℕ
 row_word seed row place = word_of (hash_of seed row.0) place
 
--- the slots lead to each row, and hold nothing else; a place fits into half a word
-pub record IsIndex (seed : Seed) (words : List ℕ) (rows : List Row) : Type 0 where
+-- each row is in the cell of its name or led to by the slots, and these hold nothing else; a place fits into half a word
+pub record IsIndex (seed : Seed) (series : AllSeries) (words : List ℕ) (rows : List Row)
+    : Type 0 where
   pub few : length rows < 2 ^ 32
   pub leads : (i : ℕ) (row : Row) → slice_get rows i ≡ Some row
-      → LeadsTo words (row_word seed row i)
+      → (place_in series row.0 ≡ i + 1) ⊎ LeadsTo words (row_word seed row i)
   pub holds : (at : ℕ) → slice_index words at ≢ 0
       → (i : ℕ) × ((row : Row) × (slice_get rows i ≡ Some row)
       × (slice_index words at ≡ row_word seed row i))
+
+-- the cell of the name is there and free, and one more than the place behind so many rows fits into it
+pub record HasFreeCell (series : AllSeries) (rows : ℕ) (name : Name) : Type 0 where
+  pub cell : HasCell series name
+  pub free : place_in series name ≡ 0
+  pub few : rows + 1 < 2 ^ 32
 
 -- the slot is the free one for a row of this name behind so many rows, and the word is the one to be put there
 pub record IsReserved (seed : Seed) (words : List ℕ) (rows : ℕ) (name : Name) (at word : ℕ)
@@ -85,16 +96,31 @@ pub record IsReserved (seed : Seed) (words : List ℕ) (rows : ℕ) (name : Name
   pub word_is : word ≡ word_of (hash_of seed name) rows
   pub few : rows + 1 < 2 ^ 32
 
+-- where a row of this name behind so many rows is to be found: by its cell, or by a slot
+abbrev pub IsSpot : Seed → AllSeries → (words : List ℕ) → (rows : ℕ) → Name → Spot → Type 0
+IsSpot seed series words rows name InSeries = HasFreeCell series rows name
+IsSpot seed series words rows name (InSlots at word) = IsReserved seed words rows name at word
+
 -- whether the row at a place has the name
 abbrev pub is_at : List Row → Name → (place : ℕ) → Bool
 is_at rows name place = option_map_or (λ row. is_name name row.0) (slice_get rows place) false
 
 -- whether the word is that of a hash, and the row at its place has the name
 abbrev pub is_word_of : List Row → (hash : ℕ) → Name → (word : ℕ) → Bool
-is_word_of rows hash name word = hash_in word == hash && is_at rows name (place_in word)
+is_word_of rows hash name word = hash_in word == hash && is_at rows name (place_in_word word)
 
 -- the first so many steps of a hash's walk come neither to a free slot nor to the name's row
 abbrev pub IsPassed : (words : List ℕ) → List Row → (hash : ℕ) → Name → (steps : ℕ) → Type 0
 IsPassed words rows hash name steps =
     (j : ℕ) → j < steps → (word_on words hash j ≢ 0)
     × (is_word_of rows hash name (word_on words hash j) ≡ false)
+
+-- each word that is not free has a place
+abbrev pub HavePlaces : (words : List ℕ) → Type 0
+HavePlaces words = (at : ℕ) → slice_index words at ≢ 0 → 0 < slice_index words at % 2 ^ 32
+
+-- the slots lead to no row of the name
+abbrev pub IsLedToNone : Seed → (words : List ℕ) → List Row → Name → Type 0
+IsLedToNone seed words rows name =
+    (i : ℕ) (row : Row) → slice_get rows i ≡ Some row → LeadsTo words (row_word seed row i)
+    → is_name name row.0 ≡ false

@@ -42,6 +42,7 @@ const HIGH_ADDED: u64 = 0xd1b5_4a32_d192_ed03;
 
 impl PackedName {
     ghost use Rattle.hx_members.specs.Seeds.{fixed_hash};
+    ghost use Rattle.hx_members.specs.Series.{number_of};
 
     /// A member's token in two words. Its letters are read four, two and eight at once.
     #[inline(always)]
@@ -71,6 +72,29 @@ impl PackedName {
         let upper = (product / 0x1_0000_0000_0000_0000) as u64;
         let mixed = lower.wrapping_add(upper).wrapping_mul(LOW_ADDED);
         (mixed / 0x1_0000_0000) as u32
+    }
+
+    /// The number of its member.
+    #[inline(always)]
+    pub(crate) fn member(self) -> usize
+        ensures { result ≡ self.member }
+    {
+        (self.low / 0x1_0000 / 0x1_0000_0000) as usize
+    }
+
+    /// The number that its token's last eight letters spell, where they are digits. The lower four bits of any letter are taken
+    /// for a digit: all eight of them together, then their pairs, and then the pairs of these.
+    #[inline(always)]
+    pub(crate) fn number(self) -> u64
+        ensures { result ≡ number_of self }
+    {
+        let digits = self.high & 0x0f0f_0f0f_0f0f_0f0f;
+        let twos = digits.wrapping_mul(10).wrapping_add(digits / 0x100) & 0x00ff_00ff_00ff_00ff;
+        let fours = twos.wrapping_mul(100).wrapping_add(twos / 0x1_0000) & 0x0000_ffff_0000_ffff;
+        fours
+            .wrapping_mul(10_000)
+            .wrapping_add(fours / 0x1_0000_0000)
+            % 0x1_0000_0000
     }
 
     /// Whether two names are the same.

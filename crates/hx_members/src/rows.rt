@@ -1,14 +1,16 @@
 //! The rows of the used tokens, in order of use.
-ghost use Rattle.std.specs.Prelude.{◌≡◌, ◌+◌, ◌%◌, ◌<◌, ◌≤◌, ◌^◌, ◌++◌, [], ◌∷◌, length, Some, None, IsSome, IfSome, IfOk, OnOk, OnErr, slice_get};
+ghost use Rattle.std.specs.Prelude.{◌≡◌, ◌+◌, ◌%◌, ◌<◌, ◌≤◌, ◌^◌, ◌++◌, [], ◌∷◌, length, Some, None, true, IsSome, IfSome, IfNone, IfOk, OnOk, OnErr, slice_get};
 ghost use Rattle.std.specs.Option.{option_map, option_copied};
 ghost use Rattle.hx_members.specs.declared.name.Name.{Name};
+ghost use Rattle.hx_members.specs.declared.series.AllSeries.{AllSeries as SeriesValue};
 ghost use Rattle.hx_members.specs.Chains.{entered_at, IsChainAt};
 ghost use Rattle.hx_members.specs.Rows.{Row, AreDistinct, tokens_of, row_place, row_state, noted_rows, settled_rows};
-ghost use Rattle.hx_members.specs.Slots.{IsReserved, is_at, is_word_of};
+ghost use Rattle.hx_members.specs.Slots.{HavePlaces, IsLedToNone, IsSpot, is_at, is_word_of};
 
 use crate::name::{ChainFacts, Name, TokenState};
 use crate::packed::PackedName;
 use crate::seed::Seed;
+use crate::series::AllSeries;
 use crate::slots::{Slots, word_of};
 use hx_units::{Known, NoMemory, Token, reserve_ahead};
 use std::alloc::Global;
@@ -85,19 +87,29 @@ impl UsedToken {
     }
 }
 
-/// The place of the next row: its name, the slot that leads to it, and the word for that slot.
+/// How a row is found: by the cell of its name, or by a slot, into which its word is put.
+#[derive(Clone, Copy)]
+pub(crate) enum Spot {
+    InSeries,
+    InSlots { at: usize, word: u64 },
+}
+
+/// The place of the next row: its name, and how it is found.
 #[derive(Drop)]
 pub(crate) struct Reserved {
     name: PackedName,
-    at: usize,
-    word: u64,
+    spot: Spot,
 }
 
-/// The rows, and the name for which a place is reserved. A row is found by the slots, from the hash of its name.
+/// The rows, and the name for which a place is reserved. A row is found by the cell that its name has in the series, and where
+/// it has none, or another name's row has it, by the slots, from the hash of the name.
 #[derive(Drop)]
 pub(crate) struct Rows {
     rows: Vec<(PackedName, UsedToken)>,
+    series: AllSeries,
     slots: Slots,
+    // How many rows are found by the slots.
+    slotted: usize,
     place: Option<Reserved>,
     seed: Seed,
     alloc: Global,
@@ -105,18 +117,21 @@ pub(crate) struct Rows {
 
 impl Model for Rows {
     ghost use Rattle.hx_members.specs.Rows.{RowList};
-    ghost use Rattle.hx_members.specs.Slots.{IsIndex, IsReserved};
-    ghost use Rattle.std.specs.Prelude.{◌<◌, vec_len, vec_capacity, IfSome};
+    ghost use Rattle.hx_members.specs.Slots.{IsIndex, IsSpot};
+    ghost use Rattle.std.specs.Prelude.{◌<◌, ◌≤◌, vec_len, vec_capacity, IfSome};
     ghost use Rattle.std.specs.Option.{option_map};
 
     ghost Value = { RowList };
 
     ghost view = { λ r. record { rows = r.rows.items; place = option_map (λ p. p.name) r.place } };
 
-    ghost invariant = { λ r. IsIndex r.seed r.slots r.rows.items
-        × IfSome r.place (λ p. IsReserved r.seed r.slots (vec_len r.rows) p.name p.at p.word
-        × (vec_len r.rows < vec_capacity r.rows)) };
+    ghost invariant = { λ r. IsIndex r.seed r.series r.slots r.rows.items
+        × IfSome r.place (λ p. IsSpot r.seed r.series r.slots (vec_len r.rows) p.name p.spot
+        × (vec_len r.rows < vec_capacity r.rows)) × (r.slotted ≤ vec_len r.rows) };
 }
+
+/// The most rows that there may be, so that one more than a place fits into half a word.
+const MOST: usize = 0xffff_ffff;
 
 // Whether the row at a place has the name.
 #[inline(always)]
@@ -139,7 +154,7 @@ fn is_word_of(rows: &[(PackedName, UsedToken)], word: u64, hash: u32, name: Pack
         && is_at(rows, (word % 0x1_0000_0000) as usize - 1, name)
 }
 
-// Whether one more row would use more than two of three slots, and there may be more of them.
+// Whether one more row than so many would use more than two of three slots, and there may be more of them.
 #[inline(always)]
 fn is_full(rows: usize, slots: usize) -> bool
     requires rows { rows < 2 ^ 32 }
@@ -157,21 +172,51 @@ fn place_for(
     rows: usize,
 ) -> Result<Reserved, NoMemory>
     ensures name { IfOk result (λ place. place.name ≡ name) }
-    ensures reserved { IfOk result (λ place.
-        IsReserved seed.now slots.now rows name place.at place.word) }
+    ensures spot { (series : SeriesValue) → IfOk result (λ place.
+        IsSpot seed.now series slots.now rows name place.spot) }
 {
-    if rows >= 0xffff_ffff {
+    if rows >= MOST {
         return Err(NoMemory);
     }
     let hash = seed.hash(name);
     match slots.free(hash) {
         Some(at) => Ok(Reserved {
             name,
-            at,
-            word: word_of(hash, rows as u32),
+            spot: Spot::InSlots {
+                at,
+                word: word_of(hash, rows as u32),
+            },
         }),
         None => Err(NoMemory),
     }
+}
+
+// The place of a row of this name to which the slots lead.
+#[inline(never)]
+fn led_place(
+    rows: &[(PackedName, UsedToken)],
+    slots: &Slots,
+    seed: &Seed,
+    name: PackedName,
+) -> Option<usize>
+    requires few { length rows.now < 2 ^ 32 }
+    requires places { HavePlaces slots.now }
+    ensures some { IfSome result (λ place. is_at rows.now name place ≡ true) }
+    ensures none { IfNone result (IsLedToNone seed.now slots.now rows.now name) }
+{
+    let hash = seed.hash(name);
+    let mut at = slots.home(hash);
+    for steps in 0..slots.len() {
+        let word = slots.word(at);
+        if word == 0 {
+            return None;
+        }
+        if is_word_of(rows, word, hash, name) {
+            return Some((word % 0x1_0000_0000) as usize - 1);
+        }
+        at = slots.behind(at);
+    }
+    None
 }
 
 // Sets the key at a place.
@@ -204,7 +249,9 @@ impl Rows {
     {
         Rows {
             rows: Vec::new(alloc),
+            series: AllSeries::new(alloc),
             slots: Slots::new(alloc),
+            slotted: 0,
             place: None,
             seed,
             alloc,
@@ -226,9 +273,30 @@ impl Rows {
         ensures ok { OnOk result (self.new.place ≡ Some name) }
         ensures err { OnErr result (self.new.place ≡ self.old.place) }
     {
+        if !self.series.reserve(self.alloc, name)? {
+            return self.reserve_slot(name);
+        }
+        reserve_ahead(&mut self.rows, 1)?;
+        if self.rows.len() >= MOST {
+            return Err(NoMemory);
+        }
+        self.place = Some(Reserved {
+            name,
+            spot: Spot::InSeries,
+        });
+        Ok(())
+    }
+
+    // Makes room for one more row, of a name without a cell, and keeps a slot for it.
+    #[inline(never)]
+    fn reserve_slot(&mut self, name: PackedName) -> Result<(), NoMemory>
+        ensures rows { self.new.rows ≡ self.old.rows }
+        ensures ok { OnOk result (self.new.place ≡ Some name) }
+        ensures err { OnErr result (self.new.place ≡ self.old.place) }
+    {
         reserve_ahead(&mut self.rows, 1)?;
         let rows = self.rows.len();
-        if is_full(rows, self.slots.len()) {
+        if is_full(self.slotted, self.slots.len()) {
             let slots = self.slots.grown(self.alloc)?;
             let place = place_for(&slots, &self.seed, name, rows)?;
             self.slots = slots;
@@ -249,33 +317,36 @@ impl Rows {
         ensures place { self.new.place ≡ None }
     {
         if let Some(place) = self.place.take() {
-            self.slots.set(place.at, place.word);
-            self.rows.push_reserved((place.name, used));
+            let Reserved { name, spot } = place;
+            match spot {
+                Spot::InSeries => self.series.set(name, self.rows.len() as u32 + 1),
+                Spot::InSlots { at, word } => {
+                    self.slots.set(at, word);
+                    self.slotted += 1;
+                }
+            }
+            self.rows.push_reserved((name, used));
         }
     }
 
-    /// The place of a name.
+    /// The place of a name. Its cell is looked at first: where the row there has the name, and where there are no slots, nothing
+    /// is hashed.
     #[inline(always)]
     pub(crate) fn place(&self, name: PackedName) -> Option<usize>
         requires { AreDistinct (tokens_of self.now.rows) }
         ensures { result ≡ row_place name self.now.rows }
     {
-        let hash = self.seed.hash(name);
-        let mut at = self.slots.home(hash);
-        for steps in 0..self.slots.len() {
-            let word = self.slots.word(at);
-            if word == 0 {
-                return None;
-            }
-            if is_word_of(&self.rows, word, hash, name) {
-                return Some((word % 0x1_0000_0000) as usize - 1);
-            }
-            at = self.slots.behind(at);
+        let at = (self.series.place(name) as usize).wrapping_sub(1);
+        if is_at(&self.rows, at, name) {
+            return Some(at);
         }
-        None
+        if self.slots.len() == 0 {
+            return None;
+        }
+        led_place(&self.rows, &self.slots, &self.seed, name)
     }
 
-    /// The place of a name. The last row is looked at first: where it has the name nothing is hashed.
+    /// The place of a name. The last row is looked at first.
     #[inline(always)]
     pub(crate) fn last_or_place(&self, name: PackedName) -> Option<usize>
         requires { AreDistinct (tokens_of self.now.rows) }
@@ -349,32 +420,32 @@ impl Rows {
         note_at(&mut self.rows, chain, shares, displayed);
     }
 
-    /// Looks at the slots at which the walks of hashes begin, and at nothing else in between, so that they are waited for
-    /// together. Nothing is promised of the answer.
+    /// Looks at the cells to which hints lead, and at nothing else in between, so that they are waited for together. Nothing is
+    /// promised of the answer.
     #[inline(always)]
-    pub(crate) fn sum_of_first_words(&self, hashes: &[u32]) -> u64 {
+    pub(crate) fn sum_of_cells(&self, hints: &[u64]) -> u64 {
         let mut sum: u64 = 0;
-        for hash in hashes {
-            sum = sum.wrapping_add(self.slots.first_word(*hash));
+        for hint in hints {
+            sum = sum.wrapping_add(u64::from(self.series.guess(*hint)));
         }
         sum
     }
 
-    // For each hash the place that it probably leads to, and one more: 0 where there is none.
+    // For each hint what is in the cell to which it leads: one more than a place, or 0.
     #[inline(always)]
-    fn likely_places(&self, hashes: &[u32]) -> [usize; 16] {
+    fn likely_places(&self, hints: &[u64]) -> [usize; 16] {
         let mut places = [0; 16];
-        for (place, hash) in places.iter_mut().zip(hashes) {
-            *place = self.slots.near(*hash);
+        for (place, hint) in places.iter_mut().zip(hints) {
+            *place = self.series.guess(*hint) as usize;
         }
         places
     }
 
-    /// For each of up to sixteen hashes the key of the row to which it probably leads, and that of the first row where
-    /// there is none. Nothing is promised: it brings slots and rows near before their turn.
+    /// For each of up to sixteen hints the key of the row to which it probably leads, and that of the first row where there is
+    /// none. Nothing is promised: it brings cells and rows near before their turn.
     #[inline(always)]
-    pub(crate) fn likely_keys(&self, hashes: &[u32]) -> [usize; 16] {
-        let places = self.likely_places(hashes);
+    pub(crate) fn likely_keys(&self, hints: &[u64]) -> [usize; 16] {
+        let places = self.likely_places(hints);
         let mut keys = [usize::MAX; 16];
         for (key, place) in keys.iter_mut().zip(&places) {
             *key = self.key_before(*place);

@@ -151,31 +151,4 @@ impl Slots {
         }
         Ok(slots)
     }
-
-    /// The word of the slot at which the walk of a hash begins. Nothing is promised: asked for many hashes one after the
-    /// other, it brings their slots near together.
-    #[inline(always)]
-    pub(crate) fn first_word(&self, hash: u32) -> u64 {
-        match self.words.get(self.home(hash)) {
-            Some(word) => *word,
-            None => 0,
-        }
-    }
-
-    /// One more than the place that a word of this hash has, at its home or in the slot behind it; 0 where neither has one,
-    /// or where there is no slot behind it. Nothing is promised: it brings the slots near before their turn. Which slot it
-    /// is, is chosen without a branch.
-    #[inline(always)]
-    pub(crate) fn near(&self, hash: u32) -> usize {
-        match self.words.get(self.home(hash)..) {
-            Some([a, b, ..]) => {
-                let hash = u64::from(hash);
-                let mut found = 0;
-                found = if b / 0x1_0000_0000 == hash { *b } else { found };
-                found = if a / 0x1_0000_0000 == hash { *a } else { found };
-                (found % 0x1_0000_0000) as usize
-            }
-            _ => 0,
-        }
-    }
 }

@@ -161,19 +161,19 @@ impl Tokens {
         self.kept.note(chain as usize, shares, displayed);
     }
 
-    /// Looks where what is kept of tokens of these hashes is looked for first, as `name_hash` tells them. Nothing is promised
-    /// of the answer: asked for the tokens of coming orders, it brings that memory near, for all of them at once.
+    /// Looks where what is kept of tokens of these hints is looked for first, as `name_hint` tells them. Nothing is promised of
+    /// the answer: asked for the tokens of coming orders, it brings that memory near, for all of them at once.
     #[inline(always)]
-    pub fn glance(&self, hashes: &[u32]) -> u64 {
-        self.kept.sum_of_first_words(hashes)
+    pub fn glance(&self, hints: &[u64]) -> u64 {
+        self.kept.sum_of_cells(hints)
     }
 
-    /// For each of up to sixteen hashes, as `name_hash` tells them, the key of the used token that probably has it, and
-    /// some key where there is none, or `usize::MAX` where no token is used. Nothing is promised of the keys: asked for the
-    /// tokens of coming orders, it brings what is kept of them near before their turn.
+    /// For each of up to sixteen hints, as `name_hint` tells them, the key of the used token that probably has it, and some key
+    /// where there is none, or `usize::MAX` where no token is used. Nothing is promised of the keys: asked for the tokens of
+    /// coming orders, it brings what is kept of them near before their turn.
     #[inline(always)]
-    pub fn likely_keys(&self, hashes: &[u32]) -> [usize; 16] {
-        self.kept.likely_keys(hashes)
+    pub fn likely_keys(&self, hints: &[u64]) -> [usize; 16] {
+        self.kept.likely_keys(hints)
     }
 }
 
@@ -186,8 +186,10 @@ pub fn is_same_name(member: MemberNo, token: &Token, other: MemberNo, other_toke
     PackedName::of(member, token).is(PackedName::of(other, other_token))
 }
 
-/// The hash of a member's token under the fixed seed, for `likely_keys`. Nothing is promised of it.
+/// Where a member's token is probably found, for `glance` and `likely_keys`: the member's number in the upper half, and in the
+/// lower that of the token, as its last letters spell it. Nothing is promised of it.
 #[inline(always)]
-pub fn name_hash(member: MemberNo, token: &Token) -> u32 {
-    PackedName::of(member, token).fixed_hash()
+pub fn name_hint(member: MemberNo, token: &Token) -> u64 {
+    let number = PackedName::of(member, token).number();
+    u64::from(member.get()) * 0x1_0000_0000 + number % 0x1_0000_0000
 }

@@ -10,4 +10,4 @@ invariant_of-self c =
     let rows : List Row = c.settle_at.new.rows in
     let new : take i.rows.len (rows ++ drop (length rows) i.rows.items) ≡ rows = took i.rows.len rows i.rows.items (search rules) in
     let is = new ∙ c.settle_at.ensures ∙ ap (λ l. settled_rows c.args.place c.args.key l) c.deref_mut.ensures.value in
-    (subst (λ l. IsIndex i.seed i.slots l) (sym is) (IsIndex-settled i.seed i.slots i.rows.items c.args.place c.args.key c.self.invariant.0), c.self.invariant.1)
+    (subst (λ l. IsIndex i.seed i.series i.slots l) (sym is) (IsIndex-settled i.seed i.series i.slots i.rows.items c.args.place c.args.key c.self.invariant.0), c.self.invariant.1, c.self.invariant.2)
