@@ -1,6 +1,7 @@
-//! Thousands of used tokens of several members, under either seed: each is found at its place, and no other.
+//! Thousands of used tokens of several members, those that count up and others, under either seed: each is found at its
+//! place, and no other.
 
-use hx_members::{Seed, Tokens, name_hash};
+use hx_members::{Seed, Tokens, name_hint};
 use hx_units::{MemberNo, Token};
 use std::hash::RandomState;
 use std::process::Abort;
@@ -10,13 +11,28 @@ const MEMBERS: u16 = 5;
 
 const COUNT: u32 = 2_000;
 
-// The token that is a number in fourteen digits.
-fn numbered(number: u32) -> Token {
-    let mut letters = *b"00000000000000";
+// Where a token has its number: at its end, so that tokens count up, or in front, so that their last letters are all alike.
+#[derive(Clone, Copy)]
+enum Form {
+    AtTheEnd,
+    InFront,
+}
+
+// Writes a number in digits, with 0 before it.
+fn write_digits(letters: &mut [u8], number: u32) {
     let mut left = number;
     for letter in letters.iter_mut().rev() {
         *letter = b'0' + (left % 10) as u8;
         left /= 10;
+    }
+}
+
+// The token of fourteen digits that has a number at its end, or in its first six.
+fn numbered(form: Form, number: u32) -> Token {
+    let mut letters = *b"00000000000000";
+    match form {
+        Form::AtTheEnd => write_digits(&mut letters, number),
+        Form::InFront => write_digits(&mut letters[..6], number),
     }
     Token(letters)
 }
@@ -37,65 +53,85 @@ fn enter(tokens: &mut Tokens, member: MemberNo, token: &Token) -> Result<(), Fai
     Ok(())
 }
 
-fn enter_all(tokens: &mut Tokens, member: MemberNo) -> Result<(), Fail> {
+fn enter_all(tokens: &mut Tokens, member: MemberNo, form: Form) -> Result<(), Fail> {
     for number in 0..COUNT {
-        enter(tokens, member, &numbered(number))?;
+        enter(tokens, member, &numbered(form, number))?;
     }
     Ok(())
 }
 
 // The tokens of all members, of one member after the other.
-fn fill(tokens: &mut Tokens) -> Result<(), Fail> {
+fn fill(tokens: &mut Tokens, form: Form) -> Result<(), Fail> {
     for number in 1..=MEMBERS {
-        enter_all(tokens, member_of(number)?)?;
+        enter_all(tokens, member_of(number)?, form)?;
     }
     Ok(())
 }
 
 // The tokens of a member stand from a place on, and tokens of other numbers are not used.
-fn expect_tokens<R: Abort>(rt: &R, tokens: &Tokens, number: u16, first: u64) -> Result<(), Fail> {
+fn expect_tokens<R: Abort>(
+    rt: &R,
+    tokens: &Tokens,
+    form: Form,
+    number: u16,
+    first: u64,
+) -> Result<(), Fail> {
     let member = member_of(number)?;
     for number in 0..COUNT {
-        let told = tokens.state(member, &numbered(number)).ok_or("unused")?;
+        let token = numbered(form, number);
+        let told = tokens.state(member, &token).ok_or("unused")?;
         let place = first.wrapping_add(u64::from(number));
         assert_eq!(rt; told.chain, place);
         assert_eq!(rt; told.key, Some(place as usize));
-        assert!(rt; tokens.state(member, &numbered(number + COUNT)).is_none());
+        let other = numbered(form, number + COUNT);
+        assert!(rt; tokens.state(member, &other).is_none());
     }
     Ok(())
 }
 
-fn expect_all<R: Abort>(rt: &R, tokens: &Tokens) -> Result<(), Fail> {
+fn expect_all<R: Abort>(rt: &R, tokens: &Tokens, form: Form) -> Result<(), Fail> {
     for number in 1..=MEMBERS {
-        expect_tokens(rt, tokens, number, u64::from(number - 1) * u64::from(COUNT))?;
+        let first = u64::from(number - 1) * u64::from(COUNT);
+        expect_tokens(rt, tokens, form, number, first)?;
     }
     let stranger = member_of(MEMBERS + 1)?;
-    assert!(rt; tokens.state(stranger, &numbered(1)).is_none());
+    let token = numbered(form, 1);
+    assert!(rt; tokens.state(stranger, &token).is_none());
     Ok(())
 }
 
-#[test]
-fn tokens_are_found_under_the_fixed_seed(rt: HostRuntime) -> Result<(), Fail> {
-    let mut tokens = Tokens::new(rt.alloc());
-    fill(&mut tokens)?;
-    expect_all(&rt, &tokens)
+// The tokens of all members are used, and found.
+fn expect_filled<R: Abort>(rt: &R, tokens: &mut Tokens, form: Form) -> Result<(), Fail> {
+    fill(tokens, form)?;
+    expect_all(rt, tokens, form)
 }
 
 #[test]
-fn tokens_are_found_under_a_drawn_seed(rt: HostRuntime) -> Result<(), Fail> {
+fn tokens_that_count_up_are_found(rt: HostRuntime) -> Result<(), Fail> {
+    let mut tokens = Tokens::new(rt.alloc());
+    expect_filled(&rt, &mut tokens, Form::AtTheEnd)
+}
+
+#[test]
+fn other_tokens_are_found_under_the_fixed_seed(rt: HostRuntime) -> Result<(), Fail> {
+    let mut tokens = Tokens::new(rt.alloc());
+    expect_filled(&rt, &mut tokens, Form::InFront)
+}
+
+#[test]
+fn other_tokens_are_found_under_a_drawn_seed(rt: HostRuntime) -> Result<(), Fail> {
     let seed = Seed::Drawn(RandomState::new(&rt)?);
     let mut tokens = Tokens::seeded(rt.alloc(), seed);
-    fill(&mut tokens)?;
-    expect_all(&rt, &tokens)
+    expect_filled(&rt, &mut tokens, Form::InFront)
 }
 
 // How many tokens of a member lead to their keys without a walk.
 fn count_likely(tokens: &Tokens, member: MemberNo) -> Result<u32, Fail> {
     let mut found: u32 = 0;
     for number in 0..COUNT {
-        let token = numbered(number);
+        let token = numbered(Form::AtTheEnd, number);
         let told = tokens.state(member, &token).ok_or("unused")?;
-        let [key, ..] = tokens.likely_keys(&[name_hash(member, &token)]);
+        let [key, ..] = tokens.likely_keys(&[name_hint(member, &token)]);
         if told.key == Some(key) {
             found = found.wrapping_add(1);
         }
@@ -106,7 +142,7 @@ fn count_likely(tokens: &Tokens, member: MemberNo) -> Result<u32, Fail> {
 #[test]
 fn most_keys_are_likely_ones(rt: HostRuntime) -> Result<(), Fail> {
     let mut tokens = Tokens::new(rt.alloc());
-    fill(&mut tokens)?;
+    fill(&mut tokens, Form::AtTheEnd)?;
     let found = count_likely(&tokens, member_of(1)?)?;
     assert!(rt; found > COUNT / 2);
     let none = Tokens::new(rt.alloc());
