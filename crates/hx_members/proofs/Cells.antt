@@ -2,15 +2,21 @@
 use Rattle.std.proofs.Common.{◌≡◌, ◌≢◌, ℕ, ◌<◌, ◌++◌, ◌∷◌, [], List, zero, suc, Bool, true, length, Option, Some, None, Result, Ok, Err, slice_get, slice_index, slice_set, get_or, refl, ap, sym, ◌∙◌, subst, inl, inr, arith}
 use Rattle.std.specs.Option.{option_map_or, IfSome, IfNone}
 use Rattle.std.specs.Result.{IfOk}
+use Rattle.std.specs.Int.{w64, from_le_bytes}
 use Rattle.std.proofs.lemmas.Bool.{cases_eq}
 use Rattle.std.proofs.lemmas.Option.{slice_get_within, slice_get_read}
 use Rattle.std.specs.Vec.{with_item}
 use Rattle.hx_members.specs.declared.name.Name.{Name}
 use Rattle.hx_members.specs.declared.series.Series.{Series}
 use Rattle.hx_members.specs.declared.series.AllSeries.{AllSeries}
-use Rattle.hx_members.specs.Series.{number_of, cell_of, place_at, place_in, IsCell, HasCell}
+use Rattle.hx_members.specs.Series.{number_of_word, number_of, cell_of, place_at, place_in, IsCell, HasCell}
 use Rattle.hx_members.proofs.ChainLaws.{slice_get-pushed}
 use Rattle.hx_members.proofs.TokenLaws.{some_same}
+
+-- the number of the letters 20261126
+number_of_word-example : number_of_word (from_le_bytes w64 (50 ∷ 48 ∷ 50 ∷ 54 ∷ 49 ∷ 49 ∷ 50 ∷ 54 ∷ [])) ≡ 20261126
+unfolding number_of_word
+number_of_word-example = refl
 
 -- what is in a cell of a member's series
 

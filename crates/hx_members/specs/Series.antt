@@ -1,5 +1,5 @@
--- The series of members: lists of places in the order of names' numbers. No answer depends on which number a name has: what
--- it changes is which names are found without a hash.
+-- The series of members: lists of places in the order of names' numbers. No answer depends on which number a name has:
+-- what it changes is which rows are found without a hash.
 use Rattle.std.specs.Prelude.{◌≡◌, ℕ, ◌+◌, ◌-◌, ◌*◌, ◌/◌, ◌%◌, ◌^◌, ◌<◌, Some, length, slice_get, slice_index, bit_and}
 use Rattle.std.specs.Option.{option_map_or}
 use Rattle.hx_members.specs.declared.name.Name.{Name}
@@ -7,27 +7,27 @@ use Rattle.hx_members.specs.declared.series.Series.{Series}
 use Rattle.hx_members.specs.declared.series.AllSeries.{AllSeries}
 use Rattle.hx_members.specs.Packed.{high_of}
 
--- the lower half of each byte of a word, of each two bytes the lower, and of each four the lower two
-abbrev pub halves_of_bytes : ℕ
-halves_of_bytes = 0x0f0f0f0f0f0f0f0f
+-- where digits stand in a word of letters, and then numbers of two digits, and of four
+abbrev pub places_of_digits : ℕ
+places_of_digits = 0x0f0f0f0f0f0f0f0f
 
-abbrev pub bytes_of_pairs : ℕ
-bytes_of_pairs = 0x00ff00ff00ff00ff
+abbrev pub places_of_twos : ℕ
+places_of_twos = 0x00ff00ff00ff00ff
 
-abbrev pub pairs_of_fours : ℕ
-pairs_of_fours = 0x0000ffff0000ffff
+abbrev pub places_of_fours : ℕ
+places_of_fours = 0x0000ffff0000ffff
 
--- a word whose parts are each so many times what they were, and what the parts above them were
-abbrev pub with_upper : (word times width : ℕ) → ℕ
-with_upper word times width = (word * times % 2 ^ 64 + word / 2 ^ width) % 2 ^ 64
+-- so many times each number in a word, and the number that stands above it
+abbrev pub joined : (times width word : ℕ) → ℕ
+joined times width word = (word * times % 2 ^ 64 + word / 2 ^ width) % 2 ^ 64
 
 -- the number of eight letters in a word, the first in its lowest byte: each letter's lower four bits are a digit
 unfoldable pub number_of_word : ℕ → ℕ
 number_of_word word =
-    let digits = bit_and word halves_of_bytes in
-    let twos = bit_and (with_upper digits 10 8) bytes_of_pairs in
-    let fours = bit_and (with_upper twos 100 16) pairs_of_fours in
-    with_upper fours 10000 32 % 2 ^ 32
+    let digits = bit_and word places_of_digits in
+    let twos = bit_and (joined 10 8 digits) places_of_twos in
+    let fours = bit_and (joined 100 16 twos) places_of_fours in
+    joined 10000 32 fours % 2 ^ 32
 
 -- the number of a name: that of its token's last eight letters
 unfoldable pub number_of : Name → ℕ

@@ -73,7 +73,7 @@ AreFrom old new =
 abbrev pub row_word : Seed → Row → (place : ℕ) → ℕ
 row_word seed row place = word_of (hash_of seed row.0) place
 
--- each row is in the cell of its name or led to by the slots, and these hold nothing else; a place fits into half a word
+-- each row is in the cell of its name, or the slots lead to it; they hold nothing else; a place fits into half a word
 pub record IsIndex (seed : Seed) (series : AllSeries) (words : List ℕ) (rows : List Row)
     : Type 0 where
   pub few : length rows < 2 ^ 32

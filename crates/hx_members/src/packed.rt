@@ -40,6 +40,13 @@ const LOW_ADDED: u64 = 0x9e37_79b9_7f4a_7c15;
 
 const HIGH_ADDED: u64 = 0xd1b5_4a32_d192_ed03;
 
+// Where digits stand in a word of letters, and then numbers of two digits, and of four.
+const DIGITS: u64 = 0x0f0f_0f0f_0f0f_0f0f;
+
+const TWOS: u64 = 0x00ff_00ff_00ff_00ff;
+
+const FOURS: u64 = 0x0000_ffff_0000_ffff;
+
 impl PackedName {
     ghost use Rattle.hx_members.specs.Seeds.{fixed_hash};
     ghost use Rattle.hx_members.specs.Series.{number_of};
@@ -82,15 +89,15 @@ impl PackedName {
         (self.low / 0x1_0000 / 0x1_0000_0000) as usize
     }
 
-    /// The number that its token's last eight letters spell, where they are digits. The lower four bits of any letter are taken
-    /// for a digit: all eight of them together, then their pairs, and then the pairs of these.
+    /// The number that its token's last eight letters spell, where they are digits. Of any letter the lower four bits are
+    /// taken for a digit. Digits become numbers of two digits each, these numbers of four, and these the number.
     #[inline(always)]
     pub(crate) fn number(self) -> u64
         ensures { result ≡ number_of self }
     {
-        let digits = self.high & 0x0f0f_0f0f_0f0f_0f0f;
-        let twos = digits.wrapping_mul(10).wrapping_add(digits / 0x100) & 0x00ff_00ff_00ff_00ff;
-        let fours = twos.wrapping_mul(100).wrapping_add(twos / 0x1_0000) & 0x0000_ffff_0000_ffff;
+        let digits = self.high & DIGITS;
+        let twos = digits.wrapping_mul(10).wrapping_add(digits / 0x100) & TWOS;
+        let fours = twos.wrapping_mul(100).wrapping_add(twos / 0x1_0000) & FOURS;
         fours
             .wrapping_mul(10_000)
             .wrapping_add(fours / 0x1_0000_0000)

@@ -87,7 +87,10 @@ impl UsedToken {
     }
 }
 
-/// How a row is found: by the cell of its name, or by a slot, into which its word is put.
+/// The most rows that there may be, so that one more than a place fits into half a word.
+const MOST: usize = 0xffff_ffff;
+
+/// How the next row will be found: by the cell of its name, or by a slot, with the word for that slot.
 #[derive(Clone, Copy)]
 pub(crate) enum Spot {
     InSeries,
@@ -101,8 +104,9 @@ pub(crate) struct Reserved {
     spot: Spot,
 }
 
-/// The rows, and the name for which a place is reserved. A row is found by the cell that its name has in the series, and where
-/// it has none, or another name's row has it, by the slots, from the hash of the name.
+/// The rows, and the name for which a place is reserved. A row is found by the cell of its name in the series, from the
+/// name's number. Where there is no such cell, or the row of another name is in it, it is found by the slots, from the hash
+/// of the name.
 #[derive(Drop)]
 pub(crate) struct Rows {
     rows: Vec<(PackedName, UsedToken)>,
@@ -130,9 +134,6 @@ impl Model for Rows {
         × (vec_len r.rows < vec_capacity r.rows)) × (r.slotted ≤ vec_len r.rows) };
 }
 
-/// The most rows that there may be, so that one more than a place fits into half a word.
-const MOST: usize = 0xffff_ffff;
-
 // Whether the row at a place has the name.
 #[inline(always)]
 fn is_at(rows: &[(PackedName, UsedToken)], place: usize, name: PackedName) -> bool
@@ -154,13 +155,13 @@ fn is_word_of(rows: &[(PackedName, UsedToken)], word: u64, hash: u32, name: Pack
         && is_at(rows, (word % 0x1_0000_0000) as usize - 1, name)
 }
 
-// Whether one more row than so many would use more than two of three slots, and there may be more of them.
+// Whether one row more that is found by the slots would use more than two of three, and there may be more of them.
 #[inline(always)]
-fn is_full(rows: usize, slots: usize) -> bool
-    requires rows { rows < 2 ^ 32 }
+fn is_full(slotted: usize, slots: usize) -> bool
+    requires slotted { slotted < 2 ^ 32 }
     requires slots { slots ≤ 2 ^ 32 }
 {
-    slots < Slots::MOST && (rows + 1) * 3 > slots * 2
+    slots < Slots::MOST && (slotted + 1) * 3 > slots * 2
 }
 
 // The place of a row of this name behind so many rows, where its walk comes to a free slot and the place fits.
@@ -172,6 +173,8 @@ fn place_for(
     rows: usize,
 ) -> Result<Reserved, NoMemory>
     ensures name { IfOk result (λ place. place.name ≡ name) }
+
+    // A slot does whatever the series are.
     ensures spot { (series : SeriesValue) → IfOk result (λ place.
         IsSpot seed.now series slots.now rows name place.spot) }
 {
@@ -287,7 +290,7 @@ impl Rows {
         Ok(())
     }
 
-    // Makes room for one more row, of a name without a cell, and keeps a slot for it.
+    // Makes room for one more row, of a name without a free cell: it will be found by a slot.
     #[inline(never)]
     fn reserve_slot(&mut self, name: PackedName) -> Result<(), NoMemory>
         ensures rows { self.new.rows ≡ self.old.rows }
@@ -329,8 +332,8 @@ impl Rows {
         }
     }
 
-    /// The place of a name. Its cell is looked at first: where the row there has the name, and where there are no slots, nothing
-    /// is hashed.
+    /// The place of a name. Its cell is looked at first: where that leads to the name's row, and where there are no slots,
+    /// nothing is hashed. A cell that leads to the row of another name is passed over.
     #[inline(always)]
     pub(crate) fn place(&self, name: PackedName) -> Option<usize>
         requires { AreDistinct (tokens_of self.now.rows) }
@@ -420,8 +423,8 @@ impl Rows {
         note_at(&mut self.rows, chain, shares, displayed);
     }
 
-    /// Looks at the cells to which hints lead, and at nothing else in between, so that they are waited for together. Nothing is
-    /// promised of the answer.
+    /// Looks at the cells to which hints lead, and at nothing else in between, so that they are waited for together. Nothing
+    /// is promised of the answer.
     #[inline(always)]
     pub(crate) fn sum_of_cells(&self, hints: &[u64]) -> u64 {
         let mut sum: u64 = 0;
@@ -441,8 +444,8 @@ impl Rows {
         places
     }
 
-    /// For each of up to sixteen hints the key of the row to which it probably leads, and that of the first row where there is
-    /// none. Nothing is promised: it brings cells and rows near before their turn.
+    /// For each of up to sixteen hints the key of the row to which it probably leads, and that of the first row where there
+    /// is none. Nothing is promised: it brings cells and rows near before their turn.
     #[inline(always)]
     pub(crate) fn likely_keys(&self, hints: &[u64]) -> [usize; 16] {
         let places = self.likely_places(hints);

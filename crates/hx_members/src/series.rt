@@ -10,13 +10,14 @@ use std::alloc::Global;
 /// So many cells a series gets at least where it grows.
 const CELLS: usize = 64;
 
-/// So far ahead of its first number a series reaches however little it holds, and so many times as far as it holds places.
+/// So far from its first number a series reaches, however few places it holds.
 const AHEAD: usize = 4_096;
 
+/// And it reaches so many times as far as it holds places.
 const AHEAD_OF_USED: usize = 8;
 
-/// The series of a member: from its first number on, a cell for each number, with one more than the place of a row whose name
-/// has this number, or 0.
+/// The series of a member: from its first number on, a cell for each number, with one more than the place of a row whose
+/// name has this number, or 0.
 #[derive(Drop)]
 pub(crate) struct Series {
     from: u64,
@@ -25,16 +26,16 @@ pub(crate) struct Series {
     places: Vec<u32>,
 }
 
-/// The series of all members, by their numbers. Members count their orders, so their tokens have numbers that go up by small
-/// steps: coming tokens lie side by side. Any name has a number, and several may have the same: whose row it is that a cell
-/// leads to is for the caller to see.
+/// The series of all members, by their numbers. Members count their orders, so the numbers of their tokens go up by small
+/// steps, and coming tokens lie side by side. Any name has a number, and several names may have the same one: whether a
+/// cell leads to the row of a name is for the caller to see.
 #[derive(Drop)]
 pub(crate) struct AllSeries {
     members: Vec<Series>,
 }
 
 impl Series {
-    // The cell of a number: there is none so far on where the number is before the first.
+    // The cell of a number. It is beyond all cells where the number is before the first.
     #[inline(always)]
     fn cell(&self, number: u64) -> usize
         ensures { result ≡ cell_of self.now.from number }
@@ -53,8 +54,8 @@ impl Series {
         Some(*place)
     }
 
-    // Makes cells up to that of a number, and some more, and says whether there are: not where the number is before the first,
-    // or too far ahead for what the series holds.
+    // Makes cells up to that of a number, and some more, and says whether it did. It does not where the number is before the
+    // first, or too far ahead. The first number of a series is the one for which it gets cells first.
     fn grow(&mut self, number: u64) -> Result<bool, NoMemory>
         ensures places { (n : ℕ) → place_at self.new n ≡ place_at self.old n }
         ensures cells { (n : ℕ) → IsCell self.old n → IsCell self.new n }
@@ -104,8 +105,9 @@ impl AllSeries {
         self.content(name).unwrap_or(0)
     }
 
-    /// Makes a cell for a name, and says whether it has one that is free. It has none where another name's row has taken it,
-    /// and where its number is before the first of the member's series, or too far ahead.
+    /// Makes a cell for a name, and says whether the name has one that is free. It does not where the row of another name is
+    /// in its cell, and where its number is before the first of the member's series or too far ahead. After `NoMemory` each
+    /// cell has what it had.
     #[inline(always)]
     pub(crate) fn reserve(&mut self, alloc: Global, name: PackedName) -> Result<bool, NoMemory>
         ensures places { (q : Name) → place_in self.new q ≡ place_in self.old q }
@@ -164,7 +166,7 @@ impl AllSeries {
         series.used = series.used.wrapping_add(1);
     }
 
-    /// What is in the cell to which a hint leads, as `name_hint` tells it. Nothing is promised of it.
+    /// What is in the cell to which a hint leads, as `name_hint` tells it, or 0. Nothing is promised of it.
     #[inline(always)]
     pub(crate) fn guess(&self, hint: u64) -> u32 {
         match self.members.get((hint / 0x1_0000_0000) as usize) {

@@ -161,16 +161,16 @@ impl Tokens {
         self.kept.note(chain as usize, shares, displayed);
     }
 
-    /// Looks where what is kept of tokens of these hints is looked for first, as `name_hint` tells them. Nothing is promised of
-    /// the answer: asked for the tokens of coming orders, it brings that memory near, for all of them at once.
+    /// Looks where what is kept of tokens of these hints is looked for first, as `name_hint` tells them. Nothing is promised
+    /// of the answer: asked for the tokens of coming orders, it brings that memory near, for all of them at once.
     #[inline(always)]
     pub fn glance(&self, hints: &[u64]) -> u64 {
         self.kept.sum_of_cells(hints)
     }
 
-    /// For each of up to sixteen hints, as `name_hint` tells them, the key of the used token that probably has it, and some key
-    /// where there is none, or `usize::MAX` where no token is used. Nothing is promised of the keys: asked for the tokens of
-    /// coming orders, it brings what is kept of them near before their turn.
+    /// For each of up to sixteen hints, as `name_hint` tells them, the key of the used token that probably has it, and some
+    /// key where there is none, or `usize::MAX` where no token is used. Nothing is promised of the keys: asked for the tokens
+    /// of coming orders, it brings what is kept of them near before their turn.
     #[inline(always)]
     pub fn likely_keys(&self, hints: &[u64]) -> [usize; 16] {
         self.kept.likely_keys(hints)
@@ -186,8 +186,8 @@ pub fn is_same_name(member: MemberNo, token: &Token, other: MemberNo, other_toke
     PackedName::of(member, token).is(PackedName::of(other, other_token))
 }
 
-/// Where a member's token is probably found, for `glance` and `likely_keys`: the member's number in the upper half, and in the
-/// lower that of the token, as its last letters spell it. Nothing is promised of it.
+/// Where a member's token is probably found, for `glance` and `likely_keys`: the member's number in the upper half, and in
+/// the lower the number that the token's last letters spell. Nothing is promised of it.
 #[inline(always)]
 pub fn name_hint(member: MemberNo, token: &Token) -> u64 {
     let number = PackedName::of(member, token).number();
