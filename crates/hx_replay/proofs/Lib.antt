@@ -29,3 +29,7 @@ pub mod Spelled
 pub mod Marked
 pub mod Turning
 pub mod ReadingOn
+pub mod TurnLists
+pub mod TurnsOfPlayer
+pub mod Sending
+pub mod TurnEnds

@@ -13,3 +13,4 @@ pub mod Histories
 pub mod Ahead
 pub mod MarkWords
 pub mod Marks
+pub mod Turns

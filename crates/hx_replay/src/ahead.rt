@@ -43,26 +43,8 @@ impl Model for Ahead {
     ghost invariant = { λ a. a.count ≤ length a.events.items };
 }
 
-// So many lines are read ahead at least, where a text has them.
-const LEAST: usize = 512;
-
-// So many at most.
-const MOST: usize = 2048;
-
-// A text has a line, more or less, for each so many of its bytes.
-const LINE: usize = 96;
-
-// How many lines are read ahead while so many are played. Before the first turn of a text, and behind its last one, one
-// thread waits for the other: so turns are small there. Where the last read gave as much as there was room for, more is read
-// on behind the last lines.
-fn turn_lines(played: usize, pending: &Pending) -> usize {
-    let most = if pending.is_full() {
-        MOST
-    } else {
-        pending.text().len() / (2 * LINE)
-    };
-    played.saturating_mul(2).min(most).max(LEAST).min(MOST)
-}
+// So many lines are read at most for a turn.
+const LINES: usize = 256;
 
 impl Ahead {
     /// None yet.
@@ -154,12 +136,11 @@ impl Ahead {
         Ok(())
     }
 
-    /// Reads the next lines of what is pending in place of those before, while so many others are played. Where they are
-    /// fewer than wanted, it has more bytes read ahead, if such a read is left, and answers how many of them are left then.
+    /// Reads the next lines of what is pending in place of those before. Where they are fewer than wanted, it has more bytes
+    /// read ahead, if such a read is left, and answers how many of them are left then.
     pub(crate) fn read<R: Read>(
         &mut self,
         alloc: Global,
-        played: usize,
         pending: &mut Pending,
         reader: &mut R,
         left: u64,
@@ -170,13 +151,12 @@ impl Ahead {
             × ReadsOn pending.old text (R.remaining reader.old) (R.remaining reader.new) left 0) }
     {
         self.count = 0;
-        let many = turn_lines(played, pending);
-        self.take_pending(alloc, many, pending)?;
-        if left == 0 || self.count == many {
+        self.take_pending(alloc, LINES, pending)?;
+        if left == 0 || self.count == LINES {
             return Ok(left);
         }
         pending.read_ahead(reader);
-        self.take_pending(alloc, many, pending)?;
+        self.take_pending(alloc, LINES, pending)?;
         Ok(left - 1)
     }
 }

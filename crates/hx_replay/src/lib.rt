@@ -12,14 +12,17 @@ mod messages;
 mod operator;
 mod pending;
 mod pieces;
+mod player;
 mod replaying;
 mod replaying_ahead;
 mod room;
 mod run;
+mod scribe;
 mod spelling;
 mod striking;
 mod taking;
 mod telling;
+mod turn;
 mod turns;
 mod vectors;
 

@@ -63,11 +63,6 @@ impl Pending {
         &self.bytes[self.start..self.start + self.count]
     }
 
-    /// Whether the last read gave as much as there was room for.
-    pub(crate) fn is_full(&self) -> bool {
-        self.full
-    }
-
     // Moves them to the front, reads a piece behind them, and answers how many bytes that gave.
     fn read_piece<R: Read>(&mut self, reader: &mut R) -> io::Result<usize>
         requires { length self.old ≤ longest_line }

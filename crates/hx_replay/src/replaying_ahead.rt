@@ -1,5 +1,5 @@
 //! A tape from its lines to its output lines, where another thread reads ahead, and writes what was told before.
-ghost use Rattle.std.specs.Prelude.{◌<◌, ◌^◌, ◌+◌, IfOk, IfErr, OnOk, length};
+ghost use Rattle.std.specs.Prelude.{◌≤◌, ◌<◌, ◌^◌, ◌+◌, IfOk, IfErr, OnOk, length};
 ghost use Rattle.hx_replay.specs.Run.{IsFew};
 ghost use Rattle.hx_replay.specs.Ahead.{PlaysOn, StopsOn};
 ghost use Rattle.hx_replay.specs.Whole.{ReplaysAll, StopsAt};
@@ -35,8 +35,9 @@ fn play_many<B: Book + Drop, R: Read + Send, W: Write + Send, T: Threads>(
     reader: &mut R,
     writer: &mut W,
 ) -> Result<(), TapeError>
-    requires events { run.old.events + length pending.old + 2 ^ 44 < 2 ^ 48 }
+    requires events { run.old.events + 2 ^ 46 < 2 ^ 48 }
     requires few { IsFew run.old }
+    requires fits { length pending.old ≤ 16777216 }
     ensures ok { OnOk result (PlaysOn run.old run.new pending.old
         (R.remaining reader.old) (R.remaining reader.new)
         (W.contents writer.old) (W.contents writer.new) pending.new) }

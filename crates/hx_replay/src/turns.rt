@@ -1,222 +1,70 @@
-//! A tape that is played in turns: while the lines that were read are played, another thread writes what was told before,
-//! and reads on.
-ghost use Rattle.std.specs.Prelude.{◌≡◌, ◌<◌, ◌+◌, ◌^◌, ◌++◌, [], ℕ, List, Option, length, OnOk, OnErr, IfOk, IfErr};
+//! A tape that is played in turns: while lines are played, another thread writes what lines before them told, and reads on.
+//! Turns go round between both, so that neither waits for the other at each of them.
+ghost use Rattle.std.specs.Prelude.{◌≡◌, ◌≤◌, ◌<◌, ◌+◌, ◌^◌, ◌++◌, [], ℕ, List, Option, OnOk, OnErr, IfOk, IfErr, length};
 ghost use Rattle.std.specs.Io.KnownBytes.{Appends};
+ghost use Rattle.rtrb.specs.Ring.{received, known_items, sent, SameConsumer, SameProducer};
 ghost use Rattle.hx_replay.specs.Text.{Entry};
 ghost use Rattle.hx_replay.specs.Run.{Progress, Writes, Stops, IsFew};
-ghost use Rattle.hx_replay.specs.Ahead.{AreOf, IsAhead, IsAtTurn, IsUnwritten, PlaysAll, FailsAmong, ReadsOn, ReadsAhead, PlaysOn, StopsOn};
+ghost use Rattle.hx_replay.specs.Ahead.{AreOf, IsAtTurn, IsUnwritten, ReadsAhead, PlaysOn, StopsOn, most_reads};
+ghost use Rattle.hx_replay.specs.Turns.{events_of, told_of, PlaysTurns, FailsInTurns};
 
-use crate::ahead::Ahead;
 use crate::delivery::{write_before, write_told};
 use crate::fault::TapeError;
 use crate::messages::Messages;
 use crate::pending::Pending;
+use crate::player::{play_all, play_coming};
 use crate::run::Run;
+use crate::scribe::write_coming;
 use crate::telling::Lines;
+use crate::turn::{OfLines, TURNS, Turn};
 use hx_levels::Book;
 use hx_market::Event;
-use std::alloc::{AllocError, Global};
+use rtrb::{Consumer, Producer, RingBuffer};
+use std::alloc::Global;
 use std::io::{Read, Write};
-use std::mem::{replace, swap};
+use std::mem::replace;
 use std::thread::{Threads, join_mut};
 
-/// What goes from turn to turn: the lines that are read and not yet played, and what is told and not yet written.
+/// What is kept from text to text: the memory of turns, and of what is told and not yet sent on.
 #[derive(Drop)]
 pub(crate) struct Turns {
-    now: Ahead,
-    told: Messages,
-    // Those of the next turn, while this one lasts.
-    next: Ahead,
+    kept: Vec<Turn>,
     telling: Messages,
     // What was told last, and not yet put behind the rest.
     recent: Messages,
 }
 
 impl Turns {
-    /// Nothing is read, and nothing told.
+    /// None yet.
     pub(crate) fn new(alloc: Global) -> Turns {
         Turns {
-            now: Ahead::new(alloc),
-            told: Messages::new(alloc),
-            next: Ahead::new(alloc),
+            kept: Vec::new(alloc),
             telling: Messages::new(alloc),
             recent: Messages::new(alloc),
         }
     }
 }
 
-// So many events are looked at together, and what they told is taken over together.
-const BATCH: usize = 16;
-
-// At a place where a batch begins: what was told last is put behind the rest, and the events of the batch are looked at.
-#[inline(always)]
-fn begin_batch<B: Book + Drop>(
-    run: &mut Run<B>,
-    events: &[Event],
-    place: usize,
-    recent: &mut Messages,
-    telling: &mut Messages,
-) -> Result<(), AllocError>
-    ensures run { run.new ≡ run.old }
-    ensures told { OnOk result (telling.new ++ recent.new ≡ telling.old ++ recent.old) }
+// Sends off all turns that go round. They told nothing.
+fn send_all(alloc: Global, kept: &mut Vec<Turn>, to_write: &mut Producer<Turn>)
+    requires { told_of (sent to_write.old) ≡ [] }
+    ensures ring { SameProducer to_write.old to_write.new }
+    ensures told { told_of (sent to_write.new) ≡ [] }
 {
-    if place % BATCH != 0 {
-        return Ok(());
+    for _ in 0..TURNS {
+        let mut turn = match kept.pop() {
+            Some(turn) => turn,
+            None => Turn::new(alloc),
+        };
+        turn.told.clear();
+        if to_write.push(turn).is_err() {
+            return;
+        }
     }
-    let (_, next) = events.split_at(place.min(events.len()));
-    run.glance(next);
-    telling.take_all(recent)
 }
 
-// Plays the events. What they told is what is kept then, and behind it what is recent.
-fn play_each<B: Book + Drop>(
-    run: &mut Run<B>,
-    events: &[Event],
-    recent: &mut Messages,
-    telling: &mut Messages,
-) -> Result<(), TapeError>
-    requires events { run.old.events + length events.now < 2 ^ 48 }
-    requires few { IsFew run.old }
-    requires read { (entries : List Entry) × AreOf entries events.now }
-    requires telling { telling.old ≡ [] }
-    requires recent { recent.old ≡ [] }
-    ensures ok { OnOk result ((entries : List Entry) → AreOf entries events.now
-        → PlaysAll run.old run.new entries (telling.new ++ recent.new)) }
-    ensures err { IfErr result (λ e. (entries : List Entry) → AreOf entries events.now
-        → FailsAmong run.old entries (telling.new ++ recent.new) e) }
-{
-    let mut place = 0;
-    for event in events {
-        begin_batch(run, events, place, recent, telling)?;
-        place = place.wrapping_add(1);
-        run.play_event(event, recent)?;
-    }
-    Ok(())
-}
-
-// Plays the events, and keeps what they told in the place of what was told before. Another thread read that place, so that
-// each write there waits for its memory: therefore they tell into lists of this thread's own first, a batch at a time.
-fn play_all<B: Book + Drop>(
-    run: &mut Run<B>,
-    events: &[Event],
-    recent: &mut Messages,
-    telling: &mut Messages,
-) -> Result<(), TapeError>
-    requires events { run.old.events + length events.now < 2 ^ 48 }
-    requires few { IsFew run.old }
-    requires read { (entries : List Entry) × AreOf entries events.now }
-    ensures ok { OnOk result ((entries : List Entry) → AreOf entries events.now
-        → PlaysAll run.old run.new entries telling.new) }
-    ensures err { IfErr result (λ e. (entries : List Entry) → AreOf entries events.now
-        → FailsAmong run.old entries telling.new e) }
-{
-    telling.clear();
-    recent.clear();
-    // Nothing is told then, for which memory might be wanting.
-    if events.is_empty() {
-        return Ok(());
-    }
-    let played = play_each(run, events, recent, telling);
-    telling.take_all(recent)?;
-    played
-}
-
-// Writes what was told, and reads on: the part of a turn that needs no market.
-fn write_and_read<R: Read, W: Write>(
-    alloc: Global,
-    told: &Messages,
-    spelled: &mut Lines,
-    writer: &mut W,
-    next: &mut Ahead,
-    played: usize,
-    pending: &mut Pending,
-    reader: &mut R,
-    left: u64,
-) -> Result<u64, TapeError>
-    ensures wrote { OnOk result
-        (Appends (W.contents writer.old) (W.contents writer.new) told.now) }
-    ensures ahead { IfOk result (λ after. ReadsAhead pending.old next.new pending.new
-        (R.remaining reader.old) (R.remaining reader.new) left after) }
-    ensures err { OnErr result (
-        (rest : List ℕ) × Writes (W.contents writer.old) (W.contents writer.new) told.now rest) }
-    ensures read { OnErr result ((text : List ℕ)
-        × ReadsOn pending.old text (R.remaining reader.old) (R.remaining reader.new) left 0) }
-    ensures fault { IfErr result IsUnwritten }
-{
-    // In places of this thread's own, since what stands beside them is written by the other one.
-    let mut lines = replace(spelled, Lines::new(alloc));
-    let mut ahead = replace(next, Ahead::new(alloc));
-    write_told(told, &mut lines, writer)?;
-    let after = ahead.read(alloc, played, pending, reader, left)?;
-    *spelled = lines;
-    *next = ahead;
-    Ok(after)
-}
-
-// Both parts of a turn at once: the events are played in this thread, and what was told is written in another.
+// Both threads: lines that come are played in this one, and what they told is written in another, which reads on.
 fn play_and_write<B: Book + Drop, R: Read + Send, W: Write + Send, T: Threads>(
-    rt: &T,
-    alloc: Global,
-    run: &mut Run<B>,
-    now: &[Event],
-    recent: &mut Messages,
-    telling: &mut Messages,
-    told: &Messages,
-    spelled: &mut Lines,
-    writer: &mut W,
-    next: &mut Ahead,
-    pending: &mut Pending,
-    reader: &mut R,
-    left: u64,
-) -> (Result<u64, TapeError>, Result<(), TapeError>)
-    requires events { run.old.events + length now.now < 2 ^ 48 }
-    requires few { IsFew run.old }
-    requires read { (entries : List Entry) × AreOf entries now.now }
-    ensures wrote { OnOk result.0
-        (Appends (W.contents writer.old) (W.contents writer.new) told.now) }
-    ensures ahead { IfOk result.0 (λ after. ReadsAhead pending.old next.new pending.new
-        (R.remaining reader.old) (R.remaining reader.new) left after) }
-    ensures err { OnErr result.0 (
-        (rest : List ℕ) × Writes (W.contents writer.old) (W.contents writer.new) told.now rest) }
-    ensures read { OnErr result.0 ((text : List ℕ)
-        × ReadsOn pending.old text (R.remaining reader.old) (R.remaining reader.new) left 0) }
-    ensures fault { IfErr result.0 IsUnwritten }
-    ensures played { OnOk result.1 ((entries : List Entry) → AreOf entries now.now
-        → PlaysAll run.old run.new entries telling.new) }
-    ensures failed { IfErr result.1 (λ e. (entries : List Entry) → AreOf entries now.now
-        → FailsAmong run.old entries telling.new e) }
-{
-    let played = now.len();
-    let mut write = || -> Result<u64, TapeError>
-        ensures wrote { OnOk result (Appends
-            (W.contents writer.entry.now) (W.contents writer.exit.now) told.entry.now) }
-        ensures ahead { IfOk result (λ after. ReadsAhead
-            pending.entry.now next.exit.now pending.exit.now
-            (R.remaining reader.entry.now) (R.remaining reader.exit.now) left after) }
-        ensures err { OnErr result ((rest : List ℕ) × Writes
-            (W.contents writer.entry.now) (W.contents writer.exit.now) told.entry.now rest) }
-        ensures read { OnErr result ((text : List ℕ) × ReadsOn pending.entry.now text
-            (R.remaining reader.entry.now) (R.remaining reader.exit.now) left 0) }
-        ensures fault { IfErr result IsUnwritten }
-    {
-        write_and_read(
-            alloc, told, spelled, writer, next, played, pending, reader, left,
-        )
-    };
-    let mut play = || -> Result<(), TapeError>
-        requires events { run.now.events + length now.now < 2 ^ 48 }
-        requires few { IsFew run.now }
-        requires read { (entries : List Entry) × AreOf entries now.now }
-        ensures played { OnOk result ((entries : List Entry) → AreOf entries now.entry.now
-            → PlaysAll run.entry.now run.exit.now entries telling.exit.now) }
-        ensures failed { IfErr result (λ e. (entries : List Entry) → AreOf entries now.entry.now
-            → FailsAmong run.entry.now entries telling.exit.now e) }
-    { play_all(run, now, recent, telling) };
-    join_mut(rt, &mut write, &mut play)
-}
-
-// One turn.
-fn play_turn<B: Book + Drop, R: Read + Send, W: Write + Send, T: Threads>(
     rt: &T,
     alloc: Global,
     run: &mut Run<B>,
@@ -225,53 +73,176 @@ fn play_turn<B: Book + Drop, R: Read + Send, W: Write + Send, T: Threads>(
     pending: &mut Pending,
     reader: &mut R,
     writer: &mut W,
-    left: u64,
-) -> Result<u64, TapeError>
-    requires events { run.old.events + length turns.old.now < 2 ^ 48 }
+    to_play: &mut Producer<Turn, Global, OfLines>,
+    unplayed: &mut Consumer<Turn, Global, OfLines>,
+    to_write: &mut Producer<Turn>,
+    unwritten: &mut Consumer<Turn>,
+) -> (Result<(), TapeError>, Result<(), TapeError>)
+    requires events { run.old.events + 2 ^ 46 < 2 ^ 48 }
     requires few { IsFew run.old }
-    requires read { (entries : List Entry) × AreOf entries turns.old.now }
-    ensures ok { OnOk result ((old : Progress) (all text : List ℕ) (w : Option (List ℕ))
-        → IsAhead text turns.new.now pending.new
-        → IsAtTurn old run.old all w (W.contents writer.old) turns.old.told turns.old.now text
-        → IsAtTurn old run.new all w (W.contents writer.new) turns.new.told turns.new.now
-        pending.new) }
-    ensures ahead { IfOk result (λ after. ReadsAhead pending.old turns.new.now pending.new
-        (R.remaining reader.old) (R.remaining reader.new) left after) }
-    ensures err { IfErr result (λ e. (old : Progress) (all text : List ℕ) (w : Option (List ℕ))
-        → IsAtTurn old run.old all w (W.contents writer.old) turns.old.told turns.old.now text
-        → Stops ⊥ old all w (W.contents writer.new) e) }
-    ensures read { OnErr result ((text : List ℕ)
-        × ReadsOn pending.old text (R.remaining reader.old) (R.remaining reader.new) left 0) }
+    requires fits { length pending.old ≤ 16777216 }
+    requires unplayed { received unplayed.old ≡ [] }
+    requires unwritten { received unwritten.old ≡ [] }
+    requires to_play { sent to_play.old ≡ [] }
+    requires to_write { told_of (sent to_write.old) ≡ [] }
+    ensures unplayed { SameConsumer unplayed.old unplayed.new }
+    ensures unwritten { SameConsumer unwritten.old unwritten.new }
+    ensures to_play { SameProducer to_play.old to_play.new }
+    ensures to_write { SameProducer to_write.old to_write.new }
+    ensures wrote { OnOk result.0 (Appends
+        (W.contents writer.old) (W.contents writer.new) (told_of (received unwritten.new))) }
+    ensures ahead { OnOk result.0 (ReadsAhead
+        pending.old (events_of (sent to_play.new)) pending.new
+        (R.remaining reader.old) (R.remaining reader.new) most_reads 0) }
+    ensures err { OnErr result.0 ((rest : List ℕ) × Writes
+        (W.contents writer.old) (W.contents writer.new) (told_of (received unwritten.new)) rest) }
+    ensures read { OnErr result.0 ((rest : List ℕ) × ReadsAhead
+        pending.old (events_of (sent to_play.new)) rest
+        (R.remaining reader.old) (R.remaining reader.new) most_reads 0) }
+    ensures fault { IfErr result.0 IsUnwritten }
+    ensures played { OnOk result.1
+        (PlaysTurns run.old run.new (received unplayed.new) (sent to_write.new)) }
+    ensures failed { IfErr result.1 (FailsInTurns
+        run.old (received unplayed.new) (sent to_write.new) turns.new.telling) }
 {
-    let (read, played) = play_and_write(
-        rt,
-        alloc,
-        run,
-        turns.now.events(),
-        &mut turns.recent,
-        &mut turns.telling,
-        &turns.told,
-        spelled,
-        writer,
-        &mut turns.next,
-        pending,
-        reader,
-        left,
-    );
-    let after = read?;
-    if let Err(error) = played {
-        return Err(write_before(error, &turns.telling, spelled, writer));
-    }
-    swap(&mut turns.told, &mut turns.telling);
-    swap(&mut turns.now, &mut turns.next);
-    Ok(after)
+    let Turns {
+        kept,
+        telling,
+        recent,
+    } = turns;
+    let mut write = || -> Result<(), TapeError>
+        requires fits { length pending.now ≤ 16777216 }
+        requires none { received unwritten.now ≡ [] }
+        requires first { sent to_play.now ≡ [] }
+        ensures coming { SameConsumer unwritten.entry.now unwritten.exit.now }
+        ensures going { SameProducer to_play.entry.now to_play.exit.now }
+        ensures wrote { OnOk result (Appends
+            (W.contents writer.entry.now) (W.contents writer.exit.now)
+            (told_of (received unwritten.exit.now))) }
+        ensures ahead { OnOk result (ReadsAhead
+            pending.entry.now (events_of (sent to_play.exit.now)) pending.exit.now
+            (R.remaining reader.entry.now) (R.remaining reader.exit.now) most_reads 0) }
+        ensures err { OnErr result ((rest : List ℕ) × Writes
+            (W.contents writer.entry.now) (W.contents writer.exit.now)
+            (told_of (received unwritten.exit.now)) rest) }
+        ensures read { OnErr result ((rest : List ℕ) × ReadsAhead
+            pending.entry.now (events_of (sent to_play.exit.now)) rest
+            (R.remaining reader.entry.now) (R.remaining reader.exit.now) most_reads 0) }
+        ensures fault { IfErr result IsUnwritten }
+    {
+        write_coming(
+            alloc, spelled, writer, pending, reader, kept, unwritten, to_play,
+        )
+    };
+    let mut play = || -> Result<(), TapeError>
+        requires events { run.now.events + 2 ^ 46 < 2 ^ 48 }
+        requires few { IsFew run.now }
+        requires first { received unplayed.now ≡ [] }
+        requires told { told_of (sent to_write.now) ≡ [] }
+        ensures coming { SameConsumer unplayed.entry.now unplayed.exit.now }
+        ensures going { SameProducer to_write.entry.now to_write.exit.now }
+        ensures ok { OnOk result (PlaysTurns run.entry.now run.exit.now
+            (received unplayed.exit.now) (sent to_write.exit.now)) }
+        ensures err { IfErr result (FailsInTurns run.entry.now
+            (received unplayed.exit.now) (sent to_write.exit.now) telling.exit.now) }
+    { play_coming(run, recent, telling, unplayed, to_write) };
+    join_mut(rt, &mut write, &mut play)
 }
 
-// So many reads are made at most before all that was read is played.
-const READS: u64 = 1_000_000;
+// Writes what is told and was not written: so many turns are left in the ring.
+fn write_rest<W: Write>(
+    spelled: &mut Lines,
+    writer: &mut W,
+    kept: &mut Vec<Turn>,
+    unwritten: &mut Consumer<Turn>,
+    count: usize,
+) -> Result<(), TapeError>
+    requires { count ≡ length (known_items unwritten.old) }
+    ensures ok { OnOk result (Appends (W.contents writer.old) (W.contents writer.new)
+        (told_of (known_items unwritten.old))) }
+    ensures err { OnErr result ((rest : List ℕ) × Writes
+        (W.contents writer.old) (W.contents writer.new)
+        (told_of (known_items unwritten.old)) rest) }
+    ensures fault { IfErr result IsUnwritten }
+{
+    for _ in 0..count {
+        let turn = unwritten.pop_known();
+        write_told(&turn.told, spelled, writer)?;
+        kept.push(turn)?;
+    }
+    Ok(())
+}
+
+// Plays the first events of those that are read, and writes what they tell.
+fn play_now<B: Book + Drop, W: Write>(
+    run: &mut Run<B>,
+    recent: &mut Messages,
+    telling: &mut Messages,
+    spelled: &mut Lines,
+    writer: &mut W,
+    events: &[Event],
+) -> Result<(), TapeError>
+    requires events { run.old.events + length events.now < 2 ^ 48 }
+    requires few { IsFew run.old }
+    requires read { (entries : List Entry) × AreOf entries events.now }
+    ensures ok { OnOk result ((old : Progress) (all text : List ℕ) (w : Option (List ℕ))
+        (others : List Event)
+        → IsAtTurn old run.old all w (W.contents writer.old) [] (events.now ++ others) text
+        → IsAtTurn old run.new all w (W.contents writer.new) [] others text) }
+    ensures counts { OnOk result ((run.new.events ≡ run.old.events + length events.now)
+        × IsFew run.new) }
+    ensures err { IfErr result (λ e. (old : Progress) (all text : List ℕ) (w : Option (List ℕ))
+        (others : List Event)
+        → IsAtTurn old run.old all w (W.contents writer.old) [] (events.now ++ others) text
+        → Stops ⊥ old all w (W.contents writer.new) e) }
+{
+    match play_all(run, events, recent, telling) {
+        Ok(()) => write_told(telling, spelled, writer),
+        Err(error) => Err(write_before(error, telling, spelled, writer)),
+    }
+}
+
+// Plays lines that are read and were not played, and writes what they tell: so many turns are left in the ring.
+fn play_rest<B: Book + Drop, W: Write>(
+    run: &mut Run<B>,
+    turns: &mut Turns,
+    spelled: &mut Lines,
+    writer: &mut W,
+    unplayed: &mut Consumer<Turn, Global, OfLines>,
+    count: usize,
+) -> Result<(), TapeError>
+    requires count { count ≡ length (known_items unplayed.old) }
+    requires events { run.old.events + length (events_of (known_items unplayed.old)) < 2 ^ 48 }
+    requires few { IsFew run.old }
+    requires read { (entries : List Entry)
+        × AreOf entries (events_of (known_items unplayed.old)) }
+    ensures ok { OnOk result ((old : Progress) (all text : List ℕ) (w : Option (List ℕ))
+        → IsAtTurn old run.old all w (W.contents writer.old) []
+        (events_of (known_items unplayed.old)) text
+        → IsAtTurn old run.new all w (W.contents writer.new) [] [] text) }
+    ensures err { IfErr result (λ e. (old : Progress) (all text : List ℕ) (w : Option (List ℕ))
+        → IsAtTurn old run.old all w (W.contents writer.old) []
+        (events_of (known_items unplayed.old)) text
+        → Stops ⊥ old all w (W.contents writer.new) e) }
+{
+    for _ in 0..count {
+        let turn = unplayed.pop_known();
+        play_now(
+            run,
+            &mut turns.recent,
+            &mut turns.telling,
+            spelled,
+            writer,
+            turn.ahead.events(),
+        )?;
+        turns.kept.push(turn)?;
+    }
+    Ok(())
+}
 
 /// Plays lines of what is pending in turns, and has what they tell written. Where the last read gave as much as there was
-/// room for, it reads on before all lines are played. What stands then behind them is no whole line, or one that is none.
+/// room for, it reads on before all lines are played. Where one thread waits for the other for long, it ends before all lines
+/// are played: those that stand then behind them are for the caller.
 pub(crate) fn play_turns<B: Book + Drop, R: Read + Send, W: Write + Send, T: Threads>(
     rt: &T,
     alloc: Global,
@@ -282,8 +253,9 @@ pub(crate) fn play_turns<B: Book + Drop, R: Read + Send, W: Write + Send, T: Thr
     reader: &mut R,
     writer: &mut W,
 ) -> Result<(), TapeError>
-    requires events { run.old.events + length pending.old + 2 ^ 44 < 2 ^ 48 }
+    requires events { run.old.events + 2 ^ 46 < 2 ^ 48 }
     requires few { IsFew run.old }
+    requires fits { length pending.old ≤ 16777216 }
     ensures ok { OnOk result (PlaysOn run.old run.new pending.old
         (R.remaining reader.old) (R.remaining reader.new)
         (W.contents writer.old) (W.contents writer.new) pending.new) }
@@ -291,13 +263,38 @@ pub(crate) fn play_turns<B: Book + Drop, R: Read + Send, W: Write + Send, T: Thr
         (R.remaining reader.old) (R.remaining reader.new)
         (W.contents writer.old) (W.contents writer.new)) }
 {
-    turns.told.clear();
-    let mut left = turns.now.read(alloc, 0, pending, reader, READS)?;
-    'turns: while !turns.now.is_empty() {
-        left = play_turn(
-            rt, alloc, run, turns, spelled, pending, reader, writer, left,
-        )?;
+    let (mut to_play, mut unplayed) = RingBuffer::with_protocol::<Global, OfLines>(
+        alloc,
+        TURNS + 1,
+    )?;
+    let (mut to_write, mut unwritten) = RingBuffer::new(alloc, TURNS)?;
+    send_all(alloc, &mut turns.kept, &mut to_write);
+    let (wrote, played) = play_and_write(
+        rt,
+        alloc,
+        run,
+        turns,
+        spelled,
+        pending,
+        reader,
+        writer,
+        &mut to_play,
+        &mut unplayed,
+        &mut to_write,
+        &mut unwritten,
+    );
+    let unwritten_count = unwritten.slots_beside(&mut to_write);
+    let unplayed_count = unplayed.slots_beside(&mut to_play);
+    wrote?;
+    write_rest(
+        spelled,
+        writer,
+        &mut turns.kept,
+        &mut unwritten,
+        unwritten_count,
+    )?;
+    if let Err(error) = played {
+        return Err(write_before(error, &turns.telling, spelled, writer));
     }
-    write_told(&turns.told, spelled, writer)?;
-    Ok(())
+    play_rest(run, turns, spelled, writer, &mut unplayed, unplayed_count)
 }

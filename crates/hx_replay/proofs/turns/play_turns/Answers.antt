@@ -1,41 +1,134 @@
-use Rattle.std.proofs.Common.{arith}
-use Rattle.std.proofs.lemmas.Result.{err_from_is_err_and}
-use Rattle.hx_replay.proofs.ReadingOn.{turn_on_first, turn_on_next, turn_on_stops, turn_on_counts, turns_end, turn_on_last, turn_on_unwritten, stops_on_without_memory}
+use Rattle.std.proofs.Common.{List, ◌++◌, sym, ap, ◌∙◌, arith}
+use Rattle.std.proofs.lemmas.Result.{err_from_is_err_and, on_ok_weaker, IfErr-weaker}
+use Rattle.rtrb.specs.Ring.{received, known_items, sent}
+use Rattle.hx_replay.specs.declared.turn.Turn.{Turn}
+use Rattle.hx_replay.specs.Ahead.{most_reads}
+use Rattle.hx_replay.proofs.ReadingOn.{reads_none, stops_on_without_memory}
+use Rattle.hx_replay.proofs.TurnEnds.{plays_some, stops_writing, writes_longer, writes_behind, written_all, fails_on, rests_on, rests_counts, plays_on_last, all_sent}
 use Rattle.hx_replay.proofs.turns.play_turns.Goals as goal
 
-pub returns-in_err-left-clause-err : goal.returns-in_err-left-clause-err
-returns-in_err-left-clause-err g c =
+pub returns-in_err-to_play-clause-err : goal.returns-in_err-to_play-clause-err
+returns-in_err-to_play-clause-err g c =
     let p = err_from_is_err_and c.from_residual.result c.from_residual.ensures.1 in
-    rw (p.1, p.2) (stops_on_without_memory c.args.run.now c.args.pending.now _ _ (g.W.Write.contents c.args.writer.now) c.in_err-left.ensures.err)
+    rw (p.1, p.2) (stops_on_without_memory c.args.run.now c.args.pending.now _ _ (g.W.Write.contents c.args.writer.now) (c.args.pending.now, reads_none c.args.pending.now (g.R.Read.remaining c.args.reader.now) most_reads 0 (omega arith)))
 
-pub turns-init : goal.turns-init
-turns-init g c = turn_on_first c.args.run.now c.args.pending.now c.clear.new.self _ _ (g.W.Write.contents c.args.writer.now) _ _ _ c.clear.ensures c.in_ok-left.ensures.ok
+pub returns-in_err-to_write-clause-err : goal.returns-in_err-to_write-clause-err
+returns-in_err-to_write-clause-err g c =
+    let p = err_from_is_err_and c.from_residual-in_err-to_write.result c.from_residual-in_err-to_write.ensures.1 in
+    rw (p.1, p.2) (stops_on_without_memory c.args.run.now c.args.pending.now _ _ (g.W.Write.contents c.args.writer.now) (c.args.pending.now, reads_none c.args.pending.now (g.R.Read.remaining c.args.reader.now) most_reads 0 (omega arith)))
 
-pub play_turn-requires-clause-events : goal.play_turn-requires-clause-events
-play_turn-requires-clause-events g c = omega (arith, turn_on_counts _ _ _ _ _ _ _ _ _ _ _ c.turns.invariant c.requires.few)
+pub returns-in_err-wrote-clause-err : goal.returns-in_err-wrote-clause-err
+returns-in_err-wrote-clause-err g c =
+    let p = err_from_is_err_and c.from_residual-in_err-wrote.result c.from_residual-in_err-wrote.ensures.1 in
+    let both = c.play_and_write-wrote in
+    let unwritten = c.slots_beside-unwritten_count.ensures in
+    let unplayed = c.slots_beside-unplayed_count.ensures in
+    let told = all_sent (received both.new.unwritten) _ (known_items c.slots_beside-unwritten_count.new.self) (sent both.new.to_write) _ unwritten.looked.1 unwritten.producer.1 unwritten.fifo in
+    let all = all_sent (received both.new.unplayed) _ (known_items c.slots_beside-unplayed_count.new.self) (sent both.new.to_play) _ unplayed.looked.1 unplayed.producer.1 unplayed.fifo in
+    let wrote = rw c.in_err-wrote.was at both.ensures.err in
+    let read = rw c.in_err-wrote.was at both.ensures.read in
+    let fault = rw c.in_err-wrote.was at both.ensures.fault in
+    let some = plays_some _ c.args.run.now both.new.run (received both.new.unplayed) (sent both.new.to_write) both.new.turns.telling both.ensures.played both.ensures.failed in
+    rw (p.1, p.2) (stops_writing c.args.run.now c.args.pending.now (sent both.new.to_play) (received both.new.unplayed) (known_items c.slots_beside-unplayed_count.new.self) (sent both.new.to_write) read.0 _ _ _ _ _ read.1 all some (writes_longer _ _ (sent both.new.to_write) (received both.new.unwritten) (known_items c.slots_beside-unwritten_count.new.self) told wrote) fault)
 
-pub play_turn-requires-clause-few : goal.play_turn-requires-clause-few
-play_turn-requires-clause-few g c κs within = (turn_on_counts _ _ _ _ _ _ _ _ _ _ _ c.turns.invariant c.requires.few).1
+pub returns-in_err-write_rest-clause-err : goal.returns-in_err-write_rest-clause-err
+returns-in_err-write_rest-clause-err g c =
+    let p = err_from_is_err_and c.from_residual-in_err-write_rest.result c.from_residual-in_err-write_rest.ensures.1 in
+    let both = c.play_and_write-wrote in
+    let unwritten = c.slots_beside-unwritten_count.ensures in
+    let unplayed = c.slots_beside-unplayed_count.ensures in
+    let told = all_sent (received both.new.unwritten) _ (known_items c.slots_beside-unwritten_count.new.self) (sent both.new.to_write) _ unwritten.looked.1 unwritten.producer.1 unwritten.fifo in
+    let all = all_sent (received both.new.unplayed) _ (known_items c.slots_beside-unplayed_count.new.self) (sent both.new.to_play) _ unplayed.looked.1 unplayed.producer.1 unplayed.fifo in
+    let wrote = rw c.in_ok-wrote.was at both.ensures.wrote in
+    let ahead = rw c.in_ok-wrote.was at both.ensures.ahead in
+    let some = plays_some _ c.args.run.now both.new.run (received both.new.unplayed) (sent both.new.to_write) both.new.turns.telling both.ensures.played both.ensures.failed in
+    rw (p.1, p.2) (stops_writing c.args.run.now c.args.pending.now (sent both.new.to_play) (received both.new.unplayed) (known_items c.slots_beside-unplayed_count.new.self) (sent both.new.to_write) both.new.pending _ _ _ _ _ ahead all some (writes_behind _ _ _ (sent both.new.to_write) (received both.new.unwritten) (known_items c.slots_beside-unwritten_count.new.self) told wrote c.in_err-write_rest.ensures.err) c.in_err-write_rest.ensures.fault)
 
-pub play_turn-requires-clause-read : goal.play_turn-requires-clause-read
-play_turn-requires-clause-read g c κs within = (c.turns.invariant.turn.ahead.entries, c.turns.invariant.turn.ahead.are)
+pub returns-in-Err-clause-err : goal.returns-in-Err-clause-err
+returns-in-Err-clause-err g c =
+    let both = c.play_and_write-wrote in
+    let unwritten = c.slots_beside-unwritten_count.ensures in
+    let unplayed = c.slots_beside-unplayed_count.ensures in
+    let told = all_sent (received both.new.unwritten) _ (known_items c.slots_beside-unwritten_count.new.self) (sent both.new.to_write) _ unwritten.looked.1 unwritten.producer.1 unwritten.fifo in
+    let all = all_sent (received both.new.unplayed) _ (known_items c.slots_beside-unplayed_count.new.self) (sent both.new.to_play) _ unplayed.looked.1 unplayed.producer.1 unplayed.fifo in
+    let wrote = rw c.in_ok-wrote.was at both.ensures.wrote in
+    let ahead = rw c.in_ok-wrote.was at both.ensures.ahead in
+    let failed = rw c.in-Err.is at both.ensures.failed in
+    let done = written_all _ _ _ (sent both.new.to_write) (received both.new.unwritten) (known_items c.slots_beside-unwritten_count.new.self) told wrote c.in_ok-write_rest.ensures.ok in
+    let f = fails_on c.args.run.now c.args.pending.now (sent both.new.to_play) (received both.new.unplayed) (known_items c.slots_beside-unplayed_count.new.self) (sent both.new.to_write) both.new.pending _ _ _ _ both.new.turns.telling c.in-Err.error ahead all failed done in
+    record {
+      whole = f.whole;
+      reads = f.reads;
+      stops = c.write_before.ensures c.args.run.now f.at.at f.whole f.at.gathered f.at.rest f.at.text f.at.others (g.W.Write.contents c.args.writer.now) f.at.gathers f.at.cut f.at.lacks f.at.faults f.at.told;
+    }
 
-pub turns-preserved : goal.turns-preserved
-turns-preserved g c = turn_on_next _ _ _ _ _ _ _ _ _ _ _ _ _ _ _ _ _ _ c.turns.invariant c.in_ok-left-2.ensures.ahead (λ all whole. c.in_ok-left-2.ensures.ok c.args.run.now all whole (g.W.Write.contents c.args.writer.now))
+pub play_rest-requires-clause-events : goal.play_rest-requires-clause-events
+play_rest-requires-clause-events g c =
+    let both = c.play_and_write-wrote in
+    let unwritten = c.slots_beside-unwritten_count.ensures in
+    let unplayed = c.slots_beside-unplayed_count.ensures in
+    let told = all_sent (received both.new.unwritten) _ (known_items c.slots_beside-unwritten_count.new.self) (sent both.new.to_write) _ unwritten.looked.1 unwritten.producer.1 unwritten.fifo in
+    let all = all_sent (received both.new.unplayed) _ (known_items c.slots_beside-unplayed_count.new.self) (sent both.new.to_play) _ unplayed.looked.1 unplayed.producer.1 unplayed.fifo in
+    let wrote = rw c.in_ok-wrote.was at both.ensures.wrote in
+    let ahead = rw c.in_ok-wrote.was at both.ensures.ahead in
+    let played = rw c.in_default.is at both.ensures.played in
+    let done = written_all _ _ _ (sent both.new.to_write) (received both.new.unwritten) (known_items c.slots_beside-unwritten_count.new.self) told wrote c.in_ok-write_rest.ensures.ok in
+    let rests = rests_on c.args.run.now both.new.run c.args.pending.now (sent both.new.to_play) (received both.new.unplayed) (known_items c.slots_beside-unplayed_count.new.self) (sent both.new.to_write) both.new.pending _ _ _ _ ahead all played done in
+    let counts = rests_counts _ _ _ _ _ _ _ _ _ rests c.requires.few in
+    omega (arith, counts.0, c.requires.events, c.requires.fits)
 
-pub turns-smaller : goal.turns-smaller
-turns-smaller g c = turns_end _ _ _ _ _ _ _ _ (c.is_empty.ensures.some c.turns-test.true) c.in_ok-left-2.ensures.ahead
+pub play_rest-requires-clause-few : goal.play_rest-requires-clause-few
+play_rest-requires-clause-few g c =
+    let both = c.play_and_write-wrote in
+    let unwritten = c.slots_beside-unwritten_count.ensures in
+    let unplayed = c.slots_beside-unplayed_count.ensures in
+    let told = all_sent (received both.new.unwritten) _ (known_items c.slots_beside-unwritten_count.new.self) (sent both.new.to_write) _ unwritten.looked.1 unwritten.producer.1 unwritten.fifo in
+    let all = all_sent (received both.new.unplayed) _ (known_items c.slots_beside-unplayed_count.new.self) (sent both.new.to_play) _ unplayed.looked.1 unplayed.producer.1 unplayed.fifo in
+    let wrote = rw c.in_ok-wrote.was at both.ensures.wrote in
+    let ahead = rw c.in_ok-wrote.was at both.ensures.ahead in
+    let played = rw c.in_default.is at both.ensures.played in
+    let done = written_all _ _ _ (sent both.new.to_write) (received both.new.unwritten) (known_items c.slots_beside-unwritten_count.new.self) told wrote c.in_ok-write_rest.ensures.ok in
+    let rests = rests_on c.args.run.now both.new.run c.args.pending.now (sent both.new.to_play) (received both.new.unplayed) (known_items c.slots_beside-unplayed_count.new.self) (sent both.new.to_write) both.new.pending _ _ _ _ ahead all played done in
+    (rests_counts _ _ _ _ _ _ _ _ _ rests c.requires.few).1
 
-pub returns-in_err-left-2-clause-err : goal.returns-in_err-left-2-clause-err
-returns-in_err-left-2-clause-err g c =
-    let p = err_from_is_err_and c.from_residual-in_err-left-2.result c.from_residual-in_err-left-2.ensures.1 in
-    let read = c.in_err-left-2.ensures.read in
-    rw (p.1, p.2) (turn_on_stops _ _ _ _ _ _ _ _ _ _ _ _ read.0 _ _ c.turns.invariant read.1 (λ all whole. c.in_err-left-2.ensures.err c.args.run.now all whole (g.W.Write.contents c.args.writer.now)))
+pub play_rest-requires-clause-read : goal.play_rest-requires-clause-read
+play_rest-requires-clause-read g c =
+    let both = c.play_and_write-wrote in
+    let unwritten = c.slots_beside-unwritten_count.ensures in
+    let unplayed = c.slots_beside-unplayed_count.ensures in
+    let told = all_sent (received both.new.unwritten) _ (known_items c.slots_beside-unwritten_count.new.self) (sent both.new.to_write) _ unwritten.looked.1 unwritten.producer.1 unwritten.fifo in
+    let all = all_sent (received both.new.unplayed) _ (known_items c.slots_beside-unplayed_count.new.self) (sent both.new.to_play) _ unplayed.looked.1 unplayed.producer.1 unplayed.fifo in
+    let wrote = rw c.in_ok-wrote.was at both.ensures.wrote in
+    let ahead = rw c.in_ok-wrote.was at both.ensures.ahead in
+    let played = rw c.in_default.is at both.ensures.played in
+    let done = written_all _ _ _ (sent both.new.to_write) (received both.new.unwritten) (known_items c.slots_beside-unwritten_count.new.self) told wrote c.in_ok-write_rest.ensures.ok in
+    let rests = rests_on c.args.run.now both.new.run c.args.pending.now (sent both.new.to_play) (received both.new.unplayed) (known_items c.slots_beside-unplayed_count.new.self) (sent both.new.to_write) both.new.pending _ _ _ _ ahead all played done in
+    (rests.turn.ahead.entries, rests.turn.ahead.are)
 
 pub returns-clause-ok : goal.returns-clause-ok
-returns-clause-ok g c = turn_on_last _ _ _ _ _ _ _ _ _ _ _ _ c.turns.invariant (c.is_empty.ensures.none c.turns-test.false) c.in_ok-write_told.ensures.ok
+returns-clause-ok g c =
+    let both = c.play_and_write-wrote in
+    let unwritten = c.slots_beside-unwritten_count.ensures in
+    let unplayed = c.slots_beside-unplayed_count.ensures in
+    let told = all_sent (received both.new.unwritten) _ (known_items c.slots_beside-unwritten_count.new.self) (sent both.new.to_write) _ unwritten.looked.1 unwritten.producer.1 unwritten.fifo in
+    let all = all_sent (received both.new.unplayed) _ (known_items c.slots_beside-unplayed_count.new.self) (sent both.new.to_play) _ unplayed.looked.1 unplayed.producer.1 unplayed.fifo in
+    let wrote = rw c.in_ok-wrote.was at both.ensures.wrote in
+    let ahead = rw c.in_ok-wrote.was at both.ensures.ahead in
+    let played = rw c.in_default.is at both.ensures.played in
+    let done = written_all _ _ _ (sent both.new.to_write) (received both.new.unwritten) (known_items c.slots_beside-unwritten_count.new.self) told wrote c.in_ok-write_rest.ensures.ok in
+    let rests = rests_on c.args.run.now both.new.run c.args.pending.now (sent both.new.to_play) (received both.new.unplayed) (known_items c.slots_beside-unplayed_count.new.self) (sent both.new.to_write) both.new.pending _ _ _ _ ahead all played done in
+    on_ok_weaker c.play_rest.result (λ h. plays_on_last _ _ c.args.pending.now rests.whole _ _ _ _ both.new.pending rests.reads (h c.args.run.now rests.whole both.new.pending (g.W.Write.contents c.args.writer.now) rests.turn)) c.play_rest.ensures.ok
 
-pub returns-in_err-write_told-clause-err : goal.returns-in_err-write_told-clause-err
-returns-in_err-write_told-clause-err g c =
-    let p = err_from_is_err_and c.from_residual-in_err-write_told.result c.from_residual-in_err-write_told.ensures.1 in
-    rw (p.1, p.2) (turn_on_unwritten _ _ _ _ _ _ _ _ _ _ _ _ _ c.turns.invariant (c.is_empty.ensures.none c.turns-test.false) c.in_err-write_told.ensures.err c.in_err-write_told.ensures.fault)
+pub returns-clause-err : goal.returns-clause-err
+returns-clause-err g c =
+    let both = c.play_and_write-wrote in
+    let unwritten = c.slots_beside-unwritten_count.ensures in
+    let unplayed = c.slots_beside-unplayed_count.ensures in
+    let told = all_sent (received both.new.unwritten) _ (known_items c.slots_beside-unwritten_count.new.self) (sent both.new.to_write) _ unwritten.looked.1 unwritten.producer.1 unwritten.fifo in
+    let all = all_sent (received both.new.unplayed) _ (known_items c.slots_beside-unplayed_count.new.self) (sent both.new.to_play) _ unplayed.looked.1 unplayed.producer.1 unplayed.fifo in
+    let wrote = rw c.in_ok-wrote.was at both.ensures.wrote in
+    let ahead = rw c.in_ok-wrote.was at both.ensures.ahead in
+    let played = rw c.in_default.is at both.ensures.played in
+    let done = written_all _ _ _ (sent both.new.to_write) (received both.new.unwritten) (known_items c.slots_beside-unwritten_count.new.self) told wrote c.in_ok-write_rest.ensures.ok in
+    let rests = rests_on c.args.run.now both.new.run c.args.pending.now (sent both.new.to_play) (received both.new.unplayed) (known_items c.slots_beside-unplayed_count.new.self) (sent both.new.to_write) both.new.pending _ _ _ _ ahead all played done in
+    IfErr-weaker c.play_rest.result _ _ (λ e h. record { whole = rests.whole; reads = rests.reads; stops = h c.args.run.now rests.whole both.new.pending (g.W.Write.contents c.args.writer.now) rests.turn }) c.play_rest.ensures.err

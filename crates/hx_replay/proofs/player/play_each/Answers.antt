@@ -4,7 +4,7 @@ use Rattle.hx_replay.specs.Text.{Entry, line}
 use Rattle.hx_replay.specs.Run.{Progress, Faults}
 use Rattle.hx_replay.specs.Ahead.{PlaysAll}
 use Rattle.hx_replay.proofs.Turning.{entry_at, plays_none, plays_one, fails_without_memory, played_count, plays_few, plays_whole}
-use Rattle.hx_replay.proofs.turns.play_each.Goals as goal
+use Rattle.hx_replay.proofs.player.play_each.Goals as goal
 
 pub loop-event-init : goal.loop-event-init
 loop-event-init g c = λ es are. plays_none c.args.run.now (c.args.telling.now ++ c.args.recent.now) (rw (c.requires.telling, c.requires.recent) refl)

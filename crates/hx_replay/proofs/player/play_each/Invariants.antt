@@ -1,7 +1,7 @@
 use Rattle.std.proofs.Common.{List, ◌++◌, take}
 use Rattle.hx_replay.specs.Text.{Entry}
 use Rattle.hx_replay.specs.Ahead.{AreOf, PlaysAll}
-use Rattle.hx_replay.proofs.turns.play_each.Given as goal
+use Rattle.hx_replay.proofs.player.play_each.Given as goal
 
 abbrev pub invariant-loop-event : goal.invariant-loop-event
 invariant-loop-event g l =

@@ -1,7 +1,7 @@
 use Rattle.std.proofs.lemmas.Result.{err_from_is_err_and}
 use Rattle.hx_members.proofs.BadLines.{some_there}
 use Rattle.hx_replay.proofs.Turning.{fails_without_memory}
-use Rattle.hx_replay.proofs.turns.play_all.Goals as goal
+use Rattle.hx_replay.proofs.player.play_all.Goals as goal
 
 pub returns-in_err-take_all-clause-err : goal.returns-in_err-take_all-clause-err
 returns-in_err-take_all-clause-err g c =
