@@ -1,7 +1,6 @@
 -- Turns that come told and are sent on with the next lines.
-use Rattle.std.proofs.Common.{◌≡◌, ℕ, ◌+◌, ◌^◌, ◌≤◌, ◌<◌, Bool, false, true≢false, ◌↔◌, IsTrue, List, [], ◌∷◌, ◌++◌, length, Option, Result, Ok, Err, OnOk, OnErr, refl, sym, ap, ◌∙◌, subst, append_assoc, arith}
-use Rattle.std.specs.Io.KnownBytes.{Appends}
-use Rattle.std.proofs.KnownBytes.{Appends-nil, Appends-trans}
+use Rattle.std.proofs.Common.{◌≡◌, ℕ, ◌^◌, ◌≤◌, ◌<◌, Bool, false, true≢false, ◌↔◌, IsTrue, List, [], ◌∷◌, ◌++◌, length, Option, Result, Ok, Err, OnOk, OnErr, refl, sym, ap, ◌∙◌, subst, append_assoc, arith}
+use Rattle.std.proofs.KnownBytes.{Appends-nil}
 use Rattle.std.proofs.lemmas.List.{append-nil, length-append, nil_from_length}
 use Rattle.hx_rules.specs.declared.event.Event.{Event}
 use Rattle.hx_replay.specs.declared.turn.Turn.{Turn}
@@ -9,6 +8,7 @@ use Rattle.hx_replay.specs.Run.{Writes}
 use Rattle.hx_replay.specs.Ahead.{TakesLines, ReadsOn, ReadsAhead, most_reads}
 use Rattle.hx_replay.specs.Turns.{events_of, told_of, MayFollow}
 use Rattle.hx_replay.proofs.TurnLists.{events_with, told_with}
+use Rattle.hx_replay.proofs.Spelled.{writes_then}
 use Rattle.hx_replay.proofs.Reading.{ahead_none, ahead_then}
 use Rattle.hx_replay.proofs.ReadingOn.{reads_none, reads_less, reads_more, ahead_on}
 use Rattle.hx_replay.proofs.Turning.{ahead_shorter}
@@ -20,35 +20,25 @@ pub events_same : (turns more : List Turn) (t : Turn) → more ≡ turns ++ t �
 events_same turns more t is none =
     ap (λ (l : List Turn). events_of l) is ∙ events_with turns t ∙ ap (λ (l : List Event). events_of turns ++ l) none ∙ append-nil (events_of turns)
 
--- ---- what is written
+-- ---- what is written, but for what is spelled and waits
 
-pub writes_first : (w : Option (List ℕ)) (turns : List Turn) → turns ≡ [] → Appends w w (told_of turns)
-writes_first w turns none = subst (λ (l : List Turn). Appends w w (told_of l)) (sym none) (Appends-nil w)
+pub writes_first : (w : Option (List ℕ)) (turns : List Turn) (spelled : List ℕ) → turns ≡ [] → spelled ≡ [] → Writes w w (told_of turns) spelled
+writes_first w turns spelled none empty = record { front = []; bytes_are = ap (λ (l : List Turn). told_of l) none ∙ sym empty; wrote = Appends-nil w }
 
 -- no turn comes
-pub writes_same : (w v : Option (List ℕ)) (turns more : List Turn) → more ≡ turns → Appends w v (told_of turns) → Appends w v (told_of more)
-writes_same w v turns more is wrote = subst (λ (l : List Turn). Appends w v (told_of l)) (sym is) wrote
+pub writes_same : (w v : Option (List ℕ)) (turns more : List Turn) (spelled : List ℕ) → more ≡ turns → Writes w v (told_of turns) spelled → Writes w v (told_of more) spelled
+writes_same w v turns more spelled is wrote = subst (λ (l : List Turn). Writes w v (told_of l) spelled) (sym is) wrote
 
--- what another turn tells is written
-pub writes_turn : (w v u : Option (List ℕ)) (turns more : List Turn) (t : Turn) → more ≡ turns ++ t ∷ [] → Appends w v (told_of turns) → Appends v u t.told → Appends w u (told_of more)
-writes_turn w v u turns more t is wrote told =
-    let same : told_of turns ++ t.told ≡ told_of more = sym (told_with turns t) ∙ ap (λ (l : List Turn). told_of l) (sym is) in
-    subst (Appends w u) same (Appends-trans w v u (told_of turns) t.told wrote told)
-
--- a front of it is written
-pub writes_in_turn : (w v u : Option (List ℕ)) (turns more : List Turn) (t : Turn) → more ≡ turns ++ t ∷ [] → Appends w v (told_of turns) → ((rest : List ℕ) × Writes v u t.told rest) → (rest : List ℕ) × Writes w u (told_of more) rest
-writes_in_turn w v u turns more t is wrote some = (
-  some.0,
-  record {
-    front = told_of turns ++ some.1.front;
-    bytes_are = ap (λ (l : List Turn). told_of l) is ∙ told_with turns t ∙ ap (λ (l : List ℕ). told_of turns ++ l) some.1.bytes_are ∙ sym (append_assoc (told_of turns) some.1.front some.0);
-    wrote = Appends-trans w v u (told_of turns) some.1.front wrote some.1.wrote;
-  },
-)
-
--- nothing is left
-pub writes_whole : (w v : Option (List ℕ)) (bytes : List ℕ) → Appends w v bytes → (rest : List ℕ) × Writes w v bytes rest
-writes_whole w v bytes wrote = ([], record { front = bytes; bytes_are = sym (append-nil bytes); wrote = wrote })
+-- what another turn tells is spelled behind it, and some of both is written
+pub writes_turn : (w v u : Option (List ℕ)) (turns more : List Turn) (t : Turn) (spelled rest : List ℕ) → more ≡ turns ++ t ∷ [] → Writes w v (told_of turns) spelled → Writes v u (spelled ++ t.told) rest → Writes w u (told_of more) rest
+writes_turn w v u turns more t spelled rest is wrote told =
+    let same : told_of more ≡ told_of turns ++ t.told = ap (λ (l : List Turn). told_of l) is ∙ told_with turns t in
+    let both : Writes w v (told_of turns ++ t.told) (spelled ++ t.told) = record {
+      front = wrote.front;
+      bytes_are = ap (λ (l : List ℕ). l ++ t.told) wrote.bytes_are ∙ append_assoc wrote.front spelled t.told;
+      wrote = wrote.wrote;
+    } in
+    subst (λ (l : List ℕ). Writes w u l rest) (sym same) (writes_then w v u (told_of turns ++ t.told) (spelled ++ t.told) rest both told)
 
 -- ---- what is read
 
@@ -121,15 +111,6 @@ may_follow text turns turn rest rest' r s t after last fits h k =
 -- a turn without lines may always follow
 pub may_follow_last : (turns : List Turn) (turn : Turn) → turn.ahead ≡ [] → length (events_of turns) ≤ 2 ^ 45 → MayFollow turns turn
 may_follow_last turns turn none few = record { entries = []; are = record { are_known = tt; events_are = none }; few = omega (arith, few, ap length none) }
-
--- the last turn has none
-pub sent_last : {A E : Type 0} (result : Result A E) (text : List ℕ) (old new : List Event) (rest : List ℕ) (r s : Option (List ℕ)) → new ≡ old → OnOk result (ReadsAhead text old rest r s most_reads 0)
-    → OnOk result (ReadsAhead text new rest r s most_reads 0)
-sent_last result text old new rest r s same h = subst (λ (l : List Event). OnOk result (ReadsAhead text l rest r s most_reads 0)) (sym same) h
-
-pub sent_last_or : {A E : Type 0} (result : Result A E) (text : List ℕ) (old new : List Event) (r s : Option (List ℕ)) → new ≡ old → OnErr result ((rest : List ℕ) × ReadsAhead text old rest r s most_reads 0)
-    → OnErr result ((rest : List ℕ) × ReadsAhead text new rest r s most_reads 0)
-sent_last_or result text old new r s same h = subst (λ (l : List Event). OnErr result ((rest : List ℕ) × ReadsAhead text l rest r s most_reads 0)) (sym same) h
 
 -- a ring that is not full
 pub has_room : (full : Bool) (free : ℕ) → (IsTrue full ↔ (free ≡ 0)) → full ≡ false → 0 < free

@@ -1,6 +1,6 @@
 -- Turns, once both threads have ended.
 use Rattle.std.specs.Prelude.{IfErr}
-use Rattle.std.proofs.Common.{◌≡◌, ℕ, ◌+◌, ◌*◌, ◌^◌, ◌<◌, ◌≤◌, Result, Ok, Err, OnOk, OnErr, List, [], ◌∷◌, ◌++◌, map, length, Option, refl, sym, ap, ◌∙◌, subst, append_assoc, arith}
+use Rattle.std.proofs.Common.{◌≡◌, ℕ, ◌+◌, ◌*◌, ◌≤◌, Result, Ok, Err, OnOk, OnErr, List, [], ◌∷◌, ◌++◌, length, Option, refl, sym, ap, ◌∙◌, subst, append_assoc, arith}
 use Rattle.std.specs.Io.KnownBytes.{Appends}
 use Rattle.std.proofs.KnownBytes.{Appends-nil, Appends-trans}
 use Rattle.std.proofs.lemmas.List.{append-nil, length-append, length-map}
@@ -10,9 +10,9 @@ use Rattle.hx_replay.specs.declared.fault.TapeError.TheVariants as fault
 use Rattle.hx_replay.specs.declared.turn.Turn.{Turn}
 use Rattle.hx_replay.specs.Text.{Entry}
 use Rattle.hx_replay.specs.Run.{Progress, event_of, tape, output_all, Replays, Stops, Writes, IsFew}
-use Rattle.hx_replay.specs.Ahead.{AreOf, IsAhead, Gathers, PlaysAll, FailsAmong, IsAtTurn, IsUnwritten, ReadsOn, ReadsAhead, PlaysOn, StopsOn, most_reads}
+use Rattle.hx_replay.specs.Ahead.{AreOf, IsAhead, PlaysAll, FailsAmong, IsAtTurn, IsUnwritten, ReadsOn, ReadsAhead, PlaysOn, StopsOn, most_reads}
 use Rattle.hx_replay.specs.Turns.{events_of, told_of, PlaysTurns, FailsInTurns}
-use Rattle.hx_replay.proofs.TurnLists.{events_append, told_append, in_parts}
+use Rattle.hx_replay.proofs.TurnLists.{events_append, told_append, told_with, in_parts}
 use Rattle.hx_replay.proofs.Runs.{tape-append, events_counted, stops_without_memory}
 use Rattle.hx_replay.proofs.Gathering.{all_written, stops_gathering}
 use Rattle.hx_replay.proofs.Turning.{AtFault, at_fault, plays_few, turned, at_turn_last, at_turn_counts}
@@ -126,6 +126,21 @@ stops_writing c text sent played left told rest r s w v e h all some wrote is =
       reads = h.reads;
       stops = stops_gathering c some.at h.whole w w v (told_of told) t.pending e t.gathers wrote is;
     }
+
+-- what one turn more told is written
+pub written_one : (w v u : Option (List ℕ)) (turns : List Turn) (t : Turn) → Appends w v (told_of turns) → Appends v u t.told → Appends w u (told_of (turns ++ t ∷ []))
+written_one w v u turns t wrote told = subst (Appends w u) (sym (told_with turns t)) (Appends-trans w v u (told_of turns) t.told wrote told)
+
+-- a front of it is written
+pub written_in_one : (w v u : Option (List ℕ)) (turns : List Turn) (t : Turn) (rest : List ℕ) → Appends w v (told_of turns) → Writes v u t.told rest → (rest : List ℕ) × Writes w u (told_of (turns ++ t ∷ [])) rest
+written_in_one w v u turns t rest wrote some = (
+  rest,
+  record {
+    front = told_of turns ++ some.front;
+    bytes_are = told_with turns t ∙ ap (λ (l : List ℕ). told_of turns ++ l) some.bytes_are ∙ sym (append_assoc (told_of turns) some.front rest);
+    wrote = Appends-trans w v u (told_of turns) some.front wrote some.wrote;
+  },
+)
 
 -- more than was written is left
 pub writes_longer : (w v : Option (List ℕ)) (all written left : List Turn) → written ++ left ≡ all → ((rest : List ℕ) × Writes w v (told_of written) rest) → (rest : List ℕ) × Writes w v (told_of all) rest

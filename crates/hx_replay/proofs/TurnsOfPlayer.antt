@@ -1,5 +1,5 @@
 -- Turns that come to the thread that plays.
-use Rattle.std.proofs.Common.{◌≡◌, ℕ, ◌+◌, ◌^◌, ◌≤◌, List, [], ◌∷◌, ◌++◌, map, length, get_or, refl, sym, ap, ◌∙◌, subst, arith}
+use Rattle.std.proofs.Common.{◌≡◌, ℕ, ◌+◌, ◌^◌, ◌≤◌, List, [], ◌∷◌, ◌++◌, length, sym, ap, ◌∙◌, subst, arith}
 use Rattle.std.proofs.lemmas.List.{append-nil, length-append, length-map, nil_from_length}
 use Rattle.hx_rules.specs.declared.event.Event.{Event}
 use Rattle.hx_replay.specs.declared.turn.Turn.{Turn}
@@ -7,7 +7,7 @@ use Rattle.hx_replay.specs.Text.{Entry}
 use Rattle.hx_replay.specs.Run.{Progress, event_of, after_all, output_all, AreEvents, IsFew}
 use Rattle.hx_replay.specs.Ahead.{AreOf, PlaysAll}
 use Rattle.hx_replay.specs.Turns.{events_of, told_of, MayFollow, PlaysTurns}
-use Rattle.hx_replay.proofs.TurnLists.{events_with, told_with, are_joined, InParts, in_parts}
+use Rattle.hx_replay.proofs.TurnLists.{events_with, told_with, are_joined, in_parts}
 use Rattle.hx_replay.proofs.Runs.{after-append, output-append, events-append, events_counted}
 use Rattle.hx_replay.proofs.Turning.{plays_none, plays_few}
 

@@ -26,7 +26,8 @@ pub record MayFollow (before : List Turn) (turn : Turn) : Type 0 where
 -- the events of these turns were played, and what these others tell is their output text
 abbrev pub PlaysTurns : Progress → Progress → List Turn → List Turn → Type 0
 PlaysTurns old new played told =
-    (entries : List Entry) → AreOf entries (events_of played) → PlaysAll old new entries (told_of told)
+    (entries : List Entry) → AreOf entries (events_of played)
+    → PlaysAll old new entries (told_of told)
 
 -- The turns before the last one were played so; of the last one, the events before one that fails were played, and but
 -- for want of memory this is their output text.

@@ -53,6 +53,29 @@ fn spell_next<'a>(
     }
 }
 
+/// Spells the lines of output behind those that wait, and writes them where they are many. Where it fails, a front of them
+/// was written.
+pub fn spell_told<W: Write>(
+    told: &Messages,
+    lines: &mut Lines,
+    writer: &mut W,
+) -> Result<(), TapeError>
+    ensures ok { OnOk result (Writes
+        (W.contents writer.old) (W.contents writer.new) (lines.old ++ told.now) lines.new) }
+    ensures err { OnErr result ((rest : List ℕ) × Writes
+        (W.contents writer.old) (W.contents writer.new) (lines.old ++ told.now) rest) }
+    ensures fault { IfErr result IsUnwritten }
+{
+    let (marks, mut feed, mut replies) = told.parts();
+    for mark in marks {
+        let left = spell_next(mark, feed, replies, lines)?;
+        feed = left.0;
+        replies = left.1;
+        write_many(writer, lines)?;
+    }
+    Ok(())
+}
+
 /// Spells the lines of output, and writes them. Where it fails, a front of them was written.
 pub fn write_told<W: Write>(
     told: &Messages,
@@ -66,13 +89,7 @@ pub fn write_told<W: Write>(
     ensures fault { IfErr result IsUnwritten }
 {
     lines.clear();
-    let (marks, mut feed, mut replies) = told.parts();
-    for mark in marks {
-        let left = spell_next(mark, feed, replies, lines)?;
-        feed = left.0;
-        replies = left.1;
-        write_many(writer, lines)?;
-    }
+    spell_told(told, lines, writer)?;
     write_whole(writer, lines.text())?;
     Ok(())
 }

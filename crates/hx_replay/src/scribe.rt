@@ -1,14 +1,15 @@
 //! The thread that writes and reads: what turns that come told is written, and they are sent on with the next lines.
-ghost use Rattle.std.specs.Prelude.{◌≡◌, ◌≤◌, [], ℕ, List, OnOk, OnErr, IfErr, length};
+ghost use Rattle.std.specs.Prelude.{◌≡◌, ◌≤◌, ◌^◌, [], ℕ, List, OnOk, OnErr, IfErr, length};
 ghost use Rattle.std.specs.Io.KnownBytes.{Appends};
 ghost use Rattle.rtrb.specs.Ring.{received, sent, SameConsumer, SameProducer};
 ghost use Rattle.hx_replay.specs.Run.{Writes};
 ghost use Rattle.hx_replay.specs.Ahead.{ReadsAhead, IsUnwritten, most_reads};
 ghost use Rattle.hx_replay.specs.Turns.{events_of, told_of};
 
-use crate::delivery::write_told;
+use crate::delivery::spell_told;
 use crate::fault::TapeError;
 use crate::pending::Pending;
+use crate::replaying::write_whole;
 use crate::telling::Lines;
 use crate::turn::{OfLines, TURNS, Turn, wait_next};
 use rtrb::{Consumer, Producer};
@@ -21,8 +22,8 @@ const READS: u64 = 1_000_000;
 // So many turns come at most: more than are ever read.
 const MANY: u64 = 1_000_000_000_000;
 
-// Writes what turns that come told, and sends them on with the next lines, until there are no more lines and all turns are
-// back, or none comes for long. Those that are back are kept.
+// Spells what turns that come told, writes it where it is much, and sends them on with the next lines, until there are no
+// more lines and all turns are back, or none comes for long. Those that are back are kept.
 fn write_each<R: Read, W: Write>(
     alloc: Global,
     spelled: &mut Lines,
@@ -34,12 +35,14 @@ fn write_each<R: Read, W: Write>(
     going: &mut Producer<Turn, Global, OfLines>,
 ) -> Result<(), TapeError>
     requires fits { length pending.old ≤ 16777216 }
+    requires spelled { spelled.old ≡ [] }
     requires none { received coming.old ≡ [] }
     requires first { sent going.old ≡ [] }
     ensures coming { SameConsumer coming.old coming.new }
     ensures going { SameProducer going.old going.new }
-    ensures wrote { OnOk result (Appends
-        (W.contents writer.old) (W.contents writer.new) (told_of (received coming.new))) }
+    ensures wrote { OnOk result (Writes
+        (W.contents writer.old) (W.contents writer.new)
+        (told_of (received coming.new)) spelled.new) }
     ensures ahead { OnOk result (ReadsAhead
         pending.old (events_of (sent going.new)) pending.new
         (R.remaining reader.old) (R.remaining reader.new) most_reads 0) }
@@ -56,7 +59,7 @@ fn write_each<R: Read, W: Write>(
         let Some(mut turn) = wait_next(coming, going) else {
             return Ok(());
         };
-        write_told(&turn.told, spelled, writer)?;
+        spell_told(&turn.told, spelled, writer)?;
         left = turn.ahead.read(alloc, pending, reader, left)?;
         if turn.ahead.is_empty() {
             kept.push(turn)?;
@@ -69,6 +72,17 @@ fn write_each<R: Read, W: Write>(
         }
     }
     Ok(())
+}
+
+// Sends a turn without lines, behind which none comes, where there is room for it.
+fn send_last(alloc: Global, going: &mut Producer<Turn, Global, OfLines>)
+    requires { length (events_of (sent going.old)) ≤ 2 ^ 45 }
+    ensures going { SameProducer going.old going.new }
+    ensures events { events_of (sent going.new) ≡ events_of (sent going.old) }
+{
+    if !going.is_full() {
+        going.push_reserved(Turn::new(alloc));
+    }
 }
 
 /// Writes what turns that come told, and sends them on with the next lines, until there are no more lines and all turns are
@@ -100,9 +114,10 @@ pub(crate) fn write_coming<R: Read, W: Write>(
         (R.remaining reader.old) (R.remaining reader.new) most_reads 0) }
     ensures fault { IfErr result IsUnwritten }
 {
+    spelled.clear();
     let wrote = write_each(alloc, spelled, writer, pending, reader, kept, coming, going);
-    if !going.is_full() {
-        going.push_reserved(Turn::new(alloc));
-    }
-    wrote
+    send_last(alloc, going);
+    wrote?;
+    write_whole(writer, spelled.text())?;
+    Ok(())
 }

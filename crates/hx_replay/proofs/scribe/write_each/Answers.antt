@@ -2,7 +2,7 @@ use Rattle.std.proofs.Common.{refl}
 use Rattle.std.proofs.lemmas.Result.{err_from_is_err_and}
 use Rattle.rtrb.specs.Ring.{sent}
 use Rattle.hx_replay.proofs.TurnLists.{same_consumer_on, same_producer_on}
-use Rattle.hx_replay.proofs.Sending.{writes_first, writes_same, writes_turn, writes_in_turn, writes_whole, sent_first, sent_same, sent_turn, sent_all, reads_ahead_less, reads_behind, may_follow}
+use Rattle.hx_replay.proofs.Sending.{writes_first, writes_same, writes_turn, sent_first, sent_same, sent_turn, sent_all, reads_ahead_less, reads_behind, may_follow}
 use Rattle.hx_replay.proofs.scribe.write_each.Goals.{then-is_empty+in_ok-push+else-out-eq0, else-is_empty}
 use Rattle.hx_replay.proofs.scribe.write_each.Goals as goal
 
@@ -10,7 +10,7 @@ pub loop-init : goal.loop-init
 loop-init g c = record {
   coming = ((refl, refl, refl, refl), refl);
   going = ((refl, refl, refl, refl), refl);
-  wrote = writes_first _ _ c.requires.none;
+  wrote = writes_first _ _ _ c.requires.none c.requires.spelled;
   ahead = sent_first _ _ _ _ c.requires.first;
 }
 
@@ -21,25 +21,25 @@ pub returns-in_default-clause-going : goal.returns-in_default-clause-going
 returns-in_default-clause-going g c = same_producer_on c.args.going.now c.loop.going c.wait_next.new.going c.loop.invariant.going c.wait_next.ensures.going.0
 
 pub returns-in_default-clause-wrote : goal.returns-in_default-clause-wrote
-returns-in_default-clause-wrote g c = writes_same _ _ _ _ c.in_default.ensures.none c.loop.invariant.wrote
+returns-in_default-clause-wrote g c = writes_same _ _ _ _ c.loop.spelled c.in_default.ensures.none c.loop.invariant.wrote
 
 pub returns-in_default-clause-ahead : goal.returns-in_default-clause-ahead
 returns-in_default-clause-ahead g c =
     reads_ahead_less _ _ _ _ _ _ c.loop.left (sent_same _ _ _ _ _ _ _ _ c.wait_next.ensures.going.1 c.loop.invariant.ahead)
 
-pub returns-in_err-write_told-clause-coming : goal.returns-in_err-write_told-clause-coming
-returns-in_err-write_told-clause-coming g c = same_consumer_on c.args.coming.now c.loop.coming c.wait_next.new.coming c.loop.invariant.coming c.wait_next.ensures.coming
+pub returns-in_err-spell_told-clause-coming : goal.returns-in_err-spell_told-clause-coming
+returns-in_err-spell_told-clause-coming g c = same_consumer_on c.args.coming.now c.loop.coming c.wait_next.new.coming c.loop.invariant.coming c.wait_next.ensures.coming
 
-pub returns-in_err-write_told-clause-going : goal.returns-in_err-write_told-clause-going
-returns-in_err-write_told-clause-going g c = same_producer_on c.args.going.now c.loop.going c.wait_next.new.going c.loop.invariant.going c.wait_next.ensures.going.0
+pub returns-in_err-spell_told-clause-going : goal.returns-in_err-spell_told-clause-going
+returns-in_err-spell_told-clause-going g c = same_producer_on c.args.going.now c.loop.going c.wait_next.new.going c.loop.invariant.going c.wait_next.ensures.going.0
 
-pub returns-in_err-write_told-clause-err : goal.returns-in_err-write_told-clause-err
-returns-in_err-write_told-clause-err g c =
+pub returns-in_err-spell_told-clause-err : goal.returns-in_err-spell_told-clause-err
+returns-in_err-spell_told-clause-err g c =
     let p = err_from_is_err_and c.from_residual.result c.from_residual.ensures.1 in
-    rw p.1 (writes_in_turn _ _ _ _ _ c.in-Some.turn c.in-Some.ensures.some.0 c.loop.invariant.wrote c.in_err-write_told.ensures.err)
+    rw p.1 (c.in_err-spell_told.ensures.err.0, writes_turn _ _ _ _ _ c.in-Some.turn _ c.in_err-spell_told.ensures.err.0 c.in-Some.ensures.some.0 c.loop.invariant.wrote c.in_err-spell_told.ensures.err.1)
 
-pub returns-in_err-write_told-clause-read : goal.returns-in_err-write_told-clause-read
-returns-in_err-write_told-clause-read g c =
+pub returns-in_err-spell_told-clause-read : goal.returns-in_err-spell_told-clause-read
+returns-in_err-spell_told-clause-read g c =
     let p = err_from_is_err_and c.from_residual.result c.from_residual.ensures.1 in
     rw p.1 (c.loop.pending, reads_ahead_less _ _ _ _ _ _ c.loop.left (sent_same _ _ _ _ _ _ _ _ c.wait_next.ensures.going.1 c.loop.invariant.ahead))
 
@@ -52,7 +52,7 @@ returns-in_err-left-clause-going g c = same_producer_on c.args.going.now c.loop.
 pub returns-in_err-left-clause-err : goal.returns-in_err-left-clause-err
 returns-in_err-left-clause-err g c =
     let p = err_from_is_err_and c.from_residual-in_err-left.result c.from_residual-in_err-left.ensures.1 in
-    rw p.1 (writes_whole _ _ _ (writes_turn _ _ _ _ _ c.in-Some.turn c.in-Some.ensures.some.0 c.loop.invariant.wrote c.in_ok-write_told.ensures.ok))
+    rw p.1 (c.spell_told.new.lines, writes_turn _ _ _ _ _ c.in-Some.turn _ c.spell_told.new.lines c.in-Some.ensures.some.0 c.loop.invariant.wrote c.in_ok-spell_told.ensures.ok)
 
 pub returns-in_err-left-clause-read : goal.returns-in_err-left-clause-read
 returns-in_err-left-clause-read g c =
@@ -70,7 +70,7 @@ returns-in_err-push-clause-going g c = same_producer_on c.args.going.now c.loop.
 pub returns-in_err-push-clause-err : goal.returns-in_err-push-clause-err
 returns-in_err-push-clause-err g c =
     let p = err_from_is_err_and c.from_residual-in_err-push.result c.from_residual-in_err-push.ensures.1 in
-    rw p.1 (writes_whole _ _ _ (writes_turn _ _ _ _ _ c.in-Some.turn c.in-Some.ensures.some.0 c.loop.invariant.wrote c.in_ok-write_told.ensures.ok))
+    rw p.1 (c.spell_told.new.lines, writes_turn _ _ _ _ _ c.in-Some.turn _ c.spell_told.new.lines c.in-Some.ensures.some.0 c.loop.invariant.wrote c.in_ok-spell_told.ensures.ok)
 
 pub returns-in_err-push-clause-read : goal.returns-in_err-push-clause-read
 returns-in_err-push-clause-read g c =
@@ -86,7 +86,7 @@ pub returns-then-out-eq0-clause-going : goal.returns-then-out-eq0-clause-going
 returns-then-out-eq0-clause-going g c = same_producer_on c.args.going.now c.loop.going c.wait_next.new.going c.loop.invariant.going c.wait_next.ensures.going.0
 
 pub returns-then-out-eq0-clause-wrote : goal.returns-then-out-eq0-clause-wrote
-returns-then-out-eq0-clause-wrote g c = writes_turn _ _ _ _ _ c.in-Some.turn c.in-Some.ensures.some.0 c.loop.invariant.wrote c.in_ok-write_told.ensures.ok
+returns-then-out-eq0-clause-wrote g c = writes_turn _ _ _ _ _ c.in-Some.turn _ c.spell_told.new.lines c.in-Some.ensures.some.0 c.loop.invariant.wrote c.in_ok-spell_told.ensures.ok
 
 pub returns-then-out-eq0-clause-ahead : goal.returns-then-out-eq0-clause-ahead
 returns-then-out-eq0-clause-ahead g c =
@@ -103,7 +103,7 @@ pub loop-preserved : goal.loop-preserved
 loop-preserved g c =
     let coming = same_consumer_on c.args.coming.now c.loop.coming c.wait_next.new.coming c.loop.invariant.coming c.wait_next.ensures.coming in
     let going = same_producer_on c.args.going.now c.loop.going c.wait_next.new.going c.loop.invariant.going c.wait_next.ensures.going.0 in
-    let wrote = writes_turn _ _ _ _ _ c.in-Some.turn c.in-Some.ensures.some.0 c.loop.invariant.wrote c.in_ok-write_told.ensures.ok in
+    let wrote = writes_turn _ _ _ _ _ c.in-Some.turn _ c.spell_told.new.lines c.in-Some.ensures.some.0 c.loop.invariant.wrote c.in_ok-spell_told.ensures.ok in
     let here = sent_same _ _ _ _ _ _ _ _ c.wait_next.ensures.going.1 c.loop.invariant.ahead in
     elim c.if-is_empty.branch [
       | then-is_empty+in_ok-push+else-out-eq0 w ↦ rw w.going-is (record {

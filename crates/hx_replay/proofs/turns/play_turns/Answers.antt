@@ -1,7 +1,6 @@
-use Rattle.std.proofs.Common.{List, ◌++◌, sym, ap, ◌∙◌, arith}
+use Rattle.std.proofs.Common.{arith}
 use Rattle.std.proofs.lemmas.Result.{err_from_is_err_and, on_ok_weaker, IfErr-weaker}
 use Rattle.rtrb.specs.Ring.{received, known_items, sent}
-use Rattle.hx_replay.specs.declared.turn.Turn.{Turn}
 use Rattle.hx_replay.specs.Ahead.{most_reads}
 use Rattle.hx_replay.proofs.ReadingOn.{reads_none, stops_on_without_memory}
 use Rattle.hx_replay.proofs.TurnEnds.{plays_some, stops_writing, writes_longer, writes_behind, written_all, fails_on, rests_on, rests_counts, plays_on_last, all_sent}

@@ -1,9 +1,9 @@
-use Rattle.std.proofs.Common.{List, [], ◌∷◌, ◌++◌, length, refl, ap, arith}
+use Rattle.std.proofs.Common.{List, [], ◌∷◌, ◌++◌, length, ap, arith}
 use Rattle.std.proofs.lemmas.Result.{err_from_is_err_and}
 use Rattle.rtrb.specs.Ring.{known_items}
 use Rattle.hx_replay.specs.declared.turn.Turn.{Turn}
-use Rattle.hx_replay.proofs.Sending.{writes_turn, writes_in_turn, writes_whole}
-use Rattle.hx_replay.proofs.TurnEnds.{writes_longer, one_less}
+use Rattle.hx_replay.proofs.Spelled.{writes_from}
+use Rattle.hx_replay.proofs.TurnEnds.{writes_longer, written_one, written_in_one, one_less}
 use Rattle.hx_replay.proofs.turns.write_rest.Goals as goal
 
 pub returns-in_err-write_told-clause-err : goal.returns-in_err-write_told-clause-err
@@ -14,7 +14,7 @@ returns-in_err-write_told-clause-err g c =
     let others : List Turn = known_items c.pop_known-turn.new.self in
     let all : List Turn = known_items c.args.unwritten.now in
     let one = one_less all written (known_items c.loop.unwritten) turn others c.pop_known-turn.ensures.received.1 c.loop.invariant.1.1 in
-    rw p.1 (writes_longer _ _ all (written ++ turn ∷ []) others one (writes_in_turn _ _ _ written (written ++ turn ∷ []) turn refl c.loop.invariant.1.2 c.in_err-write_told.ensures.err))
+    rw p.1 (writes_longer _ _ all (written ++ turn ∷ []) others one (written_in_one _ _ _ written turn c.in_err-write_told.ensures.err.0 c.loop.invariant.1.2 c.in_err-write_told.ensures.err.1))
 
 pub returns-in_err-push-clause-err : goal.returns-in_err-push-clause-err
 returns-in_err-push-clause-err g c =
@@ -24,7 +24,7 @@ returns-in_err-push-clause-err g c =
     let others : List Turn = known_items c.pop_known-turn.new.self in
     let all : List Turn = known_items c.args.unwritten.now in
     let one = one_less all written (known_items c.loop.unwritten) turn others c.pop_known-turn.ensures.received.1 c.loop.invariant.1.1 in
-    rw p.1 (writes_longer _ _ all (written ++ turn ∷ []) others one (writes_whole _ _ _ (writes_turn _ _ _ written (written ++ turn ∷ []) turn refl c.loop.invariant.1.2 c.in_ok-write_told.ensures.ok)))
+    rw p.1 (writes_longer _ _ all (written ++ turn ∷ []) others one ([], writes_from _ _ _ (written_one _ _ _ written turn c.loop.invariant.1.2 c.in_ok-write_told.ensures.ok)))
 
 pub loop-preserved : goal.loop-preserved
 loop-preserved g c =
@@ -36,6 +36,6 @@ loop-preserved g c =
       (
         written ++ turn ∷ [],
         one_less (known_items c.args.unwritten.now) written (known_items c.loop.unwritten) turn others popped c.loop.invariant.1.1,
-        writes_turn _ _ _ written (written ++ turn ∷ []) turn refl c.loop.invariant.1.2 c.in_ok-write_told.ensures.ok,
+        written_one _ _ _ written turn c.loop.invariant.1.2 c.in_ok-write_told.ensures.ok,
       ),
     )
