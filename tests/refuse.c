@@ -1,10 +1,12 @@
 // Stands before the C library of a program (LD_PRELOAD) and lets one call go wrong: the REFUSE_AT-th of its allocations
-// (REFUSE_WHAT=alloc), of its reads (read), or of its writes but those to standard error (write). An allocation answers
-// that there is no memory. A read or write fails with the number REFUSE_AS, or where that is `none` gives or takes
+// (REFUSE_WHAT=alloc), of its threads (thread), of its reads (read), or of its writes but those to standard error (write).
+// An allocation answers that there is no memory, a thread is not started. A read or write fails with the number REFUSE_AS, or where that is `none` gives or takes
 // nothing, or where it is `short` moves one byte. Once that call is made there is a file REFUSE_TOLD.
 #define _GNU_SOURCE
+#include <dlfcn.h>
 #include <errno.h>
 #include <fcntl.h>
+#include <pthread.h>
 #include <stdatomic.h>
 #include <stddef.h>
 #include <stdlib.h>
@@ -67,6 +69,11 @@ int posix_memalign(void **place, size_t align, size_t size) {
         return ENOMEM;
     *place = __libc_memalign(align, size);
     return *place ? 0 : ENOMEM;
+}
+
+int pthread_create(pthread_t *thread, const pthread_attr_t *how, void *(*start)(void *), void *given) {
+    int (*create)(pthread_t *, const pthread_attr_t *, void *(*)(void *), void *) = dlsym(RTLD_NEXT, "pthread_create");
+    return is_refused("thread") ? EAGAIN : create(thread, how, start, given);
 }
 
 // What a call that goes wrong answers, where it does not move one byte.

@@ -69,3 +69,13 @@ TWO_END_AT_ONE_TICK = tape(
     (20, 1, enter('T1', 'B', 70, 'ABCD', 100_000, 2)),
     (30, 2, cancel('H1', 60)),
     (2_000_000_020, 0, b'K'))
+
+
+def day_in_turns(rounds):
+    """More lines than a pipe holds: each round a buy that rests, a sell that takes a part of it, and a hidden buy."""
+    events = []
+    for i in range(rounds):
+        events += [(10 * i, 1, enter('B%d' % i, 'B', 100, 'ABCD', 100_000)),
+                   (10 * i + 1, 2, enter('S%d' % i, 'S', 40, 'ABCD', 100_000, NOW, 'N')),
+                   (10 * i + 2, 3, enter('H%d' % i, 'B', 100, 'ABCD', 99_900, display='N'))]
+    return tape(*events)
