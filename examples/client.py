@@ -1,9 +1,9 @@
 #!/usr/bin/env python3
 """A member and a vendor of `hx_tape serve`, with nothing but Python's standard library.
 
-One terminal serves a day of two sessions, with the operator's lines typed in or at its end (Control-D):
+One terminal serves an open day, whose end is the end of the operator's lines (Control-D):
 
-    ./hx_tape serve --port 9001 --feed 9002 --requests 9003 --sessions 2 --setup examples/served_day.setup
+    ./hx_tape serve --open --port 9001 --feed 9002 --requests 9003 --sessions 2 --setup examples/served_day.setup
 
 Another one runs this client, which plays both members and a vendor who listens to the feed:
 
@@ -178,9 +178,16 @@ class Member:
             self.capture.stream(self.port, self.own, more)
             self.kept += more
 
+    def receive_packet(self):
+        """The next packet; the program ends where the line is closed."""
+        packet = self.receive()
+        if packet is None:
+            sys.exit(f"{self.user}: the server has closed the line")
+        return packet
+
     def log_in(self):
         self.send(b"L", self.login)
-        kind, payload = self.receive()
+        kind, payload = self.receive_packet()
         if kind != b"A":
             sys.exit(f"{self.user} may not log in: {text(payload)}")
         print(f"{self.user}: logged in to session {text(payload[:10])}, next reply {int(payload[10:])}")
@@ -188,7 +195,7 @@ class Member:
     def replies(self, count):
         """Prints so many replies, past heartbeats."""
         while count:
-            kind, payload = self.receive()
+            kind, payload = self.receive_packet()
             if kind == b"S":
                 print(f"{self.user}: {reply_in_words(payload)}")
                 count -= 1
@@ -236,10 +243,15 @@ class Vendor(threading.Thread):
         own = self.asking.getsockname()[1]
         request = struct.pack(">10sQH", session, self.next, count)
         self.capture.datagram(own, self.requests, request)
-        self.asking.sendto(request, (HOST, self.requests))
-        packet = self.asking.recv(2000)
+        try:
+            self.asking.sendto(request, (HOST, self.requests))
+            packet = self.asking.recv(2000)
+        except OSError:
+            print(f"feed: {count} messages from {self.next} on were lost, and nobody answers any more")
+            return False
         self.capture.datagram(self.requests, own, packet)
         self.take(struct.unpack_from(">Q", packet, 10)[0], packet, " (asked for)")
+        return True
 
     def run(self):
         while not self.ended.is_set():
@@ -251,7 +263,8 @@ class Vendor(threading.Thread):
                 print(f"feed: threw the packet with message {sequence} away")
                 continue
             while self.next < sequence:
-                self.ask(session, sequence - self.next)
+                if not self.ask(session, sequence - self.next):
+                    self.next = sequence
             if count == END_OF_SESSION:
                 print(f"feed: end of session, next message {sequence}")
                 self.ended.set()

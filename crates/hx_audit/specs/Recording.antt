@@ -1,28 +1,18 @@
--- Which histories the market records: each event is accepted at its turn, after those before it.
-use Rattle.std.specs.Prelude.{◌≡◌, ℕ, List, [], ◌∷◌, ◌++◌, length, true, false, Option, Some, None, ⊤, ◌⊎◌}
+-- What is refused of a history, and of a list of tokens.
+use Rattle.std.specs.Prelude.{◌≡◌, ℕ, List, ◌∷◌, ◌++◌, length, true, false, Option, Some, ⊤, ◌⊎◌}
 use Rattle.std.specs.List.{AllByRecursion}
 use Rattle.hx_units.specs.declared.names.Token.{Token}
 use Rattle.hx_market.specs.QuietChains.{is_quiet}
+pub use Rattle.hx_laws.specs.Recorded.{AreAccepted, AreRecorded}
 use Rattle.hx_members.specs.Setups.{Setup}
 use Rattle.hx_rules.specs.declared.event.Event.{Event}
 use Rattle.hx_rules.specs.declared.fault.PrepareError.{PrepareError}
 use Rattle.hx_rules.specs.declared.fault.PrepareError.TheVariants.{NoMemory as NoRoom, Limit, NoMember, BadTime}
-use Rattle.hx_market.specs.Markets.{Market, opening}
+use Rattle.hx_market.specs.Markets.{Market}
 use Rattle.hx_market.specs.Refusals.{refusal, or_no_memory}
-use Rattle.hx_market.specs.Steps.{step, run}
+use Rattle.hx_market.specs.Steps.{run}
 use Rattle.hx_audit.specs.declared.fault.StrikeError.{StrikeError}
 use Rattle.hx_audit.specs.declared.fault.StrikeError.TheVariants.{NoMemory, Refused, NotQuiet}
-
--- the market accepts each of these events at its turn
-abbrev pub AreAccepted : Setup → Market → List Event → Type 0
-AreAccepted setup market [] = ⊤
-AreAccepted setup market (event ∷ events) =
-    (refusal setup market.recorded event ≡ None)
-    × AreAccepted setup (step setup market event).market events
-
--- a history that is recorded whole
-abbrev pub AreRecorded : Setup → List Event → Type 0
-AreRecorded setup events = AreAccepted setup (opening setup) events
 
 -- those before the event at this index are recorded, and it is refused at its turn, for this reason
 pub record IsRefusedAt (setup : Setup) (events : List Event) (index : ℕ)

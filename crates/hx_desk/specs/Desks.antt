@@ -5,6 +5,7 @@ use Rattle.hx_blog.specs.Ends.{LogId, WriterState, room_of}
 use Rattle.hx_itch.specs.declared.message.Feed.{Feed}
 use Rattle.hx_members.specs.Setups.{Setup}
 use Rattle.hx_rules.specs.declared.event.Event.{Event}
+use Rattle.hx_rules.specs.declared.event.Event.TheVariants as events
 use Rattle.hx_rules.specs.declared.fault.PrepareError.{PrepareError}
 use Rattle.hx_rules.specs.declared.fault.PrepareError.TheVariants as market
 use Rattle.hx_market.specs.Markets.{Market, opening}
@@ -21,7 +22,7 @@ use Rattle.hx_desk.specs.Entries.{events_of, feed_spelled, ledger}
 use Rattle.hx_desk.specs.Secrecy.{IsFeedWithoutTrace, AreRepliesWithoutTrace}
 
 -- A desk: its log and its setup; the history; its market; what is published in the log; the replies
--- to each member number.
+-- to each member number; and how many slots of the log are kept for the hours.
 pub record DeskState : Type 0 where
   pub log : LogId
   pub setup : Setup
@@ -29,10 +30,12 @@ pub record DeskState : Type 0 where
   pub market : Market
   pub published : Entries Entry
   pub rows : RowList
+  pub kept : ℕ
 
--- the desk of a log's writer, a market, a history and the rows of replies
-abbrev pub desk_of : WriterState Entry → Seen → List Entry → RoomyRows → DeskState
-desk_of writer market history rows =
+-- the desk of a log's writer, a market, a history, the rows of replies, and the slots that are kept
+abbrev pub desk_of :
+    WriterState Entry → Seen → List Entry → RoomyRows → (kept : ℕ) → DeskState
+desk_of writer market history rows kept =
     record {
       log = writer.log;
       setup = market.setup;
@@ -40,6 +43,7 @@ desk_of writer market history rows =
       market = market.market;
       published = writer.published;
       rows = rows.rows;
+      kept = kept;
     }
 
 -- a desk at its start
@@ -52,6 +56,7 @@ start_of log setup =
       market = opening setup;
       published = [];
       rows = no_rows;
+      kept = 0;
     }
 
 -- The market is the run of the history, what is published is the history with its feed, and each row
@@ -86,9 +91,18 @@ pub record TellsNoSecret (d : DeskState) : Type 0 where
 abbrev pub outcome_at : Seen → Event → Outcome
 outcome_at market event = step market.setup market.market event
 
--- how many slots of the log are free, and how many messages of the feed an event gives
-abbrev pub free_of : DeskState → ℕ
-free_of d = room_of d.log - length (feed d.published)
+-- how many slots of the log are kept from an event: none from the codes of the hours and from ticks,
+-- which alone may use what is kept
+abbrev pub kept_from : (kept : ℕ) → Event → ℕ
+kept_from kept (events.Message member time bytes) = kept
+kept_from kept (events.Tick time) = 0
+kept_from kept (events.Hours time code) = 0
+kept_from kept (events.Halt time stock state reason) = kept
+kept_from kept (events.Break time number) = kept
+
+-- how many slots of the log are free for an event, and how many messages of the feed it gives
+abbrev pub free_of : DeskState → Event → ℕ
+free_of d event = room_of d.log - length (feed d.published) - kept_from d.kept event
 
 abbrev pub needed_of : DeskState → Event → ℕ
 needed_of d event = length (step d.setup d.market event).told.feed
@@ -107,13 +121,14 @@ pub record Grows (old new : DeskState) (entry : Entry) (done : Done) : Type 0 wh
   pub first : done.first ≡ length (feed old.published) + 1
   pub count : done.count ≡ needed_of old entry.event
   pub accepted : refusal_of old entry.event ≡ None
-  pub room : needed_of old entry.event ≤ free_of old
+  pub room : needed_of old entry.event ≤ free_of old entry.event
+  pub kept : new.kept ≡ old.kept
 
 -- the event was not refused for its time, its member or a limit, and its messages of the feed exceed
 -- the free slots
 pub record IsFull (d : DeskState) (event : Event) (free needed : ℕ) : Type 0 where
   pub accepted : refusal_of d event ≡ None
-  pub free_slots : free ≡ free_of d
+  pub free_slots : free ≡ free_of d event
   pub messages : needed ≡ needed_of d event
   pub exceeds : free < needed
 

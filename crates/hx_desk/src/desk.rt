@@ -5,7 +5,7 @@ ghost use Rattle.hx_blog.specs.Feed.{feed};
 ghost use Rattle.hx_units.specs.Fields.{texts};
 ghost use Rattle.hx_desk.specs.Rows.{row_of, from_number, page};
 ghost use Rattle.hx_desk.specs.Entries.{entry_of};
-ghost use Rattle.hx_desk.specs.Desks.{AreRepliesAt, IsStanding, TellsNoSecret, Grows, Faults, start_of, is_over};
+ghost use Rattle.hx_desk.specs.Desks.{AreRepliesAt, IsStanding, TellsNoSecret, Grows, Faults, kept_from, start_of, is_over};
 ghost use Rattle.hx_desk.specs.Known.{CatchesUp};
 
 use crate::commit::commit_entry;
@@ -24,6 +24,16 @@ use std::marker::Model;
 // How many hours codes a day has: `O`, `S`, `Q`, `M`, `E`, `C` (ITCH 5.0, System Event Message).
 const HOURS_CODES: u8 = 6;
 
+// How many of the slots that are kept are kept from an event.
+fn kept_from(kept: u64, event: &Event) -> u64
+    ensures { result ≡ kept_from kept event.now }
+{
+    match event {
+        Event::Tick { .. } | Event::Hours { .. } => 0,
+        Event::Message { .. } | Event::Halt { .. } | Event::Break { .. } => kept,
+    }
+}
+
 /// The market with its history, the writer of the log, and the replies to each member.
 #[derive(Drop)]
 pub struct Desk {
@@ -31,6 +41,8 @@ pub struct Desk {
     writer: Writer<Entry>,
     history: Vec<Entry>,
     rows: Rows,
+    // So many slots of the log are kept for the codes of the hours and for ticks.
+    kept: u64,
     alloc: Global,
 }
 
@@ -41,12 +53,12 @@ impl Model for Desk {
 
     ghost Value = { DeskState };
 
-    ghost view = { λ d. desk_of d.writer d.market d.history.items d.rows };
+    ghost view = { λ d. desk_of d.writer d.market d.history.items d.rows d.kept };
 
     ghost invariant = { λ d.
         (d.writer.staged ≡ [])
         × (length d.rows.rows ≡ row_count)
-        × IsStanding (desk_of d.writer d.market d.history.items d.rows) };
+        × IsStanding (desk_of d.writer d.market d.history.items d.rows d.kept) };
 }
 
 impl Desk {
@@ -75,8 +87,17 @@ impl Desk {
             writer,
             history: Vec::new(alloc),
             rows: Rows::new(alloc)?,
+            kept: 0,
             alloc,
         })
+    }
+
+    /// Keeps so many slots of the log for the codes of the hours and for ticks: from now on no other event is given
+    /// one of the last so many.
+    pub fn keep(&mut self, slots: u64)
+        ensures { self.new ≡ record self.old { kept = slots } }
+    {
+        self.kept = slots;
     }
 
     /// Tells a caller's proof what each desk keeps; it does nothing.
@@ -96,7 +117,10 @@ impl Desk {
     {
         let prepared = self.market.prepare(event)?;
         let needed = prepared.feed_count();
-        let free = self.writer.free(log);
+        let free = self
+            .writer
+            .free(log)
+            .saturating_sub(kept_from(self.kept, event));
         if free < needed {
             return Err(DeskError::Full { free, needed });
         }
@@ -239,6 +263,7 @@ impl Desk {
             writer: _,
             history,
             rows: _,
+            kept: _,
             alloc: _,
         } = self;
         history

@@ -189,6 +189,13 @@ impl<V: Venue> Exchange<V> {
         Ok(Audit { history })
     }
 
+    /// Keeps so many slots of the log for the codes of the hours and for ticks: from now on no other event is given one
+    /// of the last so many. No clause says what the exchange was then.
+    pub fn keep(&self, rt: &impl Wait, slots: u64) {
+        let mut held = self.desk.lock(rt);
+        held.desk.keep(slots);
+    }
+
     /// The log of the feed, which waits for nobody.
     pub fn feed_log(&self) -> &Log<Entry>
         ensures { result.now ≡ V.log }

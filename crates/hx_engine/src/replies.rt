@@ -2,7 +2,8 @@
 ghost use Rattle.std.specs.Prelude.{◌≡◌, ◌<◌, length, IfOk, IfErr};
 ghost use Rattle.hx_units.specs.Fields.{texts};
 ghost use Rattle.hx_desk.specs.Rows.{from_number, page};
-ghost use Rattle.hx_desk.specs.Known.{AreFew, CatchesUp, IsWhole, known_replies};
+ghost use Rattle.hx_desk.specs.Desks.{is_over};
+ghost use Rattle.hx_desk.specs.Known.{AreFew, CatchesUp, IsWhole, known_market, known_replies};
 ghost use Rattle.hx_engine.specs.Exchanges.{AreKnownReplies, IsNews};
 
 use crate::answers::News;
@@ -35,6 +36,19 @@ fn tell<V: Venue>(
         replies: held.desk.reply_count(member),
         ended: held.desk.ended(),
     }
+}
+
+// The reader knows from now on all that is published: whether the day is over then.
+fn tell_end<V: Venue>(held: &mut Held<V>, log: &Log<Entry>, reader: &mut Reader<Entry>) -> bool
+    requires log { log.now ≡ V.log }
+    requires reader { reader.old.log ≡ V.log }
+    ensures over { result ≡ is_over (known_market V.setup reader.new.known) }
+    ensures whole { IsWhole V.setup reader.new.known }
+    ensures reader { CatchesUp reader.old reader.new }
+{
+    held.desk.inform(log, reader);
+    held.desk.stands();
+    held.desk.ended()
 }
 
 impl<V: Venue> Exchange<V> {
@@ -74,6 +88,18 @@ impl<V: Venue> Exchange<V> {
             .0;
         let held = &mut *held;
         tell(held, &self.log, reader, member)
+    }
+
+    /// Whether the day is over: hours code `C` is past. The reader knows from then on the history of which that is.
+    pub fn is_over(&self, rt: &impl Wait, reader: &mut Reader<Entry>) -> bool
+        requires { reader.old.log ≡ V.log }
+        ensures over { result ≡ is_over (known_market V.setup reader.new.known) }
+        ensures whole { IsWhole V.setup reader.new.known }
+        ensures reader { CatchesUp reader.old reader.new }
+    {
+        let mut held = self.desk.lock(rt);
+        let held = &mut *held;
+        tell_end(held, &self.log, reader)
     }
 
     /// The replies to a member from this number on, which count from 1; 0 is read as 1. The reader knows from then on
@@ -127,7 +153,7 @@ impl<V: Venue> Exchange<V> {
         held.desk.replies_page(member, from, most)
     }
 
-    /// Whether hours code `C` is past. No clause says what the market was when it was asked: `news` does.
+    /// Whether hours code `C` is past. No clause says what the market was when it was asked: `is_over` does.
     pub fn ended(&self, rt: &impl Wait) -> bool {
         self.desk.lock(rt).desk.ended()
     }

@@ -3,6 +3,7 @@
 mod busy_day;
 mod desks;
 mod exchanges;
+mod refusing;
 mod scenario;
 mod sending;
 mod shorthand;

@@ -1,3 +1,4 @@
 pub mod History
 pub mod Quiet
 pub mod FeedBook
+pub mod Fits

@@ -1,3 +1,5 @@
 pub mod QuietChains
 pub mod FeedBook
 pub mod Laws
+pub mod Recorded
+pub mod FeedFits

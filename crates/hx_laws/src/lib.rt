@@ -2,6 +2,7 @@
 //! the code does. Each function is a proved statement, and does nothing.
 #![tactic(auto)]
 
+ghost use Rattle.hx_laws.specs.FeedFits.{FeedFits};
 ghost use Rattle.hx_laws.specs.Laws.{QuietBefore, OneChain, NotChosen, QuietChains, OneMember, AnyPart, ChainsOfAny, FeedOfAnyChoice, RepliesOfAnyChoice, ListedIsChoice, QuietIsChoice, AllMembers, AllButOne, FeedIsBook, FeedIsUncrossed};
 
 /// A token that was used after the beginning of a history, and whose chain is quiet after the whole, was quiet after
@@ -74,4 +75,10 @@ pub fn all_but_one()
 pub fn feed_and_book()
     ensures book { FeedIsBook }
     ensures uncrossed { FeedIsUncrossed }
+{}
+
+/// The feed of a recorded history fits its fields: each number fits into its bytes, and each name has its length, for
+/// a setup and events whose values are those of their types.
+pub fn feed_fits()
+    ensures { FeedFits }
 {}

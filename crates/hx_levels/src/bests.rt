@@ -1,5 +1,5 @@
 //! How near to the best price the levels of each stock and side begin.
-ghost use Rattle.std.specs.Prelude.{◌≡◌, ◌≤◌, ◌<◌, ℕ, List, [], length, slice_set, OnOk, OnErr, true, false};
+ghost use Rattle.std.specs.Prelude.{◌≡◌, ◌≤◌, ◌<◌, ◌↔◌, ℕ, List, [], length, slice_set, OnOk, OnErr, IsTrue};
 ghost use Rattle.hx_levels.specs.Rung.{Rung, side_number};
 ghost use Rattle.hx_levels.specs.Bests.{bound_of};
 
@@ -63,10 +63,8 @@ impl Bests {
 
     /// Whether the rung stands at the distance that is kept for its stock and side.
     pub fn is_at_bound(&self, at: Rung) -> bool
-        ensures bound { result ≡ true → bound_of self.now at ≡ at.distance }
-        ensures there { result ≡ true → side_number at < length self.now }
-        ensures other { result ≡ false → side_number at < length self.now
-            → bound_of self.now at ≡ at.distance → ⊥ }
+        ensures { IsTrue result ↔ ((side_number at < length self.now)
+            × (bound_of self.now at ≡ at.distance)) }
     {
         match self.distances.get(at.side_number()) {
             Some(distance) => *distance == at.distance(),

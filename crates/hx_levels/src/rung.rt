@@ -1,5 +1,5 @@
 //! Where a level of a book stands.
-ghost use Rattle.std.specs.Prelude.{◌≡◌, ◌<◌, true, false};
+ghost use Rattle.std.specs.Prelude.{◌≡◌, ◌<◌, ◌↔◌, IsTrue};
 ghost use Rattle.std.proofs.Common.{rules};
 ghost use Rattle.std.specs.Ordering.{as_partial_cmp, eq_by_cmp};
 ghost use Rattle.std.specs.Cmp.{partial_equiv_from_equiv, partial_order_from_own_ties};
@@ -47,8 +47,7 @@ impl Rung {
 
     /// Whether it is of the stock and the side of another.
     pub fn is_beside(self, other: Rung) -> bool
-        ensures yes { result ≡ true → (self.locate ≡ other.locate) × (self.buy ≡ other.buy) }
-        ensures no { result ≡ false → self.locate ≡ other.locate → self.buy ≡ other.buy → ⊥ }
+        ensures { IsTrue result ↔ ((self.locate ≡ other.locate) × (self.buy ≡ other.buy)) }
     {
         self.number / DISTANCES == other.number / DISTANCES
     }

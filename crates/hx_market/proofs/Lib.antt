@@ -11,3 +11,5 @@ pub mod FeedTimes
 pub mod Entered
 pub mod Ending
 pub mod StayingMarkets
+pub mod Stepping
+pub mod Arrivals

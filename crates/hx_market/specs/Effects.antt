@@ -20,6 +20,8 @@ use Rattle.hx_market.specs.declared.effect.Reduction.{Reduction}
 use Rattle.hx_rules.specs.Orders.{Order, side_of, is_shown, is_called}
 use Rattle.hx_rules.specs.Markets.{Market}
 use Rattle.hx_itch.specs.Message.{feed_time}
+use Rattle.hx_itch.specs.declared.message.Feed.{Feed}
+use Rattle.hx_itch.specs.declared.message.Feed.TheVariants.{OrderReplace}
 use Rattle.hx_rules.specs.Outputs.{Outcome, nothing}
 use Rattle.hx_rules.specs.Enter.{accept_order, order_from, reject, resolved_firm, next_reference}
 use Rattle.hx_rules.specs.Replace.{fail_replace, replacing_order, replace_order}
@@ -96,6 +98,19 @@ terms_of_replacement a =
 -- the new order, with its reference
 abbrev pub replacement_order : ℕ → Replacement → Order
 replacement_order reference a = replacing_order a.executed reference a.time a.replace a.old.order
+
+-- in the feed, where one message tells of both: the order replaces the old one (ITCH 5.0, Order
+-- Replace Message)
+abbrev pub told_in_one : (time : ℕ) (old x : Order) → Feed
+told_in_one time old x =
+    OrderReplace (record {
+      locate = x.locate;
+      time = time;
+      original_reference = old.reference;
+      reference = x.reference;
+      shares = x.shares;
+      price = x.price;
+    })
 
 abbrev pub replaced_by_effect : Market → Replacement → Outcome
 replaced_by_effect market a =

@@ -5,6 +5,7 @@ pub mod MarketModel
 pub mod Expiries
 pub mod Prepared
 pub mod Room
+pub mod Arrivals
 pub use Rattle.hx_rules.specs.Letters
 pub use Rattle.hx_rules.specs.Limits
 pub use Rattle.hx_rules.specs.Orders

@@ -2,6 +2,7 @@
 use Rattle.std.specs.Prelude.{ℕ, List, [], ◌∷◌, Option, Some, None, if◌then◌else◌}
 use Rattle.hx_units.specs.declared.names.Token.{Token}
 use Rattle.hx_levels.specs.declared.order.Live.{Live}
+use Rattle.hx_levels.specs.declared.order.Terms.{Terms}
 use Rattle.hx_levels.specs.Book.{lives}
 use Rattle.hx_members.specs.Setups.{Setup}
 use Rattle.hx_members.specs.Chains.{Used, Chain, is_used, entered_of}
@@ -26,6 +27,16 @@ pub record Planned : Type 0 where
 -- the same, of this next step of the market
 abbrev pub with_step : NextStep → Planned → Planned
 with_step next p = record p { next = next }
+
+-- what contracts see of the market's state, between its steps and while one is under way: the market
+-- of the definitions; its live orders under their keys; the terms of the order, and the name of the
+-- token, for which a place is reserved; and for how many more executions there is room
+pub record MarketState : Type 0 where
+  pub market : Market
+  pub orders : List Live
+  pub place : Option Terms
+  pub token_place : Option Name
+  pub room : ℕ
 
 -- what contracts see of a market over its book: the setup, the market of the definitions, and what
 -- its last `prepare` gave and no `commit` took
@@ -62,4 +73,17 @@ market_of orders tokens numbers hours recorded trading =
       halted = trading.halted;
       executions = trading.executions;
       recorded = recorded;
+    }
+
+-- the state of a market over a book with this place
+abbrev pub market_state_of :
+    List Live → Option Terms → TokenList → Numbers → (hours : ℕ) (recorded : List ℕ) → TradingState
+    → MarketState
+market_state_of orders place tokens numbers hours recorded trading =
+    record {
+      market = market_of orders tokens numbers hours recorded trading;
+      orders = orders;
+      place = place;
+      token_place = tokens.place;
+      room = trading.room;
     }

@@ -10,33 +10,24 @@ use Rattle.hx_match.specs.Matching.{matched}
 use Rattle.hx_match.specs.Rules.{AreFills}
 use Rattle.hx_members.specs.Setups.{Setup}
 use Rattle.hx_members.specs.Chains.{Used, entered_of, entered_used, entered_chain, replacing_used, IsEnteredAt}
-use Rattle.hx_members.specs.Tokens.{TokenList}
 use Rattle.hx_members.specs.declared.name.Name.{Name}
-use Rattle.hx_refs.specs.Numbers.{Numbers}
 use Rattle.hx_market.specs.Bounds.{CanAccept}
-use Rattle.hx_day.specs.Day.{MayRecord, TradingState}
+use Rattle.hx_day.specs.Day.{MayRecord}
 use Rattle.hx_rules.specs.declared.event.Event.{Event}
 use Rattle.hx_market.specs.declared.next_step.NextStep.{NextStep}
-use Rattle.hx_market.specs.MarketModel.{Planned, name_of, market_of}
+use Rattle.hx_market.specs.MarketModel.{Planned, MarketState, name_of}
 use Rattle.hx_market.specs.declared.effect.Effect.{Effect}
 use Rattle.hx_market.specs.declared.effect.Effect.TheVariants.{Nothing, Reject, Accept, Fail, Replace, Cancel, End, Halt, Break}
 use Rattle.hx_market.specs.declared.effect.AcceptedEnter.{AcceptedEnter}
 use Rattle.hx_market.specs.declared.effect.Replacement.{Replacement}
 use Rattle.hx_rules.specs.Orders.{is_immediate, is_shown}
 use Rattle.hx_rules.specs.Markets.{Market}
-use Rattle.hx_rules.specs.Outputs.{Outcome}
 use Rattle.hx_rules.specs.Removal.{others}
 use Rattle.hx_rules.specs.Replace.{is_one_display}
 use Rattle.hx_rules.specs.Steps.{happens, sender, with_record}
 use Rattle.hx_expiries.specs.declared.entry.Entry.{Entry}
 use Rattle.hx_market.specs.Expiries.{IsEndEntered}
-use Rattle.hx_market.specs.Effects.{IsEffect, IsOf, SuitsTokens, IsAbout, incoming_of_enter, terms_of_enter, open_shares, incoming_of_replacement, terms_of_replacement, replacement_order, outcome_of}
-
--- what an effect does over a book, its tokens and its numbers, halts and executions: hours and
--- counts are not read
-abbrev pub outcome_over : List Live → TokenList → Numbers → TradingState → Effect → Outcome
-outcome_over orders tokens numbers trading effect =
-    outcome_of (market_of orders tokens numbers 0 [] trading) effect
+use Rattle.hx_market.specs.Effects.{IsInRange, IsEffect, IsOf, SuitsTokens, IsAbout, incoming_of_enter, terms_of_enter, open_shares, incoming_of_replacement, terms_of_replacement, replacement_order, outcome_of}
 
 -- the numbers and the chains have room for the order that is accepted
 abbrev pub HasRoomFor : Market → AcceptedEnter → Type 0
@@ -155,33 +146,48 @@ FitsEffect market (End e) = ⊤
 FitsEffect market (Halt h) = ⊤
 FitsEffect market (Break b) = ⊤
 
+-- an effect with these fills can be committed: its numbers are within their limits, it suits the
+-- tokens and the orders, its places are reserved, and there is room
+pub record CanCommit (s : MarketState) (fills : List Fill) (left : ℕ)
+    (effect : Effect) : Type 0 where
+  pub range : IsInRange effect
+  pub suits : SuitsTokens s.market.tokens s.market.chains effect
+  pub about : IsAbout s.orders effect
+  pub places : HasPlaces s.orders s.place s.token_place fills left effect
+  pub fits : FitsEffect s.market effect
+  pub room : length fills ≤ s.room
+
+-- an effect of this member's event suits this market: it is one of the setup, it suits the tokens,
+-- and the orders that it is about are there
+pub record SuitsMarket (setup : Setup) (s : MarketState) (member : ℕ)
+    (effect : Effect) : Type 0 where
+  pub is_effect : IsEffect setup effect
+  pub sender : IsOf member effect
+  pub suits : SuitsTokens s.market.tokens s.market.chains effect
+  pub about : IsAbout s.orders effect
+
 -- the next step was made for this event, over this market: it does what the event does, and its
 -- growths are made
-pub record IsReady (setup : Setup) (market : Market) (orders : List Live)
-    (book_place : Option Terms) (name_place : Option Name) (room : ℕ) (entries : List Entry)
-    (event : Event) (next : NextStep) : Type 0 where
+pub record IsReady (setup : Setup) (s : MarketState) (entries : List Entry) (event : Event)
+    (next : NextStep) : Type 0 where
   pub number : next.number ≡ sender event
-  pub may_record : MayRecord market.recorded next.number
+  pub may_record : MayRecord s.market.recorded next.number
   pub does :
-      happens setup (with_record event market) event
-      ≡ outcome_of (with_record event market) next.effect
-  pub is_effect : IsEffect setup next.effect
-  pub suits : SuitsTokens market.tokens market.chains next.effect
-  pub about : IsAbout orders next.effect
-  pub sender : IsOf next.number next.effect
-  pub places : HasPlaces orders book_place name_place next.fills.items next.left next.effect
+      happens setup (with_record event s.market) event
+      ≡ outcome_of (with_record event s.market) next.effect
+  pub fit : SuitsMarket setup s next.number next.effect
+  pub places : HasPlaces s.orders s.place s.token_place next.fills.items next.left next.effect
   -- each of its executions has a place among all executions
-  pub has_room : length next.fills.items ≤ room
+  pub has_room : length next.fills.items ≤ s.room
   -- its order is entered where it ends at a time
-  pub end_entered : IsEndEntered entries (length market.tokens) next.effect
+  pub end_entered : IsEndEntered entries (length s.market.tokens) next.effect
 
 -- what was prepared is ready, and its counts are those of what the event tells
-pub record IsPlanned (setup : Setup) (market : Market) (orders : List Live)
-    (book_place : Option Terms) (name_place : Option Name) (room : ℕ) (entries : List Entry)
+pub record IsPlanned (setup : Setup) (s : MarketState) (entries : List Entry)
     (p : Planned) : Type 0 where
-  pub ready : IsReady setup market orders book_place name_place room entries p.event p.next
+  pub ready : IsReady setup s entries p.event p.next
   pub feed_count :
-      p.feed_count ≡ length (outcome_of (with_record p.event market) p.next.effect).told.feed
+      p.feed_count ≡ length (outcome_of (with_record p.event s.market) p.next.effect).told.feed
   pub reply_members :
       p.reply_members
-      ≡ map (λ r. r.0) (outcome_of (with_record p.event market) p.next.effect).told.replies
+      ≡ map (λ r. r.0) (outcome_of (with_record p.event s.market) p.next.effect).told.replies

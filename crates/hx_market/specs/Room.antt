@@ -1,7 +1,8 @@
 -- Room for what an event tells.
-use Rattle.std.specs.Prelude.{◌≡◌, ℕ, ◌+◌, ◌*◌, ◌≤◌, [], length}
+use Rattle.std.specs.Prelude.{◌≡◌, ℕ, ◌+◌, ◌*◌, ◌≤◌, ◌++◌, [], length}
 use Rattle.std.specs.Vec.{vec_len, vec_capacity}
 use Rattle.hx_rules.specs.declared.output.Output.{Output}
+use Rattle.hx_rules.specs.Outputs.{Told}
 use Rattle.hx_market.specs.declared.effect.Effect.{Effect}
 use Rattle.hx_market.specs.declared.effect.Effect.TheVariants.{Nothing, Reject, Accept, Fail, Replace, Cancel, End, Halt, Break}
 
@@ -26,7 +27,19 @@ HasRoom (End e) fills out = RoomFor (length e.told.feed.items) (length e.told.re
 HasRoom (Halt h) fills out = RoomForFills fills out
 HasRoom (Break b) fills out = RoomForFills fills out
 
+-- so much of the room is taken
+pub record TakesRoom (feed replies : ℕ) (old new : Output) : Type 0 where
+  pub feed_len : vec_len new.feed ≡ vec_len old.feed + feed
+  pub feed_capacity : vec_capacity new.feed ≡ vec_capacity old.feed
+  pub replies_len : vec_len new.replies ≡ vec_len old.replies + replies
+  pub replies_capacity : vec_capacity new.replies ≡ vec_capacity old.replies
+
 -- lists in which nothing stands yet
 pub record IsEmpty (out : Output) : Type 0 where
   pub feed : out.feed.items ≡ []
   pub replies : out.replies.items ≡ []
+
+-- so much is told, behind what stood in the lists
+pub record Tells (old new : Output) (told : Told) : Type 0 where
+  pub feed : new.feed.items ≡ old.feed.items ++ told.feed
+  pub replies : new.replies.items ≡ old.replies.items ++ told.replies

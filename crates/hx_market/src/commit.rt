@@ -1,19 +1,17 @@
-//! What was prepared, done.
-ghost use Rattle.std.specs.Prelude.{◌≡◌, ◌<◌, ◌≤◌, ◌^◌, ◌++◌, [], ◌∷◌, length, None, false};
+//! To commit what was prepared: the state changes as the effect says, and what it tells is written behind what was told
+//! before. Each effect has a function of its own; no memory is taken.
+ghost use Rattle.std.specs.Prelude.{◌≡◌, ◌<◌, ◌≤◌, ◌^◌, length, Some};
+ghost use Rattle.std.specs.Vec.{vec_len, vec_capacity};
 ghost use Rattle.std.specs.List.{AllByRecursion};
 ghost use Rattle.hx_itch.specs.Message.{feed_time};
 ghost use Rattle.hx_rules.specs.Steps.{step};
 ghost use Rattle.hx_market.specs.Bounds.{IsSound};
 ghost use Rattle.hx_market.specs.Expiries.{AreEntered};
-ghost use Rattle.std.specs.Vec.{vec_len, vec_capacity};
-ghost use Rattle.hx_levels.specs.Book.{lives};
-ghost use Rattle.hx_members.specs.Chains.{is_used, entered_used, entered_chain};
-ghost use Rattle.hx_market.specs.Effects.{IsInRange, SuitsTokens, IsAbout, hours_after};
-ghost use Rattle.hx_market.specs.OrderKeys.{AreKeyed};
-ghost use Rattle.hx_market.specs.MarketModel.{market_of, name_of};
-ghost use Rattle.hx_market.specs.Room.{HasRoom};
-ghost use Rattle.hx_market.specs.Prepared.{IsReady, HasPlaces, FitsEffect, outcome_over};
-ghost use Rattle.hx_ouch.specs.declared.outbound.Outbound.TheVariants.{Rejected as ToldRejected};
+ghost use Rattle.hx_market.specs.declared.effect.Effect.TheVariants.{Reject};
+ghost use Rattle.hx_market.specs.Effects.{IsUnused, outcome_of};
+ghost use Rattle.hx_market.specs.MarketModel.{name_of};
+ghost use Rattle.hx_market.specs.Room.{HasRoom, Tells};
+ghost use Rattle.hx_market.specs.Prepared.{IsReady, CanCommit};
 
 mod cancel;
 mod enter;
@@ -30,36 +28,24 @@ use crate::commit::replace::{fail, replace};
 use crate::commit::trading::{break_match, set_state};
 use crate::effect::{Effect, RejectedEnter, over_until};
 use crate::next_step::NextStep;
-use hx_day::{Ends, EventCounts, Trading};
+use crate::state::State;
+use hx_day::Ends;
 use hx_levels::Book;
-use hx_match::Fill;
-use hx_members::{Setup, Tokens};
+use hx_members::Setup;
 use hx_ouch::{Outbound, Rejected};
-use hx_refs::Refs;
 use hx_rules::{Event, Output};
 use std::snapshot::Snapshot;
 
 // An Enter is rejected: its token is used, and its member told.
 #[inline(always)]
-fn reject(tokens: &mut Tokens, out: &mut Output, effect: &RejectedEnter)
-    requires unused { is_used tokens.old.tokens effect.now.member effect.now.token ≡ false }
-    requires place { tokens.old.place ≡ Some (name_of effect.now.member effect.now.token) }
+fn reject<B: Book>(state: &mut State<B>, out: &mut Output, effect: &RejectedEnter)
+    requires unused { IsUnused state.old.market.tokens effect.now.member effect.now.token }
+    requires place { state.old.token_place ≡ Some (name_of effect.now.member effect.now.token) }
     requires room { vec_len out.old.replies < vec_capacity out.old.replies }
-    ensures tokens { tokens.new.tokens
-        ≡ tokens.old.tokens ++ entered_used effect.now.member effect.now.token ∷ [] }
-    ensures chains { tokens.new.chains
-        ≡ tokens.old.chains ++ entered_chain effect.now.member effect.now.token ∷ [] }
-    ensures keys { tokens.new.keys ≡ tokens.old.keys ++ None ∷ [] }
-    ensures feed { out.new.feed.items ≡ out.old.feed.items }
-    ensures replies { out.new.replies.items
-        ≡ out.old.replies.items
-        ++ (
-          effect.now.member,
-          ToldRejected
-              (record { time = effect.now.time; token = effect.now.token; reason = effect.now.letter }),
-        ) ∷ [] }
+    ensures market { state.new.market ≡ (outcome_of state.old.market (Reject effect.now)).market }
+    ensures told { Tells out.old out.new (outcome_of state.old.market (Reject effect.now)).told }
 {
-    tokens.consume(effect.member, &effect.token);
+    state.tokens.consume(effect.member, &effect.token);
     out.replies.push_reserved((
         effect.member,
         Outbound::Rejected(Rejected {
@@ -70,86 +56,24 @@ fn reject(tokens: &mut Tokens, out: &mut Output, effect: &RejectedEnter)
     ));
 }
 
-/// Carries out an effect. Its places are reserved, its executions planned, and there is room for what it tells, behind
+/// Carries out a step. Its places are reserved, its executions planned, and there is room for what it tells, behind
 /// what stands in the lists.
-pub fn commit_effect<B: Book>(
-    book: &mut B,
-    tokens: &mut Tokens,
-    refs: &mut Refs,
-    trading: &mut Trading,
-    out: &mut Output,
-    effect: &Effect,
-    fills: &[Fill],
-    left: u32,
-)
-    requires range { IsInRange effect.now }
-    requires suits { SuitsTokens tokens.old.tokens tokens.old.chains effect.now }
-    requires about { IsAbout (B.orders book.old) effect.now }
-    requires places { HasPlaces (B.orders book.old)
-        (B.place book.old) tokens.old.place fills.now left effect.now }
-    requires keyed { AreKeyed tokens.old.tokens tokens.old.keys (B.orders book.old) }
-    requires fits { FitsEffect
-        (market_of (B.orders book.old) tokens.old refs.old 0 [] trading.old) effect.now }
-    requires executions_room { length fills.now ≤ trading.old.room }
-    requires room { HasRoom effect.now (length fills.now) out.old }
-    ensures live { lives (B.orders book.new)
-        ≡ (outcome_over (B.orders book.old) tokens.old refs.old trading.old
-        effect.now).market.live }
-    ensures tokens { tokens.new.tokens
-        ≡ (outcome_over (B.orders book.old) tokens.old refs.old trading.old
-        effect.now).market.tokens }
-    ensures chains { tokens.new.chains
-        ≡ (outcome_over (B.orders book.old) tokens.old refs.old trading.old
-        effect.now).market.chains }
-    ensures keyed { AreKeyed tokens.new.tokens tokens.new.keys (B.orders book.new) }
-    ensures numbers { refs.new
-        ≡ (outcome_over (B.orders book.old) tokens.old refs.old trading.old
-        effect.now).market.numbers }
-    ensures halted { trading.new.halted
-        ≡ (outcome_over (B.orders book.old) tokens.old refs.old trading.old
-        effect.now).market.halted }
-    ensures executions { trading.new.executions
-        ≡ (outcome_over (B.orders book.old) tokens.old refs.old trading.old
-        effect.now).market.executions }
-    ensures feed { out.new.feed.items
-        ≡ out.old.feed.items
-        ++ (outcome_over (B.orders book.old) tokens.old refs.old trading.old
-        effect.now).told.feed }
-    ensures replies { out.new.replies.items
-        ≡ out.old.replies.items
-        ++ (outcome_over (B.orders book.old) tokens.old refs.old trading.old
-        effect.now).told.replies }
+pub fn commit_effect<B: Book>(state: &mut State<B>, out: &mut Output, next: &NextStep)
+    requires ready { CanCommit state.old next.now.fills.items next.now.left next.now.effect }
+    requires room { HasRoom next.now.effect (length next.now.fills.items) out.old }
+    ensures market { state.new.market ≡ (outcome_of state.old.market next.now.effect).market }
+    ensures told { Tells out.old out.new (outcome_of state.old.market next.now.effect).told }
 {
-    match effect {
+    match &next.effect {
         Effect::Nothing => {}
-        Effect::Reject(effect) => reject(tokens, out, effect),
-        Effect::Accept(effect) => { accept(book, tokens, refs, trading, out, effect, fills, left) }
-        Effect::Fail(effect) => fail(book, tokens, out, effect),
-        Effect::Replace(effect) => {
-            replace(book, tokens, refs, trading, out, effect, fills, left)
-        }
-        Effect::Cancel(effect) => cancel(book, out, effect),
-        Effect::End(effect) => end(book, out, effect),
-        Effect::Halt(effect) => set_state(trading, out, effect),
-        Effect::Break(effect) => break_match(trading, out, effect),
-    }
-}
-
-// How many of the hours codes are past after an effect.
-#[inline(always)]
-fn hours_after(effect: &Effect, hours: u8) -> u8
-    ensures { result ≡ hours_after effect.now hours }
-{
-    match effect {
-        Effect::Nothing
-        | Effect::Reject(_)
-        | Effect::Accept(_)
-        | Effect::Fail(_)
-        | Effect::Replace(_)
-        | Effect::Cancel(_)
-        | Effect::Halt(_)
-        | Effect::Break(_) => hours,
-        Effect::End(ending) => ending.hours,
+        Effect::Reject(effect) => reject(state, out, effect),
+        Effect::Accept(effect) => accept(state, out, effect, &next.fills, next.left),
+        Effect::Fail(effect) => fail(state, out, effect),
+        Effect::Replace(effect) => replace(state, out, effect, &next.fills, next.left),
+        Effect::Cancel(effect) => cancel(state, out, effect),
+        Effect::End(effect) => end(state, out, effect),
+        Effect::Halt(effect) => set_state(state, out, effect),
+        Effect::Break(effect) => break_match(state, out, effect),
     }
 }
 
@@ -158,62 +82,25 @@ fn hours_after(effect: &Effect, hours: u8) -> u8
 pub fn commit_step<B: Book>(
     setup: Snapshot<Setup>,
     event: Snapshot<Event>,
-    book: &mut B,
-    tokens: &mut Tokens,
-    refs: &mut Refs,
-    hours: &mut u8,
-    recorded: &mut EventCounts,
-    trading: &mut Trading,
+    state: &mut State<B>,
     ends: &mut Ends,
     next: &NextStep,
     out: &mut Output,
 )
-    requires sound { IsSound (market_of
-        (B.orders book.old) tokens.old refs.old hours.old recorded.old trading.old) }
-    requires keyed { AreKeyed tokens.old.tokens tokens.old.keys (B.orders book.old) }
-    requires entered { AreEntered ends.old tokens.old.tokens (lives (B.orders book.old)) }
-    requires ready { IsReady setup.value (market_of
-        (B.orders book.old) tokens.old refs.old hours.old recorded.old trading.old)
-        (B.orders book.old) (B.place book.old) tokens.old.place trading.old.room ends.old
-        event.value next.now }
+    requires sound { IsSound state.old.market }
+    requires entered { AreEntered ends.old state.old.market.tokens state.old.market.live }
+    requires ready { IsReady setup.value state.old ends.old event.value next.now }
     requires room { HasRoom next.now.effect (length next.now.fills.items) out.old }
-    ensures market { market_of
-        (B.orders book.new) tokens.new refs.new hours.new recorded.new trading.new
-        ≡ (step setup.value (market_of
-        (B.orders book.old) tokens.old refs.old hours.old recorded.old trading.old)
-        event.value).market }
-    ensures sound { IsSound (market_of
-        (B.orders book.new) tokens.new refs.new hours.new recorded.new trading.new) }
-    ensures keyed { AreKeyed tokens.new.tokens tokens.new.keys (B.orders book.new) }
-    ensures entered { AreEntered ends.new tokens.new.tokens (lives (B.orders book.new)) }
-    ensures feed { out.new.feed.items
-        ≡ out.old.feed.items
-        ++ (step setup.value (market_of
-        (B.orders book.old) tokens.old refs.old hours.old recorded.old trading.old)
-        event.value).told.feed }
-    ensures replies { out.new.replies.items
-        ≡ out.old.replies.items
-        ++ (step setup.value (market_of
-        (B.orders book.old) tokens.old refs.old hours.old recorded.old trading.old)
-        event.value).told.replies }
+    ensures market { state.new.market ≡ (step setup.value state.old.market event.value).market }
+    ensures sound { IsSound state.new.market }
+    ensures entered { AreEntered ends.new state.new.market.tokens state.new.market.live }
+    ensures told { Tells out.old out.new (step setup.value state.old.market event.value).told }
 
     // The feed's times have room in its messages.
     ensures times { AllByRecursion (λ f. feed_time f < 2 ^ 48)
-        (step setup.value (market_of
-        (B.orders book.old) tokens.old refs.old hours.old recorded.old trading.old)
-        event.value).told.feed }
+        (step setup.value state.old.market event.value).told.feed }
 {
-    recorded.raise(next.number);
-    *hours = hours_after(&next.effect, *hours);
+    state.recorded.raise(next.number);
     ends.done(over_until(&next.effect));
-    commit_effect(
-        book,
-        tokens,
-        refs,
-        trading,
-        out,
-        &next.effect,
-        &next.fills,
-        next.left,
-    );
+    commit_effect(state, out, next);
 }

@@ -1,4 +1,4 @@
-//! The effects that an event can have, once it is committed.
+//! The effects that an event can have: one is chosen where an event is decided, and carried out by its commit.
 ghost use Rattle.std.specs.Prelude.{◌≡◌};
 ghost use Rattle.hx_market.specs.Effects.{replacement_order, IsInRange};
 ghost use Rattle.hx_market.specs.Expiries.{end_of, over_until};

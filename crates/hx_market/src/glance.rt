@@ -1,4 +1,4 @@
-//! Events that are looked at before their turn, so that the memory which they need is at hand then.
+//! Before any step: coming events are looked at, so that the memory which they need is at hand when their turn comes.
 
 use hx_levels::{Book, Key};
 use hx_members::{Tokens, name_hint};

@@ -12,6 +12,7 @@ mod messages;
 mod next_step;
 mod order_by_token;
 mod prepare;
+mod state;
 
 pub use hx_laws as laws;
 pub use hx_rules::{Bytes, Event, Output, PrepareError, decode_operator};

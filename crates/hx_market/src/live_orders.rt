@@ -1,4 +1,4 @@
-//! The live orders, listed.
+//! A look at the market between its steps: the live orders, listed.
 ghost use Rattle.std.specs.Prelude.{◌≡◌, IfOk};
 ghost use Rattle.hx_levels.specs.Book.{lives};
 

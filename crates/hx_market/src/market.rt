@@ -1,9 +1,9 @@
-//! The market: each event is prepared, and then committed.
+//! The market as callers see it: each event is prepared, and then committed; `play` does both at once.
 ghost use Rattle.std.specs.Prelude.{◌≡◌, ◌<◌, ◌^◌, ◌++◌, [], Some, None, IfOk, OnOk, OnErr, IfErr, length, map};
 ghost use Rattle.std.specs.List.{AllByRecursion};
 ghost use Rattle.hx_itch.specs.Message.{feed_time};
 ghost use Rattle.hx_rules.specs.Refusals.{refusal, or_no_memory};
-ghost use Rattle.hx_rules.specs.Markets.{opening, opening_hours};
+ghost use Rattle.hx_rules.specs.Markets.{opening};
 ghost use Rattle.hx_rules.specs.Steps.{step};
 ghost use Rattle.hx_market.specs.MarketModel.{chain_facts};
 
@@ -12,10 +12,10 @@ use crate::glance::glance;
 use crate::live_orders::list_orders;
 use crate::next_step::{NextStep, make_room, no_output};
 use crate::prepare::{Prepared, make, plan_step};
-use hx_day::{Ends, EventCounts, Trading};
+use crate::state::{State, used};
+use hx_day::Ends;
 use hx_levels::{Book, Order};
-use hx_members::{ChainFacts, Seed, Setup, Tokens};
-use hx_refs::Refs;
+use hx_members::{ChainFacts, Seed, Setup};
 use hx_rules::{Event, Output, PrepareError};
 use hx_units::{Known, MemberNo, NoMemory, Token};
 use std::alloc::Global;
@@ -26,15 +26,9 @@ use std::snapshot::Snapshot;
 /// The market over a book.
 pub struct Market<B: Book> {
     setup: Setup,
-    book: B,
-    tokens: Tokens,
-    refs: Refs,
-    // How many of the hours codes are past.
-    hours: u8,
+    state: State<B>,
     // When the live orders end.
     ends: Ends,
-    recorded: EventCounts,
-    trading: Trading,
     // What was prepared last.
     next: NextStep,
     // What its `prepare` gave, known to contracts alone.
@@ -47,13 +41,8 @@ impl<B: Book + Drop> Drop for Market<B> {
     fn drop(self) {
         let Market {
             setup: _,
-            book: _,
-            tokens: _,
-            refs: _,
-            hours: _,
+            state: _,
             ends: _,
-            recorded: _,
-            trading: _,
             next: _,
             ready: _,
             alloc: _,
@@ -65,39 +54,25 @@ impl<B: Book> Model for Market<B> {
     ghost use Rattle.std.specs.Prelude.{◌≡◌, Some, length};
     ghost use Rattle.std.specs.Option.{option_map};
     ghost use Rattle.hx_market.specs.Room.{HasRoom, IsEmpty};
-    ghost use Rattle.hx_market.specs.OrderKeys.{AreKeyed};
     ghost use Rattle.hx_market.specs.Bounds.{IsSound};
     ghost use Rattle.hx_market.specs.Expiries.{AreEntered};
-    ghost use Rattle.hx_levels.specs.Book.{lives};
-    ghost use Rattle.hx_market.specs.MarketModel.{Planned, Seen, market_of, with_step};
+    ghost use Rattle.hx_market.specs.MarketModel.{Planned, Seen, with_step};
     ghost use Rattle.hx_market.specs.Prepared.{IsPlanned};
 
     ghost Value = { Seen };
 
     ghost view = { λ m. record {
       setup = m.setup;
-      market = market_of
-          (B.orders m.book) m.tokens m.refs m.hours m.recorded m.trading;
+      market = m.state.market;
       ready = option_map (λ k. with_step m.next k.value) m.ready;
     } };
 
-    ghost invariant = { λ m. IsSound
-        (market_of (B.orders m.book) m.tokens m.refs m.hours m.recorded m.trading)
-        × AreKeyed m.tokens.tokens m.tokens.keys (B.orders m.book)
+    ghost invariant = { λ m. IsSound m.state.market
+        × AreEntered m.ends m.state.market.tokens m.state.market.live
         × ((p : Planned) → option_map (λ k. with_step m.next k.value) m.ready ≡ Some p
-        → IsPlanned m.setup
-        (market_of (B.orders m.book) m.tokens m.refs m.hours m.recorded m.trading)
-        (B.orders m.book) (B.place m.book) m.tokens.place m.trading.room m.ends p
+        → IsPlanned m.setup m.state m.ends p
         × IsEmpty m.next.out
-        × HasRoom m.next.effect (length m.next.fills.items) m.next.out)
-        × AreEntered m.ends m.tokens.tokens (lives (B.orders m.book)) };
-}
-
-// How many of the hours codes are past as the day begins.
-fn opening_hours(setup: &Setup) -> u8
-    ensures { result ≡ opening_hours setup.now }
-{
-    if setup.start_open() { 2 } else { 0 }
+        × HasRoom m.next.effect (length m.next.fills.items) m.next.out) };
 }
 
 impl<B: Book + Drop> Market<B> {
@@ -120,17 +95,11 @@ impl<B: Book + Drop> Market<B> {
         ensures market { IfOk result (λ m. m.market ≡ opening setup) }
         ensures ready { IfOk result (λ m. m.ready ≡ None) }
     {
-        let hours = opening_hours(&setup);
-        let stocks = setup.stocks().len() as u16;
+        let state = State::opening(alloc, &setup, book, seed)?;
         Ok(Market {
             setup,
-            book,
-            tokens: Tokens::seeded(alloc, seed),
-            refs: Refs::new(alloc)?,
-            hours,
+            state,
             ends: Ends::new(alloc),
-            recorded: EventCounts::new(alloc)?,
-            trading: Trading::new(alloc, stocks)?,
             next: NextStep::nothing(alloc),
             ready: None,
             alloc,
@@ -157,16 +126,12 @@ impl<B: Book + Drop> Market<B> {
         ensures void { OnErr result (self.new.ready ≡ None) }
     {
         self.ready = None;
-        self.ends.forget(self.tokens.count());
+        self.ends.forget(used(&self.state));
         let prepared = make(
             self.alloc,
             &self.setup,
-            self.hours,
+            &mut self.state,
             &mut self.ends,
-            &self.recorded,
-            &mut self.trading,
-            &mut self.book,
-            &mut self.tokens,
             &mut self.next,
             event,
         )?;
@@ -199,12 +164,7 @@ impl<B: Book + Drop> Market<B> {
         commit_step(
             Snapshot::of(&self.setup),
             event,
-            &mut self.book,
-            &mut self.tokens,
-            &mut self.refs,
-            &mut self.hours,
-            &mut self.recorded,
-            &mut self.trading,
+            &mut self.state,
             &mut self.ends,
             &self.next,
             &mut out,
@@ -238,16 +198,12 @@ impl<B: Book + Drop> Market<B> {
         ensures replies_stay { OnErr result (told.new.replies.items ≡ told.old.replies.items) }
     {
         self.ready = None;
-        self.ends.forget(self.tokens.count());
+        self.ends.forget(used(&self.state));
         plan_step(
             self.alloc,
             &self.setup,
-            self.hours,
+            &mut self.state,
             &mut self.ends,
-            &self.recorded,
-            &mut self.trading,
-            &mut self.book,
-            &mut self.tokens,
             &mut self.next,
             event,
         )?;
@@ -255,12 +211,7 @@ impl<B: Book + Drop> Market<B> {
         commit_step(
             Snapshot::of(&self.setup),
             Snapshot::of(event),
-            &mut self.book,
-            &mut self.tokens,
-            &mut self.refs,
-            &mut self.hours,
-            &mut self.recorded,
-            &mut self.trading,
+            &mut self.state,
             &mut self.ends,
             &self.next,
             told,
@@ -271,7 +222,8 @@ impl<B: Book + Drop> Market<B> {
     /// Looks at what the first sixteen of coming events are about, so that the memory which they need is at hand when they
     /// are played. Nothing is promised of the answer, which has no other use than that it was looked for.
     pub fn glance(&self, events: &[Event]) -> u64 {
-        glance(&self.tokens, &self.book, events)
+        let state = &self.state;
+        glance(&state.tokens, &state.book, events)
     }
 
     /// Takes back what a `commit` gave, once it is told: the lists are room for the next event, unless that is prepared
@@ -290,7 +242,8 @@ impl<B: Book + Drop> Market<B> {
     pub fn hours(&self) -> u8
         ensures { result ≡ self.now.market.hours }
     {
-        self.hours
+        let state = &self.state;
+        state.hours
     }
 
     /// What the chain of a token has done; none where the member has not used the token.
@@ -298,13 +251,15 @@ impl<B: Book + Drop> Market<B> {
         ensures { result ≡ chain_facts self.now.market.tokens self.now.market.chains member
             token.now }
     {
-        Some(self.tokens.state(member, token)?.facts)
+        let state = &self.state;
+        Some(state.tokens.state(member, token)?.facts)
     }
 
     /// The live orders, the earlier ones first. `NoMemory` where the list cannot grow.
     pub fn live(&self) -> Result<Vec<Order>, NoMemory>
         ensures { IfOk result (λ orders. orders.items ≡ self.now.market.live) }
     {
-        list_orders(self.alloc, &self.book)
+        let state = &self.state;
+        list_orders(self.alloc, &state.book)
     }
 }

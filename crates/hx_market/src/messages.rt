@@ -1,4 +1,5 @@
-//! What an event tells, message by message.
+//! What an event tells, message by message: the messages that several effects share, told as they are committed or, of
+//! orders that end, as they are decided.
 ghost use Rattle.std.specs.Prelude.{◌≡◌, ◌+◌, ◌<◌, ◌≤◌, ◌++◌, [], ◌∷◌, map};
 ghost use Rattle.std.specs.Vec.{vec_len, vec_capacity};
 ghost use Rattle.hx_rules.specs.Executions.{published, shown_of};

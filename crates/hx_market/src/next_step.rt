@@ -1,4 +1,4 @@
-//! The next step of the market, as it was prepared.
+//! What stands between prepare and commit: the next step, as it was planned, with room for what it tells.
 ghost use Rattle.std.specs.Prelude.{◌≡◌, ◌<◌, ◌^◌, [], OnOk};
 ghost use Rattle.hx_market.specs.Room.{HasRoom, IsEmpty};
 

@@ -1,15 +1,15 @@
-//! A member's live order, found by its token.
+//! A look-up for deciding: a member's live order, found by its token.
 ghost use Rattle.std.specs.Prelude.{◌≡◌, IfSome};
 ghost use Rattle.std.specs.Option.{option_map};
 ghost use Rattle.std.specs.List.{find};
-ghost use Rattle.hx_levels.specs.Book.{lives, order_of, KeysDiffer};
+ghost use Rattle.hx_levels.specs.Book.{order_of, KeysDiffer};
 ghost use Rattle.hx_members.specs.Chains.{entered_of, executed_by};
 ghost use Rattle.hx_rules.specs.Orders.{is_called};
-ghost use Rattle.hx_market.specs.OrderKeys.{AreKeyed};
 ghost use Rattle.hx_market.specs.Effects.{IsOnly, confirmed};
 
+use crate::state::State;
 use hx_levels::{Book, Key, Live};
-use hx_members::{Tokens, is_same_name};
+use hx_members::is_same_name;
 use hx_units::{MemberNo, Token};
 
 /// A live order, and what its chain has executed.
@@ -40,23 +40,17 @@ fn confirm<B: Book>(book: &B, key: Key, member: MemberNo, token: &Token) -> Opti
 /// The live order that a member calls by a token. A token keeps the key of the last order under it: whether that one
 /// still lives is asked of the book.
 #[inline(always)]
-pub fn find_order<B: Book>(
-    book: &B,
-    tokens: &Tokens,
-    member: MemberNo,
-    token: &Token,
-) -> Option<Found>
-    requires { AreKeyed tokens.now.tokens tokens.now.keys (B.orders book.now) }
+pub fn find_order<B: Book>(state: &State<B>, member: MemberNo, token: &Token) -> Option<Found>
     ensures found { option_map (λ f. f.live.order) result
-        ≡ find (is_called member token.now) (lives (B.orders book.now)) }
-    ensures only { IfSome result (λ f. IsOnly (B.orders book.now) member token.now f.live) }
-    ensures executed { IfSome result (λ f. f.executed
-        ≡ executed_by tokens.now.chains member (entered_of tokens.now.tokens member token.now)) }
+        ≡ find (is_called member token.now) state.now.market.live }
+    ensures only { IfSome result (λ f. IsOnly state.now.orders member token.now f.live) }
+    ensures executed { IfSome result (λ f. f.executed ≡ executed_by state.now.market.chains member
+        (entered_of state.now.market.tokens member token.now)) }
 {
-    let state = tokens.state(member, token)?;
-    let live = confirm(book, Key(state.key?), member, token)?;
+    let used = state.tokens.state(member, token)?;
+    let live = confirm(&state.book, Key(used.key?), member, token)?;
     Some(Found {
         live,
-        executed: state.facts.executed,
+        executed: used.facts.executed,
     })
 }

@@ -1,12 +1,10 @@
-//! What the market prepares for an event.
+//! To prepare an event: its effect is decided, its executions are planned, and all memory that its commit needs is
+//! taken. What the caller gets of it is `Prepared`.
 ghost use Rattle.std.specs.Prelude.{◌≡◌, ◌<◌, ◌^◌, ℕ, None, IfOk, OnOk, IfErr, length};
-ghost use Rattle.hx_refs.specs.Numbers.{Numbers};
 ghost use Rattle.hx_rules.specs.Refusals.{refusal, or_no_memory};
-ghost use Rattle.hx_market.specs.OrderKeys.{AreKeyed};
-ghost use Rattle.hx_levels.specs.Book.{lives};
 ghost use Rattle.hx_expiries.specs.Expiries.{Holds};
 ghost use Rattle.hx_market.specs.Expiries.{AreEntered};
-ghost use Rattle.hx_market.specs.MarketModel.{market_of, with_step};
+ghost use Rattle.hx_market.specs.MarketModel.{with_step};
 ghost use Rattle.hx_market.specs.Room.{HasRoom, IsEmpty};
 ghost use Rattle.hx_market.specs.Prepared.{IsReady, IsPlanned};
 
@@ -18,9 +16,10 @@ use crate::effect::end_of;
 use crate::next_step::{NextStep, empty, make_room, take_empty};
 use crate::prepare::counts::{feed_count, reply_members};
 use crate::prepare::places::plan_effect;
-use hx_day::{Ends, EventCounts, Trading, admit};
+use crate::state::State;
+use hx_day::{Ends, admit};
 use hx_levels::Book;
-use hx_members::{Setup, Tokens};
+use hx_members::Setup;
 use hx_rules::{Event, PrepareError};
 use hx_units::MemberNo;
 use std::alloc::Global;
@@ -67,91 +66,65 @@ impl Prepared {
 }
 
 /// Plans the next step for an event, with all growths that it needs but room for what it tells. What contracts see of
-/// book, tokens and executions stays, but for their reserved places.
+/// the market stays, but for its reserved places.
 #[inline(always)]
 pub fn plan_step<B: Book>(
     alloc: Global,
     setup: &Setup,
-    hours: u8,
+    state: &mut State<B>,
     ends: &mut Ends,
-    recorded: &EventCounts,
-    trading: &mut Trading,
-    book: &mut B,
-    tokens: &mut Tokens,
     next: &mut NextStep,
     event: &Event,
 ) -> Result<(), PrepareError>
-    requires keyed { AreKeyed tokens.old.tokens tokens.old.keys (B.orders book.old) }
-    requires entered { AreEntered ends.old tokens.old.tokens (lives (B.orders book.old)) }
+    requires entered { AreEntered ends.old state.old.market.tokens state.old.market.live }
     ensures ends { (e p : ℕ) → Holds ends.old e p → Holds ends.new e p }
-    ensures orders { B.orders book.new ≡ B.orders book.old }
-    ensures tokens { tokens.new.tokens ≡ tokens.old.tokens }
-    ensures keys { tokens.new.keys ≡ tokens.old.keys }
-    ensures chains { tokens.new.chains ≡ tokens.old.chains }
-    ensures halted { trading.new.halted ≡ trading.old.halted }
-    ensures executions { trading.new.executions ≡ trading.old.executions }
-    ensures ready { OnOk result ((n : Numbers)
-        → IsReady setup.now
-        (market_of (B.orders book.new) tokens.new n hours recorded.now trading.new)
-        (B.orders book.new) (B.place book.new) tokens.new.place trading.new.room ends.new
-        event.now next.new) }
+    ensures market { state.new.market ≡ state.old.market }
+    ensures ready { OnOk result (IsReady setup.now state.new ends.new event.now next.new) }
     ensures few { OnOk result (length next.new.fills.items < 2 ^ 60) }
-    ensures passes { OnOk result (refusal setup.now recorded.now event.now ≡ None) }
+    ensures passes { OnOk result (refusal setup.now state.old.market.recorded event.now ≡ None) }
     ensures refused { IfErr result (λ e. e
-        ≡ or_no_memory (refusal setup.now recorded.now event.now)) }
+        ≡ or_no_memory (refusal setup.now state.old.market.recorded event.now)) }
 {
-    next.number = admit(setup, recorded, event)?;
+    next.number = admit(setup, &state.recorded, event)?;
     let effect = &mut next.effect;
-    effect_of(
-        alloc, setup, hours, ends, trading, tokens, book, event, effect,
+    effect_of(alloc, setup, state, ends, event, effect)?;
+    next.left = plan_effect(
+        &mut next.fills,
+        &mut state.book,
+        &mut state.tokens,
+        &next.effect,
     )?;
-    next.left = plan_effect(&mut next.fills, book, tokens, &next.effect)?;
-    ends.enter(tokens.count(), end_of(&next.effect))?;
-    trading.reserve_for(&next.fills)?;
+    ends.enter(state.tokens.count(), end_of(&next.effect))?;
+    state.trading.reserve_for(&next.fills)?;
     Ok(())
 }
 
-/// Prepares the next step for an event, with all growths that its commit needs. What contracts see of book, tokens and
-/// executions stays, but for their reserved places.
+/// Prepares the next step for an event, with all growths that its commit needs. What contracts see of the market
+/// stays, but for its reserved places.
 pub fn make<B: Book>(
     alloc: Global,
     setup: &Setup,
-    hours: u8,
+    state: &mut State<B>,
     ends: &mut Ends,
-    recorded: &EventCounts,
-    trading: &mut Trading,
-    book: &mut B,
-    tokens: &mut Tokens,
     next: &mut NextStep,
     event: &Event,
 ) -> Result<Prepared, PrepareError>
-    requires keyed { AreKeyed tokens.old.tokens tokens.old.keys (B.orders book.old) }
-    requires entered { AreEntered ends.old tokens.old.tokens (lives (B.orders book.old)) }
+    requires entered { AreEntered ends.old state.old.market.tokens state.old.market.live }
     ensures ends { (e p : ℕ) → Holds ends.old e p → Holds ends.new e p }
-    ensures orders { B.orders book.new ≡ B.orders book.old }
-    ensures tokens { tokens.new.tokens ≡ tokens.old.tokens }
-    ensures keys { tokens.new.keys ≡ tokens.old.keys }
-    ensures chains { tokens.new.chains ≡ tokens.old.chains }
-    ensures halted { trading.new.halted ≡ trading.old.halted }
-    ensures executions { trading.new.executions ≡ trading.old.executions }
+    ensures market { state.new.market ≡ state.old.market }
     ensures event { IfOk result (λ p. p.event ≡ event.now) }
-    ensures planned { IfOk result (λ p. (n : Numbers)
-        → IsPlanned setup.now
-        (market_of (B.orders book.new) tokens.new n hours recorded.now trading.new)
-        (B.orders book.new) (B.place book.new) tokens.new.place trading.new.room ends.new p) }
+    ensures planned { IfOk result (λ p. IsPlanned setup.now state.new ends.new p) }
     ensures next { IfOk result (λ p. p ≡ with_step next.new p) }
     ensures empty { OnOk result (IsEmpty next.new.out) }
     ensures room { OnOk result
         (HasRoom next.new.effect (length next.new.fills.items) next.new.out) }
-    ensures passes { OnOk result (refusal setup.now recorded.now event.now ≡ None) }
+    ensures passes { OnOk result (refusal setup.now state.old.market.recorded event.now ≡ None) }
     ensures refused { IfErr result (λ e. e
-        ≡ or_no_memory (refusal setup.now recorded.now event.now)) }
+        ≡ or_no_memory (refusal setup.now state.old.market.recorded event.now)) }
 {
-    plan_step(
-        alloc, setup, hours, ends, recorded, trading, book, tokens, next, event,
-    )?;
+    plan_step(alloc, setup, state, ends, next, event)?;
     let room = take_empty(alloc, &mut next.members);
-    let reply_members = reply_members(room, book, &next.effect, &next.fills, next.left)?;
+    let reply_members = reply_members(room, &state.book, &next.effect, &next.fills, next.left)?;
     empty(&mut next.out);
     make_room(&mut next.out, &next.effect, next.fills.len())?;
     Ok(Prepared {

@@ -1,9 +1,10 @@
 //! The one pass over the orders that cross.
-ghost use Rattle.std.specs.Prelude.{◌≡◌, ◌<◌, length, IfOk, IfErr, OnOk, MatchOption, true, false, min, max};
+ghost use Rattle.std.specs.Prelude.{List, ◌≡◌, ◌<◌, ◌++◌, length, IfOk, IfErr, OnOk, OnErr, MatchOption, true, false, min, max};
 ghost use Rattle.hx_levels.specs.Book.{KeysDiffer, lives};
 ghost use Rattle.hx_match.specs.Matching.{qualifies, matched, matched_live};
 ghost use Rattle.hx_match.specs.Executing.{fills_of, AreGood, done_by, left_by};
 ghost use Rattle.hx_match.specs.Rules.{AreFills};
+ghost use Rattle.hx_match.specs.declared.fills.Fill.{Fill};
 
 use crate::fills::{Fill, Incoming, Plan};
 use hx_levels::{Book, Key, Order};
@@ -35,7 +36,7 @@ pub fn plan<B: Book>(alloc: Global, book: &B, incoming: &Incoming) -> Result<Pla
 }
 
 /// The same into a list of earlier executions, which go: it takes memory only where the list has to grow. After
-/// `NoMemory` the list holds some executions.
+/// `NoMemory` the list holds the first executions, as many as there was room for.
 #[inline(always)]
 pub fn plan_into<B: Book>(
     fills: &mut Vec<Fill>,
@@ -48,6 +49,8 @@ pub fn plan_into<B: Book>(
     ensures executions { IfOk result (λ left.
         AreFills incoming.now (B.orders book.now) fills.new.items left) }
     ensures memory { IfErr result (λ _. 0 < length (fills_of incoming.now (B.orders book.now))) }
+    ensures front { OnErr result ((others : List Fill)
+        × (fills.new.items ++ others ≡ fills_of incoming.now (B.orders book.now))) }
     ensures keys { KeysDiffer (B.orders book.now) }
 {
     fills.clear();

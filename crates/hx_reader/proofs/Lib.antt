@@ -7,3 +7,5 @@ pub mod Tables
 pub mod Found
 pub mod Fits
 pub mod PriceLaws
+pub mod Applied
+pub mod Steps

@@ -1,8 +1,9 @@
 -- What is no message of a venue's feed.
-use Rattle.std.specs.Prelude.{◌≡◌, ℕ, ◌==◌, nat_lt, if◌then◌else◌, Bool, true, false, is_some, List, [], ◌∷◌, Option, Some, None}
+use Rattle.std.specs.Prelude.{◌≡◌, ℕ, ◌==◌, nat_lt, if◌then◌else◌, Bool, true, false, is_some, List, [], ◌∷◌, ◌++◌, Option, Some, None}
 use Rattle.hx_itch.specs.declared.message.Feed.{Feed}
 use Rattle.hx_itch.specs.declared.message.Feed.TheVariants.{AddOrder, AddOrderWithAttribution, OrderExecuted, OrderCancel, OrderDelete, OrderReplace, Trade, SystemEvent, StockDirectory, StockTradingAction, BrokenTrade}
 use Rattle.hx_books.specs.declared.ShownOrder.{ShownOrder}
+use Rattle.hx_books.specs.Books.{book_after, book_from}
 use Rattle.hx_reader.specs.declared.fault.ApplyError.{ApplyError}
 use Rattle.hx_reader.specs.declared.fault.ApplyError.TheVariants as errors
 
@@ -76,3 +77,21 @@ IsCause errors.Unknown fault = fault ≡ Some errors.Unknown
 IsCause errors.Known fault = fault ≡ Some errors.Known
 IsCause errors.TooMany fault = fault ≡ Some errors.TooMany
 IsCause errors.NoMemory fault = fault ≡ None
+
+-- each of these messages is one of a feed with the book of those before it
+abbrev pub AreFaultless : List ShownOrder → List Feed → Type 0
+AreFaultless book [] = Unit {0}
+AreFaultless book (message ∷ messages) =
+    (fault_of book message ≡ None) × AreFaultless (book_after book message) messages
+
+-- Those before one of these messages are applied to the book, and it is not, for this reason.
+pub record StopsAt (old : List ShownOrder) (messages : List Feed) (new : List ShownOrder)
+    (error : ApplyError) : Type 0 where
+  pub before : List Feed
+  pub message : Feed
+  pub behind : List Feed
+  pub split : messages ≡ before ++ message ∷ behind
+  pub faultless : AreFaultless old before
+  pub applied : new ≡ book_from old before
+  pub cause : IsCause error (fault_of new message)
+  pub memory : error ≡ errors.NoMemory → adds message ≡ true

@@ -4,7 +4,7 @@ ghost use Rattle.hx_units.specs.Letters.{letter};
 ghost use Rattle.hx_books.specs.declared.ShownOrder.{ShownOrder};
 ghost use Rattle.hx_itch.specs.declared.message.Feed.TheVariants as variant;
 ghost use Rattle.hx_books.specs.Books.{book_after, book_from};
-ghost use Rattle.hx_reader.specs.Faults.{order_of, fault_of, adds, IsCause};
+ghost use Rattle.hx_reader.specs.Faults.{order_of, fault_of, adds, IsCause, AreFaultless, StopsAt};
 ghost use Rattle.hx_reader.specs.declared.fault.ApplyError.TheVariants as errors;
 ghost use Rattle.hx_reader.specs.Prices.{prices, below, above, IsHighest, IsLowest};
 ghost use Rattle.hx_reader.specs.Depth.{level_of};
@@ -114,9 +114,12 @@ impl FeedBook {
         }
     }
 
-    /// Applies messages in order. At an error those before the fault are applied.
+    /// Applies messages in order. At an error those before the fault are applied, and no others: the
+    /// error is that of the first message that is not.
     pub fn apply_all(&mut self, messages: &[Feed]) -> Result<(), ApplyError>
-        ensures { OnOk result (self.new ≡ book_from self.old messages.now) }
+        ensures ok { OnOk result (self.new ≡ book_from self.old messages.now) }
+        ensures fits { OnOk result (AreFaultless self.old messages.now) }
+        ensures err { IfErr result (λ e. StopsAt self.old messages.now self.new e) }
     {
         for message in messages {
             self.apply(message)?;

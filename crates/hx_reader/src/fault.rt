@@ -22,13 +22,13 @@ pub enum ApplyError {
     NoMemory,
 }
 
-/// Why a screen handed out a message that its book does not show.
+/// Why a step of a screen hands out no message. The book is as it was.
 #[derive(Clone, Copy, Debug, PartialEq, Eq, Drop, Error)]
 pub enum ScreenError {
-    /// The bytes are no message of TotalView-ITCH 5.0.
+    /// The bytes are no message of TotalView-ITCH 5.0: they are passed over.
     #[error("the bytes are no message")]
     Unreadable,
-    /// The message was not applied.
+    /// The message was not applied: where there is no memory it stays the next one, else it is passed over.
     #[error(transparent)]
     Apply(ApplyError),
 }

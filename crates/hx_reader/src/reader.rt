@@ -1,5 +1,5 @@
 //! The feed's messages in order, each once, out of its packets.
-ghost use Rattle.std.specs.Prelude.{◌≡◌, ◌≤◌, ◌<◌, ◌+◌, ◌-◌, ◌^◌, ◌↔◌, IsTrue, IfOk, true, option_map, List, ℕ, length};
+ghost use Rattle.std.specs.Prelude.{◌≡◌, ◌≤◌, ◌<◌, ◌+◌, ◌-◌, ◌^◌, ◌↔◌, IsTrue, IfOk, true, option_map, option_copied, List, ℕ, length};
 ghost use Rattle.std.specs.VecDeque.{deque_len};
 ghost use Rattle.hx_reader.specs.Readings.{Reading, opening, longest, last_number, slots, filled, placed, all_placed, told_to, comes, session_of, received, ready, handed, gap, request_of, is_whole};
 ghost use Rattle.hx_mold.specs.Packets.{IsPacket, end_count};
@@ -183,6 +183,16 @@ impl FeedReader {
             return;
         }
         self.take_packet(packet);
+    }
+
+    /// The feed's next message, or none where it has not come. It changes nothing, and takes no memory.
+    pub fn peek(&self) -> Option<&ArrayVec<u8, 44>>
+        ensures { option_map (λ m. m.items) (option_copied result) ≡ ready self.now }
+    {
+        if self.next == u64::MAX || self.window.is_empty() {
+            return None;
+        }
+        self.window[0].as_ref()
     }
 
     /// Hands out the feed's next message, or none where it has not come. It takes no memory.

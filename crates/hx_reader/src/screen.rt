@@ -1,15 +1,11 @@
 //! A reader of the feed's datagrams, with the book of what it hands out.
-ghost use Rattle.std.specs.Prelude.{◌≡◌, [], Some, None, OnErr, IfOk, IfErr, is_some, option_map, true};
-ghost use Rattle.std.specs.Option.{option_to_list};
-ghost use Rattle.hx_books.specs.Books.{book_from};
-ghost use Rattle.hx_reader.specs.Faults.{adds};
+ghost use Rattle.std.specs.Prelude.{◌≡◌, ◌≢◌, [], IfOk};
 ghost use Rattle.hx_reader.specs.declared.fault.ApplyError.TheVariants as errors;
-ghost use Rattle.hx_reader.specs.declared.fault.ScreenError.TheVariants as faults;
 ghost use Rattle.hx_reader.specs.Readings.{opening, received, ready, handed};
-ghost use Rattle.hx_reader.specs.Screens.{readable};
+ghost use Rattle.hx_reader.specs.Screens.{StepGives};
 
 use crate::book::FeedBook;
-use crate::fault::ScreenError;
+use crate::fault::{ApplyError, ScreenError};
 use crate::reader::FeedReader;
 use hx_itch::{Feed, decode};
 use hx_units::NoMemory;
@@ -46,28 +42,43 @@ impl Screen {
     }
 
     /// Hands out the next message, applied to the book, or none where it has not come. Bytes that are
-    /// no message, and a message that is none of a feed with this book, are handed out as an error,
-    /// and so is want of memory; the book is then as it was. It takes memory where the message adds
-    /// an order.
+    /// no message, and a message that is none of a feed with this book, are gone with their error, and
+    /// the book is as it was. Where there is no memory for the order that the message adds, nothing
+    /// changes: the next step hands out the same message.
     pub fn step(&mut self) -> Result<Option<Feed>, ScreenError>
-        ensures reader { self.new.reader ≡ handed self.old.reader (ready self.old.reader) }
-        ensures some { IfOk result (λ m. is_some m ≡ is_some (ready self.old.reader)) }
-        ensures message { IfOk result (λ m. m ≡ readable (ready self.old.reader)) }
-        ensures ok { IfOk result (λ m. self.new.book
-            ≡ book_from self.old.book (option_to_list m)) }
-        ensures err { OnErr result (self.new.book ≡ self.old.book) }
-        ensures memory { IfErr result (λ e. e ≡ faults.Apply errors.NoMemory
-            → option_map adds (readable (ready self.old.reader)) ≡ Some true) }
+        ensures { StepGives self.old self.new result }
     {
-        let Some(bytes) = self.reader.hand_out() else {
+        let Some(bytes) = self.reader.peek() else {
             return Ok(None);
         };
         let Some(message) = decode(bytes.as_slice()) else {
+            let _ = self.reader.hand_out();
             return Err(ScreenError::Unreadable);
         };
         match self.book.apply(&message) {
-            Ok(()) => Ok(Some(message)),
-            Err(error) => Err(ScreenError::Apply(error)),
+            Ok(()) => {
+                let _ = self.reader.hand_out();
+                Ok(Some(message))
+            }
+            Err(error) => {
+                self.pass(error);
+                Err(ScreenError::Apply(error))
+            }
+        }
+    }
+
+    // Passes the next message, which was not applied. Where memory was wanted it stays.
+    fn pass(&mut self, error: ApplyError)
+        ensures kept { error ≡ errors.NoMemory → self.new.reader ≡ self.old.reader }
+        ensures gone { error ≢ errors.NoMemory → self.new.reader
+            ≡ handed self.old.reader (ready self.old.reader) }
+        ensures book { self.new.book ≡ self.old.book }
+    {
+        match error {
+            ApplyError::NoMemory => {}
+            ApplyError::Unknown | ApplyError::Known | ApplyError::TooMany => {
+                let _ = self.reader.hand_out();
+            }
         }
     }
 }

@@ -5,7 +5,7 @@ use Rattle.hx_refs.specs.Numbers.{raised}
 use Rattle.hx_market.specs.Markets.{Market, opening}
 use Rattle.hx_market.specs.Outputs.{Reply}
 use Rattle.hx_market.specs.Steps.{step}
-use Rattle.hx_replay.specs.Text.{Entry}
+use Rattle.hx_tape_lines.specs.Text.{Entry}
 use Rattle.hx_replay.specs.Output.{counts_after}
 use Rattle.hx_replay.specs.Run.{Progress, IsFew, start, after, event_of}
 use Rattle.hx_replay.proofs.Told.{told_few}

@@ -1,11 +1,3 @@
-pub mod Pairs
-pub mod Blocks
-pub mod Lanes
-pub mod Values
-pub mod Fronts
-pub mod Eights
-pub mod Lines
-pub mod DigitCounts
 pub mod Behind
 pub mod Waiting
 pub mod Writing
@@ -28,7 +20,7 @@ pub mod Reading
 pub mod Spelled
 pub mod Marked
 pub mod Turning
-pub mod ReadingOn
+pub mod BehindTurns
 pub mod TurnLists
 pub mod TurnsOfPlayer
 pub mod Sending

@@ -15,7 +15,7 @@ use Rattle.hx_laws.specs.Laws.{AreQuietChains, IsUnknownTo, listed}
 use Rattle.hx_laws.proofs.History.EventMoves.{coherent_run}
 use Rattle.hx_laws.proofs.Quiet.StruckRuns.{quiet_chains}
 use Rattle.hx_laws.proofs.Quiet.StruckChoices.{among_quiet, listed_is_choice, quiet_is_choice}
-use Rattle.hx_replay.specs.Text.{Entry}
+use Rattle.hx_tape_lines.specs.Text.{Entry}
 use Rattle.hx_replay.specs.Output.{feed_lines, counts_after, told_lines}
 use Rattle.hx_replay.specs.Output as output
 use Rattle.hx_replay.specs.Run.{start, event_of, output_all}

@@ -11,11 +11,11 @@ use Rattle.std.proofs.lemmas.List.Elements.{All-append, All-cons}
 use Rattle.hex.specs.Hex.{encode_lower, decode_of, is_hex_digit, IsBytes}
 use Rattle.hex.proofs.HexLemmas.{decode_of-encode_lower, decode_of-same, decode_of-ok}
 use Rattle.hx_text.specs.Cuts.{Lacks}
-use Rattle.hx_replay.specs.Text.{Entry, IsEntry, line}
+use Rattle.hx_tape_lines.specs.Text.{Entry, IsEntry, line}
 use Rattle.hx_replay.specs.Run.{tape}
 use Rattle.hx_text.proofs.Splits.{same_split}
 use Rattle.hx_text.proofs.Numbers.{lacks-decimal}
-use Rattle.hx_replay.proofs.Lines.{three_fields, same_entry, time_Lacks, member_Lacks, after_time}
+use Rattle.hx_tape_lines.proofs.Lines.{three_fields, same_entry, time_Lacks, member_Lacks, after_time}
 
 decimal_same : (m n : ℕ) → m < 2 ^ 64 → n < 2 ^ 64 → decimal m ≡ decimal n → m ≡ n
 decimal_same m n p q e = sym (decimal_is_IsNumeral m p).1 ∙ ap (digits_value 10) e ∙ (decimal_is_IsNumeral n q).1

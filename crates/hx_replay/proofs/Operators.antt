@@ -3,7 +3,7 @@ use Rattle.std.proofs.Common.{◌≡◌, ℕ, List, Option, Some, None, sym, ap,
 use Rattle.std.specs.Prelude.{◌≢◌, IfNone}
 use Rattle.hx_rules.specs.declared.event.Event.{Event}
 use Rattle.hx_market.specs.OperatorMessages.{operator_event}
-use Rattle.hx_replay.specs.Text.{Entry, IsEntry, line}
+use Rattle.hx_tape_lines.specs.Text.{Entry, IsEntry, line}
 use Rattle.hx_replay.specs.Operators.{IsNoOperatorLine}
 use Rattle.hx_replay.proofs.OneReading.{line_same}
 

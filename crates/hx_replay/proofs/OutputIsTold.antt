@@ -2,7 +2,7 @@
 use Rattle.std.proofs.Common.{◌≡◌, List, [], ◌∷◌, ◌++◌, map, replicate, refl, ap, ℕ}
 use Rattle.hx_members.specs.Setups.{Setup}
 use Rattle.hx_market.specs.Steps.{told, told_from, run, market_after}
-use Rattle.hx_replay.specs.Text.{Entry}
+use Rattle.hx_tape_lines.specs.Text.{Entry}
 use Rattle.hx_replay.specs.Output.{told_lines}
 use Rattle.hx_replay.specs.Run.{Progress, start, event_of, output_of, output_all, after, after_all}
 

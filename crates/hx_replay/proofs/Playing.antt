@@ -12,7 +12,7 @@ use Rattle.hx_market.specs.Steps.{step}
 use Rattle.hx_market.specs.Refusals.{refusal, or_no_memory}
 use Rattle.hx_replay.specs.declared.fault.Kind.TheVariants as kind
 use Rattle.hx_replay.specs.declared.fault.TapeError.{TapeError}
-use Rattle.hx_replay.specs.Text.{Entry, IsEntry, line}
+use Rattle.hx_tape_lines.specs.Text.{Entry, IsEntry, line}
 use Rattle.hx_replay.specs.Output.{feed_lines, reply_lines, counts_after}
 use Rattle.hx_replay.specs.Run.{Progress, event_of, is_unknown, kind_of, fault_of, check_of, output_of, after, Plays, Faults}
 

@@ -3,7 +3,7 @@ use Rattle.std.proofs.Common.{◌≡◌, ℕ, List, [], ◌∷◌, ◌++◌, map
 use Rattle.std.proofs.lemmas.List.{append-nil}
 use Rattle.hx_rules.specs.declared.event.Event.{Event}
 use Rattle.hx_match.proofs.First.{all_append}
-use Rattle.hx_replay.specs.Text.{Entry}
+use Rattle.hx_tape_lines.specs.Text.{Entry}
 use Rattle.hx_replay.specs.Run.{event_of, tape}
 use Rattle.hx_replay.specs.Struck.{IsKnown, IsLineOf}
 use Rattle.hx_replay.specs.Ahead.{IsAhead, TakesLines}

@@ -7,7 +7,7 @@ use Rattle.hx_replay.specs.declared.fault.TapeError.{TapeError}
 use Rattle.hx_replay.specs.declared.fault.TapeError.TheVariants as fault
 use Rattle.hx_replay.specs.declared.fault.Kind.TheVariants as kinds
 use Rattle.hx_text.specs.Cuts.{Lacks}
-use Rattle.hx_replay.specs.Text.{Entry, line}
+use Rattle.hx_tape_lines.specs.Text.{Entry, line}
 use Rattle.hx_replay.specs.Run.{Progress, output_of, after, IsEvent, AreEvents, tape, after_all, output_all, Plays, Replays, Stops, EndsBy, Faults, FailsAs, IsFew}
 use Rattle.hx_replay.proofs.Few.{few-after}
 

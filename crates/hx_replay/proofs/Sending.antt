@@ -5,12 +5,11 @@ use Rattle.std.proofs.lemmas.List.{append-nil, length-append, nil_from_length}
 use Rattle.hx_rules.specs.declared.event.Event.{Event}
 use Rattle.hx_replay.specs.declared.turn.Turn.{Turn}
 use Rattle.hx_replay.specs.Run.{Writes}
-use Rattle.hx_replay.specs.Ahead.{TakesLines, ReadsOn, ReadsAhead, most_reads}
+use Rattle.hx_replay.specs.Ahead.{IsAhead, TakesLines}
 use Rattle.hx_replay.specs.Turns.{events_of, told_of, MayFollow}
 use Rattle.hx_replay.proofs.TurnLists.{events_with, told_with}
 use Rattle.hx_replay.proofs.Spelled.{writes_then}
 use Rattle.hx_replay.proofs.Reading.{ahead_none, ahead_then}
-use Rattle.hx_replay.proofs.ReadingOn.{reads_none, reads_less, reads_more, ahead_on}
 use Rattle.hx_replay.proofs.Turning.{ahead_shorter}
 
 -- ---- one turn more
@@ -42,70 +41,52 @@ writes_turn w v u turns more t spelled rest is wrote told =
 
 -- ---- what is read
 
-pub sent_first : (text : List ℕ) (turns : List Turn) (r : Option (List ℕ)) (left : ℕ) → turns ≡ [] → ReadsAhead text (events_of turns) text r r left left
-sent_first text turns r left none =
-    let here : ReadsAhead text [] text r r left left = record { whole = text; reads = reads_none text r left left (omega arith); ahead = ahead_none text } in
-    subst (λ (l : List Turn). ReadsAhead text (events_of l) text r r left left) (sym none) here
+pub sent_first : (text : List ℕ) (turns : List Turn) → turns ≡ [] → IsAhead text (events_of turns) text
+sent_first text turns none = subst (λ (l : List Turn). IsAhead text (events_of l) text) (sym none) (ahead_none text)
 
 -- no turn is sent
-pub sent_same : (text : List ℕ) (turns more : List Turn) (rest : List ℕ) (r s : Option (List ℕ)) (left after : ℕ) → more ≡ turns → ReadsAhead text (events_of turns) rest r s left after → ReadsAhead text (events_of more) rest r s left after
-sent_same text turns more rest r s left after is h = subst (λ (l : List Turn). ReadsAhead text (events_of l) rest r s left after) (sym is) h
+pub sent_same : (text : List ℕ) (turns more : List Turn) (rest : List ℕ) → more ≡ turns → IsAhead text (events_of turns) rest → IsAhead text (events_of more) rest
+sent_same text turns more rest is h = subst (λ (l : List Turn). IsAhead text (events_of l) rest) (sym is) h
 
--- however many reads are left
-pub reads_ahead_less : (text : List ℕ) (events : List Event) (rest : List ℕ) (r s : Option (List ℕ)) (left after : ℕ) → ReadsAhead text events rest r s left after → ReadsAhead text events rest r s left 0
-reads_ahead_less text events rest r s left after h = record { whole = h.whole; reads = reads_less text h.whole r s left after h.reads; ahead = h.ahead }
-
--- the rest is read on
-pub reads_behind : (text : List ℕ) (events : List Event) (rest rest' : List ℕ) (r s t : Option (List ℕ)) (left after last : ℕ) → ReadsAhead text events rest r s left after → ReadsOn rest rest' s t after last → ReadsAhead text events rest' r t left last
-reads_behind text events rest rest' r s t left after last h k = record {
-  whole = h.whole ++ k.piece;
-  reads = reads_more text h.whole k.piece r s t left after last h.reads k.read k.spent;
-  ahead = ahead_on h.whole events rest rest' s t after last h.ahead k;
-}
-
--- and then it is the lines of more events, and a rest
-pub reads_ahead_on : (text : List ℕ) (old new : List Event) (rest rest' : List ℕ) (r s t : Option (List ℕ)) (left after last : ℕ) → ReadsAhead text old rest r s left after → ReadsAhead rest new rest' s t after last
-    → ReadsAhead text (old ++ new) rest' r t left last
-reads_ahead_on text old new rest rest' r s t left after last h k =
-    let all = reads_behind text old rest k.whole r s t left after last h k.reads in
-    let takes : TakesLines k.whole old (old ++ new) rest' = record { events = new; new_is = refl; ahead = k.ahead } in
-    record { whole = all.whole; reads = all.reads; ahead = ahead_then all.whole k.whole old (old ++ new) rest' all.ahead takes }
+-- the rest is the lines of more events, and a rest
+pub ahead_on : (text : List ℕ) (old new : List Event) (rest rest' : List ℕ) → IsAhead text old rest → IsAhead rest new rest' → IsAhead text (old ++ new) rest'
+ahead_on text old new rest rest' h k =
+    let takes : TakesLines rest old (old ++ new) rest' = record { events = new; new_is = refl; ahead = k } in
+    ahead_then text rest old (old ++ new) rest' h takes
 
 -- a turn is sent with the next lines
-pub sent_turn : (text : List ℕ) (turns more : List Turn) (turn : Turn) (rest rest' : List ℕ) (r s t : Option (List ℕ)) (left after last : ℕ) → more ≡ turns ++ turn ∷ [] → ReadsAhead text (events_of turns) rest r s left after → ReadsAhead rest turn.ahead rest' s t after last
-    → ReadsAhead text (events_of more) rest' r t left last
-sent_turn text turns more turn rest rest' r s t left after last is h k =
+pub sent_turn : (text : List ℕ) (turns more : List Turn) (turn : Turn) (rest rest' : List ℕ) → more ≡ turns ++ turn ∷ [] → IsAhead text (events_of turns) rest → IsAhead rest turn.ahead rest' → IsAhead text (events_of more) rest'
+sent_turn text turns more turn rest rest' is h k =
     let same : events_of turns ++ turn.ahead ≡ events_of more = sym (events_with turns turn) ∙ ap (λ (l : List Turn). events_of l) (sym is) in
-    subst (λ (l : List Event). ReadsAhead text l rest' r t left last) same (reads_ahead_on text (events_of turns) turn.ahead rest rest' r s t left after last h k)
+    subst (λ (l : List Event). IsAhead text l rest') same (ahead_on text (events_of turns) turn.ahead rest rest' h k)
 
 -- there are no more lines
-pub sent_all : (text : List ℕ) (old new : List Event) (rest rest' : List ℕ) (r s t : Option (List ℕ)) (left after last : ℕ) → length new ≡ 0 → ReadsAhead text old rest r s left after → ReadsAhead rest new rest' s t after last → ReadsAhead text old rest' r t left last
-sent_all text old new rest rest' r s t left after last none h k =
+pub sent_all : (text : List ℕ) (old new : List Event) (rest rest' : List ℕ) → length new ≡ 0 → IsAhead text old rest → IsAhead rest new rest' → IsAhead text old rest'
+sent_all text old new rest rest' none h k =
     let same : old ++ new ≡ old = ap (λ (l : List Event). old ++ l) (nil_from_length new none) ∙ append-nil old in
-    subst (λ (l : List Event). ReadsAhead text l rest' r t left last) same (reads_ahead_on text old new rest rest' r s t left after last h k)
+    subst (λ (l : List Event). IsAhead text l rest') same (ahead_on text old new rest rest' h k)
 
 -- ---- how many are sent
 
-pub ahead_few : (text : List ℕ) (events : List Event) (rest : List ℕ) (r s : Option (List ℕ)) (after : ℕ) → length text ≤ 16777216 → ReadsAhead text events rest r s most_reads after → length events ≤ 2 ^ 45
-ahead_few text events rest r s after fits h = omega (arith, fits, ahead_shorter h.whole events rest h.ahead, ap length h.reads.text_is, length-append text h.reads.piece, h.reads.spent)
+pub ahead_few : (text : List ℕ) (events : List Event) (rest : List ℕ) → length text ≤ 16777216 → IsAhead text events rest → length events ≤ 2 ^ 45
+ahead_few text events rest fits h = omega (arith, fits, ahead_shorter text events rest h)
 
 -- however the sending ended
-pub sent_few : {A E : Type 0} (result : Result A E) (text : List ℕ) (events : List Event) (rest : List ℕ) (r s : Option (List ℕ)) → length text ≤ 16777216 → OnOk result (ReadsAhead text events rest r s most_reads 0)
-    → OnErr result ((x : List ℕ) × ReadsAhead text events x r s most_reads 0) → length events ≤ 2 ^ 45
-sent_few {A} {E} result text events rest r s fits ok err =
-    elim result as (λ (x : Result A E). OnOk x (ReadsAhead text events rest r s most_reads 0) → OnErr x ((y : List ℕ) × ReadsAhead text events y r s most_reads 0) → length events ≤ 2 ^ 45) [
-      | Ok x ↦ (λ a b. ahead_few text events rest r s 0 fits a)
-      | Err e ↦ (λ a b. ahead_few text events b.0 r s 0 fits b.1)
+pub sent_few : {A E : Type 0} (result : Result A E) (text : List ℕ) (events : List Event) (rest : List ℕ) → length text ≤ 16777216 → OnOk result (IsAhead text events rest)
+    → OnErr result ((x : List ℕ) × IsAhead text events x) → length events ≤ 2 ^ 45
+sent_few {A} {E} result text events rest fits ok err =
+    elim result as (λ (x : Result A E). OnOk x (IsAhead text events rest) → OnErr x ((y : List ℕ) × IsAhead text events y) → length events ≤ 2 ^ 45) [
+      | Ok x ↦ (λ a b. ahead_few text events rest fits a)
+      | Err e ↦ (λ a b. ahead_few text events b.0 fits b.1)
     ] ok err
 
-pub may_follow : (text : List ℕ) (turns : List Turn) (turn : Turn) (rest rest' : List ℕ) (r s t : Option (List ℕ)) (after last : ℕ) → length text ≤ 16777216 → ReadsAhead text (events_of turns) rest r s most_reads after → ReadsAhead rest turn.ahead rest' s t after last
-    → MayFollow turns turn
-may_follow text turns turn rest rest' r s t after last fits h k =
-    let all = reads_ahead_on text (events_of turns) turn.ahead rest rest' r s t most_reads after last h k in
+pub may_follow : (text : List ℕ) (turns : List Turn) (turn : Turn) (rest rest' : List ℕ) → length text ≤ 16777216 → IsAhead text (events_of turns) rest → IsAhead rest turn.ahead rest' → MayFollow turns turn
+may_follow text turns turn rest rest' fits h k =
+    let all = ahead_on text (events_of turns) turn.ahead rest rest' h k in
     record {
-      entries = k.ahead.entries;
-      are = k.ahead.are;
-      few = omega (arith, ahead_few text (events_of turns ++ turn.ahead) rest' r t last fits all, length-append (events_of turns) turn.ahead);
+      entries = k.entries;
+      are = k.are;
+      few = omega (arith, ahead_few text (events_of turns ++ turn.ahead) rest' fits all, length-append (events_of turns) turn.ahead);
     }
 
 -- a turn without lines may always follow

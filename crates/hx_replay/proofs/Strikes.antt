@@ -17,9 +17,10 @@ use Rattle.hx_market.specs.OperatorMessages.{is_halt, halt_of, halt_bytes, is_br
 use Rattle.hx_market.specs.Steps.{run}
 use Rattle.hx_market.specs.QuietChains.{Choice, bears}
 use Rattle.hx_audit.specs.Recording.{AreAccepted, AreRecorded}
-use Rattle.hx_replay.specs.Text.{Entry}
+use Rattle.hx_tape_lines.specs.Text.{Entry}
 use Rattle.hx_replay.specs.Run.{Progress, start, event_of, message_of, is_operator, is_unknown, kind_of, check_of, after, after_all, AreEvents}
-use Rattle.hx_replay.specs.Struck.{entry_of_event, IsKnown}
+use Rattle.hx_tape_lines.specs.Text.{entry_of_event}
+use Rattle.hx_replay.specs.Struck.{IsKnown}
 use Rattle.hx_replay.proofs.Playing.{checked}
 use Rattle.hx_replay.proofs.OutputIsTold.{market_is_run}
 

@@ -12,7 +12,7 @@ use Rattle.hx_market.specs.QuietChains.{Choice, bears, is_quiet, quiet_of_one, s
 use Rattle.hx_audit.specs.Recording.{AreAccepted, AreRecorded}
 use Rattle.hx_audit.proofs.StruckRecorded.{struck_recorded}
 use Rattle.hx_replay.specs.declared.fault.Kind.TheVariants as kind
-use Rattle.hx_replay.specs.Text.{Entry}
+use Rattle.hx_tape_lines.specs.Text.{Entry}
 use Rattle.hx_replay.specs.Run.{Progress, start, event_of, is_unknown, kind_of, check_of, after, output_all, AreEvents}
 use Rattle.hx_replay.specs.Seen.{texts_of, output_lines}
 use Rattle.hx_replay.specs.Grep.{lines_except, lines_of_feed}

@@ -1,21 +1,21 @@
 -- Turns, once both threads have ended.
 use Rattle.std.specs.Prelude.{IfErr}
-use Rattle.std.proofs.Common.{◌≡◌, ℕ, ◌+◌, ◌*◌, ◌≤◌, Result, Ok, Err, OnOk, OnErr, List, [], ◌∷◌, ◌++◌, length, Option, refl, sym, ap, ◌∙◌, subst, append_assoc, arith}
+use Rattle.std.proofs.Common.{◌≡◌, ℕ, ◌+◌, Result, Ok, Err, OnOk, OnErr, List, [], ◌∷◌, ◌++◌, length, Option, refl, sym, ap, ◌∙◌, subst, append_assoc, arith}
 use Rattle.std.specs.Io.KnownBytes.{Appends}
 use Rattle.std.proofs.KnownBytes.{Appends-nil, Appends-trans}
-use Rattle.std.proofs.lemmas.List.{append-nil, length-append, length-map}
+use Rattle.std.proofs.lemmas.List.{append-nil, length-map}
 use Rattle.hx_rules.specs.declared.event.Event.{Event}
 use Rattle.hx_replay.specs.declared.fault.TapeError.{TapeError}
 use Rattle.hx_replay.specs.declared.fault.TapeError.TheVariants as fault
 use Rattle.hx_replay.specs.declared.turn.Turn.{Turn}
-use Rattle.hx_replay.specs.Text.{Entry}
+use Rattle.hx_tape_lines.specs.Text.{Entry}
 use Rattle.hx_replay.specs.Run.{Progress, event_of, tape, output_all, Replays, Stops, Writes, IsFew}
-use Rattle.hx_replay.specs.Ahead.{AreOf, IsAhead, PlaysAll, FailsAmong, IsAtTurn, IsUnwritten, ReadsOn, ReadsAhead, PlaysOn, StopsOn, most_reads}
+use Rattle.hx_replay.specs.Ahead.{AreOf, IsAhead, PlaysAll, FailsAmong, IsAtTurn, IsUnwritten}
 use Rattle.hx_replay.specs.Turns.{events_of, told_of, PlaysTurns, FailsInTurns}
 use Rattle.hx_replay.proofs.TurnLists.{events_append, told_append, told_with, in_parts}
 use Rattle.hx_replay.proofs.Runs.{tape-append, events_counted, stops_without_memory}
 use Rattle.hx_replay.proofs.Gathering.{all_written, stops_gathering}
-use Rattle.hx_replay.proofs.Turning.{AtFault, at_fault, plays_few, turned, at_turn_last, at_turn_counts}
+use Rattle.hx_replay.proofs.Turning.{AtFault, at_fault, plays_few, turned, at_turn_last}
 
 -- ---- at a turn
 
@@ -115,17 +115,13 @@ plays_some (Ok x) c d played told output ok err = record { at = d; before = play
 plays_some (Err e) c d played told output ok err = record { at = err.at; before = err.before; behind = err.last ∷ []; played_are = err.played_are; plays = err.plays }
 
 -- not all is written of what was told
-pub stops_writing : (c : Progress) (text : List ℕ) (sent played left told : List Turn) (rest : List ℕ) (r s w v : Option (List ℕ)) (e : TapeError) → ReadsAhead text (events_of sent) rest r s most_reads 0 → played ++ left ≡ sent → PlaysSome c played told
-    → ((unwritten : List ℕ) × Writes w v (told_of told) unwritten) → IsUnwritten e → StopsOn c text r s w v e
-stops_writing c text sent played left told rest r s w v e h all some wrote is =
+pub stops_writing : (c : Progress) (text : List ℕ) (sent played left told : List Turn) (rest : List ℕ) (w v : Option (List ℕ)) (e : TapeError) → IsAhead text (events_of sent) rest → played ++ left ≡ sent → PlaysSome c played told
+    → ((unwritten : List ℕ) × Writes w v (told_of told) unwritten) → IsUnwritten e → Stops ⊥ c text w v e
+stops_writing c text sent played left told rest w v e h all some wrote is =
     let from : sent ≡ some.before ++ (some.behind ++ left) = sym all ∙ ap (λ (l : List Turn). l ++ left) some.played_are ∙ append_assoc some.before some.behind left in
-    let ahead : IsAhead h.whole (events_of some.before ++ events_of (some.behind ++ left)) rest = subst (λ (l : List Event). IsAhead h.whole l rest) (ap events_of from ∙ events_append some.before (some.behind ++ left)) h.ahead in
-    let t = gathers_turns c some.at h.whole w some.before told (events_of (some.behind ++ left)) rest ahead some.plays in
-    record {
-      whole = h.whole;
-      reads = h.reads;
-      stops = stops_gathering c some.at h.whole w w v (told_of told) t.pending e t.gathers wrote is;
-    }
+    let ahead : IsAhead text (events_of some.before ++ events_of (some.behind ++ left)) rest = subst (λ (l : List Event). IsAhead text l rest) (ap events_of from ∙ events_append some.before (some.behind ++ left)) h in
+    let t = gathers_turns c some.at text w some.before told (events_of (some.behind ++ left)) rest ahead some.plays in
+    stops_gathering c some.at text w w v (told_of told) t.pending e t.gathers wrote is
 
 -- what one turn more told is written
 pub written_one : (w v u : Option (List ℕ)) (turns : List Turn) (t : Turn) → Appends w v (told_of turns) → Appends v u t.told → Appends w u (told_of (turns ++ t ∷ []))
@@ -170,50 +166,25 @@ written_all w v u all written left is first second =
     subst (Appends w u) (sym (told_append written left) ∙ ap told_of is) (Appends-trans w v u (told_of written) (told_of left) first second)
 
 -- then one of the lines that were read failed
-pub record FailsOn (c : Progress) (text : List ℕ) (r s w u : Option (List ℕ)) (telling : List ℕ) (e : TapeError) : Type 0 where
-  pub whole : List ℕ
-  pub reads : ReadsOn text whole r s most_reads 0
-  pub at : AtFault c whole w u telling e
-
-pub fails_on : (c : Progress) (text : List ℕ) (sent played left told : List Turn) (rest : List ℕ) (r s w u : Option (List ℕ)) (telling : List ℕ) (e : TapeError) → ReadsAhead text (events_of sent) rest r s most_reads 0 → played ++ left ≡ sent → FailsInTurns c played told telling e
-    → Appends w u (told_of told) → FailsOn c text r s w u telling e
-fails_on c text sent played left told rest r s w u telling e h all f wrote =
+pub fails_then : (c : Progress) (text : List ℕ) (sent played left told : List Turn) (rest : List ℕ) (w u : Option (List ℕ)) (telling : List ℕ) (e : TapeError) → IsAhead text (events_of sent) rest → played ++ left ≡ sent → FailsInTurns c played told telling e
+    → Appends w u (told_of told) → AtFault c text w u telling e
+fails_then c text sent played left told rest w u telling e h all f wrote =
     let from : sent ≡ f.before ++ (f.last ∷ left) = sym all ∙ ap (λ (l : List Turn). l ++ left) f.played_are ∙ append_assoc f.before (f.last ∷ []) left in
-    let ahead : IsAhead h.whole (events_of f.before ++ events_of (f.last ∷ left)) rest = subst (λ (l : List Event). IsAhead h.whole l rest) (ap events_of from ∙ events_append f.before (f.last ∷ left)) h.ahead in
-    let t = gathers_turns c f.at h.whole w f.before told (events_of (f.last ∷ left)) rest ahead f.plays in
-    let t' = turn_written c f.at h.whole w w u (told_of told) (events_of (f.last ∷ left)) rest t wrote in
-    record { whole = h.whole; reads = h.reads; at = now_fails c f.at h.whole w u telling f.last.ahead (events_of left) rest e t' f.fails }
+    let ahead : IsAhead text (events_of f.before ++ events_of (f.last ∷ left)) rest = subst (λ (l : List Event). IsAhead text l rest) (ap events_of from ∙ events_append f.before (f.last ∷ left)) h in
+    let t = gathers_turns c f.at text w f.before told (events_of (f.last ∷ left)) rest ahead f.plays in
+    let t' = turn_written c f.at text w w u (told_of told) (events_of (f.last ∷ left)) rest t wrote in
+    now_fails c f.at text w u telling f.last.ahead (events_of left) rest e t' f.fails
 
 -- then the others of those that were read are ahead
-pub record RestsOn (c d : Progress) (text : List ℕ) (r s w u : Option (List ℕ)) (left : List Turn) (rest : List ℕ) : Type 0 where
-  pub whole : List ℕ
-  pub reads : ReadsOn text whole r s most_reads 0
-  pub turn : IsAtTurn c d whole w u [] (events_of left) rest
-
-pub rests_on : (c d : Progress) (text : List ℕ) (sent played left told : List Turn) (rest : List ℕ) (r s w u : Option (List ℕ)) → ReadsAhead text (events_of sent) rest r s most_reads 0 → played ++ left ≡ sent → PlaysTurns c d played told
-    → Appends w u (told_of told) → RestsOn c d text r s w u left rest
-rests_on c d text sent played left told rest r s w u h all plays wrote =
-    let ahead : IsAhead h.whole (events_of played ++ events_of left) rest = subst (λ (l : List Event). IsAhead h.whole l rest) (sym (ap events_of all) ∙ events_append played left) h.ahead in
-    record {
-      whole = h.whole;
-      reads = h.reads;
-      turn = turn_written c d h.whole w w u (told_of told) (events_of left) rest (gathers_turns c d h.whole w played told (events_of left) rest ahead plays) wrote;
-    }
-
--- what is known of the counts then
-pub rests_counts : (c d : Progress) (text : List ℕ) (r s w u : Option (List ℕ)) (left : List Turn) (rest : List ℕ) → RestsOn c d text r s w u left rest → IsFew c
-    → (d.events + length (events_of left) ≤ c.events + length text + 16777216 * most_reads) × IsFew d
-rests_counts c d text r s w u left rest h few =
-    let known = at_turn_counts c d h.whole w u [] (events_of left) rest h.turn few in
-    (omega (arith, known.0, ap length h.reads.text_is, length-append text h.reads.piece, h.reads.spent), known.1)
+pub rests_then : (c d : Progress) (text : List ℕ) (sent played left told : List Turn) (rest : List ℕ) (w u : Option (List ℕ)) → IsAhead text (events_of sent) rest → played ++ left ≡ sent → PlaysTurns c d played told
+    → Appends w u (told_of told) → IsAtTurn c d text w u [] (events_of left) rest
+rests_then c d text sent played left told rest w u h all plays wrote =
+    let ahead : IsAhead text (events_of played ++ events_of left) rest = subst (λ (l : List Event). IsAhead text l rest) (sym (ap events_of all) ∙ events_append played left) h in
+    turn_written c d text w w u (told_of told) (events_of left) rest (gathers_turns c d text w played told (events_of left) rest ahead plays) wrote
 
 -- all are played, and all is written
-pub plays_on_last : (c d : Progress) (text whole : List ℕ) (r s w u : Option (List ℕ)) (rest : List ℕ) → ReadsOn text whole r s most_reads 0 → IsAtTurn c d whole w u [] [] rest → PlaysOn c d text r s w u rest
-plays_on_last c d text whole r s w u rest reads t = record {
-  whole = whole;
-  reads = reads;
-  plays = all_written c d whole w u u [] rest (at_turn_last c d whole w u [] [] rest t refl) (Appends-nil u);
-}
+pub plays_last : (c d : Progress) (text : List ℕ) (w u : Option (List ℕ)) (rest : List ℕ) → IsAtTurn c d text w u [] [] rest → Replays c d text w u rest
+plays_last c d text w u rest t = all_written c d text w u u [] rest (at_turn_last c d text w u [] [] rest t refl) (Appends-nil u)
 
 -- ---- what is played at once
 

@@ -7,14 +7,14 @@ use Rattle.hx_rules.specs.declared.event.Event.{Event}
 use Rattle.hx_text.specs.Cuts.{Lacks}
 use Rattle.hx_replay.specs.declared.fault.TapeError.{TapeError}
 use Rattle.hx_replay.specs.declared.fault.TapeError.TheVariants as fault
-use Rattle.hx_replay.specs.Text.{Entry, line}
+use Rattle.hx_tape_lines.specs.Text.{Entry, line}
 use Rattle.hx_replay.specs.Struck.{IsKnown}
-use Rattle.hx_replay.specs.Run.{Progress, event_of, tape, after, after_all, output_of, output_all, AreEvents, IsEvent, Plays, Replays, Stops, Writes, Faults, IsFew}
-use Rattle.hx_replay.specs.Ahead.{AreOf, IsAhead, Gathers, PlaysAll, FailsAmong, IsAtTurn, IsUnwritten}
+use Rattle.hx_replay.specs.Run.{Progress, event_of, tape, after, after_all, output_of, output_all, AreEvents, IsEvent, Plays, Replays, Stops, Faults, IsFew}
+use Rattle.hx_replay.specs.Ahead.{AreOf, IsAhead, Gathers, PlaysAll, FailsAmong, IsAtTurn}
 use Rattle.hx_replay.proofs.OneReading.{line_same, line_no_feed, tape-cons}
 use Rattle.hx_replay.proofs.Runs.{tape-append, after-append, output-append, events-append, length-tape, events_counted, few_all}
 use Rattle.hx_replay.proofs.PieceByPiece.{replays_then, stops_then}
-use Rattle.hx_replay.proofs.Gathering.{all_written, gathers_none, gathers_counts, stops_gathering}
+use Rattle.hx_replay.proofs.Gathering.{all_written, gathers_counts}
 
 -- ---- one event of those that were read
 
@@ -97,11 +97,6 @@ turned old d d' all w v u told telling text now next rest t wrote played ahead =
       ahead = ahead;
     }
 
--- what was told is not written
-pub stops_in_turn : (old d : Progress) (all : List ℕ) (w v u : Option (List ℕ)) (told text : List ℕ) (now : List Event) (e : TapeError) → IsAtTurn old d all w v told now text → ((left : List ℕ) × Writes v u told left) → IsUnwritten e
-    → Stops ⊥ old all w u e
-stops_in_turn old d all w v u told text now e t some is = stops_gathering old d all w v u told t.pending e t.gathers some is
-
 -- the events before one that fails
 pub record AtFault (old : Progress) (all : List ℕ) (w u : Option (List ℕ)) (telling : List ℕ) (e : TapeError) : Type 0 where
   pub at : Progress
@@ -171,9 +166,6 @@ plays_whole c d es events i output are behind h =
     subst (λ (l : List Entry). PlaysAll c d l output) (take_all i es (omega arith)) h
 
 -- ---- the turns of a text
-
-pub at_turn_first : (c : Progress) (text gathered : List ℕ) (w : Option (List ℕ)) (now : List Event) (rest : List ℕ) → gathered ≡ [] → IsAhead text now rest → IsAtTurn c c text w w gathered now rest
-at_turn_first c text gathered w now rest none ahead = record { pending = text; gathers = gathers_none c text gathered w none; ahead = ahead }
 
 -- what is known of the counts
 pub at_turn_counts : (c d : Progress) (text : List ℕ) (w v : Option (List ℕ)) (gathered : List ℕ) (now : List Event) (rest : List ℕ) → IsAtTurn c d text w v gathered now rest → IsFew c → (d.events + length now ≤ c.events + length text) × IsFew d

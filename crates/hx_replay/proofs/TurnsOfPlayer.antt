@@ -3,7 +3,7 @@ use Rattle.std.proofs.Common.{◌≡◌, ℕ, ◌+◌, ◌^◌, ◌≤◌, List,
 use Rattle.std.proofs.lemmas.List.{append-nil, length-append, length-map, nil_from_length}
 use Rattle.hx_rules.specs.declared.event.Event.{Event}
 use Rattle.hx_replay.specs.declared.turn.Turn.{Turn}
-use Rattle.hx_replay.specs.Text.{Entry}
+use Rattle.hx_tape_lines.specs.Text.{Entry}
 use Rattle.hx_replay.specs.Run.{Progress, event_of, after_all, output_all, AreEvents, IsFew}
 use Rattle.hx_replay.specs.Ahead.{AreOf, PlaysAll}
 use Rattle.hx_replay.specs.Turns.{events_of, told_of, MayFollow, PlaysTurns}

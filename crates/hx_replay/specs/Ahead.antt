@@ -1,12 +1,12 @@
 -- Lines that are read before they are played, and lines of output that are told before they are written.
-use Rattle.std.specs.Prelude.{◌≡◌, ◌⊎◌, ◌∷◌, ℕ, ◌+◌, ◌*◌, ◌≤◌, List, ◌++◌, length, map, Option}
+use Rattle.std.specs.Prelude.{◌≡◌, ◌⊎◌, ◌∷◌, ℕ, List, ◌++◌, map, Option}
 use Rattle.std.specs.List.{AllByRecursion}
-use Rattle.std.specs.Io.KnownBytes.{Appends, Consumes}
+use Rattle.std.specs.Io.KnownBytes.{Appends}
 use Rattle.hx_rules.specs.declared.event.Event.{Event}
-use Rattle.hx_replay.specs.Text.{Entry, line}
+use Rattle.hx_tape_lines.specs.Text.{Entry, line}
 use Rattle.hx_replay.specs.declared.fault.TapeError.{TapeError}
 use Rattle.hx_replay.specs.declared.fault.TapeError.TheVariants as fault
-use Rattle.hx_replay.specs.Run.{Progress, event_of, tape, Faults, AreEvents, after_all, output_all, Replays, Stops}
+use Rattle.hx_replay.specs.Run.{Progress, event_of, tape, Faults, AreEvents, after_all, output_all}
 use Rattle.hx_replay.specs.Struck.{IsKnown}
 
 -- events of entries that say something
@@ -25,41 +25,6 @@ pub record TakesLines (text : List ℕ) (old new : List Event) (rest : List ℕ)
   pub events : List Event
   pub new_is : new ≡ old ++ events
   pub ahead : IsAhead text events rest
-
--- ---- what is read before all lines of a text are played
-
--- so many reads are made at most before all that was read is played
-abbrev pub most_reads : ℕ
-most_reads = 1000000
-
--- The text was read on: it is longer by what the reader gave. Before, so many reads might still be made, and after it so
--- many; each of those between gave 16,777,216 bytes at most.
-pub record ReadsOn (old new : List ℕ) (r s : Option (List ℕ)) (left after : ℕ) : Type 0 where
-  pub piece : List ℕ
-  pub text_is : new ≡ old ++ piece
-  pub read : Consumes r s piece
-  pub spent : length piece + 16777216 * after ≤ 16777216 * left
-
--- the text was read on, and then it is the lines of these events, and a rest
-pub record ReadsAhead (text : List ℕ) (events : List Event) (rest : List ℕ)
-    (r s : Option (List ℕ)) (left after : ℕ) : Type 0 where
-  pub whole : List ℕ
-  pub reads : ReadsOn text whole r s left after
-  pub ahead : IsAhead whole events rest
-
--- the text was read on, and then it is that of events and a rest, and the output text of the events was written
-pub record PlaysOn (old new : Progress) (text : List ℕ) (r s w v : Option (List ℕ))
-    (rest : List ℕ) : Type 0 where
-  pub whole : List ℕ
-  pub reads : ReadsOn text whole r s most_reads 0
-  pub plays : Replays old new whole w v rest
-
--- the text was read on, and then the replay ended in it
-pub record StopsOn (old : Progress) (text : List ℕ) (r s w v : Option (List ℕ))
-    (e : TapeError) : Type 0 where
-  pub whole : List ℕ
-  pub reads : ReadsOn text whole r s most_reads 0
-  pub stops : Stops ⊥ old whole w v e
 
 -- ---- what is told before it is written
 

@@ -1,5 +1,3 @@
-pub mod Text
-pub mod Digits
 pub mod Output
 pub mod Run
 pub mod Seen

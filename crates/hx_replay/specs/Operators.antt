@@ -2,7 +2,7 @@
 use Rattle.std.specs.Prelude.{◌≡◌, ℕ, List, Some}
 use Rattle.hx_rules.specs.declared.event.Event.{Event}
 use Rattle.hx_market.specs.OperatorMessages.{operator_event}
-use Rattle.hx_replay.specs.Text.{Entry, IsEntry, line}
+use Rattle.hx_tape_lines.specs.Text.{Entry, IsEntry, line}
 
 -- the text is the line of an entry of member 0 whose bytes say this event
 pub record IsOperatorLine (text : List ℕ) (event : Event) : Type 0 where

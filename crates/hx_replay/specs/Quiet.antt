@@ -8,7 +8,7 @@ use Rattle.hx_rules.specs.declared.event.Event.{Event}
 use Rattle.hx_market.specs.Steps.{run}
 use Rattle.hx_market.specs.QuietChains.{strike, strike_all, strike_but}
 use Rattle.hx_laws.specs.Laws.{listed, AreWholeQuietChains}
-use Rattle.hx_replay.specs.Text.{Entry}
+use Rattle.hx_tape_lines.specs.Text.{Entry}
 use Rattle.hx_replay.specs.Grep.{lines_except, lines_of_feed}
 use Rattle.hx_replay.specs.Run.{start, output_all, AreEvents}
 use Rattle.hx_replay.specs.Seen.{output_lines, not_to, is_to}

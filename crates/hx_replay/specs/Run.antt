@@ -21,7 +21,7 @@ use Rattle.hx_replay.specs.declared.fault.TapeError.{TapeError}
 use Rattle.hx_replay.specs.declared.fault.TapeError.TheVariants as fault
 use Rattle.hx_replay.specs.declared.run.Counts.{Counts}
 use Rattle.hx_text.specs.Cuts.{Lacks}
-use Rattle.hx_replay.specs.Text.{Entry, IsEntry, line, longest_line}
+use Rattle.hx_tape_lines.specs.Text.{Entry, IsEntry, line, longest_line}
 use Rattle.hx_replay.specs.Output.{feed_lines, reply_lines, counts_after}
 
 -- ---- one event

@@ -10,7 +10,7 @@ use Rattle.hx_rules.specs.declared.event.Event.{Event}
 use Rattle.hx_market.specs.Steps.{told}
 use Rattle.hx_market.specs.QuietChains.{Line, lines_of_all, strike_one}
 use Rattle.hx_market.specs.QuietChains.Line.{ToFeed, ToMember}
-use Rattle.hx_replay.specs.Text.{Entry}
+use Rattle.hx_tape_lines.specs.Text.{Entry}
 use Rattle.hx_replay.specs.Output.{feed_line, reply_line}
 use Rattle.hx_replay.specs.Run.{start, event_of, output_all}
 

@@ -4,8 +4,6 @@ use Rattle.std.specs.List.{filter}
 use Rattle.std.specs.Io.KnownBytes.{Consumes, Appends, IsAtEnd}
 use Rattle.hx_members.specs.Setups.{Setup}
 use Rattle.hx_rules.specs.declared.event.Event.{Event}
-use Rattle.hx_rules.specs.declared.event.Event.TheVariants.{Message, Tick, Hours, Halt, Break}
-use Rattle.hx_market.specs.OperatorMessages.{halt_bytes, break_bytes}
 use Rattle.hx_market.specs.Steps.{run}
 use Rattle.hx_market.specs.QuietChains.{Choice, bears, is_quiet, quiet_of_one}
 use Rattle.hx_replay.specs.declared.fault.Kind.{Kind}
@@ -14,7 +12,7 @@ use Rattle.hx_replay.specs.declared.fault.TapeError.TheVariants as fault
 use Rattle.hx_replay.specs.declared.run.Counts.{Counts}
 use Rattle.hx_audit.specs.declared.auditor.Whose.{Whose}
 use Rattle.hx_audit.specs.Auditing.{choice_of}
-use Rattle.hx_replay.specs.Text.{Entry, IsEntry, line}
+use Rattle.hx_tape_lines.specs.Text.{Entry, IsEntry, line}
 use Rattle.hx_replay.specs.Run.{start, event_of, is_unknown, tape, after_all, AreEvents, BeginsBadly, IsFront}
 
 -- the lines whose event is no message that bears a chosen token
@@ -36,16 +34,6 @@ struck setup m entries =
 unfoldable pub struck_all : Setup → List Entry → List Entry
 struck_all setup entries =
     without_chosen (is_quiet (run setup (map event_of entries))) entries
-
--- the entry of an event
-abbrev pub entry_of_event : Event → Entry
-entry_of_event (Message member time bytes) = record { time = time; member = member; bytes = bytes }
-entry_of_event (Tick time) = record { time = time; member = 0; bytes = 75 ∷ [] }
-entry_of_event (Hours time code) = record { time = time; member = 0; bytes = code ∷ [] }
-entry_of_event (Halt time stock state reason) =
-    record { time = time; member = 0; bytes = halt_bytes stock state reason }
-entry_of_event (Break time number) =
-    record { time = time; member = 0; bytes = break_bytes number }
 
 -- ---- the lines of a text
 

@@ -8,7 +8,7 @@ use Rattle.hx_audit.specs.declared.bearing.Bearing.{Bearing}
 use Rattle.hx_replay.specs.declared.fault.TapeError.{TapeError}
 use Rattle.hx_replay.specs.declared.fault.TapeError.TheVariants as fault
 use Rattle.hx_members.specs.Setups.{Setup}
-use Rattle.hx_replay.specs.Text.{Entry}
+use Rattle.hx_tape_lines.specs.Text.{Entry}
 use Rattle.hx_replay.specs.Run.{event_of, tape}
 use Rattle.hx_replay.specs.Struck.{IsKnown, FirstFault, StopsBefore, ReadsSome}
 

@@ -4,7 +4,7 @@ use Rattle.std.specs.List.{flat_map}
 use Rattle.hx_rules.specs.declared.event.Event.{Event}
 use Rattle.hx_replay.specs.declared.fault.TapeError.{TapeError}
 use Rattle.hx_replay.specs.declared.turn.Turn.{Turn}
-use Rattle.hx_replay.specs.Text.{Entry}
+use Rattle.hx_tape_lines.specs.Text.{Entry}
 use Rattle.hx_replay.specs.Run.{Progress}
 use Rattle.hx_replay.specs.Ahead.{AreOf, PlaysAll, FailsAmong}
 

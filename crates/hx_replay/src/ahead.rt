@@ -1,15 +1,14 @@
 //! Lines that are read before they are played.
-ghost use Rattle.std.specs.Prelude.{◌≡◌, ◌<◌, ◌++◌, ◌∷◌, [], ℕ, List, IfOk, OnOk, OnErr, IfSome, IfNone, length, true, false};
+ghost use Rattle.std.specs.Prelude.{◌≡◌, ◌<◌, ◌↔◌, ◌++◌, ◌∷◌, [], IfOk, OnOk, OnErr, IfSome, IfNone, IsTrue, length, true, false};
 ghost use Rattle.hx_replay.specs.Struck.{IsLineOf, IsNoLine};
-ghost use Rattle.hx_replay.specs.Ahead.{TakesLines, ReadsOn, ReadsAhead};
+ghost use Rattle.hx_replay.specs.Ahead.{TakesLines, IsAhead};
 
-use crate::line;
 use crate::pending::Pending;
 use crate::run::event_of;
 use hx_market::Event;
+use hx_tape_lines::line;
 use hx_text::split_once;
 use std::alloc::{AllocError, Global};
-use std::io::Read;
 use std::marker::Model;
 use std::mem::replace;
 
@@ -66,8 +65,7 @@ impl Ahead {
 
     /// Whether there are none.
     pub(crate) fn is_empty(&self) -> bool
-        ensures none { result ≡ true → length self.now ≡ 0 }
-        ensures some { result ≡ false → 0 < length self.now }
+        ensures { IsTrue result ↔ (length self.now ≡ 0) }
     {
         self.count == 0
     }
@@ -98,18 +96,13 @@ impl Ahead {
         Ok(())
     }
 
-    // Takes lines of a text behind those that are here, until they are so many, and answers what stands behind them:
-    // nothing, or a line that is none, or lines that are too many.
-    fn take_lines<'a>(
-        &mut self,
-        alloc: Global,
-        many: usize,
-        text: &'a [u8],
-    ) -> Result<&'a [u8], AllocError>
+    // Takes lines of a text behind those that are here, until they are as many as are taken for a turn, and answers what
+    // stands behind them: nothing, or a line that is none, or lines that are too many.
+    fn take_lines<'a>(&mut self, alloc: Global, text: &'a [u8]) -> Result<&'a [u8], AllocError>
         ensures { IfOk result (λ rest. TakesLines text.now self.old self.new rest.now) }
     {
         let mut rest = text;
-        for _ in self.count..many {
+        for _ in self.count..LINES {
             let Some((line, others)) = split_once(rest, b'\n') else {
                 return Ok(rest);
             };
@@ -123,40 +116,22 @@ impl Ahead {
     }
 
     // The same of bytes that are pending.
-    fn take_pending(
-        &mut self,
-        alloc: Global,
-        many: usize,
-        pending: &mut Pending,
-    ) -> Result<(), AllocError>
+    fn take_pending(&mut self, alloc: Global, pending: &mut Pending) -> Result<(), AllocError>
         ensures taken { OnOk result (TakesLines pending.old self.old self.new pending.new) }
+        ensures err { OnErr result (pending.new ≡ pending.old) }
     {
-        let rest = self.take_lines(alloc, many, pending.text())?.len();
+        let rest = self.take_lines(alloc, pending.text())?.len();
         pending.keep(rest);
         Ok(())
     }
 
-    /// Reads the next lines of what is pending in place of those before. Where they are fewer than wanted, it has more bytes
-    /// read ahead, if such a read is left, and answers how many of them are left then.
-    pub(crate) fn read<R: Read>(
-        &mut self,
-        alloc: Global,
-        pending: &mut Pending,
-        reader: &mut R,
-        left: u64,
-    ) -> Result<u64, AllocError>
-        ensures ok { IfOk result (λ after. ReadsAhead pending.old self.new pending.new
-            (R.remaining reader.old) (R.remaining reader.new) left after) }
-        ensures err { OnErr result ((text : List ℕ)
-            × ReadsOn pending.old text (R.remaining reader.old) (R.remaining reader.new) left 0) }
+    /// Reads the next lines of what is pending in place of those before: as many as are taken for a turn, or all. Without
+    /// memory all stay pending.
+    pub(crate) fn read(&mut self, alloc: Global, pending: &mut Pending) -> Result<(), AllocError>
+        ensures ok { OnOk result (IsAhead pending.old self.new pending.new) }
+        ensures err { OnErr result (pending.new ≡ pending.old) }
     {
         self.count = 0;
-        self.take_pending(alloc, LINES, pending)?;
-        if left == 0 || self.count == LINES {
-            return Ok(left);
-        }
-        pending.read_ahead(reader);
-        self.take_pending(alloc, LINES, pending)?;
-        Ok(left - 1)
+        self.take_pending(alloc, pending)
     }
 }

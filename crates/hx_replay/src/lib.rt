@@ -2,12 +2,9 @@
 #![tactic(auto)]
 
 mod ahead;
-mod decimal;
 mod delivery;
 mod fault;
-mod hexadecimal;
 pub mod laws;
-mod line;
 mod messages;
 mod operator;
 mod pending;
@@ -18,18 +15,16 @@ mod replaying_ahead;
 mod room;
 mod run;
 mod scribe;
-mod spelling;
 mod striking;
 mod taking;
 mod telling;
 mod turn;
 mod turns;
-mod vectors;
 
 pub use fault::{Kind, TapeError};
+pub use hx_tape_lines::write_event;
 pub use operator::read_operator_line;
 pub use replaying::{replay, replay_on};
 pub use replaying_ahead::replay_ahead;
 pub use run::Counts;
-pub use spelling::write_event;
 pub use striking::{strike_all_tape, strike_tape};

@@ -2,8 +2,8 @@
 ghost use Rattle.std.specs.Prelude.{◌≡◌, IfOk, IfSome, IfNone};
 ghost use Rattle.hx_replay.specs.Operators.{IsOperatorLine, IsNoOperatorLine};
 
-use crate::line;
 use hx_market::{Event, decode_operator};
+use hx_tape_lines::line;
 use std::alloc::{AllocError, Global};
 
 /// The event of a line of the operator: a tape's line of member 0 whose bytes say something. It takes memory.

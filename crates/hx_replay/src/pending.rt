@@ -1,8 +1,7 @@
 //! The bytes of a tape that are read and not yet played.
 ghost use Rattle.std.specs.Prelude.{◌≡◌, ◌≤◌, ◌-◌, ◌++◌, ℕ, List, [], IfOk, OnOk, IfErr, OnErr, false, length, drop};
 ghost use Rattle.std.specs.Io.KnownBytes.{Consumes, IsAtEnd, Keeps};
-ghost use Rattle.hx_replay.specs.Ahead.{ReadsOn};
-ghost use Rattle.hx_replay.specs.Text.{longest_line};
+ghost use Rattle.hx_tape_lines.specs.Text.{longest_line};
 ghost use Rattle.hx_replay.specs.declared.fault.TapeError.TheVariants as fault;
 
 use crate::fault::TapeError;
@@ -22,15 +21,11 @@ pub(crate) struct Pending {
     bytes: Vec<u8>,
     start: usize,
     count: usize,
-    // Whether the last read gave as much as there was room for: then the next one will hardly have to wait.
-    full: bool,
-    // Whether a read ahead failed.
-    failed: bool,
 }
 
 impl Model for Pending {
     ghost use Rattle.std.specs.Prelude.{◌≤◌, ◌<◌, ◌+◌, ℕ, List, length, take, drop};
-    ghost use Rattle.hx_replay.specs.Text.{longest_line};
+    ghost use Rattle.hx_tape_lines.specs.Text.{longest_line};
 
     ghost Value = { List ℕ };
 
@@ -51,8 +46,6 @@ impl Pending {
             bytes: vec![in alloc; 0; LONGEST + piece]?,
             start: 0,
             count: 0,
-            full: false,
-            failed: false,
         })
     }
 
@@ -80,7 +73,6 @@ impl Pending {
         match reader.read(&mut self.bytes[self.count..]) {
             Ok(count) => {
                 self.count += count;
-                self.full = self.count == self.bytes.len();
                 Ok(count)
             }
             Err(e) => Err(e),
@@ -88,7 +80,7 @@ impl Pending {
     }
 
     /// Reads a piece behind them, if the reader is not interrupted, and answers whether there may be more: `false` at the
-    /// end of what is read. Where a read ahead failed, this answers its failure and reads nothing.
+    /// end of what is read.
     pub(crate) fn read<R: Read>(&mut self, reader: &mut R) -> Result<bool, TapeError>
         requires { length self.old ≤ longest_line }
         ensures piece { OnOk result ((piece : List ℕ) × (self.new ≡ self.old ++ piece)
@@ -100,29 +92,10 @@ impl Pending {
         ensures err { IfErr result (λ e. (e ≡ fault.Read) × (self.new ≡ self.old)
             × Keeps (R.remaining reader.old) (R.remaining reader.new)) }
     {
-        if self.failed {
-            return Err(TapeError::Read);
-        }
         match self.read_piece(reader) {
             Ok(count) => Ok(count > 0),
             Err(e) if e.kind() == ErrorKind::Interrupted => Ok(true),
             Err(_) => Err(TapeError::Read),
-        }
-    }
-
-    /// Reads a piece behind them before all of them are played, where the last read gave as much as there was room for and
-    /// they are no more than a line. A failure is kept for the next `read`.
-    pub(crate) fn read_ahead<R: Read>(&mut self, reader: &mut R)
-        ensures { ReadsOn self.old self.new (R.remaining reader.old) (R.remaining reader.new) 1 0 }
-    {
-        if !self.full || self.count > LONGEST {
-            return;
-        }
-        if let Err(e) = self.read_piece(reader) {
-            if e.kind() != ErrorKind::Interrupted {
-                self.failed = true;
-                self.full = false;
-            }
         }
     }
 

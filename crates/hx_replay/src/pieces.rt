@@ -1,6 +1,6 @@
 //! The ends of a tape's pieces.
 ghost use Rattle.std.specs.Prelude.{◌≡◌, ◌≤◌, ◌<◌, ◌^◌, ◌+◌, ◌-◌, OnOk, IfOk, IfErr, length, drop};
-ghost use Rattle.hx_replay.specs.Text.{longest_line};
+ghost use Rattle.hx_tape_lines.specs.Text.{longest_line};
 ghost use Rattle.hx_replay.specs.declared.fault.TapeError.TheVariants as fault;
 ghost use Rattle.hx_replay.specs.declared.fault.Kind.TheVariants as kinds;
 

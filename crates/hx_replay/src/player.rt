@@ -1,7 +1,7 @@
 //! The thread that plays: turns that come are played, and sent on with what they told.
 ghost use Rattle.std.specs.Prelude.{◌≡◌, ◌<◌, ◌+◌, ◌^◌, ◌++◌, [], List, OnOk, IfErr, length};
 ghost use Rattle.rtrb.specs.Ring.{received, sent, SameConsumer, SameProducer};
-ghost use Rattle.hx_replay.specs.Text.{Entry};
+ghost use Rattle.hx_tape_lines.specs.Text.{Entry};
 ghost use Rattle.hx_replay.specs.Run.{IsFew};
 ghost use Rattle.hx_replay.specs.Ahead.{AreOf, PlaysAll, FailsAmong};
 ghost use Rattle.hx_replay.specs.Turns.{told_of, PlaysTurns, FailsInTurns};

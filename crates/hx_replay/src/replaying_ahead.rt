@@ -1,7 +1,6 @@
-//! A tape from its lines to its output lines, where another thread reads ahead, and writes what was told before.
+//! A tape from its lines to its output lines, where another thread reads lines ahead, and writes what was told before.
 ghost use Rattle.std.specs.Prelude.{◌≤◌, ◌<◌, ◌^◌, ◌+◌, IfOk, IfErr, OnOk, length};
-ghost use Rattle.hx_replay.specs.Run.{IsFew};
-ghost use Rattle.hx_replay.specs.Ahead.{PlaysOn, StopsOn};
+ghost use Rattle.hx_replay.specs.Run.{Replays, Stops, IsFew};
 ghost use Rattle.hx_replay.specs.Whole.{ReplaysAll, StopsAt};
 
 use crate::fault::TapeError;
@@ -20,53 +19,38 @@ use std::thread::Threads;
 // A text of so many bytes, or fewer, is not worth a thread.
 const FEW: usize = 65_536;
 
-// So many bytes are read at once, or fewer: more than a pipe holds, so that a read gives all of them only where the next one
-// will hardly have to wait.
+// So many bytes are read at once, or fewer.
 const PIECE: usize = 1_052_672;
 
 // Plays lines of what is pending in turns, where they are worth a thread.
-fn play_many<B: Book + Drop, R: Read + Send, W: Write + Send, T: Threads>(
+fn play_many<B: Book + Drop, W: Write + Send, T: Threads>(
     rt: &T,
-    alloc: Global,
     run: &mut Run<B>,
     room: &mut Room,
     turns: &mut Turns,
     pending: &mut Pending,
-    reader: &mut R,
     writer: &mut W,
 ) -> Result<(), TapeError>
     requires events { run.old.events + 2 ^ 46 < 2 ^ 48 }
     requires few { IsFew run.old }
     requires fits { length pending.old ≤ 16777216 }
-    ensures ok { OnOk result (PlaysOn run.old run.new pending.old
-        (R.remaining reader.old) (R.remaining reader.new)
+    ensures ok { OnOk result (Replays run.old run.new pending.old
         (W.contents writer.old) (W.contents writer.new) pending.new) }
-    ensures err { IfErr result (StopsOn run.old pending.old
-        (R.remaining reader.old) (R.remaining reader.new)
+    ensures err { IfErr result (Stops ⊥ run.old pending.old
         (W.contents writer.old) (W.contents writer.new)) }
 {
     if pending.text().len() > FEW {
-        play_turns(
-            rt,
-            alloc,
-            run,
-            turns,
-            &mut room.spelled,
-            pending,
-            reader,
-            writer,
-        )?;
+        play_turns(rt, run, turns, &mut room.spelled, pending, writer)?;
     }
     Ok(())
 }
 
 /// Replays a tape over the market of a setup, as `replay` does, but where much is read at once its lines are played in
 /// turns: while some thousand lines are played, another thread writes what those before them told, and reads the next
-/// ones. Where a read gave as much as there was room for, which is more than a megabyte, that thread makes the next read as
-/// well, before all lines of this one are played. Before any other read it writes the output lines of all that it has read
-/// and flushes the writer. A read is one call of the reader: of those that are made while nothing is played 1,000,000,000
-/// are too many, as are 2^47 lines.
-pub fn replay_ahead<T: Threads, R: Read + Send, W: Write + Send>(
+/// ones of what was read. Before it reads on from the reader, it writes the output lines of all that it has read and flushes
+/// the writer, also where a read gave as much as there was room for: whoever waits for his answers before he sends more
+/// gets them. A read is one call of the reader, and 1,000,000,000 of them are too many, as are 2^47 lines.
+pub fn replay_ahead<T: Threads, R: Read, W: Write + Send>(
     rt: &T,
     alloc: Global,
     setup: &Setup,
@@ -90,16 +74,7 @@ pub fn replay_ahead<T: Threads, R: Read + Send, W: Write + Send>(
         if !pending.read(reader)? {
             return finish(run.counts(), pending.text());
         }
-        play_many(
-            rt,
-            alloc,
-            &mut run,
-            &mut room,
-            &mut turns,
-            &mut pending,
-            reader,
-            writer,
-        )?;
+        play_many(rt, &mut run, &mut room, &mut turns, &mut pending, writer)?;
         let rest = play_lines(&mut run, &mut room, writer, pending.text())?.len();
         keep_rest(&mut pending, rest, run.counts())?;
     }

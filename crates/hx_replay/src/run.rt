@@ -2,16 +2,16 @@
 ghost use Rattle.std.specs.Prelude.{◌≡◌, ◌<◌, ◌^◌, ◌+◌, ◌++◌, [], ℕ, List, true, false, IfOk, IfErr, IfSome, IfNone, OnSome, OnOk, replicate};
 ghost use Rattle.hx_replay.specs.declared.fault.TapeError.TheVariants as fault;
 ghost use Rattle.hx_replay.specs.Struck.{IsKnown};
-ghost use Rattle.hx_replay.specs.Text.{Entry, entry_of, line};
+ghost use Rattle.hx_tape_lines.specs.Text.{Entry, entry_of, line};
 ghost use Rattle.hx_replay.specs.Run.{event_of, is_unknown, fault_of, counts_of, start, Plays, Faults, IsFew};
 
 use crate::fault::{Kind, TapeError};
-use crate::line::{self, Fields};
 use crate::messages::{Messages, ToldCounts};
 use crate::room::Room;
 use hx_levels::Book;
 use hx_market::{Bytes, Event, Market, PrepareError, decode_operator};
 use hx_members::Setup;
+use hx_tape_lines::{Fields, line};
 use hx_units::NoMemory;
 use std::alloc::{AllocError, Global};
 use std::marker::Model;

@@ -1,9 +1,9 @@
-//! The thread that writes and reads: what turns that come told is written, and they are sent on with the next lines.
+//! The thread that writes, and reads lines: what turns that come told is written, and they are sent on with the next lines.
 ghost use Rattle.std.specs.Prelude.{◌≡◌, ◌≤◌, ◌^◌, [], ℕ, List, OnOk, OnErr, IfErr, length};
 ghost use Rattle.std.specs.Io.KnownBytes.{Appends};
 ghost use Rattle.rtrb.specs.Ring.{received, sent, SameConsumer, SameProducer};
 ghost use Rattle.hx_replay.specs.Run.{Writes};
-ghost use Rattle.hx_replay.specs.Ahead.{ReadsAhead, IsUnwritten, most_reads};
+ghost use Rattle.hx_replay.specs.Ahead.{IsAhead, IsUnwritten};
 ghost use Rattle.hx_replay.specs.Turns.{events_of, told_of};
 
 use crate::delivery::spell_told;
@@ -14,22 +14,18 @@ use crate::telling::Lines;
 use crate::turn::{OfLines, TURNS, Turn, wait_next};
 use rtrb::{Consumer, Producer};
 use std::alloc::Global;
-use std::io::{Read, Write};
-
-// So many reads are made at most before all that was read is played.
-const READS: u64 = 1_000_000;
+use std::io::Write;
 
 // So many turns come at most: more than are ever read.
 const MANY: u64 = 1_000_000_000_000;
 
 // Spells what turns that come told, writes it where it is much, and sends them on with the next lines, until there are no
 // more lines and all turns are back, or none comes for long. Those that are back are kept.
-fn write_each<R: Read, W: Write>(
+fn write_each<W: Write>(
     alloc: Global,
     spelled: &mut Lines,
     writer: &mut W,
     pending: &mut Pending,
-    reader: &mut R,
     kept: &mut Vec<Turn>,
     coming: &mut Consumer<Turn>,
     going: &mut Producer<Turn, Global, OfLines>,
@@ -43,24 +39,21 @@ fn write_each<R: Read, W: Write>(
     ensures wrote { OnOk result (Writes
         (W.contents writer.old) (W.contents writer.new)
         (told_of (received coming.new)) spelled.new) }
-    ensures ahead { OnOk result (ReadsAhead
-        pending.old (events_of (sent going.new)) pending.new
-        (R.remaining reader.old) (R.remaining reader.new) most_reads 0) }
+    ensures ahead { OnOk result
+        (IsAhead pending.old (events_of (sent going.new)) pending.new) }
     ensures err { OnErr result ((rest : List ℕ) × Writes
         (W.contents writer.old) (W.contents writer.new) (told_of (received coming.new)) rest) }
-    ensures read { OnErr result ((rest : List ℕ) × ReadsAhead
-        pending.old (events_of (sent going.new)) rest
-        (R.remaining reader.old) (R.remaining reader.new) most_reads 0) }
+    ensures read { OnErr result ((rest : List ℕ)
+        × IsAhead pending.old (events_of (sent going.new)) rest) }
     ensures fault { IfErr result IsUnwritten }
 {
-    let mut left = READS;
     let mut out = TURNS;
     for _ in 0..MANY {
         let Some(mut turn) = wait_next(coming, going) else {
             return Ok(());
         };
         spell_told(&turn.told, spelled, writer)?;
-        left = turn.ahead.read(alloc, pending, reader, left)?;
+        turn.ahead.read(alloc, pending)?;
         if turn.ahead.is_empty() {
             kept.push(turn)?;
             out = out.saturating_sub(1);
@@ -87,12 +80,11 @@ fn send_last(alloc: Global, going: &mut Producer<Turn, Global, OfLines>)
 
 /// Writes what turns that come told, and sends them on with the next lines, until there are no more lines and all turns are
 /// back, or none comes for long. Those that are back are kept. A turn without lines is the last that it sends.
-pub(crate) fn write_coming<R: Read, W: Write>(
+pub(crate) fn write_coming<W: Write>(
     alloc: Global,
     spelled: &mut Lines,
     writer: &mut W,
     pending: &mut Pending,
-    reader: &mut R,
     kept: &mut Vec<Turn>,
     coming: &mut Consumer<Turn>,
     going: &mut Producer<Turn, Global, OfLines>,
@@ -104,18 +96,16 @@ pub(crate) fn write_coming<R: Read, W: Write>(
     ensures going { SameProducer going.old going.new }
     ensures wrote { OnOk result (Appends
         (W.contents writer.old) (W.contents writer.new) (told_of (received coming.new))) }
-    ensures ahead { OnOk result (ReadsAhead
-        pending.old (events_of (sent going.new)) pending.new
-        (R.remaining reader.old) (R.remaining reader.new) most_reads 0) }
+    ensures ahead { OnOk result
+        (IsAhead pending.old (events_of (sent going.new)) pending.new) }
     ensures err { OnErr result ((rest : List ℕ) × Writes
         (W.contents writer.old) (W.contents writer.new) (told_of (received coming.new)) rest) }
-    ensures read { OnErr result ((rest : List ℕ) × ReadsAhead
-        pending.old (events_of (sent going.new)) rest
-        (R.remaining reader.old) (R.remaining reader.new) most_reads 0) }
+    ensures read { OnErr result ((rest : List ℕ)
+        × IsAhead pending.old (events_of (sent going.new)) rest) }
     ensures fault { IfErr result IsUnwritten }
 {
     spelled.clear();
-    let wrote = write_each(alloc, spelled, writer, pending, reader, kept, coming, going);
+    let wrote = write_each(alloc, spelled, writer, pending, kept, coming, going);
     send_last(alloc, going);
     wrote?;
     write_whole(writer, spelled.text())?;

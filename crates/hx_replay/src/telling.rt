@@ -6,10 +6,9 @@ ghost use Rattle.hx_itch.specs.Message.{feed_time};
 ghost use Rattle.hx_units.specs.Letters.{space, line_feed};
 ghost use Rattle.hx_replay.specs.Output.{feed_line, reply_line};
 
-use crate::decimal::digit_count;
-use crate::hexadecimal::write_bytes;
 use hx_itch::{Feed, encode};
 use hx_ouch::{Outbound, encode_out};
+use hx_tape_lines::{digit_count, write_bytes};
 use hx_units::MemberNo;
 use itoa::write_digits;
 use std::alloc::{AllocError, Global};
@@ -108,7 +107,7 @@ fn reach(bytes: &mut Vec<u8>, end: usize) -> Result<(), AllocError>
 }
 
 // Writes the line of a message of the feed behind the text that ends at a place, and answers where it ends now.
-#[tactic(auto, using(crate::proofs::Lines::decimal_fits))]
+#[tactic(auto, using(hx_tape_lines::proofs::Lines::decimal_fits))]
 fn append_feed_line(
     bytes: &mut Vec<u8>,
     start: usize,
@@ -131,7 +130,7 @@ fn append_feed_line(
 }
 
 // Writes the line of a reply behind the text that ends at a place, and answers where it ends now.
-#[tactic(auto, using(crate::proofs::Lines::decimal_fits))]
+#[tactic(auto, using(hx_tape_lines::proofs::Lines::decimal_fits))]
 fn append_reply_line(
     bytes: &mut Vec<u8>,
     start: usize,

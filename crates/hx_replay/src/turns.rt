@@ -1,11 +1,12 @@
-//! A tape that is played in turns: while lines are played, another thread writes what lines before them told, and reads on.
+//! A tape that is played in turns: while lines are played, another thread writes what lines before them told, and reads the
+//! next ones.
 //! Turns go round between both, so that neither waits for the other at each of them.
-ghost use Rattle.std.specs.Prelude.{◌≡◌, ◌≤◌, ◌<◌, ◌+◌, ◌^◌, ◌++◌, [], ℕ, List, Option, OnOk, OnErr, IfOk, IfErr, length};
+ghost use Rattle.std.specs.Prelude.{◌≡◌, ◌≤◌, ◌<◌, ◌+◌, ◌^◌, ◌++◌, [], ℕ, List, Option, OnOk, OnErr, IfErr, length};
 ghost use Rattle.std.specs.Io.KnownBytes.{Appends};
 ghost use Rattle.rtrb.specs.Ring.{received, known_items, sent, SameConsumer, SameProducer};
-ghost use Rattle.hx_replay.specs.Text.{Entry};
-ghost use Rattle.hx_replay.specs.Run.{Progress, Writes, Stops, IsFew};
-ghost use Rattle.hx_replay.specs.Ahead.{AreOf, IsAtTurn, IsUnwritten, ReadsAhead, PlaysOn, StopsOn, most_reads};
+ghost use Rattle.hx_tape_lines.specs.Text.{Entry};
+ghost use Rattle.hx_replay.specs.Run.{Progress, Writes, Replays, Stops, IsFew};
+ghost use Rattle.hx_replay.specs.Ahead.{AreOf, IsAhead, IsAtTurn, IsUnwritten};
 ghost use Rattle.hx_replay.specs.Turns.{events_of, told_of, PlaysTurns, FailsInTurns};
 
 use crate::delivery::{write_before, write_told};
@@ -21,13 +22,14 @@ use hx_levels::Book;
 use hx_market::Event;
 use rtrb::{Consumer, Producer, RingBuffer};
 use std::alloc::Global;
-use std::io::{Read, Write};
+use std::io::Write;
 use std::mem::replace;
 use std::thread::{Threads, join_mut};
 
 /// What is kept from text to text: the memory of turns, and of what is told and not yet sent on.
 #[derive(Drop)]
 pub(crate) struct Turns {
+    alloc: Global,
     kept: Vec<Turn>,
     telling: Messages,
     // What was told last, and not yet put behind the rest.
@@ -38,11 +40,21 @@ impl Turns {
     /// None yet.
     pub(crate) fn new(alloc: Global) -> Turns {
         Turns {
+            alloc,
             kept: Vec::new(alloc),
             telling: Messages::new(alloc),
             recent: Messages::new(alloc),
         }
     }
+}
+
+// The ends of the two rings by which turns go round: lines to be played, and what they told to be written.
+#[derive(Drop)]
+struct Rings {
+    to_play: Producer<Turn, Global, OfLines>,
+    unplayed: Consumer<Turn, Global, OfLines>,
+    to_write: Producer<Turn>,
+    unwritten: Consumer<Turn>,
 }
 
 // Sends off all turns that go round. They told nothing.
@@ -63,53 +75,54 @@ fn send_all(alloc: Global, kept: &mut Vec<Turn>, to_write: &mut Producer<Turn>)
     }
 }
 
-// Both threads: lines that come are played in this one, and what they told is written in another, which reads on.
-fn play_and_write<B: Book + Drop, R: Read + Send, W: Write + Send, T: Threads>(
+// Both threads: lines that come are played in this one, and what they told is written in another, which reads the next ones.
+fn play_and_write<B: Book + Drop, W: Write + Send, T: Threads>(
     rt: &T,
-    alloc: Global,
     run: &mut Run<B>,
     turns: &mut Turns,
     spelled: &mut Lines,
     pending: &mut Pending,
-    reader: &mut R,
     writer: &mut W,
-    to_play: &mut Producer<Turn, Global, OfLines>,
-    unplayed: &mut Consumer<Turn, Global, OfLines>,
-    to_write: &mut Producer<Turn>,
-    unwritten: &mut Consumer<Turn>,
+    rings: &mut Rings,
 ) -> (Result<(), TapeError>, Result<(), TapeError>)
     requires events { run.old.events + 2 ^ 46 < 2 ^ 48 }
     requires few { IsFew run.old }
     requires fits { length pending.old ≤ 16777216 }
-    requires unplayed { received unplayed.old ≡ [] }
-    requires unwritten { received unwritten.old ≡ [] }
-    requires to_play { sent to_play.old ≡ [] }
-    requires to_write { told_of (sent to_write.old) ≡ [] }
-    ensures unplayed { SameConsumer unplayed.old unplayed.new }
-    ensures unwritten { SameConsumer unwritten.old unwritten.new }
-    ensures to_play { SameProducer to_play.old to_play.new }
-    ensures to_write { SameProducer to_write.old to_write.new }
-    ensures wrote { OnOk result.0 (Appends
-        (W.contents writer.old) (W.contents writer.new) (told_of (received unwritten.new))) }
-    ensures ahead { OnOk result.0 (ReadsAhead
-        pending.old (events_of (sent to_play.new)) pending.new
-        (R.remaining reader.old) (R.remaining reader.new) most_reads 0) }
-    ensures err { OnErr result.0 ((rest : List ℕ) × Writes
-        (W.contents writer.old) (W.contents writer.new) (told_of (received unwritten.new)) rest) }
-    ensures read { OnErr result.0 ((rest : List ℕ) × ReadsAhead
-        pending.old (events_of (sent to_play.new)) rest
-        (R.remaining reader.old) (R.remaining reader.new) most_reads 0) }
+    requires unplayed { received rings.old.unplayed ≡ [] }
+    requires unwritten { received rings.old.unwritten ≡ [] }
+    requires to_play { sent rings.old.to_play ≡ [] }
+    requires to_write { told_of (sent rings.old.to_write) ≡ [] }
+    ensures unplayed { SameConsumer rings.old.unplayed rings.new.unplayed }
+    ensures unwritten { SameConsumer rings.old.unwritten rings.new.unwritten }
+    ensures to_play { SameProducer rings.old.to_play rings.new.to_play }
+    ensures to_write { SameProducer rings.old.to_write rings.new.to_write }
+    ensures wrote { OnOk result.0 (Appends (W.contents writer.old) (W.contents writer.new)
+        (told_of (received rings.new.unwritten))) }
+    ensures ahead { OnOk result.0
+        (IsAhead pending.old (events_of (sent rings.new.to_play)) pending.new) }
+    ensures err { OnErr result.0 ((rest : List ℕ) × Writes (W.contents writer.old)
+        (W.contents writer.new) (told_of (received rings.new.unwritten)) rest) }
+    ensures read { OnErr result.0 ((rest : List ℕ)
+        × IsAhead pending.old (events_of (sent rings.new.to_play)) rest) }
     ensures fault { IfErr result.0 IsUnwritten }
     ensures played { OnOk result.1
-        (PlaysTurns run.old run.new (received unplayed.new) (sent to_write.new)) }
+        (PlaysTurns run.old run.new (received rings.new.unplayed) (sent rings.new.to_write)) }
     ensures failed { IfErr result.1 (FailsInTurns
-        run.old (received unplayed.new) (sent to_write.new) turns.new.telling) }
+        run.old (received rings.new.unplayed) (sent rings.new.to_write) turns.new.telling) }
 {
     let Turns {
+        alloc,
         kept,
         telling,
         recent,
     } = turns;
+    let Rings {
+        to_play,
+        unplayed,
+        to_write,
+        unwritten,
+    } = rings;
+    let alloc = *alloc;
     let mut write = || -> Result<(), TapeError>
         requires fits { length pending.now ≤ 16777216 }
         requires none { received unwritten.now ≡ [] }
@@ -119,21 +132,15 @@ fn play_and_write<B: Book + Drop, R: Read + Send, W: Write + Send, T: Threads>(
         ensures wrote { OnOk result (Appends
             (W.contents writer.entry.now) (W.contents writer.exit.now)
             (told_of (received unwritten.exit.now))) }
-        ensures ahead { OnOk result (ReadsAhead
-            pending.entry.now (events_of (sent to_play.exit.now)) pending.exit.now
-            (R.remaining reader.entry.now) (R.remaining reader.exit.now) most_reads 0) }
+        ensures ahead { OnOk result (IsAhead
+            pending.entry.now (events_of (sent to_play.exit.now)) pending.exit.now) }
         ensures err { OnErr result ((rest : List ℕ) × Writes
             (W.contents writer.entry.now) (W.contents writer.exit.now)
             (told_of (received unwritten.exit.now)) rest) }
-        ensures read { OnErr result ((rest : List ℕ) × ReadsAhead
-            pending.entry.now (events_of (sent to_play.exit.now)) rest
-            (R.remaining reader.entry.now) (R.remaining reader.exit.now) most_reads 0) }
+        ensures read { OnErr result ((rest : List ℕ)
+            × IsAhead pending.entry.now (events_of (sent to_play.exit.now)) rest) }
         ensures fault { IfErr result IsUnwritten }
-    {
-        write_coming(
-            alloc, spelled, writer, pending, reader, kept, unwritten, to_play,
-        )
-    };
+    { write_coming(alloc, spelled, writer, pending, kept, unwritten, to_play) };
     let mut play = || -> Result<(), TapeError>
         requires events { run.now.events + 2 ^ 46 < 2 ^ 48 }
         requires few { IsFew run.now }
@@ -240,49 +247,41 @@ fn play_rest<B: Book + Drop, W: Write>(
     Ok(())
 }
 
-/// Plays lines of what is pending in turns, and has what they tell written. Where the last read gave as much as there was
-/// room for, it reads on before all lines are played. Where one thread waits for the other for long, it ends before all lines
-/// are played: those that stand then behind them are for the caller.
-pub(crate) fn play_turns<B: Book + Drop, R: Read + Send, W: Write + Send, T: Threads>(
+/// Plays lines of what is pending in turns, and has what they tell written. Where one thread waits for the other for long,
+/// it ends before all lines are played: those that stand then behind them are for the caller.
+pub(crate) fn play_turns<B: Book + Drop, W: Write + Send, T: Threads>(
     rt: &T,
-    alloc: Global,
     run: &mut Run<B>,
     turns: &mut Turns,
     spelled: &mut Lines,
     pending: &mut Pending,
-    reader: &mut R,
     writer: &mut W,
 ) -> Result<(), TapeError>
     requires events { run.old.events + 2 ^ 46 < 2 ^ 48 }
     requires few { IsFew run.old }
     requires fits { length pending.old ≤ 16777216 }
-    ensures ok { OnOk result (PlaysOn run.old run.new pending.old
-        (R.remaining reader.old) (R.remaining reader.new)
+    ensures ok { OnOk result (Replays run.old run.new pending.old
         (W.contents writer.old) (W.contents writer.new) pending.new) }
-    ensures err { IfErr result (StopsOn run.old pending.old
-        (R.remaining reader.old) (R.remaining reader.new)
+    ensures err { IfErr result (Stops ⊥ run.old pending.old
         (W.contents writer.old) (W.contents writer.new)) }
 {
-    let (mut to_play, mut unplayed) = RingBuffer::with_protocol::<Global, OfLines>(
-        alloc,
-        TURNS + 1,
-    )?;
-    let (mut to_write, mut unwritten) = RingBuffer::new(alloc, TURNS)?;
+    let alloc = turns.alloc;
+    let (to_play, unplayed) = RingBuffer::with_protocol::<Global, OfLines>(alloc, TURNS + 1)?;
+    let (mut to_write, unwritten) = RingBuffer::new(alloc, TURNS)?;
     send_all(alloc, &mut turns.kept, &mut to_write);
-    let (wrote, played) = play_and_write(
-        rt,
-        alloc,
-        run,
-        turns,
-        spelled,
-        pending,
-        reader,
-        writer,
-        &mut to_play,
-        &mut unplayed,
-        &mut to_write,
-        &mut unwritten,
-    );
+    let mut rings = Rings {
+        to_play,
+        unplayed,
+        to_write,
+        unwritten,
+    };
+    let (wrote, played) = play_and_write(rt, run, turns, spelled, pending, writer, &mut rings);
+    let Rings {
+        mut to_play,
+        mut unplayed,
+        mut to_write,
+        mut unwritten,
+    } = rings;
     let unwritten_count = unwritten.slots_beside(&mut to_write);
     let unplayed_count = unplayed.slots_beside(&mut to_play);
     wrote?;

@@ -8,6 +8,7 @@ use Rattle.hx_rules.specs.declared.event.Event.{Event}
 use Rattle.hx_rules.specs.Outputs.{Told}
 use Rattle.hx_rules.specs.Steps.{run, told, feed}
 use Rattle.hx_laws.specs.FeedBook.{shown_book, book_from, shown_orders, IsUncrossed}
+use Rattle.hx_reader.specs.Faults.{AreFaultless}
 use Rattle.hx_reader.specs.Readings.{opening, is_whole}
 use Rattle.hx_reader.specs.Runs.{Step, given, after_all, TellsOf}
 
@@ -39,6 +40,10 @@ WithinAnEvent =
     × (seen ≡ feed setup (take n events) ++ part)
     × (part ++ more ≡ feed_at n (told setup events))
     × (shown_book seen ≡ book_from (shown_orders setup (run setup (take n events)).live) part)
+
+-- each message of the feed of a history is one of a feed with the book of those before it
+abbrev pub HasNoFault : Type 0
+HasNoFault = (setup : Setup) (events : List Event) → AreFaultless [] (feed setup events)
 
 -- ---- a reader of datagrams
 

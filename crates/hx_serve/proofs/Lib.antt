@@ -1,1 +1,2 @@
 pub mod Conducting
+pub mod Histories

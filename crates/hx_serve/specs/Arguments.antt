@@ -1,5 +1,5 @@
 -- The numbers of a server's command line.
-use Rattle.std.specs.Prelude.{ℕ, ◌≤◌}
+use Rattle.std.specs.Prelude.{ℕ, ◌≤◌, ◌≢◌}
 
 abbrev pub most_sessions : ℕ
 most_sessions = 63
@@ -12,12 +12,16 @@ most_messages = 1000000
 abbrev pub most_turns : ℕ
 most_turns = 1000000000
 
+-- the most requests of one source that are answered a second
+abbrev pub most_answers : ℕ
+most_answers = 1000000
+
 -- from 1 to this
 abbrev pub IsWithin : (most number : ℕ) → Type 0
 IsWithin most number = (1 ≤ number) × (number ≤ most)
 
--- three ports, and how much is taken
+-- three ports, and how much is taken: the feed does not go to the port of requests
 abbrev pub AreInRange : (port feed requests sessions capacity turns : ℕ) → Type 0
 AreInRange port feed requests sessions capacity turns =
-    (1 ≤ port) × (1 ≤ feed) × (1 ≤ requests)
+    (1 ≤ port) × (1 ≤ feed) × (1 ≤ requests) × (feed ≢ requests)
     × IsWithin most_sessions sessions × IsWithin most_messages capacity × IsWithin most_turns turns

@@ -2,8 +2,13 @@
 use Rattle.std.specs.Prelude.{ℕ, ◌≡◌}
 use Rattle.hx_serve.specs.declared.args.ServeArgs.{ServeArgs}
 
+-- how many requests of a source are answered a second unless it is said
+abbrev pub usual_answers : ℕ
+usual_answers = 1000
+
 -- the arguments are these numbers
-abbrev pub AreThese : (port feed requests sessions capacity turns : ℕ) → ServeArgs → Type 0
-AreThese port feed requests sessions capacity turns args =
+abbrev pub AreThese : (port feed requests sessions capacity turns answers : ℕ) → ServeArgs → Type 0
+AreThese port feed requests sessions capacity turns answers args =
     (args.port ≡ port) × (args.feed ≡ feed) × (args.requests ≡ requests)
     × (args.sessions ≡ sessions) × (args.capacity ≡ capacity) × (args.turns ≡ turns)
+    × (args.answers ≡ answers)

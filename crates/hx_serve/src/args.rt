@@ -1,6 +1,6 @@
 //! What the command line asks of a server.
-ghost use Rattle.std.specs.Prelude.{◌↔◌, IfSome, IsSome};
-ghost use Rattle.hx_serve.specs.Arguments.{AreInRange};
+ghost use Rattle.std.specs.Prelude.{◌↔◌, ◌≡◌, IfSome, IsSome};
+ghost use Rattle.hx_serve.specs.Arguments.{AreInRange, IsWithin, most_answers};
 
 /// Where a server listens and sends, and how much it takes.
 #[derive(Clone, Copy, Debug, PartialEq, Eq)]
@@ -18,13 +18,27 @@ pub struct ServeArgs {
     /// How many reads and how many turns of its output each session has, and how many reads the operator's input: 1 to
     /// 1,000,000,000.
     pub turns: u64,
+    /// How many requests of one source are answered a second, 1 to 1,000,000; eight times as many are in all.
+    pub answers: u32,
     pub ghost in_range: { AreInRange port feed requests sessions capacity turns },
 }
 
-impl ServeArgs {
-    ghost use Rattle.hx_serve.specs.Given.{AreThese};
+/// What is asked of a day whose door is open all day.
+#[derive(Clone, Copy, Debug, PartialEq, Eq)]
+pub struct OpenArgs {
+    /// How many seconds a connection has for its login.
+    pub login_limit: u32,
+    /// For how many seconds the end of the feed's session is told, once a second.
+    pub end: u32,
+    /// The number of the day since 1970, UTC, whose times the members' messages have.
+    pub day: u64,
+}
 
-    /// These arguments, or none where one of the numbers is out of its range.
+impl ServeArgs {
+    ghost use Rattle.hx_serve.specs.Given.{AreThese, usual_answers};
+
+    /// These arguments, or none where one of the numbers is out of its range, or the feed would go to the port of
+    /// requests. 1,000 requests of a source are answered a second.
     pub fn of(
         port: u16,
         feed: u16,
@@ -35,9 +49,9 @@ impl ServeArgs {
     ) -> Option<ServeArgs>
         ensures fits { IsSome result ↔ AreInRange port feed requests sessions capacity turns }
         ensures same { IfSome result
-            (AreThese port feed requests sessions capacity turns) }
+            (AreThese port feed requests sessions capacity turns usual_answers) }
     {
-        if port == 0 || feed == 0 || requests == 0 {
+        if port == 0 || feed == 0 || requests == 0 || feed == requests {
             return None;
         }
         if sessions == 0 || sessions > 63 || capacity == 0 || capacity > 1_000_000 {
@@ -53,6 +67,27 @@ impl ServeArgs {
             sessions,
             capacity,
             turns,
+            answers: 1_000,
+        })
+    }
+
+    /// The same, but for how many requests of a source are answered a second; none where that is out of its range.
+    pub fn with_answers(self, answers: u32) -> Option<ServeArgs>
+        ensures fits { IsSome result ↔ IsWithin most_answers answers }
+        ensures same { IfSome result (AreThese self.port self.feed self.requests self.sessions
+            self.capacity self.turns answers) }
+    {
+        if answers == 0 || answers > 1_000_000 {
+            return None;
+        }
+        Some(ServeArgs {
+            port: self.port,
+            feed: self.feed,
+            requests: self.requests,
+            sessions: self.sessions,
+            capacity: self.capacity,
+            turns: self.turns,
+            answers,
         })
     }
 }

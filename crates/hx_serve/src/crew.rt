@@ -11,6 +11,7 @@ use hx_members::Setup;
 use hx_sessions::{Ended, Fault, Part};
 use log::Log as Logs;
 use std::alloc::Global;
+use std::time::Clock;
 
 /// The part of a member's session.
 pub type Member<V, C> = Part<V, Inlet, Outlet, C>;
@@ -19,7 +20,7 @@ pub type Member<V, C> = Part<V, Inlet, Outlet, C>;
 pub type Served<V, C> = Result<Vec<(Member<V, C>, Result<Ended, Fault>)>, Vec<Member<V, C>>>;
 
 /// A part for each connection, each by the last pass that is left.
-pub fn hire<'a, V: Venue, T>(
+pub fn hire<'a, V: Venue, T: Clock>(
     rt: &'a T,
     alloc: Global,
     log: &Log<Entry>,
@@ -38,8 +39,8 @@ pub fn hire<'a, V: Venue, T>(
         parts.push(Part {
             input: connection.inlet,
             output: connection.outlet,
-            inbound: DayClock { rt },
-            outbound: DayClock { rt },
+            inbound: DayClock::of_clock(rt),
+            outbound: DayClock::of_clock(rt),
             pass,
             reader: reader.split(log),
         })?;

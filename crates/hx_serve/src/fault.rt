@@ -33,6 +33,9 @@ pub enum ServeError {
     /// The log has too little room left for the feed of an operator's line.
     #[error("feed full")]
     Full,
+    /// The file that the history would go to is there: it is not touched.
+    #[error("write failed: the file of the history is there, and is never written over")]
+    HistoryIsThere,
     /// All reads of the operator's input are used up.
     #[error("too many reads")]
     Turns,

@@ -1,12 +1,238 @@
-//! What the operator is told of sessions, by `log`.
+//! What the operator is told as it happens.
 ghost use Rattle.std.specs.Prelude.{◌≡◌};
 ghost use Rattle.hx_serve.specs.Faults.{fault_number};
 
 use hx_sessions::{Ended, Fault, Gate};
 use hx_units::MemberNo;
 use log::{Log, info};
+use std::fmt;
+use std::fmt::{Display, Formatter};
+use std::net::SocketAddr;
 
-/// A gate that holds nothing, and tells when a session is open.
+/// Why a connection ended before its login.
+#[derive(Clone, Copy, Debug, PartialEq, Eq)]
+pub enum Left {
+    /// It was closed at its other end.
+    Gone,
+    /// It sent something else than a login.
+    NoLogin,
+    /// It did not log in within its time.
+    Late,
+    /// No place was free within its time.
+    NoPlace,
+    /// More connections came than can wait at the door.
+    Crowded,
+    /// The day was over.
+    DayEnd,
+}
+
+/// Something that the operator is told. Nothing in it is secret: no order, no password.
+#[derive(Clone, Copy, Debug, PartialEq, Eq)]
+pub enum Notice {
+    /// A member has logged in.
+    Opened {
+        /// Who.
+        member: MemberNo,
+        /// From where.
+        from: SocketAddr,
+    },
+    /// The session of a member has ended.
+    Ended {
+        /// Whose.
+        member: MemberNo,
+        /// From where.
+        from: SocketAddr,
+        /// How.
+        how: Ended,
+    },
+    /// A session has ended with a fault.
+    Faulted {
+        /// The number of the fault, 1 to 7.
+        fault: u8,
+        /// Whose, where he had logged in.
+        member: Option<MemberNo>,
+        /// From where.
+        from: SocketAddr,
+    },
+    /// A connection has ended before its login.
+    Left {
+        /// From where.
+        from: SocketAddr,
+        /// Why.
+        why: Left,
+    },
+    /// A line of the operator was refused, and nothing of it is recorded.
+    Refused {
+        /// Its number, counted from 1.
+        line: u64,
+        /// Why.
+        why: Refusal,
+    },
+    /// The operator's input has ended: the codes of the hours that are left are recorded.
+    Closing,
+    /// An answer to a request could not be sent.
+    Unanswered {
+        /// To whom.
+        to: SocketAddr,
+    },
+    /// More requests came than are answered, in some second.
+    Crowd,
+    /// There is no setup: the passwords are those of the standard one, which everybody can read.
+    StandardSetup,
+}
+
+/// Why a line of the operator was refused.
+#[derive(Clone, Copy, Debug, PartialEq, Eq)]
+pub enum Refusal {
+    /// It is no line of his.
+    Bad,
+    /// Its time is not within the day.
+    Time,
+    /// The feed has no room for what it tells.
+    Full,
+    /// A growth was refused.
+    NoMemory,
+    /// The market refused it otherwise.
+    Other,
+}
+
+impl Display for Refusal {
+    fn fmt<W: fmt::Write>(&self, f: &mut Formatter<W>) -> fmt::Result {
+        f.write_str(match self {
+            Refusal::Bad => "bad line",
+            Refusal::Time => "bad time",
+            Refusal::Full => "feed full",
+            Refusal::NoMemory => "no memory",
+            Refusal::Other => "refused",
+        })
+    }
+}
+
+impl Display for Left {
+    fn fmt<W: fmt::Write>(&self, f: &mut Formatter<W>) -> fmt::Result {
+        f.write_str(match self {
+            Left::Gone => "gone before its login",
+            Left::NoLogin => "no login",
+            Left::Late => "no login in time",
+            Left::NoPlace => "no place is free",
+            Left::Crowded => "too many wait at the door",
+            Left::DayEnd => "the day is over",
+        })
+    }
+}
+
+// How a session ended, in words.
+fn how_of(how: Ended) -> &'static str {
+    match how {
+        Ended::Logout => "logged out",
+        Ended::ReaderEnd => "hung up",
+        Ended::DayEnd => "the day is over",
+    }
+}
+
+impl Display for Notice {
+    fn fmt<W: fmt::Write>(&self, f: &mut Formatter<W>) -> fmt::Result {
+        match self {
+            Notice::Opened { member, from } => {
+                let member = member.get();
+                write!(f, "session open member {member} from {from}")
+            }
+            Notice::Ended { member, from, how } => {
+                let (member, how) = (member.get(), how_of(*how));
+                write!(f, "session end member {member} from {from}: {how}")
+            }
+            Notice::Faulted {
+                fault,
+                member: Some(member),
+                from,
+            } => {
+                let member = member.get();
+                write!(f, "session fault {fault} member {member} from {from}")
+            }
+            Notice::Faulted {
+                fault,
+                member: None,
+                from,
+            } => write!(f, "session fault {fault} from {from}"),
+            Notice::Left { from, why } => write!(f, "connection from {from} closed: {why}"),
+            Notice::Refused { line, why } => write!(f, "operator line {line}: {why}"),
+            Notice::Closing => f.write_str("operator input ended: the hours are ended"),
+            Notice::Unanswered { to } => write!(f, "answer to {to} not sent"),
+            Notice::Crowd => f.write_str("more requests than are answered"),
+            Notice::StandardSetup => f.write_str("no setup: the passwords are the published ones"),
+        }
+    }
+}
+
+/// A notice as an object of JSON (RFC 8259), on one line.
+#[derive(Clone, Copy, Drop)]
+pub struct Json {
+    /// The notice.
+    pub notice: Notice,
+}
+
+impl Display for Json {
+    fn fmt<W: fmt::Write>(&self, f: &mut Formatter<W>) -> fmt::Result {
+        match self.notice {
+            Notice::Opened { member, from } => {
+                let member = member.get();
+                write!(
+                    f,
+                    "{{\"notice\":\"session open\",\"member\":{member},\"from\":\"{from}\"}}"
+                )
+            }
+            Notice::Ended { member, from, how } => {
+                let (member, how) = (member.get(), how_of(how));
+                write!(
+                    f,
+                    "{{\"notice\":\"session end\",\"member\":{member},\"from\":\"{from}\",\"how\":\"{how}\"}}"
+                )
+            }
+            Notice::Faulted {
+                fault,
+                member: Some(member),
+                from,
+            } => {
+                let member = member.get();
+                write!(
+                    f,
+                    "{{\"notice\":\"session fault\",\"fault\":{fault},\"member\":{member},\"from\":\"{from}\"}}"
+                )
+            }
+            Notice::Faulted {
+                fault,
+                member: None,
+                from,
+            } => write!(
+                f,
+                "{{\"notice\":\"session fault\",\"fault\":{fault},\"from\":\"{from}\"}}"
+            ),
+            Notice::Left { from, why } => write!(
+                f,
+                "{{\"notice\":\"connection closed\",\"from\":\"{from}\",\"why\":\"{why}\"}}"
+            ),
+            Notice::Refused { line, why } => write!(
+                f,
+                "{{\"notice\":\"operator line\",\"line\":{line},\"why\":\"{why}\"}}"
+            ),
+            Notice::Unanswered { to } => {
+                write!(f, "{{\"notice\":\"answer not sent\",\"to\":\"{to}\"}}")
+            }
+            Notice::Closing | Notice::Crowd | Notice::StandardSetup => {
+                let notice = self.notice;
+                write!(f, "{{\"notice\":\"{notice}\"}}")
+            }
+        }
+    }
+}
+
+/// Where notices go.
+pub trait Board {
+    /// Tells the operator.
+    fn post(&self, notice: Notice);
+}
+
+/// A gate that holds nothing, and a board that writes each notice as a line of the log.
 #[derive(Clone, Copy)]
 pub struct Notices<'a, T> {
     /// Where the notices go.
@@ -18,6 +244,35 @@ impl<'a, T: Log> Gate for Notices<'a, T> {
         info!(self.rt; "session open member {}", member.get());
     }
 
+    fn before(&self, _member: MemberNo, _number: u64) {}
+
+    fn after(&self, _member: MemberNo, _number: u64) {}
+}
+
+impl<'a, T: Log> Board for Notices<'a, T> {
+    fn post(&self, notice: Notice) {
+        info!(self.rt; "{}", notice);
+    }
+}
+
+/// A board that writes each notice as an object of JSON, on a line of standard error.
+#[derive(Clone, Copy)]
+pub struct JsonNotices<'a, T> {
+    /// Whose standard error it is.
+    pub rt: &'a T,
+}
+
+impl<'a, T: Eprint> Board for JsonNotices<'a, T> {
+    fn post(&self, notice: Notice) {
+        let _ = self.rt.eprintln(Json { notice });
+    }
+}
+
+/// A gate that holds nothing and tells nothing.
+#[derive(Clone, Copy, Drop)]
+pub struct Silent;
+
+impl Gate for Silent {
     fn before(&self, _member: MemberNo, _number: u64) {}
 
     fn after(&self, _member: MemberNo, _number: u64) {}
@@ -47,5 +302,24 @@ pub fn tell_end<T: Log>(rt: &T, member: Option<MemberNo>, how: &Result<Ended, Fa
             }
         }
         Err(fault) => info!(rt; "session fault {}", fault_number(fault)),
+    }
+}
+
+/// What is told of a session's end: nothing where nobody had logged in and nothing was wrong.
+pub fn notice_of_end(
+    member: Option<MemberNo>,
+    from: SocketAddr,
+    how: &Result<Ended, Fault>,
+) -> Option<Notice> {
+    match how {
+        Ok(how) => {
+            let how = *how;
+            member.map(|member| Notice::Ended { member, from, how })
+        }
+        Err(fault) => Some(Notice::Faulted {
+            fault: fault_number(fault),
+            member,
+            from,
+        }),
     }
 }

@@ -13,8 +13,8 @@ use std::alloc::Global;
 use std::io::{ErrorKind, Read};
 use std::sync::Wait;
 
-// The greatest line, without its line feed.
-const LONGEST: usize = 2066;
+/// The greatest line, without its line feed.
+pub(crate) const LONGEST: usize = 2066;
 
 // The fault of a line whose event the exchange refused.
 fn line_fault(line: u64, error: DeskError) -> ServeError

@@ -3,33 +3,43 @@ ghost use Rattle.std.specs.Prelude.{◌≡◌, false, true};
 ghost use mathlib.Core.List.{IsPrefix};
 ghost use Rattle.hx_serve.specs.Publishing.{KnowsNoMore};
 
+use crate::args::ServeArgs;
 use crate::clock::DayClock;
+use crate::notices::{Board, Notice};
+use crate::rate::Rate;
 use crate::rest::Rest;
+use crate::sockets::Datagrams;
 use hx_blog::{Log, Reader, Receipt};
 use hx_engine::{Entry, Venue};
 use hx_retransmit::{LogMessages, Publisher, Server};
 use std::io::ErrorKind;
 use std::marker::PhantomData;
-use std::net::{Ipv4Addr, ToSocketAddrs, UdpSocket};
+use std::net::{Ipv4Addr, SocketAddr};
 use std::sync::atomic::{AtomicBool, Ordering};
-use std::time::Clock;
+use std::time::{Clock, Instant};
 
-// A datagram that finds no room is tried again so often.
+// A packet of the feed that finds no room is tried again so often, and an answer so often.
 const TRIES: u32 = 10_000;
+
+const ANSWER_TRIES: u32 = 100;
+
+// Once all who write have ended and all is sent, so many datagrams are looked at, whatever comes.
+const LAST_ANSWERS: u32 = 1_000;
 
 // A request has 20 bytes; what is longer is none.
 const REQUEST: usize = 64;
 
 // Sends a datagram, and answers whether it went out.
-fn send<T: Clock, A: ToSocketAddrs + Copy>(
+fn send<T: Clock, D: Datagrams>(
     rt: &T,
-    socket: &UdpSocket,
+    socket: &D,
     bytes: &[u8],
-    to: A,
+    to: SocketAddr,
+    tries: u32,
 ) -> bool {
     let mut rest = Rest::new();
-    for _ in 0..TRIES {
-        match socket.send_to(bytes, to) {
+    for _ in 0..tries {
+        match socket.send(bytes, to) {
             Ok(_) => return true,
             Err(error) => match error.kind() {
                 ErrorKind::WouldBlock => rest.sleep(rt),
@@ -49,7 +59,9 @@ pub struct Publishing<'a, V: Venue> {
     server: Server<LogMessages<'a, Entry>>,
     // The port that the feed goes to.
     feed: u16,
-    /// Whether a datagram could not be sent or received.
+    // How often requests are answered.
+    rate: Rate,
+    /// Whether a packet of the feed could not be sent, or a datagram not be received.
     pub failed: bool,
     of: PhantomData<V>,
     pub ghost belongs: { publisher.messages.log ≡ V.log },
@@ -59,7 +71,7 @@ impl<'a, V: Venue> Publishing<'a, V> {
     /// A publisher that has sent nothing, and a server.
     pub fn new(
         session: [u8; 10],
-        feed: u16,
+        args: &ServeArgs,
         log: &'a Log<Entry>,
         first: Reader<Entry>,
         second: Reader<Entry>,
@@ -73,24 +85,26 @@ impl<'a, V: Venue> Publishing<'a, V> {
         Publishing {
             publisher: Publisher::new(session, LogMessages::new(log, first), now),
             server: Server::new(session, LogMessages::new(log, second)),
-            feed,
+            feed: args.feed,
+            rate: Rate::of(args.answers),
             failed: false,
             of: PhantomData,
         }
     }
 
     // Sends a packet of the feed.
-    fn send_feed<T: Clock>(&mut self, rt: &T, socket: &UdpSocket, packet: &[u8])
+    fn send_feed<T: Clock, D: Datagrams>(&mut self, rt: &T, socket: &D, packet: &[u8])
         ensures { self.new.publisher ≡ self.old.publisher }
     {
-        if !send(rt, socket, packet, (Ipv4Addr::new(127, 0, 0, 1), self.feed)) {
+        let to = SocketAddr::from((Ipv4Addr::new(127, 0, 0, 1), self.feed));
+        if !send(rt, socket, packet, to, TRIES) {
             self.failed = true;
         }
     }
 
     // Sends the next packet, where there is one. Answers whether there was: where there was none, all that the
     // publisher knows of is sent.
-    fn publish<T: Clock>(&mut self, rt: &T, socket: &UdpSocket, now: u64) -> bool
+    fn publish<T: Clock, D: Datagrams>(&mut self, rt: &T, socket: &D, now: u64) -> bool
         ensures known { IsPrefix self.old.publisher.messages.known
             self.new.publisher.messages.known }
         ensures all { result ≡ false →
@@ -103,17 +117,28 @@ impl<'a, V: Venue> Publishing<'a, V> {
         true
     }
 
-    // Answers the next request, where there is one. Answers whether there was any datagram.
-    fn answer<T: Clock>(&mut self, rt: &T, socket: &UdpSocket) -> bool
+    // Answers the next request, where there is one. Answers whether there was any datagram. An answer that cannot be
+    // sent is the trouble of who asked.
+    fn answer<T: Clock, D: Datagrams, B: Board>(
+        &mut self,
+        rt: &T,
+        socket: &D,
+        board: &B,
+        now: u64,
+    ) -> bool
         ensures { self.new.publisher ≡ self.old.publisher }
     {
         let mut buffer = [0; REQUEST];
-        match socket.recv_from(&mut buffer) {
+        match socket.receive(&mut buffer) {
             Ok((count, from)) => {
-                if let Some(packet) = self.server.answer(&buffer[..count])
-                    && !send(rt, socket, packet.as_slice(), from)
-                {
-                    self.failed = true;
+                if let Some(packet) = self.server.answer(&buffer[..count]) {
+                    if !self.rate.allows(from, now) {
+                        if self.rate.is_first_refused() {
+                            board.post(Notice::Crowd);
+                        }
+                    } else if !send(rt, socket, packet.as_slice(), from, ANSWER_TRIES) {
+                        board.post(Notice::Unanswered { to: from });
+                    }
                 }
                 true
             }
@@ -129,24 +154,31 @@ impl<'a, V: Venue> Publishing<'a, V> {
     }
 
     /// Publishes and answers by turns, without waiting for a request, until all who write have ended and a turn has
-    /// found nothing. It takes neither a lock nor memory.
-    pub fn work<T: Clock>(
+    /// found nothing, or so many datagrams have come behind that. It takes neither a lock nor memory.
+    pub fn work<T: Clock, D: Datagrams, B: Board>(
         self,
         rt: &T,
-        socket: &UdpSocket,
+        socket: &D,
+        board: &B,
         ended: &AtomicBool,
     ) -> Publishing<'a, V> {
         let mut publishing = self;
-        let clock = DayClock { rt };
+        let clock = DayClock::of_clock(rt);
         let mut rest = Rest::new();
+        let mut late = 0;
         for _ in 0..u64::MAX {
             let last = ended.load(Ordering::SeqCst);
-            let sent = publishing.publish(rt, socket, clock.time_of_day());
-            let answered = publishing.answer(rt, socket);
+            let now = clock.time_of_day();
+            let sent = publishing.publish(rt, socket, now);
+            let answered = publishing.answer(rt, socket, board, now);
+            if last && !sent && (!answered || late >= LAST_ANSWERS) {
+                break;
+            }
+            if last && !sent {
+                late += 1;
+            }
             if sent || answered {
                 rest = Rest::new();
-            } else if last {
-                break;
             } else {
                 rest.sleep(rt);
             }
@@ -165,7 +197,7 @@ impl<'a, V: Venue> Publishing<'a, V> {
     }
 
     // Sends what is left. Answers whether all that the publisher knows of is sent.
-    fn drain<T: Clock>(&mut self, rt: &T, socket: &UdpSocket, now: u64) -> bool
+    fn drain<T: Clock, D: Datagrams>(&mut self, rt: &T, socket: &D, now: u64) -> bool
         ensures known { IsPrefix self.old.publisher.messages.known
             self.new.publisher.messages.known }
         ensures all { result ≡ true →
@@ -181,18 +213,49 @@ impl<'a, V: Venue> Publishing<'a, V> {
 
     /// Sends what is left, and the packet that ends the session. Answers whether no datagram failed: then all that the
     /// publisher knows of is sent.
-    pub fn finish<T: Clock>(&mut self, rt: &T, socket: &UdpSocket) -> bool
+    pub fn finish<T: Clock, D: Datagrams>(&mut self, rt: &T, socket: &D) -> bool
         ensures known { IsPrefix self.old.publisher.messages.known
             self.new.publisher.messages.known }
         ensures all { result ≡ true →
             KnowsNoMore self.new.publisher.messages self.new.publisher.sent }
     {
-        let now = DayClock { rt }.time_of_day();
+        let now = DayClock::of_clock(rt).time_of_day();
         if !self.drain(rt, socket, now) {
             return false;
         }
         let packet = self.publisher.end();
         self.send_feed(rt, socket, packet.as_slice());
         !self.failed
+    }
+
+    /// Repeats the packet that ends the session once a second, for so many seconds, and answers requests meanwhile: who
+    /// lost the last packets hears of them so, and gets them. To be called behind `finish`.
+    pub fn linger<T: Clock, D: Datagrams, B: Board>(
+        &mut self,
+        rt: &T,
+        socket: &D,
+        board: &B,
+        seconds: u32,
+    ) {
+        let clock = DayClock::of_clock(rt);
+        let mut rest = Rest::new();
+        for _ in 0..seconds {
+            let Ok(start) = Instant::now(rt) else {
+                return;
+            };
+            for _ in 0..u64::MAX {
+                if start.elapsed(rt).is_ok_and(|time| time.as_secs() == 0) {
+                    if self.answer(rt, socket, board, clock.time_of_day()) {
+                        rest = Rest::new();
+                    } else {
+                        rest.sleep(rt);
+                    }
+                } else {
+                    break;
+                }
+            }
+            let packet = self.publisher.end();
+            self.send_feed(rt, socket, packet.as_slice());
+        }
     }
 }

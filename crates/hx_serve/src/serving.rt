@@ -6,10 +6,13 @@ use crate::clock::DayClock;
 use crate::crew::{dismiss, hire};
 use crate::ending::{fault_of_day, write_last_line};
 use crate::fault::ServeError;
-use crate::notices::Notices;
+use crate::hosting::Hosting;
+use crate::notices::{Board, Notices};
+use crate::open_day::{Staff, work_open};
+use crate::places::make_places;
 use crate::publishing::Publishing;
-use crate::sockets::Doors;
-use crate::workers::work;
+use crate::sockets::{Datagrams, Doors, take};
+use crate::workers::{Writers, work};
 use hx_blog::{Log, Reader, Writer};
 use hx_engine::{Entry, Exchange, Finished, Pass, Venue};
 use hx_members::{Seed, Setup};
@@ -23,6 +26,9 @@ use std::sync::Wait;
 use std::sync::ledger::Blank;
 use std::thread::Threads;
 use std::time::Clock;
+
+// Of an open day's log so many slots more than half are kept for the codes of the hours, besides two for each stock.
+const KEPT: u64 = 8;
 
 /// What a day leaves.
 #[derive(Drop)]
@@ -44,6 +50,28 @@ struct Outcome<V: Venue> {
     operated: Option<ServeError>,
 }
 
+// By what the sessions and the operator submit, and by what the publisher and the sessions read.
+#[derive(Drop)]
+struct Crew<V: Venue> {
+    // The operator's pass.
+    own: Pass<V>,
+    // Those of the sessions.
+    passes: Vec<Pass<V>>,
+    reader: Reader<Entry>,
+    ghost belongs: { reader.log ≡ V.log },
+}
+
+// What an exchange is made of: a copy of the setup, the ends of its log, its ledger, and the seed of its tokens.
+#[derive(Drop)]
+struct Founding {
+    own: Setup,
+    log: Log<Entry>,
+    pen: Writer<Entry>,
+    reader: Reader<Entry>,
+    blank: Blank,
+    seed: Seed,
+}
+
 // The publisher learns what every pass knows.
 fn learn_all<'a, V: Venue>(
     publishing: &mut Publishing<'a, V>,
@@ -57,57 +85,112 @@ fn learn_all<'a, V: Venue>(
     }
 }
 
-// A day from its first connection on, up to the packet that ends the feed.
+// A day of so many connections, from the first one on, up to the packet that ends the feed.
 fn attend<
     V: Venue + Send + Sync,
     G: Gate + Sync,
+    B: Board + Sync,
+    D: Datagrams + Sync + Drop,
     T: Threads + Wait + Clock + Logs + Sync,
     R: Read + Drop,
 >(
     rt: &T,
     alloc: Global,
     exchange: &Exchange<V>,
-    setup: &Setup,
-    args: &ServeArgs,
-    gate: &G,
-    doors: &Doors,
-    passes: Vec<Pass<V>>,
-    reader: Reader<Entry>,
+    hosting: &Hosting<'_, G, B>,
+    doors: Doors<D>,
+    crew: Crew<V>,
     input: R,
-) -> Result<Outcome<V>, ServeError>
-    requires { reader.log ≡ V.log }
-{
-    let (mut passes, mut reader) = (passes, reader);
+) -> Result<Outcome<V>, ServeError> {
+    let Crew {
+        own: pass,
+        mut passes,
+        mut reader,
+    } = crew;
+    let Doors { listener, socket } = doors;
     let log = exchange.feed_log();
-    let Some(own) = passes.pop() else {
-        return Err(ServeError::NoMemory);
-    };
-    let connections = doors.take(alloc, args.sessions)?;
+    let connections = take(alloc, &listener, hosting.args.sessions)?;
+    drop(listener);
     let parts = hire(rt, alloc, log, connections, &mut passes, &mut reader)?;
-    let now = DayClock { rt }.time_of_day();
+    let now = DayClock::of_clock(rt).time_of_day();
     let other = reader.split(log);
-    let publishing = Publishing::new(*setup.session(), args.feed, log, reader, other, now);
+    let session = *hosting.setup.session();
+    let publishing = Publishing::new(session, hosting.args, log, reader, other, now);
+    let writers = Writers { parts, pass, input };
     let (mut publishing, ((own, operated), served)) = work(
-        rt,
-        alloc,
-        exchange,
-        setup,
-        gate,
-        args.turns,
-        &doors.socket,
-        publishing,
-        parts,
-        own,
-        input,
+        rt, alloc, exchange, hosting, &socket, publishing, writers,
     );
-    let begun = dismiss(rt, setup, served, &mut passes);
+    let begun = dismiss(rt, hosting.setup, served, &mut passes);
     let _ = passes.push(own);
     learn_all(&mut publishing, log, &mut passes);
-    let sent = publishing.finish(rt, &doors.socket);
+    let sent = publishing.finish(rt, &socket);
     Ok(Outcome {
         passes,
         network: !sent,
         memory: !begun,
+        operated,
+    })
+}
+
+// An open day, up to the last packet that tells the end of the feed. Half of the log and some slots are kept for the codes
+// of the hours and for ticks: what they tell is the codes themselves, the stocks, and the end of orders that were added
+// with a message each.
+fn attend_open<
+    V: Venue + Send + Sync,
+    G: Gate + Sync,
+    B: Board + Sync,
+    D: Datagrams + Sync + Drop,
+    T: Threads + Wait + Clock + Logs + Sync,
+    R: Read + Send + Drop,
+>(
+    rt: &T,
+    alloc: Global,
+    exchange: &Exchange<V>,
+    hosting: &Hosting<'_, G, B>,
+    doors: Doors<D>,
+    crew: Crew<V>,
+    input: R,
+) -> Result<Outcome<V>, ServeError> {
+    let Some(open) = hosting.open else {
+        return attend(rt, alloc, exchange, hosting, doors, crew, input);
+    };
+    let Crew {
+        own: pass,
+        mut passes,
+        mut reader,
+    } = crew;
+    let Doors { listener, socket } = doors;
+    let log = exchange.feed_log();
+    let stocks = hosting.setup.stocks().len() as u64;
+    exchange.keep(
+        rt,
+        (hosting.args.capacity / 2)
+            .saturating_add(KEPT)
+            .saturating_add(stocks),
+    );
+    let places = make_places(alloc, log, &mut passes, &mut reader)?;
+    let now = DayClock::of_clock(rt).time_of_day();
+    let other = reader.split(log);
+    let session = *hosting.setup.session();
+    let publishing = Publishing::new(session, hosting.args, log, reader, other, now);
+    let staff = Staff {
+        places,
+        listener,
+        pass,
+        input,
+        open,
+    };
+    let (mut publishing, (mut passes, (own, operated))) = work_open(
+        rt, alloc, exchange, hosting, &socket, publishing, staff,
+    );
+    let _ = passes.push(own);
+    learn_all(&mut publishing, log, &mut passes);
+    let sent = publishing.finish(rt, &socket);
+    publishing.linger(rt, &socket, hosting.board, open.end);
+    Ok(Outcome {
+        passes,
+        network: !sent,
+        memory: false,
         operated,
     })
 }
@@ -141,64 +224,79 @@ fn conclude<V: Venue, W: Write>(
 fn run<
     V: Venue + Send + Sync,
     G: Gate + Sync,
+    B: Board + Sync,
+    D: Datagrams + Sync + Drop,
     T: Threads + Wait + Clock + Logs + Sync,
-    R: Read + Drop,
+    R: Read + Send + Drop,
     W: Write,
 >(
     rt: &T,
     alloc: Global,
-    setup: &Setup,
-    own: Setup,
-    args: &ServeArgs,
-    gate: &G,
-    doors: &Doors,
-    log: Log<Entry>,
-    pen: Writer<Entry>,
-    reader: Reader<Entry>,
-    blank: Blank,
-    seed: Seed,
+    hosting: &Hosting<'_, G, B>,
+    doors: Doors<D>,
+    founding: Founding,
     input: R,
     output: &mut W,
 ) -> Result<Day, ServeError>
-    requires log { log ≡ V.log }
-    requires of_setup { own ≡ V.setup }
-    requires pen { pen ≡ record { log = V.log; published = []; staged = [] } }
-    requires reader { reader.log ≡ V.log }
-    requires blank { (blank.name ≡ V.name) × (blank.parts ≡ V.parts) }
-    requires passes { args.now.sessions + 1 ≡ V.parts }
+    requires log { founding.log ≡ V.log }
+    requires of_setup { founding.own ≡ V.setup }
+    requires pen { founding.pen ≡ record { log = V.log; published = []; staged = [] } }
+    requires reader { founding.reader.log ≡ V.log }
+    requires blank { (founding.blank.name ≡ V.name) × (founding.blank.parts ≡ V.parts) }
+    requires passes { hosting.now.args.now.sessions + 1 ≡ V.parts }
 {
-    let count = args.sessions + 1;
-    let (exchange, passes) = Exchange::<V>::seeded(alloc, own, log, pen, blank, count, seed)?;
-    let outcome = attend(
-        rt, alloc, &exchange, setup, args, gate, doors, passes, reader, input,
-    )?;
+    let Founding {
+        own,
+        log,
+        pen,
+        reader,
+        blank,
+        seed,
+    } = founding;
+    let count = hosting.args.sessions + 1;
+    let (exchange, mut passes) = Exchange::<V>::seeded(alloc, own, log, pen, blank, count, seed)?;
+    let Some(own) = passes.pop() else {
+        return Err(ServeError::NoMemory);
+    };
+    let crew = Crew {
+        own,
+        passes,
+        reader,
+    };
+    let outcome = attend_open(rt, alloc, &exchange, hosting, doors, crew, input)?;
     conclude(alloc, exchange, outcome, output)
 }
 
-/// Serves a day, and answers what it leaves; or why its sessions never began. Its table of tokens has this seed. The
-/// gate is called round each submit and at each login. The last line goes to the output.
+/// Serves a day through these doors, and answers what it leaves; or why its sessions never began. Its table of tokens has
+/// this seed. The gate is called round each submit and at each login. The last line goes to the output.
 pub fn serve_day<
     G: Gate + Sync,
-    T: Net<Listener = TcpListener, Stream = TcpStream> + Threads + Wait + Clock + Logs + Sync,
-    R: Read + Drop,
+    B: Board + Sync,
+    D: Datagrams + Sync + Drop,
+    T: Threads + Wait + Clock + Logs + Sync,
+    R: Read + Send + Drop,
     W: Write,
 >(
     rt: &T,
     alloc: Global,
-    setup: &Setup,
-    args: &ServeArgs,
+    hosting: &Hosting<'_, G, B>,
+    doors: Doors<D>,
     seed: Seed,
-    gate: &G,
     input: R,
     output: &mut W,
 ) -> Result<Day, ServeError> {
-    let own = setup.copy(alloc)?;
-    let (log, pen, reader) = Log::<Entry>::new(alloc, args.capacity)?;
-    let doors = Doors::open(rt, args)?;
-    let blank = Blank::new(u64::from(args.sessions) + 1);
-    run::<Brand, G, T, R, W>(
-        rt, alloc, setup, own, args, gate, &doors, log, pen, reader, blank, seed, input, output,
-    )
+    let own = hosting.setup.copy(alloc)?;
+    let (log, pen, reader) = Log::<Entry>::new(alloc, hosting.args.capacity)?;
+    let blank = Blank::new(u64::from(hosting.args.sessions) + 1);
+    let founding = Founding {
+        own,
+        log,
+        pen,
+        reader,
+        blank,
+        seed,
+    };
+    run::<Brand, G, B, D, T, R, W>(rt, alloc, hosting, doors, founding, input, output)
 }
 
 /// Serves a day over sockets at 127.0.0.1: so many sessions of members by TCP, the packets of the feed and the answers
@@ -206,7 +304,7 @@ pub fn serve_day<
 /// it writes the last line to the output.
 pub fn serve<
     T: Net<Listener = TcpListener, Stream = TcpStream> + Threads + Wait + Clock + Logs + Sync,
-    R: Read + Drop,
+    R: Read + Send + Drop,
     W: Write,
 >(
     rt: &T,
@@ -217,8 +315,17 @@ pub fn serve<
     input: R,
     output: &mut W,
 ) -> Result<(), ServeError> {
-    let gate = Notices { rt };
-    match serve_day(rt, alloc, setup, args, seed, &gate, input, output)?.fault {
+    let notices = Notices { rt };
+    let hosting = Hosting {
+        setup,
+        is_standard: false,
+        args,
+        gate: &notices,
+        board: &notices,
+        open: None,
+    };
+    let doors = Doors::open(rt, args)?;
+    match serve_day(rt, alloc, &hosting, doors, seed, input, output)?.fault {
         None => Ok(()),
         Some(fault) => Err(fault),
     }

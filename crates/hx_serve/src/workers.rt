@@ -1,46 +1,57 @@
 //! The workers of a day, all at once: the publisher, the operator, and two for each session.
 use crate::crew::{Member, Served};
 use crate::fault::ServeError;
+use crate::hosting::Hosting;
+use crate::notices::Board;
 use crate::operator::operate;
 use crate::publishing::Publishing;
+use crate::sockets::Datagrams;
 use hx_engine::{Exchange, Pass, Venue};
-use hx_members::Setup;
 use hx_sessions::{Clock, Gate, serve_all};
 use std::alloc::Global;
 use std::io::Read;
-use std::net::UdpSocket;
 use std::sync::Wait;
 use std::sync::atomic::{AtomicBool, Ordering};
 use std::thread::{Threads, join};
 use std::time::Clock as Timer;
 
-// What is left when the operator and all sessions have ended.
-type Traded<V, C> = ((Pass<V>, Option<ServeError>), Served<V, C>);
+/// Who writes in a day: the sessions' parts, and the operator by his pass and his input.
+#[derive(Drop)]
+pub struct Writers<V: Venue, C, R> {
+    /// The parts of the sessions.
+    pub parts: Vec<Member<V, C>>,
+    /// The operator's pass.
+    pub pass: Pass<V>,
+    /// His input.
+    pub input: R,
+}
+
+/// What is left when the operator and all sessions have ended.
+pub type Traded<V, C> = ((Pass<V>, Option<ServeError>), Served<V, C>);
 
 // The operator, in this thread, and all sessions. Where no thread can be made, the sessions come after him.
 fn trade<
     V: Venue + Send + Sync,
     C: Clock + Send + Drop,
     G: Gate + Sync,
+    B: Sync,
     R: Read + Drop,
     T: Threads + Wait + Timer + Sync,
 >(
     rt: &T,
     alloc: Global,
     exchange: &Exchange<V>,
-    setup: &Setup,
-    gate: &G,
-    turns: u64,
-    parts: Vec<Member<V, C>>,
-    pass: Pass<V>,
-    reader: R,
+    hosting: &Hosting<'_, G, B>,
+    writers: Writers<V, C, R>,
 ) -> Traded<V, C> {
+    let Writers { parts, pass, input } = writers;
+    let (setup, gate, turns) = (hosting.setup, hosting.gate, hosting.args.turns);
     let (served, operated) = join(
         rt,
         move || serve_all(rt, alloc, exchange, setup, parts, gate, turns),
         move || {
-            let mut reader = reader;
-            operate(rt, alloc, exchange, pass, &mut reader, turns)
+            let mut input = input;
+            operate(rt, alloc, exchange, pass, &mut input, turns)
         },
     );
     (operated, served)
@@ -52,28 +63,26 @@ pub fn work<
     V: Venue + Send + Sync,
     C: Clock + Send + Drop,
     G: Gate + Sync,
+    B: Board + Sync,
+    D: Datagrams + Sync,
     R: Read + Drop,
     T: Threads + Wait + Timer + Sync,
 >(
     rt: &T,
     alloc: Global,
     exchange: &Exchange<V>,
-    setup: &Setup,
-    gate: &G,
-    turns: u64,
-    socket: &UdpSocket,
+    hosting: &Hosting<'_, G, B>,
+    socket: &D,
     publishing: Publishing<'a, V>,
-    parts: Vec<Member<V, C>>,
-    pass: Pass<V>,
-    reader: R,
+    writers: Writers<V, C, R>,
 ) -> (Publishing<'a, V>, Traded<V, C>) {
     let ended = AtomicBool::new(false);
-    let flag = &ended;
+    let (flag, board) = (&ended, hosting.board);
     join(
         rt,
-        move || publishing.work(rt, socket, flag),
+        move || publishing.work(rt, socket, board, flag),
         move || {
-            let traded = trade(rt, alloc, exchange, setup, gate, turns, parts, pass, reader);
+            let traded = trade(rt, alloc, exchange, hosting, writers);
             flag.store(true, Ordering::SeqCst);
             traded
         },

@@ -1,7 +1,14 @@
 //! Days on loopback, with clients in the test's own thread.
 
+mod boards;
 mod client;
+mod datagrams;
 mod days;
 mod faults;
 mod gates;
+mod histories;
+mod lines;
+mod notices;
+mod open_days;
+mod two_parts;
 mod vendor;

@@ -9,5 +9,6 @@ mod logins;
 mod overlap;
 mod packets;
 mod parting;
+mod refusing;
 mod resuming;
 mod stage;

@@ -20,7 +20,7 @@ use Rattle.hx_members.specs.Setups.{Setup}
 use Rattle.hx_sessions.specs.declared.ending.Stop.{Stop}
 use Rattle.hx_sessions.specs.declared.ending.Stop.TheVariants as stop
 use Rattle.hx_sessions.specs.Workers.{SentUntil}
-use Rattle.hx_sessions.specs.Frames.{WritesAll, WritesSome, AreFrames, Sends, Delivers, Sent, SentSome}
+use Rattle.hx_sessions.specs.Frames.{day_over, WritesAll, WritesSome, AreFrames, Sends, Delivers, Sent, SentSome}
 
 drop_one : (all : List (List ℕ)) (i : ℕ) → drop 1 (drop i all) ≡ drop (i + 1) all
 drop_one all i = drop-drop 1 i all ∙ ap (λ n. drop n all) (omega arith)
@@ -63,6 +63,12 @@ sends_next old new [] false frames (is, next, over) = omega (arith, next)
 sends_ends : (old new : Delivery) (rows : List (List ℕ)) (ended : Bool) (frames : List (List ℕ)) → Sends old new rows ended frames → new.over ≡ true → drop 1 rows ≡ []
 sends_ends old new (row ∷ rows) ended frames (is, next, over) e = absurd (cc (over, e))
 sends_ends old new [] ended frames s e = refl
+
+-- the end of the session goes out only where the day has ended
+pub sends_over : (old new : Delivery) (rows : List (List ℕ)) (ended : Bool) (frames : List (List ℕ)) → Sends old new rows ended frames → new.over ≡ true → ended ≡ true
+sends_over old new (row ∷ rows) ended frames (is, next, over) e = absurd (cc (over, e))
+sends_over old new [] true frames s e = refl
+sends_over old new [] false frames (is, next, over) e = absurd (cc (over, e))
 
 pub sends_open : (old new : Delivery) (rows : List (List ℕ)) (frames : List (List ℕ)) → Sends old new rows false frames → new.over ≡ false
 sends_open old new (row ∷ rows) frames (is, next, over) = over
@@ -237,15 +243,15 @@ page_none (x ∷ xs) page is none = absurd (cc (is, none))
 
 -- what goes out behind what has gone out, until a worker stops
 pub until_join : (setup : Setup) (member first : ℕ) (known longer : Entries Entry) (rest : List (List ℕ)) (d e : Delivery) (a b c : Option (List ℕ)) (s : Stop) → IsPrefix known longer → Sent first (known_replies setup member known) rest d a b → d.over ≡ false
-    → SentUntil d.next (known_replies setup member longer) e b c s → SentUntil first (known_replies setup member longer) e a c s
+    → SentUntil (day_over setup longer) d.next (known_replies setup member longer) e b c s → SentUntil (day_over setup longer) first (known_replies setup member longer) e a c s
 until_join setup member first known longer rest d e a b c stop.Told p s live (is, left, t) =
     (is, left, sent_join first (known_replies setup member known) (known_replies setup member longer) rest left d e a b c (replies_grow setup member known longer p) s live t)
-until_join setup member first known longer rest d e a b c (stop.Ended x) p s live (is, over, t) =
-    (is, over, sent_join first (known_replies setup member known) (known_replies setup member longer) rest [] d e a b c (replies_grow setup member known longer p) s live t)
+until_join setup member first known longer rest d e a b c (stop.Ended x) p s live (is, over, by, t) =
+    (is, over, by, sent_join first (known_replies setup member known) (known_replies setup member longer) rest [] d e a b c (replies_grow setup member known longer p) s live t)
 until_join setup member first known longer rest d e a b c (stop.Faulted x) p s live (left, inl (t, is)) =
     (left, inl (sent_join first (known_replies setup member known) (known_replies setup member longer) rest left d e a b c (replies_grow setup member known longer p) s live t, is))
-until_join setup member first known longer rest d e a b c (stop.Faulted x) p s live (left, inr (is, t)) =
-    (left, inr (is, sent_some_join first (known_replies setup member known) (known_replies setup member longer) rest left d e a b c (replies_grow setup member known longer p) s live t))
+until_join setup member first known longer rest d e a b c (stop.Faulted x) p s live (left, inr (is, by, t)) =
+    (left, inr (is, by, sent_some_join first (known_replies setup member known) (known_replies setup member longer) rest left d e a b c (replies_grow setup member known longer p) s live t))
 
 pub known_grows : (setup : Setup) (member : ℕ) (known longer : Entries Entry) → IsPrefix known longer → IsPrefix (known_replies setup member known) (known_replies setup member longer)
 known_grows setup member known longer p = replies_grow setup member known longer p

@@ -1,6 +1,6 @@
 -- How a session is opened.
-use Rattle.std.proofs.Common.{◌≡◌, ℕ, ◌+◌, ◌-◌, ◌≤◌, List, [], ◌∷◌, ◌++◌, length, take, drop, Bool, true, false, nat_lt, nat_le, Option, Some, None, Ok, refl, sym, ap, ◌∙◌, subst, inl, inr, arith, append_assoc, append-nil, length-append, length-take}
-use Rattle.std.specs.Prelude.{◌&&◌, if◌then◌else◌}
+use Rattle.std.proofs.Common.{◌≡◌, ℕ, ◌+◌, ◌-◌, ◌≤◌, List, [], ◌∷◌, ◌++◌, length, take, drop, Bool, true, false, nat_lt, nat_le, Option, Some, None, Result, Ok, Err, refl, sym, ap, ◌∙◌, subst, inl, inr, arith, append_assoc, append-nil, length-append, length-take}
+use Rattle.std.specs.Prelude.{◌&&◌, if◌then◌else◌, IfOk}
 use Rattle.std.specs.Io.KnownBytes.{Consumes}
 use Rattle.std.proofs.KnownBytes.{Consumes-trans, Consumes-nil}
 use Rattle.std.proofs.lemmas.Bool.Decides.{nat_tests}
@@ -16,8 +16,10 @@ use Rattle.hx_session_core.specs.Starts.{is_present, first_reply, started, start
 use Rattle.hx_session_core.specs.declared.opening.Start.{Start}
 use Rattle.hx_blog.specs.Feed.{Entries}
 use Rattle.hx_desk.specs.declared.entry.Entry.{Entry}
-use Rattle.hx_desk.specs.Known.{known_replies}
+use Rattle.hx_desk.specs.Known.{IsWhole, known_replies}
+use Rattle.hx_sessions.specs.Frames.{IsNextOf}
 use Rattle.hx_sessions.specs.Logins.{LogsIn, Opens, NoLogin, ReadsFirst, FailsFirst, AwaitsLogin}
+use Rattle.hx_sessions.specs.declared.ending.Ended.TheVariants as ended
 use Rattle.hx_sessions.specs.declared.ending.Stop.{Stop}
 use Rattle.hx_sessions.specs.declared.ending.Stop.TheVariants as stop
 
@@ -35,22 +37,36 @@ bounds false asked n e = (omega arith, omega arith)
 pub first_bounds : (asked n : ℕ) → (1 ≤ first_reply asked n) × (first_reply asked n ≤ n + 1)
 first_bounds asked n = bounds (nat_lt 0 asked && nat_le asked (n + 1)) asked n refl
 
-pub opens : (setup own : Setup) (login : LoginRequest) (n m : ℕ) (known : Entries Entry) (s : Start) → start_of own login n ≡ Ok s → login_of own login.user login.password ≡ Some m → n ≡ length (known_replies setup m known) → Opens setup own login known s
-opens setup own login n m known s e is count =
+opens : (setup own : Setup) (login : LoginRequest) (n m : ℕ) (known : Entries Entry) (s : Start) → start_of own login n ≡ Ok s → login_of own login.user login.password ≡ Some m → n ≡ length (known_replies setup m known) → IsWhole setup known → Opens setup own login known s
+opens setup own login n m known s e is count whole =
     let h = started_ok (login_of own login.user login.password) (is_present login.session own.session) (first_reply login.sequence n) s e in
     let same : m ≡ s.member = cc (is, h.0) in
     let size : n ≡ length (known_replies setup s.member known) = count ∙ ap (λ k. length (known_replies setup k known)) same in
-    let b = first_bounds login.sequence n in record {
-      member = h.0;
-      first = h.1 ∙ ap (first_reply login.sequence) size;
-      one = omega (arith, h.1, b.0);
-      most = omega (arith, h.1, b.1, size);
-    }
+    record { is = ap (start_of own login) (sym size) ∙ e; whole = whole }
 
-pub opens_none : (setup own : Setup) (login : LoginRequest) (n : ℕ) (known : Entries Entry) (s : Start) → start_of own login n ≡ Ok s → login_of own login.user login.password ≡ None → Opens setup own login known s
+opens_none : (setup own : Setup) (login : LoginRequest) (n : ℕ) (known : Entries Entry) (s : Start) → start_of own login n ≡ Ok s → login_of own login.user login.password ≡ None → Opens setup own login known s
 opens_none setup own login n known s e is =
     let h = started_ok (login_of own login.user login.password) (is_present login.session own.session) (first_reply login.sequence n) s e in
     absurd (cc (is, h.0))
+
+-- the answer to a login, by what stands for the member who logs in so
+pub started_by : (setup own : Setup) (login : LoginRequest) (n m : ℕ) (known : Entries Entry) (r : Result Start ℕ) → r ≡ start_of own login n → login_of own login.user login.password ≡ Some m → n ≡ length (known_replies setup m known) → IsWhole setup known
+    → IfOk r (λ s. Opens setup own login known s)
+started_by setup own login n m known (Ok s) e is count whole = opens setup own login n m known s (sym e) is count whole
+started_by setup own login n m known (Err x) e is count whole = tt
+
+-- no member logs in so
+pub started_by_none : (setup own : Setup) (login : LoginRequest) (n : ℕ) (known : Entries Entry) (r : Result Start ℕ) → r ≡ start_of own login n → login_of own login.user login.password ≡ None → IfOk r (λ s. Opens setup own login known s)
+started_by_none setup own login n known (Ok s) e is = opens_none setup own login n known s (sym e) is
+started_by_none setup own login n known (Err x) e is = tt
+
+-- the first reply is there, or is the next one
+pub opens_within : (setup own : Setup) (login : LoginRequest) (known : Entries Entry) (s : Start) → Opens setup own login known s → IsNextOf (known_replies setup s.member known) s.first
+opens_within setup own login known s o =
+    let n = length (known_replies setup s.member known) in
+    let h = started_ok (login_of own login.user login.password) (is_present login.session own.session) (first_reply login.sequence n) s o.is in
+    let b = first_bounds login.sequence n in
+    (omega (arith, h.1, b.0), omega (arith, h.1, b.1))
 
 two_bytes : (n : ℕ) → length (spelled 2 n) ≡ 2
 unfolding spelled
@@ -129,11 +145,15 @@ awaits_login a b c f g n room m login w most r =
     let cuts : Cuts (w.bytes ++ r.piece) (h.2 ∷ h.3) h.1 = subst (λ k. Cuts (k ++ r.piece) (h.2 ∷ h.3) h.1) same h.5 in
     logs_in a b c w.bytes r.piece h.1 h.2 h.3 login w.read r.read cuts (omega (arith, w.size, r.size, r.fits, most)) h.6 (login_size h.2.payload.items login h.7) h.7
 
-pub awaits_stop : (a b c f : Option (List ℕ)) (n : ℕ) (s : Stop) → AwaitsLogin a b f n → FailsFirst b c s → NoLogin a c s
-awaits_stop a b c f n stop.Told w h = absurd h
-awaits_stop a b c f n (stop.Ended e) w (is, read, end) =
-    (is, end, w.bytes, subst (Consumes a c) (append-nil w.bytes) (Consumes-trans a b c w.bytes [] w.read read), w.bytes, w.cuts)
-awaits_stop a b c f n (stop.Faulted x) w (piece, read) = (w.bytes ++ piece, Consumes-trans a b c w.bytes piece w.read read)
+pub awaits_stop : (past : Bool) (a b c f : Option (List ℕ)) (n : ℕ) (s : Stop) → AwaitsLogin a b f n → FailsFirst b c s → NoLogin past a c s
+awaits_stop past a b c f n stop.Told w h = absurd h
+awaits_stop past a b c f n (stop.Ended e) w (is, read, end) =
+    (inl (is, end), w.bytes, subst (Consumes a c) (append-nil w.bytes) (Consumes-trans a b c w.bytes [] w.read read), w.bytes, w.cuts)
+awaits_stop past a b c f n (stop.Faulted x) w (piece, read) = (w.bytes ++ piece, Consumes-trans a b c w.bytes piece w.read read)
+
+-- the day is over before the login
+pub awaits_end : (past : Bool) (a b f : Option (List ℕ)) (n : ℕ) → AwaitsLogin a b f n → past ≡ true → NoLogin past a b (stop.Ended ended.DayEnd)
+awaits_end past a b f n w over = (inr (refl, over), w.bytes, w.read, w.bytes, w.cuts)
 
 pub space_fits : (n : ℕ) (buffer : List ℕ) → n ≤ 49 → n + length (take (49 - n) (drop n buffer)) ≤ 49
 space_fits n buffer most = omega (arith, most, length-take (49 - n) (drop n buffer))

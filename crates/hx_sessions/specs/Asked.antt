@@ -1,5 +1,6 @@
 -- What the packets of a client behind his login ask to submit, and what a pass sent for it.
 use Rattle.std.specs.Prelude.{ℕ, ◌≡◌, ◌⊎◌, List, [], ◌∷◌, ◌++◌}
+use mathlib.Core.List.{IsPrefix}
 use Rattle.hx_soup.specs.declared.packet.SoupPacket.{SoupPacket}
 use Rattle.hx_soup.specs.Packets.{Cuts, HasFault}
 use Rattle.hx_session_core.specs.Intakes.{later_action}
@@ -7,6 +8,7 @@ use Rattle.hx_session_core.specs.declared.intake.Action.{Action}
 use Rattle.hx_session_core.specs.declared.intake.Action.TheVariants as action
 use Rattle.hx_rules.specs.declared.event.Event.{Event}
 use Rattle.hx_rules.specs.declared.event.Event.TheVariants.{Message}
+use Rattle.hx_engine.specs.Passes.{PassState}
 
 -- one packet's message, before those of the packets behind it; a logout or a fault is the last packet that counts
 abbrev pub asked_by : Action → List ℕ → List (List ℕ) → List (List ℕ)
@@ -47,3 +49,8 @@ pub record Submits (member : ℕ) (old new : List (ℕ × Event)) (texts : List 
   pub more : List (ℕ × Event)
   pub sent : new ≡ old ++ more
   pub are : AreMessages member more texts
+
+-- a pass keeps its number, and knows as much or more
+pub record CarriesOn (old new : PassState) : Type 0 where
+  pub number : new.number ≡ old.number
+  pub known : IsPrefix old.known new.known

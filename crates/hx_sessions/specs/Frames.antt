@@ -5,6 +5,11 @@ use Rattle.std.specs.Io.KnownBytes.{Appends}
 use Rattle.hx_soup.specs.Kinds.{sequenced_data, server_heartbeat, end_of_session}
 use Rattle.hx_soup.specs.Packets.{framed}
 use Rattle.hx_session_core.specs.Deliveries.{Delivery}
+use Rattle.hx_members.specs.Setups.{Setup}
+use Rattle.hx_blog.specs.Feed.{Entries}
+use Rattle.hx_desk.specs.declared.entry.Entry.{Entry}
+use Rattle.hx_desk.specs.Desks.{is_over}
+use Rattle.hx_desk.specs.Known.{known_market}
 
 -- ---- writers
 
@@ -21,6 +26,12 @@ WritesAll old new frames = Appends old new (concat frames)
 -- A writer took a beginning of these frames.
 abbrev pub WritesSome : Option (List ℕ) → Option (List ℕ) → List (List ℕ) → Type 0
 WritesSome old new frames = (rest : List ℕ) × Writes old new (concat frames) rest
+
+-- ---- the day
+
+-- whether the day is over by what is known: hours code C is past
+abbrev pub day_over : Setup → (known : Entries Entry) → Bool
+day_over setup known = is_over (known_market setup known)
 
 -- ---- frames
 

@@ -1,5 +1,5 @@
 -- How a session is opened.
-use Rattle.std.specs.Prelude.{ℕ, ◌≡◌, ◌⊎◌, ◌+◌, ◌≤◌, List, [], ◌∷◌, ◌++◌, length, Option, Some, None}
+use Rattle.std.specs.Prelude.{ℕ, ◌≡◌, ◌⊎◌, ◌≤◌, List, [], ◌∷◌, ◌++◌, length, Bool, true, Option, Some, None, Ok}
 use Rattle.std.specs.Io.KnownBytes.{Consumes, IsAtEnd}
 use Rattle.hx_soup.specs.Kinds.{login_request}
 use Rattle.hx_soup.specs.Logins.{IsLogin}
@@ -9,12 +9,12 @@ use Rattle.hx_sessions.specs.declared.ending.Ended.TheVariants as ended
 use Rattle.hx_sessions.specs.declared.ending.Stop.{Stop}
 use Rattle.hx_sessions.specs.declared.ending.Stop.TheVariants as stop
 use Rattle.hx_soup.specs.declared.login.LoginRequest.{LoginRequest}
-use Rattle.hx_members.specs.Setups.{Setup, login_of}
-use Rattle.hx_session_core.specs.Starts.{first_reply}
+use Rattle.hx_members.specs.Setups.{Setup}
+use Rattle.hx_session_core.specs.Starts.{start_of}
 use Rattle.hx_session_core.specs.declared.opening.Start.{Start}
 use Rattle.hx_blog.specs.Feed.{Entries}
 use Rattle.hx_desk.specs.declared.entry.Entry.{Entry}
-use Rattle.hx_desk.specs.Known.{known_replies}
+use Rattle.hx_desk.specs.Known.{IsWhole, known_replies}
 
 -- what was read is the packet of this login, and nothing behind it
 pub record LogsIn (old new : Option (List ℕ)) (login : LoginRequest) : Type 0 where
@@ -22,13 +22,14 @@ pub record LogsIn (old new : Option (List ℕ)) (login : LoginRequest) : Type 0 
   pub read : Consumes old new (framed login_request payload)
   pub is : IsLogin payload login
 
--- No login came whole: an end of the input within it, or a fault.
-abbrev pub NoLogin : Option (List ℕ) → Option (List ℕ) → Stop → Type 0
-NoLogin old new stop.Told = ⊥
-NoLogin old new (stop.Ended e) =
-    (e ≡ ended.ReaderEnd) × IsAtEnd new
+-- No login came whole: an end of the input within it, the end of the day, which comes only once it is
+-- past, or a fault.
+abbrev pub NoLogin : (past : Bool) → Option (List ℕ) → Option (List ℕ) → Stop → Type 0
+NoLogin past old new stop.Told = ⊥
+NoLogin past old new (stop.Ended e) =
+    (((e ≡ ended.ReaderEnd) × IsAtEnd new) ⊎ ((e ≡ ended.DayEnd) × (past ≡ true)))
     × (bytes : List ℕ) × Consumes old new bytes × (rest : List ℕ) × Cuts bytes [] rest
-NoLogin old new (stop.Faulted f) = (bytes : List ℕ) × Consumes old new bytes
+NoLogin past old new (stop.Faulted f) = (bytes : List ℕ) × Consumes old new bytes
 
 -- What one read of the first packet gives: the login, or nothing whole so far.
 abbrev pub GivesFirst :
@@ -69,10 +70,10 @@ pub record AwaitsLogin
   pub cuts : Cuts bytes [] bytes
   pub size : length bytes ≡ count
 
--- the login is this member's, and the first reply is the one that he asked for, or the next one
+-- The login starts the session so: it is this member's, it names the present session or none, and the
+-- first reply is the one that was asked for, of those to the member up to what is known, or the next
+-- one. What is known is a whole history.
 pub record Opens (setup own : Setup) (login : LoginRequest) (known : Entries Entry)
     (s : Start) : Type 0 where
-  pub member : login_of own login.user login.password ≡ Some s.member
-  pub first : s.first ≡ first_reply login.sequence (length (known_replies setup s.member known))
-  pub one : 1 ≤ s.first
-  pub most : s.first ≤ length (known_replies setup s.member known) + 1
+  pub is : start_of own login (length (known_replies setup s.member known)) ≡ Ok s
+  pub whole : IsWhole setup known

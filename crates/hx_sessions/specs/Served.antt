@@ -20,8 +20,8 @@ use Rattle.hx_sessions.specs.declared.ending.Ended.{Ended}
 use Rattle.hx_sessions.specs.declared.ending.Ended.TheVariants as ended
 use Rattle.hx_sessions.specs.declared.ending.Fault.{Fault}
 use Rattle.hx_sessions.specs.declared.ending.Fault.TheVariants as fault
-use Rattle.hx_sessions.specs.Asked.{asked, HasLogout, IsStream, Submits}
-use Rattle.hx_sessions.specs.Frames.{Writes, AreFrames}
+use Rattle.hx_sessions.specs.Asked.{asked, HasLogout, IsStream, Submits, CarriesOn}
+use Rattle.hx_sessions.specs.Frames.{Writes, day_over, AreFrames}
 use Rattle.hx_sessions.specs.Logins.{LogsIn, Opens}
 
 -- What contracts see of a part: the bytes that its input still has and those that its output has taken,
@@ -42,57 +42,61 @@ rejection reason = framed login_rejected (reason ∷ [])
 
 -- ---- what goes out
 
--- The frames bring the replies from number `first` on, each once and in order, and the rest is left: nothing
--- where the end of the session is among them.
+-- The frames bring the replies from number `first` on, each once and in order, and the rest is left. Where the end of
+-- the session is among them nothing is left, and the day is past.
 pub record Brings
-    (first : ℕ) (replies rest : List (List ℕ)) (over : Bool) (frames : List (List ℕ))
+    (past : Bool) (first : ℕ) (replies rest : List (List ℕ)) (over : Bool)
+    (frames : List (List ℕ))
     : Type 0 where
   pub before : List (List ℕ)
   pub rows : List (List ℕ)
   pub splits : replies ≡ before ++ (rows ++ rest)
   pub starts : first ≡ length before + 1
   pub are : AreFrames rows over frames
-  pub ends : over ≡ true → rest ≡ []
+  pub ends : over ≡ true → (rest ≡ []) × (past ≡ true)
 
 -- The answer to the login was written, and behind it such frames.
 pub record Wrote
-    (answer : List ℕ) (first : ℕ) (replies rest : List (List ℕ)) (over : Bool)
+    (past : Bool) (answer : List ℕ) (first : ℕ) (replies rest : List (List ℕ)) (over : Bool)
     (old new : Option (List ℕ))
     : Type 0 where
   pub frames : List (List ℕ)
-  pub brings : Brings first replies rest over frames
+  pub brings : Brings past first replies rest over frames
   pub wrote : Appends old new (answer ++ concat frames)
 
 -- A beginning of these bytes was written.
 pub record WroteSome
-    (answer : List ℕ) (first : ℕ) (replies : List (List ℕ)) (old new : Option (List ℕ))
+    (past : Bool) (answer : List ℕ) (first : ℕ) (replies : List (List ℕ))
+    (old new : Option (List ℕ))
     : Type 0 where
   pub rest : List (List ℕ)
   pub over : Bool
   pub frames : List (List ℕ)
-  pub brings : Brings first replies rest over frames
+  pub brings : Brings past first replies rest over frames
   pub unwritten : List ℕ
   pub wrote : Writes old new (answer ++ concat frames) unwritten
 
 -- ---- how a session ends
 
 -- After a logout, which is among the packets, all that was asked for before it is submitted, and all
--- replies went out. At the end of
--- the input all is read and submitted. At the end of the day all replies went out, and the end of the
--- session. After a fault a beginning is submitted, and a beginning was written.
+-- replies went out. At the end of the input all is read and submitted. At the end of the day, once it
+-- is past, all replies went out, and the end of the session. After a fault a beginning is submitted,
+-- and a beginning was written.
 abbrev pub EndsAs :
-    (answer : List ℕ) (first : ℕ) (replies : List (List ℕ)) (packets : List SoupPacket)
-    (done : List (List ℕ)) (unread : Option (List ℕ)) (old new : Option (List ℕ))
+    (past : Bool) (answer : List ℕ) (first : ℕ) (replies : List (List ℕ))
+    (packets : List SoupPacket) (done : List (List ℕ)) (unread : Option (List ℕ))
+    (old new : Option (List ℕ))
     → Result Ended Fault → Type 0
-EndsAs answer first replies packets done unread old new (Ok ended.Logout) =
-    (done ≡ asked packets) × HasLogout packets × Wrote answer first replies [] false old new
-EndsAs answer first replies packets done unread old new (Ok ended.ReaderEnd) =
+EndsAs past answer first replies packets done unread old new (Ok ended.Logout) =
+    (done ≡ asked packets) × HasLogout packets
+    × Wrote past answer first replies [] false old new
+EndsAs past answer first replies packets done unread old new (Ok ended.ReaderEnd) =
     (done ≡ asked packets) × IsAtEnd unread
-    × (rest : List (List ℕ)) × Wrote answer first replies rest false old new
-EndsAs answer first replies packets done unread old new (Ok ended.DayEnd) =
-    (done ≡ asked packets) × Wrote answer first replies [] true old new
-EndsAs answer first replies packets done unread old new (Err f) =
-    IsPrefix done (asked packets) × WroteSome answer first replies old new
+    × (rest : List (List ℕ)) × Wrote past answer first replies rest false old new
+EndsAs past answer first replies packets done unread old new (Ok ended.DayEnd) =
+    (past ≡ true) × (done ≡ asked packets) × Wrote past answer first replies [] true old new
+EndsAs past answer first replies packets done unread old new (Err f) =
+    IsPrefix done (asked packets) × WroteSome past answer first replies old new
 
 -- at a logout the reader knows every entry of the pass
 abbrev pub KnowsItsOwn : PassState → (known : Entries Entry) → Result Ended Fault → Type 0
@@ -111,24 +115,27 @@ pub record Converses
   pub read : Consumes old.input new.input (bytes ++ lost)
   pub none_lost : (lost ≡ []) ⊎ (result ≡ Err fault.NoMemory)
   pub stream : IsStream bytes packets
-  pub number : new.pass.number ≡ old.pass.number
   pub submits : Submits member old.pass.sent new.pass.sent done
   pub knows : KnowsItsOwn new.pass new.reader.known result
   pub ends :
-      EndsAs answer first (known_replies setup member new.reader.known) packets done new.input
+      EndsAs (day_over setup new.reader.known) answer first
+      (known_replies setup member new.reader.known) packets done new.input
       old.output new.output result
 
 -- ---- logins
 
--- No login came whole: nothing was written.
+-- No login came whole, and nothing was written: the input ended within it, or the day, once it is past,
+-- or there was a fault.
 pub record NotLoggedIn
-    (input left output answered : Option (List ℕ)) (result : Result Ended Fault)
+    (past : Bool) (input left output answered : Option (List ℕ)) (result : Result Ended Fault)
     : Type 0 where
   pub bytes : List ℕ
   pub read : Consumes input left bytes
   pub wrote : Keeps output answered
   pub ends :
-      ((result ≡ Ok ended.ReaderEnd) × IsAtEnd left × (rest : List ℕ) × Cuts bytes [] rest)
+      ((((result ≡ Ok ended.ReaderEnd) × IsAtEnd left)
+      ⊎ ((result ≡ Ok ended.DayEnd) × (past ≡ true)))
+      × (rest : List ℕ) × Cuts bytes [] rest)
       ⊎ ((f : Fault) × (result ≡ Err f))
 
 -- The login was rejected for this reason: the answer was written, or a beginning of it.
@@ -173,33 +180,56 @@ abbrev pub Dismisses :
     (setup own : Setup) → (input left output answered : Option (List ℕ)) → Entries Entry
     → Result Ended Fault → Type 0
 Dismisses setup own input left output answered known result =
-    NotLoggedIn input left output answered result
+    NotLoggedIn (day_over setup known) input left output answered result
     ⊎ Rejected own input left output answered result
     ⊎ BreaksOff setup own input left output answered known result
 
 -- ---- sessions
 
 -- The login was accepted: the session begins with the reply that was asked for, of those to the member
--- at the login, and the reader knew these.
+-- at the login. The reader had caught up with a whole history then, and has not lost any of it since.
 pub record Opened (setup own : Setup) (old new : Side) (result : Result Ended Fault) : Type 0 where
   pub login : LoginRequest
   pub start : Start
   pub at_login : Entries Entry
   pub input : Option (List ℕ)
   pub read : LogsIn old.input input login
+  pub since : IsPrefix old.reader.known at_login
   pub opens : Opens setup own login at_login start
   pub knew : IsPrefix at_login new.reader.known
   pub converses :
       Converses setup start.member start.first (acceptance own start.first)
       (record old { input = input }) new result
 
--- A session of a member of `own`, at the exchange of `setup`: no login came, or it was rejected, and
--- nothing was submitted; or it was accepted.
-abbrev pub Serves : (setup own : Setup) → (old new : Side) → Result Ended Fault → Type 0
-Serves setup own old new result =
-    (NotLoggedIn old.input new.input old.output new.output result × (new.pass ≡ old.pass))
+-- What a part is behind a session: its reader is of the same log, and the reader and the pass know what
+-- they knew, or more.
+pub record GoesOn (old new : Side) : Type 0 where
+  pub log : new.reader.log ≡ old.reader.log
+  pub reader : IsPrefix old.reader.known new.reader.known
+  pub pass : CarriesOn old.pass new.pass
+
+-- how a session went: no login came, or it was rejected, and nothing was submitted; or it was accepted
+abbrev pub Went : (setup own : Setup) → (old new : Side) → Result Ended Fault → Type 0
+Went setup own old new result =
+    (NotLoggedIn (day_over setup new.reader.known) old.input new.input old.output new.output
+    result × (new.pass ≡ old.pass))
     ⊎ (Rejected own old.input new.input old.output new.output result × (new.pass ≡ old.pass))
     ⊎ Opened setup own old new result
+
+-- A session of a member of `own`, at the exchange of `setup`: how it went, and the part goes on.
+pub record Serves (setup own : Setup) (old new : Side) (result : Result Ended Fault) : Type 0 where
+  pub goes_on : GoesOn old new
+  pub went : Went setup own old new result
+
+-- Of two sessions of one part, one after the other: the part knows behind both what it knew before and
+-- between them, and the replies to a member are those up to the first one's end, and others behind them.
+abbrev pub SessionsGoOn : Type 0
+SessionsGoOn =
+    (setup own : Setup) (before between after : Side) (first second : Result Ended Fault)
+    → Serves setup own before between first → Serves setup own between after second
+    → GoesOn before after
+    × ((member : ℕ) → IsPrefix (known_replies setup member between.reader.known)
+    (known_replies setup member after.reader.known))
 
 -- ---- many at once
 

@@ -35,18 +35,20 @@ SentRound first replies d old new moved =
     (d.over ≡ false) × (rest : List (List ℕ)) × Sent first replies rest d old new
     × (moved ≡ false → rest ≡ [])
 
--- By why the worker stopped: some replies may be left; none at the end of the day; and where the output failed a
--- beginning of the bytes was written.
+-- By why the worker stopped: some replies may be left; none at the end of the day, which comes only once it is past; and
+-- where the output failed a beginning of the bytes was written.
 abbrev pub SentUntil :
-    ℕ → List (List ℕ) → Delivery → Option (List ℕ) → Option (List ℕ) → Stop → Type 0
-SentUntil first replies d old new stop.Told =
+    (past : Bool) → ℕ → List (List ℕ) → Delivery → Option (List ℕ) → Option (List ℕ) → Stop
+    → Type 0
+SentUntil past first replies d old new stop.Told =
     (d.over ≡ false) × (rest : List (List ℕ)) × Sent first replies rest d old new
-SentUntil first replies d old new (stop.Ended e) =
-    (e ≡ ended.DayEnd) × (d.over ≡ true) × Sent first replies [] d old new
-SentUntil first replies d old new (stop.Faulted f) =
+SentUntil past first replies d old new (stop.Ended e) =
+    (e ≡ ended.DayEnd) × (d.over ≡ true) × (past ≡ true) × Sent first replies [] d old new
+SentUntil past first replies d old new (stop.Faulted f) =
     (rest : List (List ℕ))
     × ((Sent first replies rest d old new × (d.over ≡ false))
-    ⊎ ((f ≡ fault.Write) × SentSome first replies rest d old new))
+    ⊎ ((f ≡ fault.Write) × (d.over ≡ true → past ≡ true)
+    × SentSome first replies rest d old new))
 
 -- ---- what comes in
 

@@ -1,7 +1,7 @@
 //! The worker that takes messages in.
 ghost use Rattle.std.specs.Prelude.{ℕ, List, ◌≡◌, ◌⊎◌, ◌+◌, ◌++◌, [], ◌∷◌, IfErr, OnOk, Some, IsSome};
 ghost use Rattle.hx_session_core.specs.declared.intake.Intake.TheVariants as intakes;
-ghost use Rattle.hx_sessions.specs.Asked.{Submits};
+ghost use Rattle.hx_sessions.specs.Asked.{CarriesOn, Submits};
 ghost use Rattle.hx_sessions.specs.Workers.{ActedUntil, Acted, Takes, Received};
 ghost use Rattle.hx_sessions.specs.declared.ending.Fault.TheVariants as faults;
 ghost use Rattle.hx_sessions.specs.declared.ending.Stop.TheVariants as stops;
@@ -18,41 +18,54 @@ use std::io::{Error, ErrorKind, Read};
 use std::sync::Wait;
 use std::sync::atomic::{AtomicBool, Ordering};
 
+/// A member who is logged in: the exchange that his messages go to, and who is called round each of them.
+#[derive(Drop)]
+pub struct Trader<'a, V: Venue, G> {
+    pub exchange: &'a Exchange<V>,
+    pub gate: &'a G,
+    pub member: MemberNo,
+}
+
+/// What submits his messages: his pass, the clock of their times, and the number of the last one in this session.
+#[derive(Drop)]
+pub struct Sender<V: Venue, C> {
+    pub pass: Pass<V>,
+    pub clock: C,
+    pub number: u64,
+}
+
 /// What the worker has, and gives back.
 #[derive(Drop)]
 pub struct Inbox<V: Venue, R, C> {
     pub input: R,
-    pub clock: C,
-    pub pass: Pass<V>,
+    pub sender: Sender<V, C>,
 }
 
 // Submits one message of the member.
 fn submit<V: Venue, C: Clock, G: Gate, T: Wait>(
     rt: &T,
     alloc: Global,
-    exchange: &Exchange<V>,
-    gate: &G,
-    member: MemberNo,
-    pass: &mut Pass<V>,
-    clock: &mut C,
-    number: u64,
+    trader: &Trader<'_, V, G>,
+    sender: &mut Sender<V, C>,
     text: &[u8],
 ) -> Result<(), Fault>
-    ensures number { pass.new.number ≡ pass.old.number }
-    ensures ok { OnOk result (Submits member pass.old.sent pass.new.sent (text.now ∷ [])) }
-    ensures err { IfErr result (λ e. pass.new.sent ≡ pass.old.sent) }
+    ensures pass { CarriesOn sender.old.pass sender.new.pass }
+    ensures ok { OnOk result (Submits trader.now.member
+        sender.old.pass.sent sender.new.pass.sent (text.now ∷ [])) }
+    ensures err { IfErr result (λ e. sender.new.pass.sent ≡ sender.old.pass.sent) }
 {
     let Ok(bytes) = Vec::from_slice(alloc, text) else {
         return Err(Fault::NoMemory);
     };
     let event = Event::Message {
-        member: member.get(),
-        time: clock.now(),
+        member: trader.member.get(),
+        time: sender.clock.now(),
         bytes: Bytes::of(bytes),
     };
-    gate.before(member, number);
-    let done = exchange.submit(rt, pass, &event);
-    gate.after(member, number);
+    sender.number = sender.number.saturating_add(1);
+    trader.gate.before(trader.member, sender.number);
+    let done = trader.exchange.submit(rt, &mut sender.pass, &event);
+    trader.gate.after(trader.member, sender.number);
     match done {
         Ok(_) => Ok(()),
         Err(DeskError::NoMemory) => Err(Fault::NoMemory),
@@ -64,26 +77,20 @@ fn submit<V: Venue, C: Clock, G: Gate, T: Wait>(
 fn act<V: Venue, C: Clock, G: Gate, T: Wait>(
     rt: &T,
     alloc: Global,
-    exchange: &Exchange<V>,
-    gate: &G,
-    member: MemberNo,
-    pass: &mut Pass<V>,
-    clock: &mut C,
-    number: &mut u64,
+    trader: &Trader<'_, V, G>,
+    sender: &mut Sender<V, C>,
     packets: &[SoupPacket],
 ) -> Result<(), Stop>
-    ensures number { pass.new.number ≡ pass.old.number }
-    ensures acted { Acted member pass.old.sent pass.new.sent packets.now result }
+    ensures pass { CarriesOn sender.old.pass sender.new.pass }
+    ensures acted { Acted trader.now.member
+        sender.old.pass.sent sender.new.pass.sent packets.now result }
 {
     let mut intake = Intake::Open;
     for packet in packets {
         match intake.packet(packet) {
             Action::Submit => {
-                *number = number.saturating_add(1);
                 let text = packet.payload.as_slice();
-                match submit(
-                    rt, alloc, exchange, gate, member, pass, clock, *number, text,
-                ) {
+                match submit(rt, alloc, trader, sender, text) {
                     Ok(()) => {}
                     Err(fault) => return Err(Stop::Faulted(fault)),
                 }
@@ -100,21 +107,16 @@ fn act<V: Venue, C: Clock, G: Gate, T: Wait>(
 fn act_last<V: Venue, C: Clock, G: Gate, T: Wait>(
     rt: &T,
     alloc: Global,
-    exchange: &Exchange<V>,
-    gate: &G,
-    member: MemberNo,
-    pass: &mut Pass<V>,
-    clock: &mut C,
-    number: &mut u64,
+    trader: &Trader<'_, V, G>,
+    sender: &mut Sender<V, C>,
     packets: &[SoupPacket],
 ) -> Stop
-    ensures number { pass.new.number ≡ pass.old.number }
-    ensures acted { (done : List (List ℕ)) × Submits member pass.old.sent pass.new.sent done
+    ensures pass { CarriesOn sender.old.pass sender.new.pass }
+    ensures acted { (done : List (List ℕ))
+        × Submits trader.now.member sender.old.pass.sent sender.new.pass.sent done
         × ActedUntil packets.now done result }
 {
-    match act(
-        rt, alloc, exchange, gate, member, pass, clock, number, packets,
-    ) {
+    match act(rt, alloc, trader, sender, packets) {
         Ok(()) => Stop::Faulted(Fault::Framing),
         Err(stop) => stop,
     }
@@ -124,35 +126,25 @@ fn act_last<V: Venue, C: Clock, G: Gate, T: Wait>(
 fn take<V: Venue, C: Clock, G: Gate, T: Wait>(
     rt: &T,
     alloc: Global,
-    exchange: &Exchange<V>,
-    gate: &G,
-    member: MemberNo,
-    pass: &mut Pass<V>,
-    clock: &mut C,
-    number: &mut u64,
+    trader: &Trader<'_, V, G>,
+    sender: &mut Sender<V, C>,
     framer: &mut Framer,
     piece: &[u8],
 ) -> Result<(), Stop>
     requires { IsSome framer.old }
-    ensures number { pass.new.number ≡ pass.old.number }
-    ensures takes { Takes member framer.old framer.new piece.now
-        pass.old.sent pass.new.sent result }
+    ensures pass { CarriesOn sender.old.pass sender.new.pass }
+    ensures takes { Takes trader.now.member framer.old framer.new piece.now
+        sender.old.pass.sent sender.new.pass.sent result }
 {
     match framer.feed(alloc, piece) {
-        Ok(packets) => act(
-            rt, alloc, exchange, gate, member, pass, clock, number, &packets,
-        ),
+        Ok(packets) => act(rt, alloc, trader, sender, &packets),
         Err(
             FramerError::TooLong {
                 before,
                 length: _bad,
             },
-        ) => Err(act_last(
-            rt, alloc, exchange, gate, member, pass, clock, number, &before,
-        )),
-        Err(FramerError::Empty { before }) => Err(act_last(
-            rt, alloc, exchange, gate, member, pass, clock, number, &before,
-        )),
+        ) => Err(act_last(rt, alloc, trader, sender, &before)),
+        Err(FramerError::Empty { before }) => Err(act_last(rt, alloc, trader, sender, &before)),
         Err(FramerError::NoMemory) => Err(Stop::Faulted(Fault::NoMemory)),
         Err(FramerError::Failed) => Err(Stop::Faulted(Fault::Framing)),
     }
@@ -171,19 +163,16 @@ pub fn is_passing(error: &Error) -> bool {
 pub fn receive<V: Venue, R: Read, C: Clock, G: Gate, T: Wait>(
     rt: &T,
     alloc: Global,
-    exchange: &Exchange<V>,
-    gate: &G,
-    member: MemberNo,
+    trader: &Trader<'_, V, G>,
     mut inbox: Inbox<V, R, C>,
     told: &AtomicBool,
     turns: u64,
 ) -> (Inbox<V, R, C>, Stop)
-    ensures number { result.0.pass.number ≡ inbox.pass.number }
-    ensures received { Received member (R.remaining inbox.input)
-        (R.remaining result.0.input) inbox.pass.sent result.0.pass.sent result.1 }
+    ensures pass { CarriesOn inbox.sender.pass result.0.sender.pass }
+    ensures received { Received trader.now.member (R.remaining inbox.input)
+        (R.remaining result.0.input) inbox.sender.pass.sent result.0.sender.pass.sent result.1 }
 {
     let mut framer = Framer::new();
-    let mut number = 0;
     let mut buffer = [0; 4096];
     for _ in 0..turns {
         if told.load(Ordering::SeqCst) {
@@ -193,18 +182,7 @@ pub fn receive<V: Venue, R: Read, C: Clock, G: Gate, T: Wait>(
             Ok(0) => return (inbox, Stop::Ended(Ended::ReaderEnd)),
             Ok(count) => {
                 let piece = &buffer[..count];
-                match take(
-                    rt,
-                    alloc,
-                    exchange,
-                    gate,
-                    member,
-                    &mut inbox.pass,
-                    &mut inbox.clock,
-                    &mut number,
-                    &mut framer,
-                    piece,
-                ) {
+                match take(rt, alloc, trader, &mut inbox.sender, &mut framer, piece) {
                     Ok(()) => {}
                     Err(stop) => return (inbox, stop),
                 }

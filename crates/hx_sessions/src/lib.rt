@@ -4,6 +4,7 @@
 
 mod ending;
 mod inbound;
+pub mod laws;
 mod opening;
 mod outbound;
 mod pair;
@@ -14,7 +15,7 @@ mod session;
 mod writing;
 
 pub use ending::{Ended, Fault};
-pub use hx_session_core::{Action, Delivery, Intake, Start, Turn, laws, start};
+pub use hx_session_core::{Action, Delivery, Intake, Start, Turn, start};
 pub use part::Part;
 pub use ports::{Clock, Gate};
 pub use serving::serve_all;

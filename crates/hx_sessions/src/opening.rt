@@ -3,6 +3,7 @@ ghost use Rattle.std.specs.Prelude.{ℕ, List, Result, Err, IfErr, IsSome, ◌�
 ghost use mathlib.Core.List.{IsPrefix};
 ghost use Rattle.hx_session_core.specs.Starts.{start_of};
 ghost use Rattle.hx_desk.specs.Known.{known_replies};
+ghost use Rattle.hx_sessions.specs.Frames.{day_over};
 ghost use Rattle.hx_sessions.specs.Logins.{LogsIn, Opens, NoLogin, ReadsFirst, FailsFirst};
 ghost use Rattle.hx_sessions.specs.Served.{Admits, Dismisses};
 
@@ -60,14 +61,22 @@ fn read_more<R: Read>(
     }
 }
 
-/// Reads the first packet, which must be a login, and no byte behind it. Answers the reads that are left.
-pub fn read_login<R: Read>(
+/// Reads the first packet, which must be a login, and no byte behind it. Answers the reads that are left. Behind each
+/// read that leaves less than a login it looks whether the day is over, and stops there: who is silent keeps no day.
+pub fn read_login<V: Venue, R: Read, T: Wait>(
+    rt: &T,
     alloc: Global,
+    exchange: &Exchange<V>,
     input: &mut R,
+    reader: &mut Reader<Entry>,
     turns: u64,
 ) -> Result<(LoginRequest, u64), Stop>
+    requires { reader.old.log ≡ V.log }
+    ensures log { reader.new.log ≡ V.log }
+    ensures known { IsPrefix reader.old.known reader.new.known }
     ensures ok { IfOk result (λ r. LogsIn (R.remaining input.old) (R.remaining input.new) r.0) }
-    ensures err { IfErr result (NoLogin (R.remaining input.old) (R.remaining input.new)) }
+    ensures err { IfErr result (NoLogin (day_over V.setup reader.new.known)
+        (R.remaining input.old) (R.remaining input.new)) }
 {
     let mut framer = Framer::new();
     let mut buffer = [0; LOGIN];
@@ -79,7 +88,12 @@ pub fn read_login<R: Read>(
         let space = &mut buffer[kept..];
         match read_more(alloc, input, &mut framer, space) {
             Ok((Some(login), _count)) => return Ok((login, turns - turn - 1)),
-            Ok((None, count)) => kept += count,
+            Ok((None, count)) => {
+                kept += count;
+                if exchange.is_over(rt, reader) {
+                    return Err(Stop::Ended(Ended::DayEnd));
+                }
+            }
             Err(stop) => return Err(stop),
         }
     }
@@ -108,6 +122,13 @@ pub fn open<V: Venue, T: Wait>(
     start(setup, login, replies)
 }
 
+/// The two directions of a connection.
+#[derive(Drop)]
+pub struct Line<R, W> {
+    pub input: R,
+    pub output: W,
+}
+
 /// Logs a client in, and answers him. Answers where his session begins and the reads that are left, or how it ends
 /// here.
 pub fn admit<V: Venue, R: Read, W: Write, T: Wait>(
@@ -115,8 +136,7 @@ pub fn admit<V: Venue, R: Read, W: Write, T: Wait>(
     alloc: Global,
     exchange: &Exchange<V>,
     setup: &Setup,
-    input: &mut R,
-    output: &mut W,
+    line: &mut Line<R, W>,
     reader: &mut Reader<Entry>,
     turns: u64,
 ) -> Result<(Start, u64), Result<Ended, Fault>>
@@ -124,13 +144,13 @@ pub fn admit<V: Venue, R: Read, W: Write, T: Wait>(
     ensures log { reader.new.log ≡ V.log }
     ensures known { IsPrefix reader.old.known reader.new.known }
     ensures ok { IfOk result (λ r.
-        Admits V.setup setup.now (R.remaining input.old) (R.remaining input.new)
-        (W.contents output.old) (W.contents output.new) reader.new.known r.0) }
+        Admits V.setup setup.now (R.remaining line.old.input) (R.remaining line.new.input)
+        (W.contents line.old.output) (W.contents line.new.output) reader.new.known r.0) }
     ensures err { IfErr result
-        (Dismisses V.setup setup.now (R.remaining input.old) (R.remaining input.new)
-        (W.contents output.old) (W.contents output.new) reader.new.known) }
+        (Dismisses V.setup setup.now (R.remaining line.old.input) (R.remaining line.new.input)
+        (W.contents line.old.output) (W.contents line.new.output) reader.new.known) }
 {
-    let (login, left) = match read_login(alloc, input, turns) {
+    let (login, left) = match read_login(rt, alloc, exchange, &mut line.input, reader, turns) {
         Ok(read) => read,
         Err(Stop::Ended(ended)) => return Err(Ok(ended)),
         Err(Stop::Faulted(fault)) => return Err(Err(fault)),
@@ -139,14 +159,14 @@ pub fn admit<V: Venue, R: Read, W: Write, T: Wait>(
     match open(rt, exchange, setup, reader, &login) {
         Ok(begun) => {
             let frame = accepted(*setup.session(), begun.first);
-            match write_whole(output, frame.as_slice()) {
+            match write_whole(&mut line.output, frame.as_slice()) {
                 Ok(()) => Ok((begun, left)),
                 Err(Broken) => Err(Err(Fault::Write)),
             }
         }
         Err(reason) => {
             let frame = rejected(reason);
-            match write_whole(output, frame.as_slice()) {
+            match write_whole(&mut line.output, frame.as_slice()) {
                 Ok(()) => Err(Err(Fault::NotAuthorized { reason })),
                 Err(Broken) => Err(Err(Fault::Write)),
             }

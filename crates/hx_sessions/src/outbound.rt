@@ -3,7 +3,7 @@ ghost use Rattle.std.specs.Prelude.{ℕ, List, ◌≡◌, ◌⊎◌, ◌+◌, �
 ghost use mathlib.Core.List.{IsPrefix};
 ghost use Rattle.hx_units.specs.Fields.{texts};
 ghost use Rattle.hx_desk.specs.Known.{known_replies};
-ghost use Rattle.hx_sessions.specs.Frames.{IsNextOf, Sends, Sent, WritesAll, WritesSome};
+ghost use Rattle.hx_sessions.specs.Frames.{day_over, IsNextOf, Sends, Sent, WritesAll, WritesSome};
 ghost use Rattle.hx_sessions.specs.Workers.{SentRound, SentUntil};
 
 use crate::ending::{Ended, Fault, Stop};
@@ -82,13 +82,15 @@ impl<W: Write, C: Clock> Outbox<W, C> {
         requires live { self.old.delivery.over ≡ false }
         requires next { IsNextOf (known_replies V.setup member self.old.reader.known)
             self.old.delivery.next }
+        requires past { ended ≡ true → day_over V.setup self.old.reader.known ≡ true }
         ensures log { self.new.reader.log ≡ V.log }
         ensures known { IsPrefix self.old.reader.known self.new.reader.known }
         ensures ok { IfOk result (λ moved.
             SentRound self.old.delivery.next
             (known_replies V.setup member self.new.reader.known) self.new.delivery
             (W.contents self.old.output) (W.contents self.new.output) moved) }
-        ensures err { IfErr result (SentUntil self.old.delivery.next
+        ensures err { IfErr result (SentUntil (day_over V.setup self.new.reader.known)
+            self.old.delivery.next
             (known_replies V.setup member self.new.reader.known) self.new.delivery
             (W.contents self.old.output) (W.contents self.new.output)) }
     {
@@ -146,7 +148,7 @@ pub fn deliver<V: Venue, W: Write, C: Clock, T: Wait + Timer>(
         outbox.delivery.next }
     ensures log { result.0.reader.log ≡ V.log }
     ensures known { IsPrefix outbox.reader.known result.0.reader.known }
-    ensures sent { SentUntil outbox.delivery.next
+    ensures sent { SentUntil (day_over V.setup result.0.reader.known) outbox.delivery.next
         (known_replies V.setup member result.0.reader.known) result.0.delivery
         (W.contents outbox.output) (W.contents result.0.output) result.1 }
 {
@@ -187,7 +189,8 @@ pub fn finish<V: Venue, W: Write, C: Clock, T: Wait>(
         × Sent outbox.delivery.next
         (known_replies V.setup member result.0.reader.known) [] result.0.delivery
         (W.contents outbox.output) (W.contents result.0.output)) }
-    ensures err { IfErr result.1 (SentUntil outbox.delivery.next
+    ensures err { IfErr result.1 (SentUntil (day_over V.setup result.0.reader.known)
+        outbox.delivery.next
         (known_replies V.setup member result.0.reader.known) result.0.delivery
         (W.contents outbox.output) (W.contents result.0.output)) }
 {

@@ -2,14 +2,15 @@
 ghost use Rattle.std.specs.Prelude.{◌≡◌, ℕ, List, false};
 ghost use mathlib.Core.List.{IsPrefix};
 ghost use Rattle.hx_desk.specs.Known.{known_replies};
-ghost use Rattle.hx_sessions.specs.Frames.{IsNextOf};
+ghost use Rattle.hx_sessions.specs.Asked.{CarriesOn};
+ghost use Rattle.hx_sessions.specs.Frames.{day_over, IsNextOf};
 ghost use Rattle.hx_sessions.specs.Workers.{Received, SentUntil};
 
 use crate::ending::{Fault, Stop};
-use crate::inbound::{Inbox, receive};
+use crate::inbound::{Inbox, Trader, receive};
 use crate::outbound::{Outbox, deliver};
 use crate::ports::{Clock, Gate};
-use hx_engine::{Exchange, Venue};
+use hx_engine::Venue;
 use hx_units::MemberNo;
 use std::alloc::Global;
 use std::io::{Read, Write};
@@ -32,11 +33,12 @@ impl<V: Venue, W: Write, C> Promise<(Outbox<W, C>, Stop)> for Delivers<V, W, C> 
     ghost use Rattle.std.specs.Prelude.{◌≡◌};
     ghost use mathlib.Core.List.{IsPrefix};
     ghost use Rattle.hx_desk.specs.Known.{known_replies};
+    ghost use Rattle.hx_sessions.specs.Frames.{day_over};
     ghost use Rattle.hx_sessions.specs.Workers.{SentUntil};
 
     ghost kept_by = { λ p r. (r.0.reader.log ≡ V.log)
         × IsPrefix p.was.value.reader.known r.0.reader.known
-        × SentUntil p.was.value.delivery.next
+        × SentUntil (day_over V.setup r.0.reader.known) p.was.value.delivery.next
         (known_replies V.setup p.member r.0.reader.known) r.0.delivery
         (W.contents p.was.value.output) (W.contents r.0.output) r.1 };
 }
@@ -46,9 +48,9 @@ fn not_begun<V: Venue, R: Read, C>(
     member: MemberNo,
     inbox: Inbox<V, R, C>,
 ) -> (Inbox<V, R, C>, Stop)
-    ensures number { result.0.pass.number ≡ inbox.pass.number }
+    ensures pass { CarriesOn inbox.sender.pass result.0.sender.pass }
     ensures received { Received member (R.remaining inbox.input)
-        (R.remaining result.0.input) inbox.pass.sent result.0.pass.sent result.1 }
+        (R.remaining result.0.input) inbox.sender.pass.sent result.0.sender.pass.sent result.1 }
 {
     (inbox, Stop::Faulted(Fault::NoMemory))
 }
@@ -65,9 +67,7 @@ pub fn work<
 >(
     rt: &T,
     alloc: Global,
-    exchange: &Exchange<V>,
-    gate: &G,
-    member: MemberNo,
+    trader: &Trader<'_, V, G>,
     inbox: Inbox<V, R, C>,
     outbox: Outbox<W, C>,
     reads: u64,
@@ -75,33 +75,37 @@ pub fn work<
 ) -> (Inbox<V, R, C>, Stop, Outbox<W, C>, Stop)
     requires log { outbox.reader.log ≡ V.log }
     requires live { outbox.delivery.over ≡ false }
-    requires next { IsNextOf (known_replies V.setup member outbox.reader.known)
+    requires next { IsNextOf (known_replies V.setup trader.now.member outbox.reader.known)
         outbox.delivery.next }
-    ensures number { result.0.pass.number ≡ inbox.pass.number }
-    ensures received { Received member (R.remaining inbox.input)
-        (R.remaining result.0.input) inbox.pass.sent result.0.pass.sent result.1 }
+    ensures pass { CarriesOn inbox.sender.pass result.0.sender.pass }
+    ensures received { Received trader.now.member (R.remaining inbox.input)
+        (R.remaining result.0.input) inbox.sender.pass.sent result.0.sender.pass.sent result.1 }
     ensures log { result.2.reader.log ≡ V.log }
     ensures known { IsPrefix outbox.reader.known result.2.reader.known }
-    ensures sent { SentUntil outbox.delivery.next
-        (known_replies V.setup member result.2.reader.known) result.2.delivery
+    ensures sent { SentUntil (day_over V.setup result.2.reader.known) outbox.delivery.next
+        (known_replies V.setup trader.now.member result.2.reader.known) result.2.delivery
         (W.contents outbox.output) (W.contents result.2.output) result.3 }
 {
     let in_ended = AtomicBool::new(false);
     let out_ended = AtomicBool::new(false);
     let in_flag = &in_ended;
     let out_flag = &out_ended;
+    let exchange = trader.exchange;
+    let gate = trader.gate;
+    let member = trader.member;
     scope(
         scope_env(),
         rt,
         move |scope| -> (Inbox<V, R, C>, Stop, Outbox<W, C>, Stop)
             requires { (outbox.reader.log ≡ V.log) × (outbox.delivery.over ≡ false)
-                × IsNextOf (known_replies V.setup member outbox.reader.known) outbox.delivery.next }
-            ensures number { result.0.pass.number ≡ inbox.pass.number }
+                × IsNextOf (known_replies V.setup member outbox.reader.known)
+                outbox.delivery.next }
+            ensures pass { CarriesOn inbox.sender.pass result.0.sender.pass }
             ensures received { Received member (R.remaining inbox.input)
-                (R.remaining result.0.input) inbox.pass.sent result.0.pass.sent result.1 }
+                (R.remaining result.0.input) inbox.sender.pass.sent result.0.sender.pass.sent result.1 }
             ensures log { result.2.reader.log ≡ V.log }
             ensures known { IsPrefix outbox.reader.known result.2.reader.known }
-            ensures sent { SentUntil outbox.delivery.next
+            ensures sent { SentUntil (day_over V.setup result.2.reader.known) outbox.delivery.next
                 (known_replies V.setup member result.2.reader.known) result.2.delivery
                 (W.contents outbox.output) (W.contents result.2.output) result.3 }
         {
@@ -118,7 +122,8 @@ pub fn work<
                         outbox.delivery.next }
                     ensures log { result.0.reader.log ≡ V.log }
                     ensures known { IsPrefix outbox.reader.known result.0.reader.known }
-                    ensures sent { SentUntil outbox.delivery.next
+                    ensures sent { SentUntil (day_over V.setup result.0.reader.known)
+                        outbox.delivery.next
                         (known_replies V.setup member result.0.reader.known) result.0.delivery
                         (W.contents outbox.output) (W.contents result.0.output) result.1 }
                 {
@@ -129,9 +134,12 @@ pub fn work<
             );
             match started {
                 Ok(child) => {
-                    let (inbox, inn) = receive(
-                        rt, alloc, exchange, gate, member, inbox, out_flag, reads,
-                    );
+                    let trader = Trader {
+                        exchange,
+                        gate,
+                        member,
+                    };
+                    let (inbox, inn) = receive(rt, alloc, &trader, inbox, out_flag, reads);
                     in_flag.store(true, Ordering::SeqCst);
                     let (outbox, out) = child.join(rt);
                     (inbox, inn, outbox, out)

@@ -80,9 +80,8 @@ fn serve_slots<
     gate: &G,
     turns: u64,
     slots: &mut [Slot<V, R, W, C>],
-    count: usize,
 )
-    requires { 0 < count }
+    requires { 0 < length slots.old }
     ensures len { length slots.new ≡ length slots.old }
     ensures each { (i : ℕ) (d : _) → i < length slots.old → ServesWaiting V.setup setup.now
         (option_map (λ p. record {
@@ -101,6 +100,7 @@ fn serve_slots<
           s.1,
         )) (slice_index_or slots.new i d).served) }
 {
+    let count = slots.len();
     for_each_mut(
         rt,
         slots,
@@ -203,7 +203,7 @@ pub fn serve_all<
         return Err(parts);
     };
     wait_all(parts, &mut slots);
-    serve_slots(rt, alloc, exchange, setup, gate, turns, &mut slots, count);
+    serve_slots(rt, alloc, exchange, setup, gate, turns, &mut slots);
     take_all(slots, &mut all);
     Ok(all)
 }

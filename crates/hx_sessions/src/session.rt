@@ -2,13 +2,14 @@
 ghost use Rattle.std.specs.Prelude.{ℕ, List, ◌≡◌, ◌⊎◌, ◌+◌, ◌≤◌, [], length, false};
 ghost use mathlib.Core.List.{IsPrefix};
 ghost use Rattle.hx_desk.specs.Known.{known_replies};
+ghost use Rattle.hx_sessions.specs.Asked.{CarriesOn};
 ghost use Rattle.hx_sessions.specs.Frames.{IsNextOf};
 ghost use Rattle.hx_sessions.specs.Workers.{both_of};
 ghost use Rattle.hx_sessions.specs.Served.{Converses, Serves};
 
 use crate::ending::{Ended, Fault, Stop};
-use crate::inbound::Inbox;
-use crate::opening::admit;
+use crate::inbound::{Inbox, Sender, Trader};
+use crate::opening::{Line, admit};
 use crate::outbound::{Outbox, finish};
 use crate::pair::work;
 use crate::part::Part;
@@ -81,23 +82,17 @@ impl Session {
             result.1 }
     {
         let Part {
-            mut input,
-            mut output,
+            input,
+            output,
             inbound,
             mut outbound,
             pass,
             mut reader,
         } = part;
-        match admit(
-            rt,
-            alloc,
-            exchange,
-            setup,
-            &mut input,
-            &mut output,
-            &mut reader,
-            turns,
-        ) {
+        let mut line = Line { input, output };
+        let begun = admit(rt, alloc, exchange, setup, &mut line, &mut reader, turns);
+        let Line { input, mut output } = line;
+        match begun {
             Err(result) => {
                 let _ = output.flush();
                 let part = Part {
@@ -115,8 +110,11 @@ impl Session {
                 let now = outbound.now();
                 let inbox = Inbox {
                     input,
-                    clock: inbound,
-                    pass,
+                    sender: Sender {
+                        pass,
+                        clock: inbound,
+                        number: 0,
+                    },
                 };
                 let outbox = Outbox {
                     output,
@@ -124,24 +122,21 @@ impl Session {
                     reader,
                     delivery: Delivery::new(begun.first, now),
                 };
-                let (inbox, mut outbox, result) = converse(
-                    rt,
-                    alloc,
+                let trader = Trader {
                     exchange,
                     gate,
-                    begun.member,
-                    inbox,
-                    outbox,
-                    left,
-                    turns,
+                    member: begun.member,
+                };
+                let (inbox, mut outbox, result) = converse(
+                    rt, alloc, &trader, inbox, outbox, left, turns,
                 );
                 let _ = outbox.output.flush();
                 let part = Part {
                     input: inbox.input,
                     output: outbox.output,
-                    inbound: inbox.clock,
+                    inbound: inbox.sender.clock,
                     outbound: outbox.clock,
-                    pass: inbox.pass,
+                    pass: inbox.sender.pass,
                     reader: outbox.reader,
                 };
                 (part, result)
@@ -161,9 +156,7 @@ fn converse<
 >(
     rt: &T,
     alloc: Global,
-    exchange: &Exchange<V>,
-    gate: &G,
-    member: MemberNo,
+    trader: &Trader<'_, V, G>,
     inbox: Inbox<V, R, C>,
     outbox: Outbox<W, C>,
     reads: u64,
@@ -171,32 +164,32 @@ fn converse<
 ) -> (Inbox<V, R, C>, Outbox<W, C>, Result<Ended, Fault>)
     requires log { outbox.reader.log ≡ V.log }
     requires live { outbox.delivery.over ≡ false }
-    requires next { IsNextOf (known_replies V.setup member outbox.reader.known)
+    requires next { IsNextOf (known_replies V.setup trader.now.member outbox.reader.known)
         outbox.delivery.next }
     ensures log { result.1.reader.log ≡ V.log }
     ensures known { IsPrefix outbox.reader.known result.1.reader.known }
-    ensures converses { Converses V.setup member outbox.delivery.next []
+    ensures pass { CarriesOn inbox.sender.pass result.0.sender.pass }
+    ensures converses { Converses V.setup trader.now.member outbox.delivery.next []
         (record {
           input = R.remaining inbox.input;
           output = W.contents outbox.output;
-          pass = inbox.pass;
+          pass = inbox.sender.pass;
           reader = outbox.reader;
         })
         (record {
           input = R.remaining result.0.input;
           output = W.contents result.1.output;
-          pass = result.0.pass;
+          pass = result.0.sender.pass;
           reader = result.1.reader;
         })
         result.2 }
 {
-    let (mut inbox, inn, outbox, out) = work(
-        rt, alloc, exchange, gate, member, inbox, outbox, reads, turns,
-    );
+    let (mut inbox, inn, outbox, out) = work(rt, alloc, trader, inbox, outbox, reads, turns);
     match both(inn, out) {
         Ok(Ended::Logout) => {
-            let receipt = inbox.pass.receipt(exchange.feed_log());
-            let (outbox, last) = finish(rt, exchange, member, outbox, receipt);
+            let exchange = trader.exchange;
+            let receipt = inbox.sender.pass.receipt(exchange.feed_log());
+            let (outbox, last) = finish(rt, exchange, trader.member, outbox, receipt);
             match last {
                 Ok(()) => (inbox, outbox, Ok(Ended::Logout)),
                 Err(stop) => (inbox, outbox, both(Stop::Told, stop)),

@@ -68,13 +68,47 @@ fn port<'a>(alloc: Global, name: &'static str, help: &'static str) -> Arg<'a> {
         .help(help)
 }
 
+// A number of seconds, up to an hour, which is asked for beside `--open` alone.
+fn seconds<'a>(
+    alloc: Global,
+    name: &'static str,
+    usual: &'static str,
+    help: &'static str,
+) -> Arg<'a> {
+    Arg::new(alloc, name)
+        .long(name)
+        .value_name("SECONDS")
+        .default_value(usual)
+        .value_parser(value_parser!(u32).range(0..=3600))
+        .help(help)
+}
+
+// What an open day has besides.
+fn open_day<'a>(alloc: Global, command: Command<'a>) -> Result<Command<'a>, AllocError> {
+    let open = Arg::new(alloc, "open")
+        .long("open")
+        .action(ArgAction::SetTrue)
+        .help("Takes connections all day, and reads on behind a bad line of the operator");
+    let login = "With --open, how long a connection has for its login";
+    let end = "With --open, for how long the end of the feed's session is told";
+    let json = Arg::new(alloc, "json")
+        .long("json")
+        .action(ArgAction::SetTrue)
+        .help("With --open, writes each notice as an object of JSON");
+    command
+        .arg(open)?
+        .arg(seconds(alloc, "login-limit", "15", login))?
+        .arg(seconds(alloc, "end", "5", end))?
+        .arg(json)
+}
+
 fn serve_command<'a>(alloc: Global) -> Result<Command<'a>, AllocError> {
     let sessions = Arg::new(alloc, "sessions")
         .long("sessions")
         .value_name("N")
         .required(true)
         .value_parser(value_parser!(u16).range(1..=63))
-        .help("How many sessions of members there are");
+        .help("How many sessions of members there are, with --open at a time");
     let capacity = Arg::new(alloc, "capacity")
         .long("capacity")
         .value_name("C")
@@ -90,8 +124,16 @@ fn serve_command<'a>(alloc: Global) -> Result<Command<'a>, AllocError> {
     let history = Arg::new(alloc, "history")
         .long("history")
         .value_name("FILE")
-        .help("Where the history of the day goes, as a tape");
-    Command::new(alloc, "serve")
+        .help("The new file to which the history of the day goes, as a tape");
+    let answers = Arg::new(alloc, "answers")
+        .long("answers")
+        .value_name("N")
+        .default_value("1000")
+        .value_parser(value_parser!(u32).range(1..=1_000_000))
+        .help(
+            "How many requests of one source are answered a second; in all it is eight times as many",
+        );
+    let command = Command::new(alloc, "serve")
         .about("Serves a day to members by TCP and to vendors by UDP, at 127.0.0.1")
         .arg(port(alloc, "port", "The TCP port of members' sessions"))?
         .arg(port(alloc, "feed", "The UDP port that the feed goes to"))?
@@ -100,7 +142,9 @@ fn serve_command<'a>(alloc: Global) -> Result<Command<'a>, AllocError> {
         .arg(setup_file(alloc))?
         .arg(capacity)?
         .arg(turns)?
-        .arg(history)
+        .arg(history)?
+        .arg(answers)?;
+    open_day(alloc, command)
 }
 
 fn watch_command<'a>(alloc: Global) -> Result<Command<'a>, AllocError> {

@@ -17,9 +17,15 @@ pub enum Failure {
     /// A word of the command line that is no text, which `clap` does not take.
     #[error("error: invalid UTF-8 was detected in one or more arguments")]
     NoText,
-    /// The system gave no random keys for the table of tokens.
-    #[error("no randomness")]
-    NoRandomness,
+    /// The feed would go to the port of requests.
+    #[error("error: --feed and --requests are the same port")]
+    SamePorts,
+    /// The file that the history would go to is there: it is not touched.
+    #[error("write failed: {path} is there, and a history is never written over")]
+    HistoryIsThere {
+        /// Its name.
+        path: String,
+    },
     #[error(transparent)]
     Setup(SetupError),
     #[error(transparent)]
@@ -34,7 +40,7 @@ impl Failure {
     /// The status that the program ends with.
     pub fn status(&self) -> u8 {
         match self {
-            Failure::CommandLine | Failure::NoText => 2,
+            Failure::CommandLine | Failure::NoText | Failure::SamePorts => 2,
             Failure::Setup(SetupError::Bad { .. })
             | Failure::Tape(TapeError::Line { .. })
             | Failure::Serve(ServeError::Line { .. })
@@ -43,13 +49,14 @@ impl Failure {
             | Failure::Tape(TapeError::NoMemory)
             | Failure::Serve(ServeError::NoMemory)
             | Failure::Watch(WatchError::NoMemory) => 3,
-            Failure::NoRandomness => 4,
+            Failure::HistoryIsThere { .. } => 4,
             Failure::Tape(TapeError::Read | TapeError::Write | TapeError::Turns) => 4,
             Failure::Serve(
                 ServeError::Read
                 | ServeError::Write
                 | ServeError::Network
                 | ServeError::Full
+                | ServeError::HistoryIsThere
                 | ServeError::Turns,
             ) => 4,
             Failure::Watch(WatchError::Network | WatchError::Write) => 4,

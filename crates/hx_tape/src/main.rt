@@ -115,6 +115,7 @@ fn perform<
     R: AllocGlobal
         + Input
         + Print
+        + Eprint
         + Files
         + Log
         + Net<Listener = TcpListener, Stream = TcpStream>

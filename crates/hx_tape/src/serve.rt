@@ -3,53 +3,49 @@
 use crate::failure::Failure;
 use crate::setups::read_setup;
 use clap::ArgMatches;
-use hx_members::Seed;
-use hx_serve::{Day, Notices, ServeArgs, ServeError, serve_day, write_history};
+use hx_members::{Seed, Setup};
+use hx_serve::{
+    Board, Hosting, JsonNotices, Notices, OpenArgs, ServeArgs, ServeError, Silent, serve_kept,
+    today,
+};
+use hx_sessions::Gate;
 use log::Log;
 use std::alloc::Global;
-use std::fs::File;
 use std::hash::RandomState;
 use std::io;
-use std::io::{BufWriter, Write};
 use std::net::{Net, TcpListener, TcpStream};
 use std::random::RandomSource;
 use std::rt::{Clock, Files};
 use std::sync::Wait;
 use std::thread::Threads;
 
-// How many bytes of the history are written at once.
-const BUFFER: usize = 1 << 16;
-
 // The numbers of the command line, whose ranges `clap` has looked at.
 fn args_of(matches: &ArgMatches<'_>) -> Option<ServeArgs> {
-    ServeArgs::of(
+    let args = ServeArgs::of(
         matches.get_one::<u16>("port")?,
         matches.get_one::<u16>("feed")?,
         matches.get_one::<u16>("requests")?,
         matches.get_one::<u16>("sessions")?,
         matches.get_one::<u64>("capacity")?,
         matches.get_one::<u64>("turns")?,
-    )
+    )?;
+    args.with_answers(matches.get_one::<u32>("answers")?)
 }
 
-// Writes the history of a day into a file.
-fn keep_history<W: Write + Drop>(alloc: Global, day: &Day, file: W) -> Result<(), ServeError> {
-    let Ok(mut writer) = BufWriter::with_capacity(alloc, BUFFER, file) else {
-        return Err(ServeError::NoMemory);
-    };
-    write_history(alloc, &day.history, &mut writer)
-}
-
-// What a day that was served is answered by.
-fn answer_of(day: Day, kept: Result<(), ServeError>) -> Result<(), Failure> {
-    if let Some(fault) = day.fault {
-        return Err(Failure::Serve(fault));
+// What is asked of an open day, where one is.
+fn open_of<R: Clock>(rt: &R, matches: &ArgMatches<'_>) -> Option<OpenArgs> {
+    if !matches.get_flag("open") {
+        return None;
     }
-    Ok(kept?)
+    Some(OpenArgs {
+        login_limit: matches.get_one::<u32>("login-limit")?,
+        end: matches.get_one::<u32>("end")?,
+        day: today(rt),
+    })
 }
 
-/// Serves a day. The file of the history is made before it begins.
-pub fn serve_input<
+// Serves a day, with a seed that is drawn.
+fn host<
     R: AllocGlobal
         + Input
         + Print
@@ -61,43 +57,97 @@ pub fn serve_input<
         + Threads
         + Wait
         + Sync,
->(rt: &R, matches: &ArgMatches<'_>) -> Result<(), Failure> {
+    G: Gate + Sync,
+    B: Board + Sync,
+>(rt: &R, matches: &ArgMatches<'_>, hosting: &Hosting<'_, G, B>) -> Result<(), Failure>
+where
+    R::Reader: Send,
+{
     let alloc = rt.alloc();
-    let Some(args) = args_of(matches) else {
-        return Err(Failure::CommandLine);
-    };
-    let setup = read_setup(rt, matches)?;
     let Ok(keys) = RandomState::new(rt) else {
-        return Err(Failure::NoRandomness);
+        return Err(Failure::Serve(ServeError::Read));
     };
     let seed = Seed::Drawn(keys);
-    let gate = Notices { rt };
-    let Some(path) = matches.get_str("history") else {
-        let day = serve_day(
+    let path = matches.get_str("history");
+    let mut output = io::writer(rt);
+    match serve_kept(rt, alloc, hosting, seed, rt.reader(), &mut output, path) {
+        Ok(()) => Ok(()),
+        Err(ServeError::HistoryIsThere) => Err(Failure::HistoryIsThere {
+            path: String::from_str(alloc, path.unwrap_or(""))?,
+        }),
+        Err(fault) => Err(Failure::Serve(fault)),
+    }
+}
+
+/// Serves a day as the command line asks.
+pub fn serve_input<
+    R: AllocGlobal
+        + Input
+        + Print
+        + Eprint
+        + Files
+        + Log
+        + Net<Listener = TcpListener, Stream = TcpStream>
+        + Clock
+        + RandomSource
+        + Threads
+        + Wait
+        + Sync,
+>(rt: &R, matches: &ArgMatches<'_>) -> Result<(), Failure>
+where
+    R::Reader: Send,
+{
+    let Some(args) = args_of(matches) else {
+        return Err(Failure::SamePorts);
+    };
+    let setup: Setup = read_setup(rt, matches)?;
+    let open = open_of(rt, matches);
+    let is_standard = matches.get_str("setup").is_none();
+    let (setup, args) = (&setup, &args);
+    let notices = Notices { rt };
+    if open.is_none() {
+        let gate = &notices;
+        let board = &notices;
+        return host(
             rt,
-            alloc,
-            &setup,
-            &args,
-            seed,
-            &gate,
-            rt.reader(),
-            &mut io::writer(rt),
-        )?;
-        return answer_of(day, Ok(()));
-    };
-    let Ok(file) = File::create(rt, path) else {
-        return Err(Failure::Serve(ServeError::Write));
-    };
-    let day = serve_day(
+            matches,
+            &Hosting {
+                setup,
+                is_standard,
+                args,
+                gate,
+                board,
+                open,
+            },
+        );
+    }
+    let gate = &Silent;
+    if matches.get_flag("json") {
+        let board = &JsonNotices { rt };
+        return host(
+            rt,
+            matches,
+            &Hosting {
+                setup,
+                is_standard,
+                args,
+                gate,
+                board,
+                open,
+            },
+        );
+    }
+    let board = &notices;
+    host(
         rt,
-        alloc,
-        &setup,
-        &args,
-        seed,
-        &gate,
-        rt.reader(),
-        &mut io::writer(rt),
-    )?;
-    let kept = keep_history(alloc, &day, file);
-    answer_of(day, kept)
+        matches,
+        &Hosting {
+            setup,
+            is_standard,
+            args,
+            gate,
+            board,
+            open,
+        },
+    )
 }

@@ -2,6 +2,7 @@
 //! test says so. No contract speaks of it: what it gives is compared where a test runs.
 #![tactic(auto)]
 
+pub mod halts;
 pub mod lines;
 pub mod memory;
 pub mod setups;

@@ -214,12 +214,14 @@ impl Scenario for HoursOfADay {
         mut reader: Reader<Entry>,
     ) -> Result<(), Fail> {
         let mut pass = passes.pop().ok_or("a pass")?;
+        assert!(rt; !exchange.is_over(rt, &mut reader));
         for time in 1..=11 {
             assert!(rt; !exchange.ended(rt));
             let event = day_event(alloc, time)?;
             assert!(rt; exchange.submit(rt, &mut pass, &event).is_ok());
         }
         assert!(rt; exchange.ended(rt));
+        assert!(rt; exchange.is_over(rt, &mut reader));
         let first = [
             Reply::Rejected(*b"T0", b'C'),
             Reply::System(b'S'),

@@ -2,9 +2,12 @@
 
 use super::day::{SETUP, day};
 use hx_replay::{Kind, TapeError, replay, replay_ahead};
+use hx_testing::Day;
+use hx_testing::halts::{BREAK_OF_BOTH_SIDES, HALTS_AND_BREAKS, HALTS_AT_THEIR_EDGES};
 use hx_testing::lines::{first_lines, front, last_lines};
 use hx_testing::memory::{Bad, Behind, Input, Output};
-use hx_testing::setups::setup_of;
+use hx_testing::setups::{setup_of, standard};
+use std::alloc::Global;
 use std::io::ErrorKind;
 use std::process::Abort;
 use std::sync::atomic::AtomicU64;
@@ -139,8 +142,7 @@ fn a_line_that_is_refused(rt: HostRuntime) -> Result<(), Fail> {
     expect_stop(&rt, 5_000, b"86400000000000 1 58\n", Kind::Time)
 }
 
-// The first read gives less than 10,000 lines, so the same two lines stand in what the second one gives, which is made
-// before all lines of the first one are played.
+// The first read gives less than 10,000 lines, so the same two lines stand in what the second one gives.
 #[test]
 fn a_line_of_the_second_read_that_is_none(rt: HostRuntime) -> Result<(), Fail> {
     expect_stop(&rt, 10_000, b"no line\n", Kind::Bad)
@@ -168,4 +170,32 @@ fn a_write_that_fails(rt: HostRuntime) -> Result<(), Fail> {
     assert!(rt; output.taken.len() >= 3 * 65_536);
     assert!(rt; day.output.starts_with(&output.taken));
     Ok(())
+}
+
+// A tape behind 20,000 ticks, which tell nothing of an empty book: it is long enough to be played in turns.
+fn behind_ticks(alloc: Global, tape: &[u8]) -> Result<Vec<u8>, Fail> {
+    let mut text = Vec::new(alloc);
+    for _ in 0..20_000 {
+        text.extend_from_slice(b"1 0 4b\n")?;
+    }
+    text.extend_from_slice(tape)?;
+    Ok(text)
+}
+
+// A worked day behind these ticks tells what it tells by itself.
+fn expect_in_turns<R: AllocGlobal + Abort + Threads>(rt: &R, words: &str) -> Result<(), Fail> {
+    let day = Day::of(rt.alloc(), words)?;
+    let tape = behind_ticks(rt.alloc(), &day.tape)?;
+    let setup = standard(rt.alloc())?;
+    let mut output = Vec::new(rt.alloc());
+    replay_ahead(rt, rt.alloc(), &setup, &mut tape.as_slice(), &mut output)?;
+    assert!(rt; output.as_slice() == day.output.as_slice());
+    Ok(())
+}
+
+#[test]
+fn days_of_halts_and_breaks_in_turns(rt: HostRuntime) -> Result<(), Fail> {
+    expect_in_turns(&rt, HALTS_AND_BREAKS)?;
+    expect_in_turns(&rt, HALTS_AT_THEIR_EDGES)?;
+    expect_in_turns(&rt, BREAK_OF_BOTH_SIDES)
 }

@@ -11,7 +11,7 @@ use Rattle.hx_laws.proofs.FeedBook.ShownExecutions.{shows, IsApart, AreApart}
 use Rattle.hx_laws.proofs.FeedBook.ShownLeaving.{shows-cons}
 
 -- the shown ones have other references than r
-abbrev HaveOthers : ℕ → List Order → Type 0
+abbrev pub HaveOthers : ℕ → List Order → Type 0
 HaveOthers r zs = AllByRecursion (λ z. z.shown ≡ true → eqb r z.reference ≡ false) zs
 
 -- the first order of the book stays where none of its reference is deleted
@@ -27,7 +27,7 @@ first_stays time x b (z ∷ zs) a = choose z.shown a.0 (λ b. first_stays time x
     choose true f ih = ap (λ (c : Bool). book_from (cond c b (x ∷ without z.reference b)) (all_deleted time zs)) (f refl) ∙ ih (without z.reference b)
     choose false f ih = ih b
 
-ended_others : (due : Order → Bool) (y : Order) → y.shown ≡ true → (xs : List Order) → AllByRecursion (IsApart y) xs → HaveOthers y.reference (filter due xs)
+pub ended_others : (due : Order → Bool) (y : Order) → y.shown ≡ true → (xs : List Order) → AllByRecursion (IsApart y) xs → HaveOthers y.reference (filter due xs)
 ended_others due y e xs a = all_filtered _ due xs (all_weaker (IsApart y) _ (λ z k h. k.reference e h) xs a)
 
 pub ended_book : (setup : Setup) (due : Order → Bool) (time : ℕ) (xs : List Order) → AreApart xs

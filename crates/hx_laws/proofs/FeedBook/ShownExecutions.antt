@@ -56,10 +56,10 @@ AreApart [] = Unit {0}
 AreApart (x ∷ xs) = AllByRecursion (IsApart x) xs × AreApart xs
 
 -- the shown orders of the list have other references
-abbrev Others : ℕ → List Order → Type 0
+abbrev pub Others : ℕ → List Order → Type 0
 Others r xs = AllByRecursion (λ y. y.shown ≡ true → eqb y.reference r ≡ false) xs
 
-others_front : (x : Order) → x.shown ≡ true → (front back : List Order) → AreApart (front ++ (x ∷ back)) → Others x.reference front
+pub others_front : (x : Order) → x.shown ≡ true → (front back : List Order) → AreApart (front ++ (x ∷ back)) → Others x.reference front
 others_front x e [] back a = tt
 others_front x e (y ∷ front) back a = ((λ h. (at front a.0).reference h e), others_front x e front back a.1)
   where
@@ -128,7 +128,7 @@ apart_place x f [] back a = choose (ltb f x.shares)
 apart_place x f (y ∷ front) back a = (all_place (IsApart y) (apart_shares y) x f front back a.0, apart_place x f front back a.1)
 
 -- one execution in the book
-book_execution : (setup : Setup) (time : ℕ) (stock : Symbol) (k : ℕ) (xs : List Order) (p : Place) (f : ℕ) → xs ≡ p.front ++ (p.order ∷ p.back) → AreApart xs
+pub book_execution : (setup : Setup) (time : ℕ) (stock : Symbol) (k : ℕ) (xs : List Order) (p : Place) (f : ℕ) → xs ≡ p.front ++ (p.order ∷ p.back) → AreApart xs
     → book_after (shows setup xs) (feed_of_execution time stock k (record { order = p.order; shares = f })) ≡ shows setup (p.front ++ (less p.order f ++ p.back))
 book_execution setup time stock k xs p f e a = choose p.order.shown refl
   where

@@ -11,7 +11,7 @@ use Rattle.hx_laws.proofs.History.CoherentSteps.{found_of}
 use Rattle.hx_laws.proofs.FeedBook.ShownExecutions.{shows, shows-less, IsApart, AreApart}
 
 -- no order of the list has the name
-abbrev NoneCalled : ℕ → Token → List Order → Type 0
+abbrev pub NoneCalled : ℕ → Token → List Order → Type 0
 NoneCalled m t xs = AllByRecursion (λ z. is_called m t z ≡ false) xs
 
 none_called : (m : ℕ) (t : Token) (y : Order) → is_called m t y ≡ true → (ys : List Order) → AllByRecursion (IsApart y) ys → NoneCalled m t ys
@@ -29,7 +29,7 @@ pub shows-cons : (setup : Setup) (x : Order) (xs : List Order) (b : Bool) → x.
 shows-cons setup x xs b e = ap (λ c. cond c (shown_as setup x ∷ shows setup xs) (shows setup xs)) e
 
 -- what happens to the named order x in a list, as a change of its entry, seen from the front
-found_ind : (m : ℕ) (t : Token) (x : Order) (P : List Order → Type 0) → ((ys : List Order) → is_called m t x ≡ true → AllByRecursion (IsApart x) ys → NoneCalled m t ys → P (x ∷ ys))
+pub found_ind : (m : ℕ) (t : Token) (x : Order) (P : List Order → Type 0) → ((ys : List Order) → is_called m t x ≡ true → AllByRecursion (IsApart x) ys → NoneCalled m t ys → P (x ∷ ys))
     → ((y : Order) (ys : List Order) → is_called m t y ≡ false → IsApart y x → P ys → P (y ∷ ys)) → (xs : List Order) → AreApart xs → find (is_called m t) xs ≡ Some x → P xs
 found_ind m t x P here there [] a h = absurd (cc h)
 found_ind m t x P here there (y ∷ ys) a h = choose (is_called m t y) refl (found_ind m t x P here there ys a.1) h

@@ -20,10 +20,10 @@ use Rattle.hx_laws.proofs.FeedBook.ShownExecutions.{shows, shows_shown, book_fro
 use Rattle.hx_laws.proofs.FeedBook.ShownArrivals.{IsBooked, KeepsBook}
 use Rattle.hx_laws.proofs.FeedBook.ShownSteps.{happens_keeps}
 
-recorded_booked : (a : Market) (event : Event) → IsBooked a → IsBooked (with_record event a)
+pub recorded_booked : (a : Market) (event : Event) → IsBooked a → IsBooked (with_record event a)
 recorded_booked a event g = record { apart = g.apart; old = g.old; some = g.some }
 
-step_keeps : (setup : Setup) (a : Market) (event : Event) → Coherent a → IsBooked a → KeepsBook setup a (step setup a event)
+pub step_keeps : (setup : Setup) (a : Market) (event : Event) → Coherent a → IsBooked a → KeepsBook setup a (step setup a event)
 unfolding step
 step_keeps setup a event s g =
     let k = happens_keeps setup (with_record event a) event ((record_moves a event).coherent s) (recorded_booked a event g) in

@@ -37,12 +37,12 @@ pub known_shares : (ts : List Used) (cs : List Chain) → IsOfAnyShares (IsKnown
 known_shares ts cs x n k = record { used = k.used; shown = k.shown }
 
 -- P of the orders of a place, of which the one passes
-abbrev IsOf : (Order → Type 0) → Incoming → ℕ → Option Place → Type 0
+abbrev pub IsOf : (Order → Type 0) → Incoming → ℕ → Option Place → Type 0
 IsOf P inc r None = Unit {0}
 IsOf P inc r (Some p) = AllByRecursion P p.front × (P p.order × (AllByRecursion P p.back × (passes inc r p.order ≡ true)))
 
 -- the first by rank is one of the list, and passes
-first_is_of : (P : Order → Type 0) (inc : Incoming) (r : ℕ) (xs : List Order) → AllByRecursion P xs → IsOf P inc r (first_by_rank inc r xs)
+pub first_is_of : (P : Order → Type 0) (inc : Incoming) (r : ℕ) (xs : List Order) → AllByRecursion P xs → IsOf P inc r (first_by_rank inc r xs)
 first_is_of P inc r [] a = tt
 first_is_of P inc r (x ∷ xs) a = choose (passes inc r x) refl (first_by_rank inc r xs) (first_is_of P inc r xs a.1)
   where

@@ -20,7 +20,7 @@ use Rattle.hx_laws.proofs.Quiet.QuietBefore.{not_true}
 pub shown_not_immediate : (d t : ℕ) → is_shown d t ≡ true → is_immediate t ≡ false
 shown_not_immediate d t h = not_true (is_immediate t) (and_parts (is_visible d) (not (is_immediate t)) h).1
 
-no_reason : (rs : List Reason) → first_reason rs ≡ None → AllByRecursion (λ r. r.applies ≡ false) rs
+pub no_reason : (rs : List Reason) → first_reason rs ≡ None → AllByRecursion (λ r. r.applies ≡ false) rs
 no_reason [] h = tt
 no_reason (r ∷ rs) h = choose r.applies refl (no_reason rs) h
   where

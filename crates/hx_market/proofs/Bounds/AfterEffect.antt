@@ -1,5 +1,5 @@
 -- What an effect leaves: a sound market again.
-use Rattle.std.proofs.Common.{◌≡◌, ℕ, Bool, true, List, [], length, not, refl, sym, ap, ◌∙◌, subst, arith}
+use Rattle.std.proofs.Common.{◌≡◌, ℕ, Bool, true, List, length, not, refl, sym, ap, ◌∙◌, subst, arith}
 use Rattle.std.specs.Prelude.{◌==◌, slice_set}
 use Rattle.hx_levels.specs.declared.order.Order.{Order}
 use Rattle.hx_rules.specs.declared.matches.Match.{Match}
@@ -17,39 +17,11 @@ use Rattle.hx_market.proofs.OrdersByToken.{only_found}
 use Rattle.hx_market.proofs.Bounds.AfterReplace.{Replaces, chain_old, can_replace, sound_handed, sound_replaced, sound_lessened, sound_filtered}
 use Rattle.hx_rules.specs.Enter.{next_reference}
 use Rattle.hx_market.specs.Bounds.{IsSound}
-use Rattle.hx_market.specs.Effects.{IsEffect, SuitsTokens, IsAbout, IsOnly, SuitsReplacement, IsReplacement, IsOf, IsInRange, is_due, hours_after, order_of_enter, replacement_order, outcome_of}
+use Rattle.hx_market.specs.Effects.{IsEffect, SuitsTokens, IsAbout, IsOnly, SuitsReplacement, IsReplacement, IsOf, IsInRange, is_due, order_of_enter, replacement_order, outcome_of}
 use Rattle.hx_market.specs.declared.effect.Replacement.{Replacement}
 use Rattle.hx_day.specs.Day.{MayRecord}
 use Rattle.hx_market.specs.Prepared.{FitsEffect}
 use Rattle.hx_market.proofs.Bounds.AfterEnter.{recording, can_accept, sound_recorded, sound_rejected, sound_accepted}
-
--- without hours and counts, which no effect reads
-abbrev pub bare : Market → Market
-bare m = record m { hours = 0; recorded = [] }
-
--- what an effect changes, and that the counts stay
-pub parts : (m : Market) (effect : Effect) → let k : Market = (outcome_of (bare m) effect).market in
-    (outcome_of m effect).market ≡ record { live = k.live; tokens = k.tokens; chains = k.chains; numbers = k.numbers; hours = hours_after effect m.hours; halted = k.halted; executions = k.executions; recorded = m.recorded }
-parts m Nothing = refl
-parts m (Reject r) = refl
-parts m (Accept a) = refl
-parts m (Fail a) = refl
-parts m (Replace a) = refl
-parts m (Cancel a) = refl
-parts m (End e) = refl
-parts m (Halt e) = refl
-parts m (Break e) = refl
-
-pub told_same : (m : Market) (effect : Effect) → (outcome_of m effect).told ≡ (outcome_of (bare m) effect).told
-told_same m Nothing = refl
-told_same m (Reject r) = refl
-told_same m (Accept a) = refl
-told_same m (Fail a) = refl
-told_same m (Replace a) = refl
-told_same m (Cancel a) = refl
-told_same m (End e) = refl
-told_same m (Halt e) = refl
-told_same m (Break e) = refl
 
 -- neither halts nor executions are counted
 sound_traded : (m : Market) (halted : List Bool) (executions : List Match) → IsSound m → IsSound (record m { halted = halted; executions = executions })
@@ -93,22 +65,22 @@ replaces m a orders reference live is suits only = record {
   shares = (let e = suits.executed in let k = is.more in let s = is.shares in omega arith);
 }
 
-pub fits_effect : (setup : Setup) (m : Market) (i : ℕ) (effect : Effect) (orders : List Live) → m.live ≡ lives orders → IsSound m → MayRecord m.recorded i → IsEffect setup effect → SuitsTokens m.tokens m.chains effect → IsAbout orders effect → IsOf i effect → FitsEffect (bare m) effect
-fits_effect setup m i Nothing orders live h l k u b e = tt
-fits_effect setup m i (Reject r) orders live h l k u b e = tt
-fits_effect setup m i (Accept a) orders live h l k u b e =
+pub fits_effect : (setup : Setup) (m : Market) (i : ℕ) (effect : Effect) (orders : List Live) (counts : List ℕ) → m.live ≡ lives orders → IsSound m → MayRecord m.recorded i → IsEffect setup effect → SuitsTokens m.tokens m.chains effect → IsAbout orders effect → IsOf i effect → FitsEffect (record m { recorded = counts }) effect
+fits_effect setup m i Nothing orders counts live h l k u b e = tt
+fits_effect setup m i (Reject r) orders counts live h l k u b e = tt
+fits_effect setup m i (Accept a) orders counts live h l k u b e =
     can_accept m (order_by m a) h (subst (MayRecord m.recorded) (sym e) l) (record { unused = u; chain = refl; shares = k.shares })
-fits_effect setup m i (Fail a) orders live h l k u b e =
+fits_effect setup m i (Fail a) orders counts live h l k u b e =
     chain_old m a.member a.existing a.old.order h (record { found = ap (λ (xs : List Order). find (is_called a.member a.existing) xs) live ∙ only_found a.member a.existing a.old.key.0 a.old.order orders b.only b.found; called = b.called })
-fits_effect setup m i (Replace a) orders live h l k u b e =
+fits_effect setup m i (Replace a) orders counts live h l k u b e =
     let r = replaces m a orders 0 live k u b in (
       can_replace m a.member a.replace.existing_token a.old.order (replacement_order 0 a) h (subst (MayRecord m.recorded) (sym e) l) r,
       chain_old m a.member a.replace.existing_token a.old.order h r.names,
     )
-fits_effect setup m i (Cancel a) orders live h l k u b e = tt
-fits_effect setup m i (End x) orders live h l k u b e = tt
-fits_effect setup m i (Halt x) orders live h l k u b e = tt
-fits_effect setup m i (Break x) orders live h l k u b e = tt
+fits_effect setup m i (Cancel a) orders counts live h l k u b e = tt
+fits_effect setup m i (End x) orders counts live h l k u b e = tt
+fits_effect setup m i (Halt x) orders counts live h l k u b e = tt
+fits_effect setup m i (Break x) orders counts live h l k u b e = tt
 
 pub sound_outcome : (setup : Setup) (m : Market) (i : ℕ) (effect : Effect) (orders : List Live) → m.live ≡ lives orders → IsSound m → MayRecord m.recorded i → IsEffect setup effect → SuitsTokens m.tokens m.chains effect → IsAbout orders effect → IsOf i effect
     → IsSound (outcome_of (recording m i) effect).market

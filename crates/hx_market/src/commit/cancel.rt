@@ -1,15 +1,17 @@
-//! A Cancel, done.
-ghost use Rattle.std.specs.Prelude.{◌≡◌, ◌<◌, ◌++◌, [], ◌∷◌};
+//! To commit: a Cancel takes shares off an order, or the order out.
+ghost use Rattle.std.specs.Prelude.{◌≡◌, ◌<◌, ◌++◌};
 ghost use Rattle.std.specs.Vec.{vec_len, vec_capacity};
-ghost use Rattle.hx_rules.specs.Letters.{by_user};
 ghost use Rattle.hx_levels.specs.Book.{lives};
 ghost use Rattle.hx_members.specs.Tokens.{TokenList};
-ghost use Rattle.hx_rules.specs.Removal.{lessened, taken_off, canceled};
+ghost use Rattle.hx_rules.specs.Removal.{lessened, taken_off};
 ghost use Rattle.hx_market.specs.OrderKeys.{AreKeyed};
-ghost use Rattle.hx_market.specs.Effects.{IsOnly, IsReduction};
+ghost use Rattle.hx_market.specs.Effects.{IsOnly, IsReduction, outcome_of};
+ghost use Rattle.hx_market.specs.Room.{RoomForFills, Tells};
+ghost use Rattle.hx_market.specs.declared.effect.Effect.TheVariants.{Cancel};
 
 use crate::effect::Reduction;
 use crate::messages::{delete, tell_canceled};
+use crate::state::State;
 use hx_itch::{Feed, OrderCancel};
 use hx_levels::Book;
 use hx_rules::Output;
@@ -54,22 +56,14 @@ fn tell_feed(out: &mut Output, effect: &Reduction)
 
 /// A Cancel takes shares off an order, or the order out.
 #[inline(always)]
-pub fn cancel<B: Book>(book: &mut B, out: &mut Output, effect: &Reduction)
-    requires only { IsOnly (B.orders book.old) effect.now.member effect.now.token effect.now.old }
+pub fn cancel<B: Book>(state: &mut State<B>, out: &mut Output, effect: &Reduction)
+    requires only { IsOnly state.old.orders effect.now.member effect.now.token effect.now.old }
     requires shares { IsReduction effect.now }
-    requires feed_room { vec_len out.old.feed < vec_capacity out.old.feed }
-    requires replies_room { vec_len out.old.replies < vec_capacity out.old.replies }
-    ensures live { lives (B.orders book.new)
-        ≡ lessened effect.now.member effect.now.token effect.now.by (lives (B.orders book.old)) }
-    ensures keyed { (t : TokenList) → AreKeyed t.tokens t.keys (B.orders book.old)
-        → AreKeyed t.tokens t.keys (B.orders book.new) }
-    ensures feed { out.new.feed.items
-        ≡ out.old.feed.items ++ taken_off effect.now.time effect.now.by effect.now.old.order }
-    ensures replies { out.new.replies.items
-        ≡ out.old.replies.items
-        ++ canceled effect.now.time effect.now.member effect.now.token effect.now.by by_user ∷ [] }
+    requires room { RoomForFills 0 out.old }
+    ensures market { state.new.market ≡ (outcome_of state.old.market (Cancel effect.now)).market }
+    ensures told { Tells out.old out.new (outcome_of state.old.market (Cancel effect.now)).told }
 {
-    take_off(book, effect);
+    take_off(&mut state.book, effect);
     tell_feed(out, effect);
     tell_canceled(
         out,

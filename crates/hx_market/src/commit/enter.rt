@@ -1,28 +1,20 @@
-//! An Enter that is accepted, done.
-ghost use Rattle.std.specs.Prelude.{◌≡◌, ◌<◌, ◌≤◌, ◌^◌, ◌++◌, Some, [], false, length};
-ghost use Rattle.hx_units.specs.Limits.{day};
-ghost use Rattle.hx_levels.specs.Book.{lives};
-ghost use Rattle.hx_members.specs.Chains.{is_used};
+//! To commit: the order of an Enter is accepted, and arrives.
+ghost use Rattle.std.specs.Prelude.{◌≡◌, ◌<◌, ◌^◌, length};
 ghost use Rattle.hx_rules.specs.Enter.{accepted_of};
-ghost use Rattle.hx_rules.specs.Orders.{is_immediate};
-ghost use Rattle.hx_match.specs.Rules.{AreFills};
-ghost use Rattle.hx_market.specs.Effects.{incoming_of_enter, terms_of_enter, order_of_enter};
+ghost use Rattle.hx_market.specs.Arrivals.{entering};
+ghost use Rattle.hx_market.specs.Effects.{accepted_by};
 ghost use Rattle.hx_market.specs.declared.effect.Effect.TheVariants.{Accept};
-ghost use Rattle.hx_market.specs.OrderKeys.{AreKeyed};
-ghost use Rattle.hx_market.specs.MarketModel.{name_of, market_of};
-ghost use Rattle.hx_market.specs.Room.{RoomForFills};
-ghost use Rattle.hx_market.specs.Prepared.{HasRoomFor, outcome_over};
+ghost use Rattle.hx_market.specs.Room.{RoomForFills, Tells};
+ghost use Rattle.hx_market.specs.Prepared.{CanCommit};
 
-use crate::commit::execute::Taker;
+use crate::commit::execute::Arriving;
 use crate::commit::incoming::{arrive, draw};
 use crate::effect::AcceptedEnter;
 use crate::messages::publish;
-use hx_day::Trading;
+use crate::state::State;
 use hx_levels::{Book, Order};
 use hx_match::Fill;
-use hx_members::Tokens;
 use hx_ouch::{Accepted, Outbound};
-use hx_refs::Refs;
 use hx_rules::{Output, is_shown, life_of};
 use hx_units::MemberNo;
 
@@ -56,110 +48,56 @@ fn accepted(order: &Order, effect: &AcceptedEnter) -> (MemberNo, Outbound)
     )
 }
 
+// The order as it arrives, with its chain's number and its reference.
 #[inline(always)]
-fn order_of(chain: u64, reference: u64, effect: &AcceptedEnter) -> Order
+fn arriving_of(chain: u64, reference: u64, effect: &AcceptedEnter) -> Arriving
     requires { effect.now.time < 2 ^ 62 }
-    ensures { result ≡ order_of_enter chain reference effect.now }
+    ensures { result ≡ entering chain reference effect.now }
 {
-    Order {
-        member: effect.member,
-        token: effect.enter.token,
-        chain,
-        locate: effect.locate,
-        side: effect.side,
-        price: effect.price,
-        shares: effect.enter.shares,
-        minimum: effect.enter.minimum_quantity,
-        display: effect.enter.display,
-        shown: is_shown(effect.enter.display, effect.enter.time_in_force),
-        firm: effect.firm,
-        capacity: effect.enter.capacity,
-        reference,
-        life: life_of(effect.time, effect.enter.time_in_force),
-    }
-}
-
-#[inline(always)]
-fn taker_of(chain: u64, effect: &AcceptedEnter) -> Taker
-    ensures { result ≡ record {
-      member = effect.now.member;
-      token = effect.now.enter.token;
-      chain = chain;
-      time = effect.now.time;
-      stock = effect.now.enter.stock;
-    } }
-{
-    Taker {
-        member: effect.member,
-        token: effect.enter.token,
-        chain,
+    let enter = &effect.enter;
+    Arriving {
+        order: Order {
+            member: effect.member,
+            token: enter.token,
+            chain,
+            locate: effect.locate,
+            side: effect.side,
+            price: effect.price,
+            shares: enter.shares,
+            minimum: enter.minimum_quantity,
+            display: enter.display,
+            shown: is_shown(enter.display, enter.time_in_force),
+            firm: effect.firm,
+            capacity: enter.capacity,
+            reference,
+            life: life_of(effect.time, enter.time_in_force),
+        },
         time: effect.time,
-        stock: effect.enter.stock,
+        stock: enter.stock,
+        immediate: enter.time_in_force == 0,
     }
 }
 
-/// The order of a message that nothing rejects is accepted, and arrives. Its places are reserved, its plan is made,
-/// and there is room for what it tells.
+/// The order of a message that nothing rejects is accepted, and arrives.
 #[inline(always)]
 pub fn accept<B: Book>(
-    book: &mut B,
-    tokens: &mut Tokens,
-    refs: &mut Refs,
-    trading: &mut Trading,
+    state: &mut State<B>,
     out: &mut Output,
     effect: &AcceptedEnter,
     fills: &[Fill],
     left: u32,
 )
-    requires time { effect.now.time < day }
-    requires unused { is_used tokens.old.tokens effect.now.member effect.now.enter.token ≡ false }
-    requires token_place { tokens.old.place
-        ≡ Some (name_of effect.now.member effect.now.enter.token) }
-    requires place { is_immediate effect.now.enter.time_in_force ≡ false
-        → B.place book.old ≡ Some (terms_of_enter effect.now) }
-    requires executions { AreFills (incoming_of_enter effect.now)
-        (B.orders book.old) fills.now left }
-    requires keyed { AreKeyed tokens.old.tokens tokens.old.keys (B.orders book.old) }
-    requires fits { HasRoomFor
-        (market_of (B.orders book.old) tokens.old refs.old 0 [] trading.old) effect.now }
-    requires executions_room { length fills.now ≤ trading.old.room }
+    requires ready { CanCommit state.old fills.now left (Accept effect.now) }
     requires room { RoomForFills (length fills.now) out.old }
-    ensures live { lives (B.orders book.new)
-        ≡ (outcome_over (B.orders book.old) tokens.old refs.old trading.old
-        (Accept effect.now)).market.live }
-    ensures tokens { tokens.new.tokens
-        ≡ (outcome_over (B.orders book.old) tokens.old refs.old trading.old
-        (Accept effect.now)).market.tokens }
-    ensures chains { tokens.new.chains
-        ≡ (outcome_over (B.orders book.old) tokens.old refs.old trading.old
-        (Accept effect.now)).market.chains }
-    ensures keyed { AreKeyed tokens.new.tokens tokens.new.keys (B.orders book.new) }
-    ensures numbers { refs.new
-        ≡ (outcome_over (B.orders book.old) tokens.old refs.old trading.old
-        (Accept effect.now)).market.numbers }
-    ensures halted { trading.new.halted ≡ trading.old.halted }
-    ensures executions { trading.new.executions
-        ≡ (outcome_over (B.orders book.old) tokens.old refs.old trading.old
-        (Accept effect.now)).market.executions }
-    ensures feed { out.new.feed.items
-        ≡ out.old.feed.items
-        ++ (outcome_over (B.orders book.old) tokens.old refs.old trading.old
-        (Accept effect.now)).told.feed }
-    ensures replies { out.new.replies.items
-        ≡ out.old.replies.items
-        ++ (outcome_over (B.orders book.old) tokens.old refs.old trading.old
-        (Accept effect.now)).told.replies }
+    ensures market { state.new.market ≡ (accepted_by state.old.market effect.now).market }
+    ensures told { Tells out.old out.new (accepted_by state.old.market effect.now).told }
 {
-    let chain = tokens.count();
-    tokens.consume(effect.member, &effect.enter.token);
+    let chain = state.tokens.count();
+    state.tokens.consume(effect.member, &effect.enter.token);
     let shown = is_shown(effect.enter.display, effect.enter.time_in_force);
-    let reference = draw(refs, effect.member, shown);
-    let order = order_of(chain, reference, effect);
-    let taker = taker_of(chain, effect);
-    out.replies.push_reserved(accepted(&order, effect));
-    let immediate = effect.enter.time_in_force == 0;
-    let resting = arrive(
-        book, tokens, refs, trading, out, &taker, &order, immediate, fills, left,
-    );
+    let reference = draw(&mut state.refs, effect.member, shown);
+    let arriving = arriving_of(chain, reference, effect);
+    out.replies.push_reserved(accepted(&arriving.order, effect));
+    let resting = arrive(state, out, &arriving, fills, left);
     publish(out, effect.time, effect.enter.stock, resting);
 }

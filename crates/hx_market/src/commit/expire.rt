@@ -1,14 +1,15 @@
-//! Orders that end leave the book.
+//! To commit: orders that end leave the book, and what was decided of them is told.
 ghost use Rattle.std.specs.Prelude.{◌≡◌, ◌≤◌, ◌+◌, ◌++◌, length, not};
 ghost use Rattle.std.specs.List.{filter};
 ghost use Rattle.hx_levels.specs.Book.{lives};
 ghost use Rattle.hx_members.specs.Tokens.{TokenList};
 ghost use Rattle.hx_market.specs.OrderKeys.{AreKeyed};
-ghost use Rattle.hx_market.specs.Effects.{IsExpiry, is_due};
-ghost use Rattle.hx_market.specs.Room.{RoomFor};
+ghost use Rattle.hx_market.specs.Effects.{IsExpiry, is_due, ended_by};
+ghost use Rattle.hx_market.specs.Room.{RoomFor, Tells};
 ghost use Rattle.std.specs.Vec.{vec_len, vec_capacity};
 
 use crate::effect::Expiry;
+use crate::state::State;
 use hx_itch::Feed;
 use hx_levels::Book;
 use hx_ouch::Outbound;
@@ -48,20 +49,16 @@ fn give_replies(replies: &mut Vec<(MemberNo, Outbound)>, told: &[(MemberNo, Outb
     }
 }
 
-/// The orders end, and what was prepared is told.
-pub fn end<B: Book>(book: &mut B, out: &mut Output, effect: &Expiry)
-    requires ended { IsExpiry (B.orders book.old) effect.now }
+/// The orders end, so many hours codes are past, and what was prepared is told.
+pub fn end<B: Book>(state: &mut State<B>, out: &mut Output, effect: &Expiry)
+    requires ended { IsExpiry state.old.orders effect.now }
     requires room { RoomFor (length effect.now.told.feed.items)
         (length effect.now.told.replies.items) out.old }
-    ensures live { lives (B.orders book.new)
-        ≡ filter (λ x. not (is_due effect.now.due effect.now.time x)) (lives (B.orders book.old)) }
-    ensures keyed { (t : TokenList) → AreKeyed t.tokens t.keys (B.orders book.old)
-        → AreKeyed t.tokens t.keys (B.orders book.new) }
-    ensures feed { out.new.feed.items ≡ out.old.feed.items ++ effect.now.told.feed.items }
-    ensures replies { out.new.replies.items
-        ≡ out.old.replies.items ++ effect.now.told.replies.items }
+    ensures market { state.new.market ≡ (ended_by state.old.market effect.now).market }
+    ensures told { Tells out.old out.new (ended_by state.old.market effect.now).told }
 {
-    remove_ended(book, effect);
+    remove_ended(&mut state.book, effect);
+    state.hours = effect.hours;
     tell_feed(&mut out.feed, &effect.told.feed);
     give_replies(&mut out.replies, &effect.told.replies);
 }

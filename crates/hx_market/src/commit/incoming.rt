@@ -1,21 +1,17 @@
-//! An incoming order, done: it gets its reference, executes, and rests or is cancelled.
-ghost use Rattle.std.specs.Prelude.{◌≡◌, ◌+◌, ◌-◌, ◌<◌, ◌≤◌, ◌^◌, slice_index, Some, [], true, false, length, ◌++◌, ◌∷◌, ◌*◌};
-ghost use Rattle.hx_levels.specs.Book.{lives, terms_of};
-ghost use Rattle.hx_members.specs.Chains.{is_used, place_of};
-ghost use Rattle.hx_rules.specs.Enter.{next_reference, after_draw};
-ghost use Rattle.hx_market.specs.OrderKeys.{AreKeyed, AreBefore};
-ghost use Rattle.hx_market.specs.Bounds.{CanNote, noted_if, CanNoteAll, chains_by};
-ghost use Rattle.hx_market.specs.MarketModel.{listed};
+//! To commit: an order arrives, be it entered or replacing. It draws its reference and executes, and what is left of it
+//! rests or is cancelled.
+ghost use Rattle.std.specs.Prelude.{◌≡◌, ◌+◌, ◌-◌, ◌<◌, ◌^◌, slice_index, length, ◌*◌};
 ghost use Rattle.std.specs.Vec.{vec_len, vec_capacity};
-ghost use Rattle.hx_match.specs.Executing.{done_by, left_by, AreGood};
-ghost use Rattle.hx_rules.specs.Executions.{matches_of, feed_of_executions, replies_of_executions, resting_of, displays, canceled_of};
+ghost use Rattle.hx_rules.specs.Enter.{next_reference, after_draw};
+ghost use Rattle.hx_market.specs.Arrivals.{CanArrive, CanRest, arrive_in, told_of_arrival, rested};
+ghost use Rattle.hx_market.specs.MarketModel.{listed};
+ghost use Rattle.hx_market.specs.Room.{RoomFor, Tells};
 
-use crate::commit::execute::{Taker, execute};
+use crate::commit::execute::{Arriving, execute};
 use crate::messages::tell_canceled;
-use hx_day::Trading;
+use crate::state::State;
 use hx_levels::{Book, Order};
 use hx_match::Fill;
-use hx_members::Tokens;
 use hx_refs::Refs;
 use hx_rules::Output;
 use hx_units::MemberNo;
@@ -35,28 +31,6 @@ pub fn draw(refs: &mut Refs, member: MemberNo, shown: bool) -> u64
     }
 }
 
-/// Puts an order last in time, at its reserved place, under its token; its chain counts as displayed where it is shown.
-#[inline(always)]
-pub fn rest_order<B: Book>(book: &mut B, tokens: &mut Tokens, order: &Order)
-    requires place { B.place book.old ≡ Some (terms_of order.now) }
-    requires used { is_used tokens.old.tokens order.now.member order.now.token ≡ true }
-    requires before { AreBefore tokens.old.tokens
-        (place_of tokens.old.tokens order.now.member order.now.token) (B.orders book.old) }
-    requires keyed { AreKeyed tokens.old.tokens tokens.old.keys (B.orders book.old) }
-    requires own { CanNote tokens.old.tokens order.now.chain 0 tokens.old.chains }
-    ensures live { lives (B.orders book.new) ≡ lives (B.orders book.old) ++ order.now ∷ [] }
-    ensures tokens { tokens.new.tokens ≡ tokens.old.tokens }
-    ensures chains { tokens.new.chains
-        ≡ noted_if order.now.shown tokens.old.tokens order.now.chain tokens.old.chains }
-    ensures keyed { AreKeyed tokens.new.tokens tokens.new.keys (B.orders book.new) }
-{
-    let key = book.add(*order);
-    tokens.settle(order.member, &order.token, Some(key.0));
-    if order.shown {
-        tokens.note(order.chain, 0, true);
-    }
-}
-
 // The order with so many open shares.
 #[inline(always)]
 fn with_shares(order: &Order, shares: u32) -> Order
@@ -67,92 +41,49 @@ fn with_shares(order: &Order, shares: u32) -> Order
     rest
 }
 
-// What is left of an order, which is no immediate one, rests.
+// Puts what is left of an order last in time, at its reserved place, under its token; its chain counts as displayed
+// where it is shown.
 #[inline(always)]
-fn rest_of<B: Book>(book: &mut B, tokens: &mut Tokens, order: &Order, left: u32) -> Order
-    requires place { B.place book.old ≡ Some (terms_of order.now) }
-    requires used { is_used tokens.old.tokens order.now.member order.now.token ≡ true }
-    requires before { AreBefore tokens.old.tokens
-        (place_of tokens.old.tokens order.now.member order.now.token) (B.orders book.old) }
-    requires keyed { AreKeyed tokens.old.tokens tokens.old.keys (B.orders book.old) }
-    requires own { CanNote tokens.old.tokens order.now.chain 0 tokens.old.chains }
+fn rest_of<B: Book>(state: &mut State<B>, order: &Order, left: u32) -> Order
+    requires ready { CanRest state.old order.now }
     ensures rest { result ≡ record order.now { shares = left } }
-    ensures live { lives (B.orders book.new)
-        ≡ lives (B.orders book.old) ++ record order.now { shares = left } ∷ [] }
-    ensures tokens { tokens.new.tokens ≡ tokens.old.tokens }
-    ensures chains { tokens.new.chains
-        ≡ noted_if order.now.shown tokens.old.tokens order.now.chain tokens.old.chains }
-    ensures keyed { AreKeyed tokens.new.tokens tokens.new.keys (B.orders book.new) }
+    ensures market { state.new.market
+        ≡ rested state.old.market (record order.now { shares = left }) }
 {
     let rest = with_shares(order, left);
-    rest_order(book, tokens, &rest);
+    let key = state.book.add(rest);
+    state.tokens.settle(rest.member, &rest.token, Some(key.0));
+    if rest.shown {
+        state.tokens.note(rest.chain, 0, true);
+    }
     rest
 }
 
-/// Carries out the plan of an order, and gives what rests of it, whose place is reserved. What is left of an immediate
-/// one is cancelled.
+/// An order arrives: its plan is carried out, and what is left of it rests, or is cancelled. Gives what rests.
 #[inline(always)]
 pub fn arrive<B: Book>(
-    book: &mut B,
-    tokens: &mut Tokens,
-    refs: &mut Refs,
-    trading: &mut Trading,
+    state: &mut State<B>,
     out: &mut Output,
-    taker: &Taker,
-    order: &Order,
-    immediate: bool,
+    arriving: &Arriving,
     fills: &[Fill],
     left: u32,
 ) -> Option<Order>
-    requires good { AreGood fills.now (B.orders book.old) }
-    requires place { immediate ≡ false → B.place book.old ≡ Some (terms_of order.now) }
-    requires used { is_used tokens.old.tokens order.now.member order.now.token ≡ true }
-    requires before { AreBefore tokens.old.tokens
-        (place_of tokens.old.tokens order.now.member order.now.token) (B.orders book.old) }
-    requires keyed { AreKeyed tokens.old.tokens tokens.old.keys (B.orders book.old) }
-    requires chain { order.now.chain ≡ taker.now.chain }
-    requires counts { CanNoteAll tokens.old.tokens taker.now.chain
-        (done_by fills.now (B.orders book.old)) tokens.old.chains }
-    requires own { CanNote tokens.old.tokens taker.now.chain 0
-        (chains_by tokens.old.tokens taker.now.chain
-        (done_by fills.now (B.orders book.old)) tokens.old.chains) }
-    requires numbers { refs.old.matches + length fills.now < 2 ^ 62 }
-    requires executions_room { length fills.now ≤ trading.old.room }
-    requires feed { vec_len out.old.feed + length fills.now ≤ vec_capacity out.old.feed }
-    requires replies { vec_len out.old.replies + 2 * length fills.now + 1
-        ≤ vec_capacity out.old.replies }
-    ensures rests { listed result ≡ resting_of order.now immediate left }
-    ensures live { lives (B.orders book.new)
-        ≡ lives (left_by fills.now (B.orders book.old)) ++ resting_of order.now immediate left }
-    ensures tokens { tokens.new.tokens ≡ tokens.old.tokens }
-    ensures chains { tokens.new.chains
-        ≡ noted_if
-        (displays (resting_of order.now immediate left)) tokens.old.tokens taker.now.chain
-        (chains_by tokens.old.tokens taker.now.chain
-        (done_by fills.now (B.orders book.old)) tokens.old.chains) }
-    ensures keyed { AreKeyed tokens.new.tokens tokens.new.keys (B.orders book.new) }
-    ensures numbers { refs.new ≡ record refs.old { matches = refs.old.matches + length fills.now } }
-    ensures halted { trading.new.halted ≡ trading.old.halted }
-    ensures executions { trading.new.executions
-        ≡ trading.old.executions
-        ++ matches_of taker.now.member taker.now.token (done_by fills.now (B.orders book.old)) }
-    ensures feed { out.new.feed.items
-        ≡ out.old.feed.items
-        ++ feed_of_executions taker.now.time taker.now.stock refs.old.matches
-        (done_by fills.now (B.orders book.old)) }
+    requires ready { CanArrive state.old arriving.now.order arriving.now.immediate fills.now left }
+    requires room { RoomFor (length fills.now) (2 * length fills.now + 1) out.old }
+    ensures rests { listed result ≡ (arrive_in state.old.market arriving.now).resting }
+    ensures market { state.new.market ≡ (arrive_in state.old.market arriving.now).market }
+    ensures told { Tells out.old out.new (told_of_arrival state.old.market arriving.now) }
     ensures feed_room { (vec_len out.new.feed ≡ vec_len out.old.feed + length fills.now)
         × (vec_capacity out.new.feed ≡ vec_capacity out.old.feed) }
-    ensures replies { out.new.replies.items
-        ≡ out.old.replies.items
-        ++ (replies_of_executions taker.now.time taker.now.member taker.now.token refs.old.matches (done_by fills.now (B.orders book.old)) ++ canceled_of taker.now.time taker.now.member taker.now.token immediate left) }
 {
-    execute(book, tokens, refs, trading, out, taker, fills);
+    execute(state, out, arriving, fills);
     if left == 0 {
         return None;
     }
-    if immediate {
-        tell_canceled(out, taker.time, taker.member, taker.token, left, b'I');
+    let order = &arriving.order;
+    if arriving.immediate {
+        tell_canceled(out, arriving.time, order.member, order.token, left, b'I');
         return None;
     }
-    Some(rest_of(book, tokens, order, left))
+    Some(rest_of(state, order, left))
 }

@@ -1,31 +1,28 @@
-//! Halts and breaks, done.
-ghost use Rattle.std.specs.Prelude.{◌≡◌, ◌+◌, ◌<◌, ◌≤◌, ◌++◌, ◌==◌, [], ◌∷◌, slice_set, true};
+//! To commit: halts and breaks.
+ghost use Rattle.std.specs.Prelude.{◌≡◌, ◌+◌, ◌<◌, ◌++◌, [], ◌∷◌};
 ghost use Rattle.std.specs.Vec.{vec_len, vec_capacity};
-ghost use Rattle.hx_rules.specs.Letters.{halted_state};
-ghost use Rattle.hx_rules.specs.Halts.{trading_action};
-ghost use Rattle.hx_rules.specs.Breaks.{broken_of, to_broken, with_execution};
+ghost use Rattle.hx_rules.specs.Breaks.{to_broken};
+ghost use Rattle.hx_market.specs.Effects.{outcome_of};
+ghost use Rattle.hx_market.specs.Room.{RoomForFills, Tells};
+ghost use Rattle.hx_market.specs.declared.effect.Effect.TheVariants.{Halt, Break};
 
 use crate::effect::{BrokenMatch, StateChange};
-use hx_day::Trading;
+use crate::state::State;
 use hx_itch::{BrokenTrade, Feed, StockTradingAction};
+use hx_levels::Book;
 use hx_ouch::Outbound;
 use hx_rules::Output;
 use hx_units::{MemberNo, Token};
 
 /// A stock is halted, or trades again: the feed is told.
-pub fn set_state(trading: &mut Trading, out: &mut Output, effect: &StateChange)
-    requires { vec_len out.old.feed < vec_capacity out.old.feed }
-    ensures halted { trading.new.halted
-        ≡ slice_set trading.old.halted effect.now.locate (effect.now.state == halted_state) }
-    ensures executions { trading.new.executions ≡ trading.old.executions }
-    ensures feed { out.new.feed.items
-        ≡ out.old.feed.items
-        ++ trading_action effect.now.locate effect.now.time effect.now.stock effect.now.state
-        effect.now.reason
-        ∷ [] }
-    ensures replies { out.new.replies.items ≡ out.old.replies.items }
+pub fn set_state<B: Book>(state: &mut State<B>, out: &mut Output, effect: &StateChange)
+    requires { RoomForFills 0 out.old }
+    ensures market { state.new.market ≡ (outcome_of state.old.market (Halt effect.now)).market }
+    ensures told { Tells out.old out.new (outcome_of state.old.market (Halt effect.now)).told }
 {
-    trading.set_halted(effect.locate, effect.state == b'H');
+    state
+        .trading
+        .set_halted(effect.locate, effect.state == b'H');
     out.feed.push_reserved(Feed::StockTradingAction(StockTradingAction {
         locate: effect.locate,
         time: effect.time,
@@ -56,27 +53,14 @@ fn tell_broken(out: &mut Output, time: u64, member: MemberNo, token: Token, numb
 }
 
 /// An execution is broken: the feed is told, and both members.
-pub fn break_match(trading: &mut Trading, out: &mut Output, effect: &BrokenMatch)
-    requires feed_room { vec_len out.old.feed < vec_capacity out.old.feed }
-    requires replies_room { vec_len out.old.replies + 2 ≤ vec_capacity out.old.replies }
-    ensures halted { trading.new.halted ≡ trading.old.halted }
-    ensures executions { trading.new.executions
-        ≡ with_execution trading.old.executions effect.now.number
-        (record effect.now.execution { broken = true }) }
-    ensures feed { out.new.feed.items
-        ≡ out.old.feed.items
-        ++ broken_of effect.now.time effect.now.number effect.now.execution ∷ [] }
-    ensures replies { out.new.replies.items
-        ≡ out.old.replies.items
-        ++ to_broken effect.now.time effect.now.execution.maker effect.now.execution.maker_token
-        effect.now.number
-        ∷ to_broken effect.now.time effect.now.execution.taker effect.now.execution.taker_token
-        effect.now.number
-        ∷ [] }
+pub fn break_match<B: Book>(state: &mut State<B>, out: &mut Output, effect: &BrokenMatch)
+    requires { RoomForFills 0 out.old }
+    ensures market { state.new.market ≡ (outcome_of state.old.market (Break effect.now)).market }
+    ensures told { Tells out.old out.new (outcome_of state.old.market (Break effect.now)).told }
 {
     let (time, number) = (effect.time, effect.number);
     let execution = &effect.execution;
-    trading.mark_broken(number, execution);
+    state.trading.mark_broken(number, execution);
     out.feed.push_reserved(Feed::BrokenTrade(BrokenTrade {
         locate: execution.locate,
         time,

@@ -1,30 +1,27 @@
-//! Which effect a break has (ITCH 5.0, Broken Trade Message).
+//! To decide: which effect a break has (ITCH 5.0, Broken Trade Message).
 ghost use Rattle.std.specs.Prelude.{◌≡◌, ◌<◌, ℕ, List};
 ghost use Rattle.hx_units.specs.Limits.{day};
-ghost use Rattle.hx_levels.specs.declared.order.Live.{Live as LiveOrder};
-ghost use Rattle.hx_members.specs.Chains.{Used, Chain};
 ghost use Rattle.hx_members.specs.Setups.{Setup as SetupOf};
-ghost use Rattle.hx_rules.specs.Markets.{Market};
 ghost use Rattle.hx_rules.specs.Breaks.{break_trade};
-ghost use Rattle.hx_market.specs.Effects.{outcome_of, IsEffect, IsOf, SuitsTokens, IsAbout};
+ghost use Rattle.hx_market.specs.Effects.{outcome_of};
+ghost use Rattle.hx_market.specs.Prepared.{SuitsMarket};
 
 use crate::effect::{BrokenMatch, Effect};
-use hx_day::Trading;
+use crate::state::State;
+use hx_levels::Book;
 
 /// What a break does, in the place of the effect before: nothing for a match number that was never drawn, or whose
 /// execution is broken.
 #[inline(never)]
-pub fn break_effect(trading: &Trading, time: u64, number: u64, effect: &mut Effect)
+pub fn break_effect<B: Book>(state: &State<B>, time: u64, number: u64, effect: &mut Effect)
     requires { time < day }
-    ensures does { (m : Market) → m.executions ≡ trading.now.executions
-        → break_trade m time number ≡ outcome_of m effect.new }
-    ensures is_effect { (setup : SetupOf) → IsEffect setup effect.new }
-    ensures sender { (i : ℕ) → IsOf i effect.new }
-    ensures suits { (ts : List Used) (cs : List Chain) → SuitsTokens ts cs effect.new }
-    ensures about { (orders : List LiveOrder) → IsAbout orders effect.new }
+    ensures does { (counts : List ℕ)
+        → break_trade (record state.now.market { recorded = counts }) time number
+        ≡ outcome_of (record state.now.market { recorded = counts }) effect.new }
+    ensures fit { (setup : SetupOf) (member : ℕ) → SuitsMarket setup state.now member effect.new }
 {
     *effect = Effect::Nothing;
-    let Some(execution) = trading.execution(number) else {
+    let Some(execution) = state.trading.execution(number) else {
         return;
     };
     if execution.broken {

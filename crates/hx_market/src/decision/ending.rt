@@ -1,15 +1,14 @@
-//! Which orders end.
+//! To decide: which live orders end, by a code of the hours or because their seconds are over.
 ghost use Rattle.std.specs.Prelude.{◌≡◌, ◌++◌, ◌∷◌, [], IfOk, OnOk};
 ghost use Rattle.std.specs.List.{filter};
-ghost use Rattle.hx_levels.specs.Book.{lives, KeysDiffer};
+ghost use Rattle.hx_levels.specs.Book.{KeysDiffer};
 ghost use Rattle.hx_rules.specs.Hours.{is_over, ends_by_code};
-ghost use Rattle.hx_market.specs.OrderKeys.{AreKeyed};
 ghost use Rattle.hx_market.specs.Expiries.{AreEntered, order_at, one_or_none, orders_at};
 
 use crate::order_by_token::find_order;
+use crate::state::State;
 use hx_day::Ends;
 use hx_levels::{Book, Key, Live};
-use hx_members::Tokens;
 use hx_rules::{ends_by_code, is_over};
 use hx_units::NoMemory;
 use std::alloc::Global;
@@ -43,12 +42,11 @@ pub fn orders_by_code<B: Book>(alloc: Global, book: &B, code: u8) -> Result<Vec<
 }
 
 // The live order whose token stands at a place.
-fn order_at<B: Book>(book: &B, tokens: &Tokens, place: u64) -> Option<Live>
-    requires { AreKeyed tokens.now.tokens tokens.now.keys (B.orders book.now) }
-    ensures { result ≡ order_at tokens.now.tokens place (B.orders book.now) }
+fn order_at<B: Book>(state: &State<B>, place: u64) -> Option<Live>
+    ensures { result ≡ order_at state.now.market.tokens place state.now.orders }
 {
-    let name = tokens.name_at(place)?;
-    let found = find_order(book, tokens, name.member, &name.token)?;
+    let name = state.tokens.name_at(place)?;
+    let found = find_order(state, name.member, &name.token)?;
     Some(found.live)
 }
 
@@ -68,18 +66,16 @@ fn keep_over(orders: &mut Vec<Live>, time: u64, found: Option<Live>) -> Result<(
 // Those of the orders at these places that are over at a time.
 fn over_at<B: Book>(
     alloc: Global,
-    tokens: &Tokens,
-    book: &B,
+    state: &State<B>,
     time: u64,
     places: &[u64],
 ) -> Result<Vec<Live>, NoMemory>
-    requires { AreKeyed tokens.now.tokens tokens.now.keys (B.orders book.now) }
     ensures { IfOk result (λ orders. orders.items ≡ filter (λ l. is_over time l.order.life)
-        (orders_at tokens.now.tokens places.now (B.orders book.now))) }
+        (orders_at state.now.market.tokens places.now state.now.orders)) }
 {
     let mut orders = Vec::new(alloc);
     for place in places {
-        keep_over(&mut orders, time, order_at(book, tokens, *place))?;
+        keep_over(&mut orders, time, order_at(state, *place))?;
     }
     Ok(orders)
 }
@@ -88,19 +84,17 @@ fn over_at<B: Book>(
 /// cannot grow.
 pub fn orders_over<B: Book>(
     alloc: Global,
+    state: &State<B>,
     ends: &Ends,
-    tokens: &Tokens,
-    book: &B,
     time: u64,
 ) -> Result<Vec<Live>, NoMemory>
-    requires keyed { AreKeyed tokens.now.tokens tokens.now.keys (B.orders book.now) }
-    requires entered { AreEntered ends.now tokens.now.tokens (lives (B.orders book.now)) }
+    requires { AreEntered ends.now state.now.market.tokens state.now.market.live }
     ensures due { IfOk result (λ orders. orders.items
-        ≡ filter (λ l. is_over time l.order.life) (B.orders book.now)) }
-    ensures differ { OnOk result (KeysDiffer (B.orders book.now)) }
+        ≡ filter (λ l. is_over time l.order.life) state.now.orders) }
+    ensures differ { OnOk result (KeysDiffer state.now.orders) }
 {
     // What the book says of its keys it says with an answer.
-    let _ = book.get(Key(0));
+    let _ = state.book.get(Key(0));
     let places = ends.places_until(alloc, time)?;
-    over_at(alloc, tokens, book, time, &places)
+    over_at(alloc, state, time, &places)
 }

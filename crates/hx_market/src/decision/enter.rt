@@ -1,5 +1,5 @@
-//! Which effect an Enter has.
-ghost use Rattle.std.specs.Prelude.{◌≡◌, ◌<◌, List, None, IsSome, false};
+//! To decide: which effect an Enter has. It is rejected or accepted, or its token is used already.
+ghost use Rattle.std.specs.Prelude.{◌≡◌, ◌<◌, ℕ, List, None, IsSome, false};
 ghost use Rattle.hx_units.specs.Limits.{day};
 ghost use Rattle.hx_members.specs.Setups.{member_of, locate_of};
 ghost use Rattle.hx_members.specs.Chains.{Used, Chain, is_used};
@@ -7,9 +7,12 @@ ghost use Rattle.hx_rules.specs.Enter.{entered_by, enter, rejection, resolved_fi
 ghost use Rattle.hx_levels.specs.declared.order.Live.{Live as LiveOrder};
 ghost use Rattle.hx_rules.specs.Markets.{Market};
 ghost use Rattle.hx_market.specs.Effects.{outcome_of, IsEffect, IsAcceptedEnter, IsOf, SuitsTokens, IsAbout};
+ghost use Rattle.hx_market.specs.Prepared.{SuitsMarket};
 
 use crate::effect::{AcceptedEnter, Effect, RejectedEnter};
-use hx_members::{Setup, Tokens};
+use crate::state::State;
+use hx_levels::Book;
+use hx_members::Setup;
 use hx_ouch::Enter;
 use hx_rules::{rejection, side_of};
 use hx_units::{Firm, MemberNo, Price};
@@ -92,13 +95,11 @@ fn unused_enter_effect(
     *effect = Effect::Accept(accepted_enter(setup, hours, halted, locate, member, time, enter));
 }
 
-/// What an Enter does, at so many hours codes past, and with these stocks halted.
+/// What an Enter does.
 #[inline(always)]
-pub fn enter_effect(
+pub fn enter_effect<B: Book>(
     setup: &Setup,
-    hours: u8,
-    halted: &[bool],
-    tokens: &Tokens,
+    state: &State<B>,
     member: MemberNo,
     time: u64,
     message: Enter,
@@ -106,16 +107,15 @@ pub fn enter_effect(
 )
     requires member { IsSome (member_of setup.now member) }
     requires time { time < day }
-    ensures does { (m : Market) → m.tokens ≡ tokens.now.tokens → m.hours ≡ hours
-        → m.halted ≡ halted.now → enter setup.now m member time message ≡ outcome_of m effect.new }
-    ensures is_effect { IsEffect setup.now effect.new }
-    ensures sender { IsOf member effect.new }
-    ensures suits { SuitsTokens tokens.now.tokens tokens.now.chains effect.new }
-    ensures about { (orders : List LiveOrder) → IsAbout orders effect.new }
+    ensures does { (counts : List ℕ)
+        → enter setup.now (record state.now.market { recorded = counts }) member time message
+        ≡ outcome_of (record state.now.market { recorded = counts }) effect.new }
+    ensures fit { SuitsMarket setup.now state.now member effect.new }
 {
-    if tokens.state(member, &message.token).is_some() {
+    if state.tokens.state(member, &message.token).is_some() {
         *effect = Effect::Nothing;
         return;
     }
-    unused_enter_effect(setup, hours, halted, member, time, message, effect);
+    let halted = state.trading.halted();
+    unused_enter_effect(setup, state.hours, halted, member, time, message, effect);
 }

@@ -1,28 +1,25 @@
-//! Orders that end, and what is told of them.
+//! To decide: which effect a tick has. Orders end, and what is told of them is written down; an hours code uses the
+//! same.
 ghost use Rattle.std.specs.Prelude.{◌≡◌, ℕ, List, ◌+◌, ◌<◌, ◌≤◌, ◌^◌, ◌++◌, ◌∷◌, [], IfOk, OnOk, map, not, true};
 ghost use Rattle.std.specs.List.{AllByRecursion, filter};
 ghost use Rattle.hx_units.specs.Limits.{day};
 ghost use Rattle.hx_rules.specs.Letters.{timeout};
 ghost use Rattle.hx_itch.specs.Message.{feed_time};
 ghost use Rattle.hx_levels.specs.Book.{lives, KeysDiffer};
-ghost use Rattle.hx_members.specs.Chains.{Used, Chain};
-ghost use Rattle.hx_members.specs.Tokens.{TokenList};
 ghost use Rattle.hx_members.specs.Setups.{Setup as SetupOf};
-ghost use Rattle.hx_refs.specs.Numbers.{Numbers};
 ghost use Rattle.hx_rules.specs.Removal.{deleted, canceled};
 ghost use Rattle.hx_rules.specs.Hours.{tick, all_deleted, end_orders};
-ghost use Rattle.hx_market.specs.Effects.{IsEffect, IsOf, SuitsTokens, IsAbout, is_due, outcome_of};
-ghost use Rattle.hx_day.specs.Day.{TradingState};
-ghost use Rattle.hx_market.specs.OrderKeys.{AreKeyed};
+ghost use Rattle.hx_market.specs.Effects.{is_due, outcome_of};
 ghost use Rattle.hx_market.specs.Expiries.{AreEntered};
-ghost use Rattle.hx_market.specs.MarketModel.{market_of};
+ghost use Rattle.hx_market.specs.Prepared.{SuitsMarket};
 
 use crate::decision::ending::orders_over;
 use crate::effect::{Due, Effect, Expiry};
 use crate::messages::{delete, tell_canceled};
+use crate::state::State;
 use hx_day::Ends;
 use hx_levels::{Book, Live, Order};
-use hx_members::Tokens;
+use hx_members::Setup;
 use hx_rules::Output;
 use hx_units::NoMemory;
 use std::alloc::Global;
@@ -57,7 +54,8 @@ fn tell_ended(out: &mut Output, time: u64, orders: &[Live]) -> Result<(), NoMemo
 
 /// The due orders end, behind what is told first; so many hours codes are past then. `NoMemory` where what they tell
 /// finds no room.
-pub fn end_orders(
+pub fn end_orders<B: Book>(
+    state: &State<B>,
     orders: Vec<Live>,
     due: Due,
     time: u64,
@@ -66,18 +64,18 @@ pub fn end_orders(
 ) -> Result<Effect, NoMemory>
     requires time { time < day }
     requires times { AllByRecursion (λ f. feed_time f < 2 ^ 48) first.feed.items }
-    ensures does { IfOk result (λ a. (all : List Live) (t : TokenList) (n : Numbers) (before : ℕ)
-        (counts : List ℕ) (r : TradingState)
-        → orders.items ≡ filter (λ l. is_due due time l.order) all
-        → end_orders (λ x. is_due due time x) time (market_of all t n hours counts r)
+    requires due { orders.items ≡ filter (λ l. is_due due time l.order) state.now.orders }
+    requires differ { KeysDiffer state.now.orders }
+    ensures does { IfOk result (λ a. (counts : List ℕ)
+        → end_orders (λ x. is_due due time x) time
+        (record state.now.market { hours = hours; recorded = counts })
         (record { feed = first.feed.items; replies = first.replies.items })
-        ≡ outcome_of (market_of all t n before counts r) a) }
-    ensures is_effect { IfOk result (λ a. (setup : SetupOf) → IsEffect setup a) }
-    ensures sender { IfOk result (λ a. (i : ℕ) → IsOf i a) }
-    ensures suits { IfOk result (λ a. (ts : List Used) (cs : List Chain) → SuitsTokens ts cs a) }
-    ensures about { IfOk result (λ a. (all : List Live) → KeysDiffer all
-        → orders.items ≡ filter (λ l. is_due due time l.order) all → IsAbout all a) }
+        ≡ outcome_of (record state.now.market { recorded = counts }) a) }
+    ensures fit { IfOk result (λ a. (setup : SetupOf) (member : ℕ)
+        → SuitsMarket setup state.now member a) }
 {
+    // Read for the contract alone: the market's live orders are those of the book.
+    let _ = &state.book;
     let mut told = first;
     tell_ended(&mut told, time, &orders)?;
     Ok(Effect::End(Expiry {
@@ -89,35 +87,30 @@ pub fn end_orders(
     }))
 }
 
-/// What a tick does, at so many hours codes past, in the place of the effect before. `NoMemory` where the orders that
-/// end, and what they tell, find no room.
+/// What a tick does, in the place of the effect before. `NoMemory` where the orders that end, and what they tell, find
+/// no room.
 #[inline(never)]
 pub fn tick_effect<B: Book>(
     alloc: Global,
-    hours: u8,
+    setup: &Setup,
+    state: &State<B>,
     ends: &Ends,
-    tokens: &Tokens,
-    book: &B,
     time: u64,
     effect: &mut Effect,
 ) -> Result<(), NoMemory>
     requires time { time < day }
-    requires keyed { AreKeyed tokens.now.tokens tokens.now.keys (B.orders book.now) }
-    requires entered { AreEntered ends.now tokens.now.tokens (lives (B.orders book.now)) }
-    ensures does { OnOk result ((t : TokenList) (n : Numbers) (counts : List ℕ)
-        (r : TradingState) → tick (market_of (B.orders book.now) t n hours counts r) time
-        ≡ outcome_of (market_of (B.orders book.now) t n hours counts r) effect.new) }
-    ensures is_effect { OnOk result ((setup : SetupOf) → IsEffect setup effect.new) }
-    ensures sender { OnOk result ((i : ℕ) → IsOf i effect.new) }
-    ensures suits { OnOk result ((ts : List Used) (cs : List Chain)
-        → SuitsTokens ts cs effect.new) }
-    ensures about { OnOk result (IsAbout (B.orders book.now) effect.new) }
+    requires entered { AreEntered ends.now state.now.market.tokens state.now.market.live }
+    ensures does { OnOk result ((counts : List ℕ)
+        → tick (record state.now.market { recorded = counts }) time
+        ≡ outcome_of (record state.now.market { recorded = counts }) effect.new) }
+    ensures fit { OnOk result ((member : ℕ) → SuitsMarket setup.now state.now member effect.new) }
 {
-    let orders = orders_over(alloc, ends, tokens, book, time)?;
+    let _ = setup;
+    let orders = orders_over(alloc, state, ends, time)?;
     let first = Output {
         feed: Vec::new(alloc),
         replies: Vec::new(alloc),
     };
-    *effect = end_orders(orders, Due::Over, time, hours, first)?;
+    *effect = end_orders(state, orders, Due::Over, time, state.hours, first)?;
     Ok(())
 }

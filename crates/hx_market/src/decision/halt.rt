@@ -1,11 +1,11 @@
-//! Which effect a halt has (ITCH 5.0, Stock Trading Action Message).
-ghost use Rattle.std.specs.Prelude.{◌≡◌, ◌<◌, ℕ, List};
+//! To decide: which effect a halt has (ITCH 5.0, Stock Trading Action Message).
+ghost use Rattle.std.specs.Prelude.{◌≡◌, ◌<◌, ℕ};
 ghost use Rattle.hx_units.specs.Limits.{day};
-ghost use Rattle.hx_levels.specs.declared.order.Live.{Live as LiveOrder};
-ghost use Rattle.hx_members.specs.Chains.{Used, Chain};
 ghost use Rattle.hx_rules.specs.Markets.{Market};
 ghost use Rattle.hx_rules.specs.Halts.{halt, is_trading_state};
-ghost use Rattle.hx_market.specs.Effects.{outcome_of, IsEffect, IsOf, SuitsTokens, IsAbout};
+ghost use Rattle.hx_market.specs.Effects.{outcome_of};
+ghost use Rattle.hx_market.specs.MarketModel.{MarketState};
+ghost use Rattle.hx_market.specs.Prepared.{SuitsMarket};
 
 use crate::effect::{Effect, StateChange};
 use hx_members::Setup;
@@ -32,10 +32,7 @@ pub fn halt_effect(
     requires { time < day }
     ensures does { (m : Market)
         → halt setup.now m time stock state reason ≡ outcome_of m effect.new }
-    ensures is_effect { IsEffect setup.now effect.new }
-    ensures sender { (i : ℕ) → IsOf i effect.new }
-    ensures suits { (ts : List Used) (cs : List Chain) → SuitsTokens ts cs effect.new }
-    ensures about { (orders : List LiveOrder) → IsAbout orders effect.new }
+    ensures fit { (s : MarketState) (member : ℕ) → SuitsMarket setup.now s member effect.new }
 {
     *effect = Effect::Nothing;
     let Some(locate) = setup.locate(stock) else {

@@ -1,18 +1,14 @@
-//! Which effect an hours code has (ITCH 5.0, System Event Message).
+//! To decide: which effect an hours code has (ITCH 5.0, System Event Message), and what the code itself tells.
 ghost use Rattle.std.specs.Prelude.{◌≡◌, ℕ, List, ◌+◌, ◌<◌, ◌≤◌, ◌++◌, IfOk, OnOk, length};
 ghost use Rattle.hx_units.specs.Limits.{day};
-ghost use Rattle.hx_members.specs.Chains.{Used, Chain};
-ghost use Rattle.hx_members.specs.Tokens.{TokenList};
-ghost use Rattle.hx_refs.specs.Numbers.{Numbers};
 ghost use Rattle.hx_rules.specs.Hours.{next_hours, is_next, directory, to_all, told_by_code};
-ghost use Rattle.hx_market.specs.Effects.{IsEffect, IsOf, SuitsTokens, IsAbout, outcome_of};
-ghost use Rattle.hx_day.specs.Day.{TradingState};
-ghost use Rattle.hx_market.specs.MarketModel.{market_of};
-ghost use Rattle.hx_levels.specs.Book.{lives};
+ghost use Rattle.hx_market.specs.Effects.{outcome_of};
+ghost use Rattle.hx_market.specs.Prepared.{SuitsMarket};
 
 use crate::decision::ending::orders_by_code;
 use crate::decision::expiry::end_orders;
 use crate::effect::{Due, Effect};
+use crate::state::State;
 use hx_itch::{Feed, StockDirectory, SystemEvent};
 use hx_levels::Book;
 use hx_members::{Member, Setup, Stock};
@@ -89,34 +85,35 @@ fn is_next(hours: u8, code: u8) -> bool
     hours < 6 && CODES[hours as usize] == code
 }
 
-/// What an hours code does, at so many past, in the place of the effect before. `NoMemory` as for a tick.
+/// What an hours code does, in the place of the effect before. `NoMemory` as for a tick.
 #[inline(never)]
 pub fn hours_effect<B: Book>(
     alloc: Global,
     setup: &Setup,
-    hours: u8,
-    book: &B,
+    state: &State<B>,
     time: u64,
     code: u8,
     effect: &mut Effect,
 ) -> Result<(), NoMemory>
     requires time { time < day }
-    ensures does { OnOk result ((t : TokenList) (n : Numbers) (counts : List ℕ)
-        (r : TradingState)
-        → next_hours setup.now (market_of (B.orders book.now) t n hours counts r) time code
-        ≡ outcome_of (market_of (B.orders book.now) t n hours counts r) effect.new) }
-    ensures is_effect { OnOk result (IsEffect setup.now effect.new) }
-    ensures sender { OnOk result ((i : ℕ) → IsOf i effect.new) }
-    ensures suits { OnOk result ((ts : List Used) (cs : List Chain)
-        → SuitsTokens ts cs effect.new) }
-    ensures about { OnOk result (IsAbout (B.orders book.now) effect.new) }
+    ensures does { OnOk result ((counts : List ℕ)
+        → next_hours setup.now (record state.now.market { recorded = counts }) time code
+        ≡ outcome_of (record state.now.market { recorded = counts }) effect.new) }
+    ensures fit { OnOk result ((member : ℕ) → SuitsMarket setup.now state.now member effect.new) }
 {
-    if !is_next(hours, code) {
+    if !is_next(state.hours, code) {
         *effect = Effect::Nothing;
         return Ok(());
     }
     let first = told_by_code(alloc, setup, time, code)?;
-    let orders = orders_by_code(alloc, book, code)?;
-    *effect = end_orders(orders, Due::ByCode(code), time, hours + 1, first)?;
+    let orders = orders_by_code(alloc, &state.book, code)?;
+    *effect = end_orders(
+        state,
+        orders,
+        Due::ByCode(code),
+        time,
+        state.hours + 1,
+        first,
+    )?;
     Ok(())
 }

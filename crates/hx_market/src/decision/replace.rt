@@ -1,21 +1,19 @@
-//! Which effect a Replace has.
+//! To decide: which effect a Replace has. It replaces the live order, fails and cancels it, or does nothing.
 ghost use Rattle.std.specs.Prelude.{◌≡◌, ◌<◌, ℕ, List, Some, false};
 ghost use Rattle.hx_units.specs.Limits.{day};
 ghost use Rattle.hx_members.specs.Setups.{symbol_of};
 ghost use Rattle.hx_members.specs.Chains.{Used, Chain, is_used, entered_of, executed_by};
 ghost use Rattle.hx_levels.specs.declared.order.Live.{Live as LiveOrder};
 ghost use Rattle.hx_rules.specs.Markets.{Market};
-ghost use Rattle.hx_refs.specs.Numbers.{Numbers};
 ghost use Rattle.hx_rules.specs.Replace.{replace, replace_fails, replaced_by, executed_of};
-ghost use Rattle.hx_market.specs.OrderKeys.{AreKeyed};
 ghost use Rattle.hx_market.specs.Effects.{IsEffect, IsOf, SuitsTokens, IsAbout, IsOnly, outcome_of};
-ghost use Rattle.hx_market.specs.MarketModel.{market_of};
+ghost use Rattle.hx_market.specs.Prepared.{SuitsMarket};
 
 use crate::effect::{Effect, FailedReplace, Replacement};
 use crate::order_by_token::{Found, find_order};
-use hx_day::Trading;
+use crate::state::State;
 use hx_levels::Book;
-use hx_members::{Setup, Tokens};
+use hx_members::Setup;
 use hx_ouch::Replace;
 use hx_rules::{is_halted, replace_fails};
 use hx_units::{MemberNo, Price, Symbol};
@@ -77,39 +75,35 @@ fn replace_or_fail(
     });
 }
 
-/// What a Replace does, at so many hours codes past, and with these stocks halted.
+/// What a Replace does.
 #[inline(always)]
 pub fn replace_effect<B: Book>(
     setup: &Setup,
-    hours: u8,
-    trading: &Trading,
-    tokens: &Tokens,
-    book: &B,
+    state: &State<B>,
     member: MemberNo,
     time: u64,
     message: Replace,
     effect: &mut Effect,
 )
-    requires keyed { AreKeyed tokens.now.tokens tokens.now.keys (B.orders book.now) }
     requires time { time < day }
-    ensures does { (n : Numbers) (counts : List ℕ)
-        → replace setup.now
-        (market_of (B.orders book.now) tokens.now n hours counts trading.now) member time message
-        ≡ outcome_of (market_of (B.orders book.now) tokens.now n hours counts trading.now) effect.new }
-    ensures is_effect { IsEffect setup.now effect.new }
-    ensures sender { IsOf member effect.new }
-    ensures suits { SuitsTokens tokens.now.tokens tokens.now.chains effect.new }
-    ensures about { IsAbout (B.orders book.now) effect.new }
+    ensures does { (counts : List ℕ)
+        → replace setup.now (record state.now.market { recorded = counts }) member time message
+        ≡ outcome_of (record state.now.market { recorded = counts }) effect.new }
+    ensures fit { SuitsMarket setup.now state.now member effect.new }
 {
     *effect = Effect::Nothing;
-    let Some(found) = find_order(book, tokens, member, &message.existing_token) else {
+    let Some(found) = find_order(state, member, &message.existing_token) else {
         return;
     };
-    if tokens.state(member, &message.replacement_token).is_some() {
+    if state
+        .tokens
+        .state(member, &message.replacement_token)
+        .is_some()
+    {
         return;
     }
-    if is_halted(trading.halted(), found.live.order.locate) {
+    if is_halted(state.trading.halted(), found.live.order.locate) {
         return;
     }
-    replace_or_fail(setup, hours, member, time, message, found, effect);
+    replace_or_fail(setup, state.hours, member, time, message, found, effect);
 }

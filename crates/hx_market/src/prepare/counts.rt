@@ -1,4 +1,5 @@
-//! What an effect tells, counted before it is told: how many messages of the feed, and the members of its replies.
+//! To prepare: what an effect tells, counted before it is told. How many messages of the feed, and the members of its
+//! replies.
 ghost use Rattle.std.specs.Prelude.{◌≡◌, ◌<◌, ◌^◌, [], ◌∷◌, IfOk, length, map};
 ghost use Rattle.hx_market.specs.Prepared.{effect_feed_count, effect_members, arrival_members, arrival_count, one_if, replaced_count};
 

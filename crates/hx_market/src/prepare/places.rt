@@ -1,4 +1,4 @@
-//! The plan of an effect: its executions, and a place for what it adds.
+//! To prepare: the plan of an effect, its executions and a place for what it adds to the book and to the used tokens.
 ghost use Rattle.std.specs.Prelude.{◌≡◌, [], Some, IfOk, OnOk, false};
 ghost use Rattle.hx_levels.specs.Book.{order_of, without, KeysDiffer};
 ghost use Rattle.hx_match.specs.Matching.{terms, matched_live};

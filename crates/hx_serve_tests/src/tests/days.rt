@@ -109,6 +109,34 @@ fn one_session(rt: HostRuntime) -> Result<(), Fail> {
     played?;
     assert!(rt; served == Ok(()));
     assert!(rt; output.as_slice() == b"events 1 feed 1\n".as_slice());
+    // The end of the feed is told once.
+    assert!(rt; vendor.hears_no_more()?);
+    Ok(())
+}
+
+// A connection that never logs in keeps no day of which code `C` is past: it is closed, and the day ends.
+#[test]
+fn a_silent_connection_keeps_no_day(rt: HostRuntime) -> Result<(), Fail> {
+    let alloc = rt.alloc();
+    let vendor = Vendor::listen(&rt)?;
+    let ports = free_ports(&rt)?;
+    let args = args_of(ports, vendor.port()?, 1, 100)?;
+    let setup = Setup::standard(alloc)?;
+    let mut output = Vec::new(alloc);
+    let lines = &b"1 0 51\n2 0 4d\n3 0 45\n4 0 43\n"[..];
+    let (served, played) = join(
+        &rt,
+        || serve(&rt, alloc, &setup, &args, Seed::Fixed, lines, &mut output),
+        || {
+            let mut client = Client::connect(&rt, ports.0)?;
+            assert!(rt; client.receive(alloc)?.is_none());
+            Ok::<(), Fail>(())
+        },
+    );
+    played?;
+    assert!(rt; served == Ok(()));
+    assert!(rt; output.as_slice() == b"events 4 feed 4\n".as_slice());
+    assert_eq!(rt; vendor.hear_all(alloc)?, 4);
     Ok(())
 }
 

@@ -1,21 +1,24 @@
 //! A submit that is held holds nobody else: meanwhile the feed goes out and requests are answered. The history is a
 //! tape, whose replay gives the feed and the replies.
 
+use super::boards::Counting;
 use super::client::{ALPHA, BOUGHT, BRAVO, BUY, Client, HIDDEN, free_ports};
 use super::days::{args_of, expect_added, expect_end, send_order};
 use super::vendor::Vendor;
 use hx_members::{Seed, Setup};
 use hx_replay::replay;
-use hx_serve::{serve_day, write_history};
+use hx_serve::{Day, Doors, Hosting, ServeArgs, ServeError, serve_day, write_history};
 use hx_sessions::Gate;
 use hx_units::MemberNo;
+use log::Log;
 use std::alloc::Global;
 use std::net::{Net, TcpListener, TcpStream};
 use std::process::Abort;
+use std::sync::Wait;
 use std::sync::atomic::{AtomicBool, Ordering};
 use std::test::*;
 use std::thread;
-use std::thread::join;
+use std::thread::{Threads, join};
 use std::time::{Clock, Duration};
 
 // Holds the second submit of the first member until it is told to let it go.
@@ -86,6 +89,30 @@ fn while_held<R: Net<Listener = TcpListener, Stream = TcpStream> + Clock + Abort
     expect_end(rt, alloc, vendor, 3)
 }
 
+// A day whose submits go through the gate.
+fn serve_held<
+    R: Net<Listener = TcpListener, Stream = TcpStream> + Threads + Wait + Clock + Log + Sync,
+>(
+    rt: &R,
+    alloc: Global,
+    args: &ServeArgs,
+    gate: &Holding,
+    output: &mut Vec<u8>,
+) -> Result<Day, ServeError> {
+    let setup = Setup::standard(alloc)?;
+    let board = Counting::new();
+    let hosting = Hosting {
+        setup: &setup,
+        is_standard: false,
+        args,
+        gate,
+        board: &board,
+        open: None,
+    };
+    let doors = Doors::open(rt, args)?;
+    serve_day(rt, alloc, &hosting, doors, Seed::Fixed, &b""[..], output)
+}
+
 #[test]
 fn a_held_submit_holds_nobody_else(rt: HostRuntime) -> Result<(), Fail> {
     let alloc = rt.alloc();
@@ -100,16 +127,7 @@ fn a_held_submit_holds_nobody_else(rt: HostRuntime) -> Result<(), Fail> {
     let mut output = Vec::new(alloc);
     let (served, played) = join(
         &rt,
-        || serve_day(
-            &rt,
-            alloc,
-            &setup,
-            &args,
-            Seed::Fixed,
-            &gate,
-            &b""[..],
-            &mut output,
-        ),
+        || serve_held(&rt, alloc, &args, &gate, &mut output),
         || while_held(&rt, alloc, ports, &vendor, &gate),
     );
     played?;

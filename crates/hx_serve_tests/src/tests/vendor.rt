@@ -72,6 +72,30 @@ impl Vendor {
         Err(Fail::from("only heartbeats"))
     }
 
+    /// Listens to the end of the session, and answers how many messages came before it.
+    pub fn hear_all(&self, alloc: Global) -> Result<u64, Fail> {
+        let mut next = 1;
+        for _ in 0..1000 {
+            let packet = self.receive_other(alloc)?;
+            if packet.sequence != next {
+                return Err(Fail::from("a packet is missing"));
+            }
+            if packet.count == END {
+                return Ok(next.saturating_sub(1));
+            }
+            next = next.saturating_add(packet.count);
+        }
+        Err(Fail::from("no end"))
+    }
+
+    /// Whether nothing more comes for a while.
+    pub fn hears_no_more(&self) -> Result<bool, Fail> {
+        let mut buffer = [0; 1500];
+        self.socket
+            .set_read_timeout(Some(Duration::from_millis(200)))?;
+        Ok(self.socket.recv_from(&mut buffer).is_err())
+    }
+
     /// Asks for the message of this number, at most 255.
     pub fn ask(&self, requests: u16, message: u8) -> Result<(), Fail> {
         let mut request = *b"HX00000001\0\0\0\0\0\0\0\0\0\x01";

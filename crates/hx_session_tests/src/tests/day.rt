@@ -1,12 +1,16 @@
-//! The end of the day ends a session, once all replies have gone out.
+//! The end of the day ends a session, once all replies have gone out; and who has not logged in then is sent away.
 
 use super::client::{Client, End, Want};
 use super::packets::{ALPHA, END_OF_SESSION, SHOWN, one_reply, put_end_of_hours, put_timed_out};
 use super::stage::{Day, play};
 use hx_testing::memory::{Behind, Input, Output};
 use std::io::ErrorKind;
+use std::process::Abort;
+use std::sync::Wait;
 use std::sync::atomic::AtomicU64;
 use std::test::Fail;
+use std::thread::Threads;
+use std::time::Clock;
 
 // The day ends behind an order that lives until then; the client says nothing behind his login.
 #[test]
@@ -32,4 +36,45 @@ fn the_day_ends_behind_the_last_reply(rt: HostRuntime) -> Result<(), Fail> {
         ..Day::of(alloc, vec![in alloc; client]?)
     };
     play(&rt, alloc, day)
+}
+
+// The beginning of a login.
+const HALF: &[u8] = b"\0\x2fLalpha pwalpha    ";
+
+// A client who sends this, and nothing more: how his session ends behind these hours codes.
+fn expect_silent<R: AllocGlobal + Threads + Wait + Clock + Abort + Sync>(
+    rt: &R,
+    codes: &'static [u8],
+    end: End,
+    bytes: &[u8],
+    kind: ErrorKind,
+) -> Result<(), Fail> {
+    let alloc = rt.alloc();
+    let count = AtomicU64::new(0);
+    let client = Client {
+        input: Input {
+            behind: Behind::Fails(kind),
+            ..Input::new(bytes)
+        },
+        output: Output::new(alloc, &count),
+        want: Want::new(end, 0, b""),
+    };
+    let day = Day {
+        codes,
+        turns: 1000,
+        ..Day::of(alloc, vec![in alloc; client]?)
+    };
+    play(rt, alloc, day)
+}
+
+#[test]
+fn who_has_not_logged_in_keeps_no_day(rt: HostRuntime) -> Result<(), Fail> {
+    expect_silent(&rt, b"QMEC", End::DayEnd, b"", ErrorKind::WouldBlock)?;
+    expect_silent(&rt, b"QMEC", End::DayEnd, HALF, ErrorKind::TimedOut)
+}
+
+#[test]
+fn he_may_still_log_in_before_its_end(rt: HostRuntime) -> Result<(), Fail> {
+    expect_silent(&rt, b"QME", End::Turns, b"", ErrorKind::TimedOut)?;
+    expect_silent(&rt, b"QME", End::Turns, HALF, ErrorKind::WouldBlock)
 }

@@ -42,6 +42,7 @@ fn expect<R: AllocGlobal + Threads + Wait + Clock + Abort + Sync>(
             sent,
             least: replies.get(..least).ok_or("a front")?,
             whole: replies.get(..most).ok_or("a front")?,
+            may_lack: false,
         },
     };
     play(rt, alloc, Day::of(alloc, vec![in alloc; client]?))

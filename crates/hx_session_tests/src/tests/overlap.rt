@@ -9,30 +9,40 @@ use hx_units::MemberNo;
 use std::sync::atomic::{AtomicU64, Ordering};
 use std::test::Fail;
 
-/// Holds the first submit of each of two members until the other's is there.
+/// Holds the first submit of each of two members until the other's is there, and looks whether behind each submit it is
+/// called once, with the number of the call before it.
 #[derive(Drop)]
 pub struct Meeting {
     first: AtomicU64,
     second: AtomicU64,
     in_vain: AtomicU64,
+    // The number of the submit that the first member, and any other, is in; 0 where he is in none.
+    within: [AtomicU64; 2],
+    // How often it was called out of this order.
+    astray: AtomicU64,
+    submits: AtomicU64,
 }
 
 impl Meeting {
     /// Two members are expected.
     pub fn of_two() -> Self {
-        Meeting {
-            first: AtomicU64::new(0),
-            second: AtomicU64::new(0),
-            in_vain: AtomicU64::new(0),
-        }
+        Meeting::with(0)
     }
 
     /// Nobody waits.
     pub fn of_nobody() -> Self {
+        Meeting::with(1)
+    }
+
+    // So much is told of each of both from the first on.
+    fn with(told: u64) -> Self {
         Meeting {
-            first: AtomicU64::new(1),
-            second: AtomicU64::new(1),
+            first: AtomicU64::new(told),
+            second: AtomicU64::new(told),
             in_vain: AtomicU64::new(0),
+            within: [AtomicU64::new(0), AtomicU64::new(0)],
+            astray: AtomicU64::new(0),
+            submits: AtomicU64::new(0),
         }
     }
 
@@ -40,10 +50,30 @@ impl Meeting {
     pub fn was_in_time(&self) -> bool {
         self.in_vain.load(Ordering::SeqCst) == 0
     }
+
+    /// How many submits there were, where it was called once before and once behind each of them, with its number.
+    pub fn submits(&self) -> Option<u64> {
+        let [first, second] = &self.within;
+        for number in [first, second, &self.astray] {
+            if number.load(Ordering::SeqCst) != 0 {
+                return None;
+            }
+        }
+        Some(self.submits.load(Ordering::SeqCst))
+    }
+
+    // The submit that the member is in.
+    fn within(&self, member: MemberNo) -> &AtomicU64 {
+        let [first, second] = &self.within;
+        if member.get() == 1 { first } else { second }
+    }
 }
 
 impl Gate for Meeting {
     fn before(&self, member: MemberNo, number: u64) {
+        if self.within(member).swap(number, Ordering::SeqCst) != 0 {
+            self.astray.store(1, Ordering::SeqCst);
+        }
         if number != 1 {
             return;
         }
@@ -58,7 +88,12 @@ impl Gate for Meeting {
         }
     }
 
-    fn after(&self, _member: MemberNo, _number: u64) {}
+    fn after(&self, member: MemberNo, number: u64) {
+        if self.within(member).swap(0, Ordering::SeqCst) != number {
+            self.astray.store(1, Ordering::SeqCst);
+        }
+        self.submits.fetch_add(1, Ordering::SeqCst);
+    }
 }
 
 #[test]
@@ -85,6 +120,7 @@ fn sessions_overlap(rt: HostRuntime) -> Result<(), Fail> {
     ]?;
     let day = Day {
         gate: Meeting::of_two(),
+        submits: Some(2),
         left: Some((2, 1)),
         ..Day::of(alloc, clients)
     };

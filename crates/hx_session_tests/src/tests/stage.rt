@@ -43,6 +43,8 @@ pub struct Day<'a> {
     pub later: Vec<Client<'a>>,
     /// What is called round each submit.
     pub gate: Meeting,
+    /// How many submits the sessions make, where the test says so.
+    pub submits: Option<u64>,
     /// The turns that each session has.
     pub turns: u64,
     /// How many events and how many messages of the feed there are at the end, where the test says so.
@@ -58,6 +60,7 @@ impl<'a> Day<'a> {
             clients,
             later: Vec::new(alloc),
             gate: Meeting::of_nobody(),
+            submits: None,
             turns: 1_000_000,
             left: None,
         }
@@ -199,22 +202,34 @@ fn serve<V: Venue + Send + Sync, R: Threads + Wait + Timer + Abort + Sync>(
     Ok(())
 }
 
+// The ends of a new exchange's log, and its ledger.
+#[derive(Drop)]
+struct Ends {
+    log: Log<Entry>,
+    writer: Writer<Entry>,
+    reader: Reader<Entry>,
+    blank: Blank,
+}
+
 fn play_at<V: Venue + Send + Sync, R: Threads + Wait + Timer + Abort + Sync>(
     rt: &R,
     alloc: Global,
     setup: Setup,
-    log: Log<Entry>,
-    writer: Writer<Entry>,
-    blank: Blank,
-    reader: Reader<Entry>,
+    ends: Ends,
     day: Day,
 ) -> Result<(), Fail>
-    requires log { log ≡ V.log }
+    requires log { ends.log ≡ V.log }
     requires of_setup { setup ≡ V.setup }
-    requires writer { writer ≡ record { log = V.log; published = []; staged = [] } }
-    requires reader { reader.log ≡ V.log }
-    requires blank { (blank.name ≡ V.name) × (blank.parts ≡ V.parts) × (V.parts ≡ 3) }
+    requires writer { ends.writer ≡ record { log = V.log; published = []; staged = [] } }
+    requires reader { ends.reader.log ≡ V.log }
+    requires blank { (ends.blank.name ≡ V.name) × (ends.blank.parts ≡ V.parts) × (V.parts ≡ 3) }
 {
+    let Ends {
+        log,
+        writer,
+        reader,
+        blank,
+    } = ends;
     let own = setup.copy(alloc)?;
     let (exchange, passes) = Exchange::<V>::new(alloc, setup, log, writer, blank, 3)?;
     let mut stage = Stage {
@@ -228,6 +243,9 @@ fn play_at<V: Venue + Send + Sync, R: Threads + Wait + Timer + Abort + Sync>(
     serve(rt, &mut stage, day.clients, &day.gate, day.turns)?;
     serve(rt, &mut stage, day.later, &day.gate, day.turns)?;
     assert!(rt; day.gate.was_in_time());
+    let submits = day.gate.submits();
+    assert!(rt; submits.is_some());
+    assert!(rt; day.submits.is_none() || day.submits == submits);
     match day.left {
         Some((entries, messages)) => stage.finish(rt, entries, messages),
         None => Ok(()),
@@ -242,7 +260,13 @@ pub fn play_by<R: Threads + Wait + Timer + Abort + Sync>(
     day: Day,
 ) -> Result<(), Fail> {
     let (log, writer, reader) = Log::<Entry>::new(alloc, 5000)?;
-    play_at::<Brand, R>(rt, alloc, setup, log, writer, Blank::new(3), reader, day)
+    let ends = Ends {
+        log,
+        writer,
+        reader,
+        blank: Blank::new(3),
+    };
+    play_at::<Brand, R>(rt, alloc, setup, ends, day)
 }
 
 /// Plays a day at a new exchange of the standard setup.

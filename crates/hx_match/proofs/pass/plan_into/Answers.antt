@@ -174,9 +174,19 @@ if_err : {T E : Type 0} (P : Type 0) (r : Result T E) → P → IfErr r (λ _. P
 if_err P (Ok x) h = tt
 if_err P (Err e) h = h
 
--- where the list of fills cannot grow there is a fill
-pub returns-in_err-push-clause-memory : goal.returns-in_err-push-clause-memory
-returns-in_err-push-clause-memory g c =
+-- the execution that found no room
+abbrev unkept : (g : _) (c : goal.After-from_residual g) → Fill
+unkept g c = c.in-Some-execution.fill
+
+-- the executions behind it
+abbrev later : (g : _) (c : goal.After-from_residual g) → List Fill
+later g c =
+    pass c.args.incoming.now.minimum (c.loop-next.left - (unkept g c).shares)
+    (behind_first (is_under c.in-Some.key.0) (ranked (terms c.args.incoming.now) (g.B.Book.orders c.args.book.now)))
+
+-- those in the list, it, and those behind it are all
+all_told : (g : _) (c : goal.After-from_residual g) → c.loop-next.fills.items ++ unkept g c ∷ later g c ≡ fills_of c.args.incoming.now (g.B.Book.orders c.args.book.now)
+all_told g c =
     let orders = g.B.Book.orders c.args.book.now in
     let inc = c.args.incoming.now in
     let line = ranked (terms inc) orders in
@@ -194,6 +204,19 @@ returns-in_err-push-clause-memory g c =
     let now : (c.loop-next.fills.items ++ f ∷ []) ++ pass k (c.loop-next.left - f.shares) rest ≡ all =
     told_taken k c.loop-next.left a.live rest c.loop-next.fills.items all f told q same in
     let fills : all ≡ fills_of inc orders = sym (steps_of-pass inc orders c.get.ensures.keys) ∙ steps_of-fills inc orders c.get.ensures.keys in
-    if_err (0 < length (fills_of inc orders)) c.from_residual.result
-    (some_among c.loop-next.fills.items (pass k (c.loop-next.left - f.shares) rest) (fills_of inc orders) f
-    (sym (append_assoc c.loop-next.fills.items (f ∷ []) (pass k (c.loop-next.left - f.shares) rest)) ∙ now ∙ fills))
+    sym (append_assoc c.loop-next.fills.items (f ∷ []) (pass k (c.loop-next.left - f.shares) rest)) ∙ now ∙ fills
+
+-- where the list of fills cannot grow there is a fill
+pub returns-in_err-push-clause-memory : goal.returns-in_err-push-clause-memory
+returns-in_err-push-clause-memory g c =
+    let all = fills_of c.args.incoming.now (g.B.Book.orders c.args.book.now) in
+    if_err (0 < length all) c.from_residual.result
+    (some_among c.loop-next.fills.items (later g c) all (unkept g c) (all_told g c))
+
+-- and those in the list are the first ones
+pub returns-in_err-push-clause-front : goal.returns-in_err-push-clause-front
+returns-in_err-push-clause-front g c =
+    let all = fills_of c.args.incoming.now (g.B.Book.orders c.args.book.now) in
+    let others = unkept g c ∷ later g c in
+    if_err ((rest : List Fill) × (c.push.new.self.items ++ rest ≡ all)) c.from_residual.result
+    (others, ap (λ (v : List Fill). v ++ others) c.in_err-push.ensures.items ∙ all_told g c)

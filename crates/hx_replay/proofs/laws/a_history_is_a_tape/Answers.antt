@@ -2,7 +2,7 @@ use Rattle.std.proofs.Common.{List, map, refl, sym, subst}
 use Rattle.std.specs.List.{AllByRecursion}
 use Rattle.hx_members.specs.Setups.{Setup}
 use Rattle.hx_audit.specs.Recording.{AreRecorded}
-use Rattle.hx_replay.specs.Text.{Entry}
+use Rattle.hx_tape_lines.specs.Text.{Entry}
 use Rattle.hx_replay.specs.Run.{event_of}
 use Rattle.hx_replay.specs.Struck.{IsKnown}
 use Rattle.hx_replay.specs.Histories.{IsReplayed}

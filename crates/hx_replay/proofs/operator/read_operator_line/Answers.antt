@@ -1,8 +1,8 @@
 use Rattle.std.proofs.Common.{◌≡◌, ◌∙◌, ap, arith}
-use Rattle.hx_replay.specs.Text.{entry_of, IsEntry, line}
-use Rattle.hx_replay.specs.declared.line.Fields.{Fields}
+use Rattle.hx_tape_lines.specs.Text.{entry_of, IsEntry, line}
+use Rattle.hx_tape_lines.specs.declared.line.Fields.{Fields}
 use Rattle.hx_market.specs.OperatorMessages.{operator_event}
-use Rattle.hx_replay.proofs.Lines.{some_of}
+use Rattle.hx_tape_lines.proofs.Lines.{some_of}
 use Rattle.hx_replay.proofs.Operators.{other_member, says_nothing}
 use Rattle.hx_replay.proofs.operator.read_operator_line.Goals as goal
 

@@ -10,7 +10,7 @@ loop-init g c = (((refl, refl, refl, refl), refl), ((refl, refl, refl, refl), re
 
 pub returns-then-is_empty-clause-ok : goal.returns-then-is_empty-clause-ok
 returns-then-is_empty-clause-ok g c =
-    came_last c.args.run.now c.loop.run (received c.loop.coming) (sent c.loop.going) (received c.wait_next.new.coming) (sent c.wait_next.new.going) c.in-Some.turn c.loop.invariant.2 c.in-Some.ensures.some.0 (c.is_empty.ensures.none c.if-is_empty.true) c.wait_next.ensures.going.1
+    came_last c.args.run.now c.loop.run (received c.loop.coming) (sent c.loop.going) (received c.wait_next.new.coming) (sent c.wait_next.new.going) c.in-Some.turn c.loop.invariant.2 c.in-Some.ensures.some.0 (c.is_empty.ensures.0 c.if-is_empty.true) c.wait_next.ensures.going.1
 
 pub play_all-requires-clause-events : goal.play_all-requires-clause-events
 play_all-requires-clause-events g c =

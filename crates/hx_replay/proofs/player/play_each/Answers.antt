@@ -1,6 +1,6 @@
 use Rattle.std.proofs.Common.{◌≡◌, ℕ, List, ◌++◌, take, drop, refl, ap, sym, subst, append_assoc, arith, ◌∙◌, suc, add-one}
 use Rattle.std.proofs.lemmas.Result.{err_from_is_err_and}
-use Rattle.hx_replay.specs.Text.{Entry, line}
+use Rattle.hx_tape_lines.specs.Text.{Entry, line}
 use Rattle.hx_replay.specs.Run.{Progress, Faults}
 use Rattle.hx_replay.specs.Ahead.{PlaysAll}
 use Rattle.hx_replay.proofs.Turning.{entry_at, plays_none, plays_one, fails_without_memory, played_count, plays_few, plays_whole}

@@ -3,8 +3,8 @@ use Rattle.std.proofs.lemmas.Result.{err_from_is_err_and, IfOk-weaker, IfErr-wea
 use Rattle.hx_replay.specs.declared.run.Counts.{Counts}
 use Rattle.hx_replay.specs.Whole.{ReplaysAll, StopsAt}
 use Rattle.hx_replay.proofs.Runs.{replays_counts}
-use Rattle.hx_replay.proofs.PieceByPiece.{so_far_counts, ends_well, ends_in_line, stops_at_start, stops_in_read, stops_after_turns, starts_so}
-use Rattle.hx_replay.proofs.ReadingOn.{plays_on_counts, stops_in_turns, stops_behind_turns, stops_long_behind, so_far_on}
+use Rattle.hx_replay.proofs.PieceByPiece.{so_far_counts, ends_well, ends_in_line, stops_in_text, stops_at_start, stops_in_read, stops_after_turns, starts_so}
+use Rattle.hx_replay.proofs.BehindTurns.{stops_behind_turns, stops_long_behind, so_far_behind}
 use Rattle.hx_replay.proofs.replaying_ahead.replay_ahead.Goals as goal
 
 pub returns-in_err-copy-clause-err : goal.returns-in_err-copy-clause-err
@@ -54,26 +54,26 @@ pub returns-in_err-play_many-clause-err : goal.returns-in_err-play_many-clause-e
 returns-in_err-play_many-clause-err g c =
     let p = err_from_is_err_and c.from_residual-in_err-play_many.result c.from_residual-in_err-play_many.ensures.1 in
     let piece = c.in_ok-read.ensures.piece in
-    rw (p.1, p.2) (stops_in_turns _ _ _ _ _ _ _ _ _ _ _ _ _ c.loop.invariant piece.2 piece.1 c.in_err-play_many.ensures.err)
+    rw (p.1, p.2) (stops_in_text _ _ _ _ _ _ _ _ _ _ _ _ c.loop.invariant piece.2 piece.1 c.in_err-play_many.ensures.err)
 
 pub play_lines-requires-clause-events : goal.play_lines-requires-clause-events
 play_lines-requires-clause-events g c =
-    let counted = plays_on_counts _ _ _ _ _ _ _ _ c.in_ok-play_many.ensures.ok (so_far_counts _ _ _ _ _ _ _ c.loop.invariant) in
+    let counted = replays_counts _ _ _ _ _ _ c.in_ok-play_many.ensures.ok (so_far_counts _ _ _ _ _ _ _ c.loop.invariant) in
     omega (arith, counted.0, ap length c.text-in-loop.ensures, c.in_ok-read.ensures.fits, ap (λ (x : Counts). x.events) c.counts.ensures)
 
 pub play_lines-requires-clause-few : goal.play_lines-requires-clause-few
-play_lines-requires-clause-few g c = (plays_on_counts _ _ _ _ _ _ _ _ c.in_ok-play_many.ensures.ok (so_far_counts _ _ _ _ _ _ _ c.loop.invariant)).1
+play_lines-requires-clause-few g c = (replays_counts _ _ _ _ _ _ c.in_ok-play_many.ensures.ok (so_far_counts _ _ _ _ _ _ _ c.loop.invariant)).1
 
 pub returns-in_err-rest-clause-err : goal.returns-in_err-rest-clause-err
 returns-in_err-rest-clause-err g c =
     let p = err_from_is_err_and c.from_residual-in_err-rest.result c.from_residual-in_err-rest.ensures.1 in
     let piece = c.in_ok-read.ensures.piece in
     let stops = rw c.text-in-loop.ensures at c.in_err-rest.ensures.err in
-    rw (p.1, p.2) (stops_behind_turns _ _ _ _ _ _ _ _ _ _ _ _ _ _ _ _ c.loop.invariant piece.2 piece.1 c.in_ok-play_many.ensures.ok stops)
+    rw (p.1, p.2) (stops_behind_turns _ _ _ _ _ _ _ _ _ _ _ _ _ _ _ c.loop.invariant piece.2 piece.1 c.in_ok-play_many.ensures.ok stops)
 
 pub keep_rest-requires-clause-events : goal.keep_rest-requires-clause-events
 keep_rest-requires-clause-events g c =
-    let turns = plays_on_counts _ _ _ _ _ _ _ _ c.in_ok-play_many.ensures.ok (so_far_counts _ _ _ _ _ _ _ c.loop.invariant) in
+    let turns = replays_counts _ _ _ _ _ _ c.in_ok-play_many.ensures.ok (so_far_counts _ _ _ _ _ _ _ c.loop.invariant) in
     let counted = replays_counts _ _ _ _ _ _ c.in_ok-rest.ensures.ok.0 turns.1 in
     omega (arith, turns.0, counted.0, ap length c.text-in-loop.ensures, c.in_ok-read.ensures.fits, ap (λ (x : Counts). x.events) c.counts-in-loop.ensures, ap (λ (x : Counts). x.events) c.counts.ensures)
 
@@ -83,14 +83,14 @@ returns-in_err-keep_rest-clause-err g c =
     let piece = c.in_ok-read.ensures.piece in
     let long = c.in_err-keep_rest.ensures.err in
     let lines = rw c.text-in-loop.ensures at c.in_ok-rest.ensures.ok in
-    rw (p.1, p.2, long.0, c.counts-in-loop.ensures) (stops_long_behind _ _ _ _ _ _ _ _ _ _ _ _ _ _ _ _ _ c.loop.invariant piece.2 piece.1 c.in_ok-play_many.ensures.ok lines.0 lines.1 long.1)
+    rw (p.1, p.2, long.0, c.counts-in-loop.ensures) (stops_long_behind _ _ _ _ _ _ _ _ _ _ _ _ _ _ _ _ c.loop.invariant piece.2 piece.1 c.in_ok-play_many.ensures.ok lines.0 lines.1 long.1)
 
 pub loop-preserved : goal.loop-preserved
 loop-preserved g c =
     let piece = c.in_ok-read.ensures.piece in
     let kept = c.in_ok-keep_rest.ensures.ok in
     let lines = rw c.text-in-loop.ensures at c.in_ok-rest.ensures.ok in
-    so_far_on _ _ _ _ _ _ _ _ _ _ _ _ _ _ _ _ _ _ c.loop.invariant piece.2 piece.1 c.in_ok-play_many.ensures.ok lines.0 lines.1 kept.0 kept.1
+    so_far_behind _ _ _ _ _ _ _ _ _ _ _ _ _ _ _ _ _ c.loop.invariant piece.2 piece.1 c.in_ok-play_many.ensures.ok lines.0 lines.1 kept.0 kept.1
 
 pub returns-clause-err : goal.returns-clause-err
 returns-clause-err g c = stops_after_turns c.args.setup.now _ _ _ _ c.loop.run c.loop.pending c.loop.invariant

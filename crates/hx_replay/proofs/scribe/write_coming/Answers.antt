@@ -4,7 +4,7 @@ use Rattle.hx_replay.proofs.Sending.{sent_few}
 use Rattle.hx_replay.proofs.scribe.write_coming.Goals as goal
 
 pub send_last-requires : goal.send_last-requires
-send_last-requires g c = sent_few c.write_each-wrote.result _ _ _ _ _ c.requires.fits c.write_each-wrote.ensures.ahead c.write_each-wrote.ensures.read
+send_last-requires g c = sent_few c.write_each-wrote.result _ _ _ c.requires.fits c.write_each-wrote.ensures.ahead c.write_each-wrote.ensures.read
 
 pub returns-in_err-wrote-clause-err : goal.returns-in_err-wrote-clause-err
 returns-in_err-wrote-clause-err g c =

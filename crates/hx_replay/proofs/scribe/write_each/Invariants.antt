@@ -1,6 +1,6 @@
 use Rattle.rtrb.specs.Ring.{received, sent, SameConsumer, SameProducer}
 use Rattle.hx_replay.specs.Run.{Writes}
-use Rattle.hx_replay.specs.Ahead.{ReadsAhead, most_reads}
+use Rattle.hx_replay.specs.Ahead.{IsAhead}
 use Rattle.hx_replay.specs.Turns.{events_of, told_of}
 use Rattle.hx_replay.proofs.scribe.write_each.Given as goal
 
@@ -10,5 +10,5 @@ invariant-loop g l =
       coming : SameConsumer l.fn.coming l.coming;
       going : SameProducer l.fn.going l.going;
       wrote : Writes (g.W.Write.contents l.fn.writer) (g.W.Write.contents l.writer) (told_of (received l.coming)) l.spelled;
-      ahead : ReadsAhead l.fn.pending (events_of (sent l.going)) l.pending (g.R.Read.remaining l.fn.reader) (g.R.Read.remaining l.reader) most_reads l.left;
+      ahead : IsAhead l.fn.pending (events_of (sent l.going)) l.pending;
     }

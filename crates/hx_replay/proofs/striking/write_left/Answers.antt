@@ -4,7 +4,7 @@ use Rattle.std.proofs.KnownBytes.{Appends-trans}
 use Rattle.std.proofs.lemmas.List.{append-nil, length-append, take_all, drop_all}
 use Rattle.std.proofs.lemmas.Result.{err_from_is_err_and}
 use Rattle.hx_audit.specs.Auditing.{choice_of}
-use Rattle.hx_replay.specs.Text.{Entry}
+use Rattle.hx_tape_lines.specs.Text.{Entry}
 use Rattle.hx_replay.specs.Run.{tape}
 use Rattle.hx_replay.specs.Struck.{without_chosen}
 use Rattle.hx_replay.proofs.Leaving.{no_bearing, line_at, cut_off, is_there, as_many, with_feed, stays, goes, wrote_more, front_more}

@@ -3,7 +3,7 @@ use Rattle.hx_audit.specs.declared.bearing.Bearing.{Bearing}
 use Rattle.hx_replay.specs.declared.fault.TapeError.{TapeError}
 use Rattle.hx_replay.specs.Struck.{IsLineOf, IsNoLine}
 use Rattle.hx_replay.specs.Taking.{Takes, IsFaultOf}
-use Rattle.hx_replay.proofs.Lines.{some_of, none_of}
+use Rattle.hx_tape_lines.proofs.Lines.{some_of, none_of}
 use Rattle.hx_replay.proofs.Taken.{takes_more, no_event, refused_line}
 use Rattle.hx_replay.proofs.taking.take_line.Goals as goal
 

@@ -1,6 +1,6 @@
 use Rattle.std.proofs.Common.{◌≡◌, ◌+◌, ◌^◌, ◌<◌, [], List, ℕ, Option, length}
 use Rattle.rtrb.specs.Ring.{known_items}
-use Rattle.hx_replay.specs.Text.{Entry}
+use Rattle.hx_tape_lines.specs.Text.{Entry}
 use Rattle.hx_replay.specs.Run.{Progress, IsFew}
 use Rattle.hx_replay.specs.Ahead.{AreOf, IsAtTurn}
 use Rattle.hx_replay.specs.Turns.{events_of}

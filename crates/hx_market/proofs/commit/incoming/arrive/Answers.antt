@@ -1,38 +1,35 @@
-use Rattle.std.proofs.Common.{◌≡◌, ℕ, List, Option, subst, sym}
-use Rattle.hx_levels.specs.declared.order.Live.{Live}
-use Rattle.hx_match.specs.Executing.{left_by}
-use Rattle.hx_members.specs.Chains.{Used, place_of}
-use Rattle.hx_market.specs.OrderKeys.{AreKeyed, AreBefore}
-use Rattle.hx_market.proofs.OrderKeys.{keyed_left, before_left}
+use Rattle.std.proofs.Common.{◌≡◌, [], ap, ◌∙◌, sym, rules}
+use Rattle.hx_rules.specs.Markets.{Market}
+use Rattle.hx_rules.specs.Executions.{resting_of}
+use Rattle.hx_market.specs.Arrivals.{filled, rested}
+use Rattle.hx_market.proofs.Arrivals.{landed, can_rest, none_rests, resting_in}
 use Rattle.hx_market.proofs.commit.incoming.arrive.Goals as goal
 
-keyed_after : (ts us : List Used) (ks ls : List (Option ℕ)) (xs ys : List Live) → us ≡ ts → ls ≡ ks → ys ≡ xs → AreKeyed ts ks xs → AreKeyed us ls ys
-keyed_after ts us ks ls xs ys t k x h =
-    subst (λ (us : List Used). AreKeyed us ls ys) (sym t) (subst (λ (ls : List (Option ℕ)). AreKeyed ts ls ys) (sym k) (subst (λ (ys : List Live). AreKeyed ts ks ys) (sym x) h))
+pub rest_of-requires : goal.rest_of-requires
+rest_of-requires g c =
+    let e = c.execute.ensures in
+    record { ready = can_rest c.args.state.now c.args.arriving.now c.args.fills.now c.args.left c.requires.ready c.if-arriving.false c.execute.new.state e.market e.orders e.place }
 
-pub returns-then-left-eq0-clause-keyed : goal.returns-then-left-eq0-clause-keyed
-returns-then-left-eq0-clause-keyed g c =
-    let t = c.args.tokens.now in
-    let xs = g.B.Book.orders c.args.book.now in
-    keyed_after t.tokens _ t.keys _ (left_by c.args.fills.now xs) _ c.execute.ensures.tokens c.execute.ensures.keys c.execute.ensures.orders (keyed_left t.tokens t.keys c.args.fills.now xs c.requires.keyed)
+pub returns-then-left-eq0-clause-market : goal.returns-then-left-eq0-clause-market
+returns-then-left-eq0-clause-market g c =
+    let s = c.args.state.now in
+    let a = c.args.arriving.now in
+    let m : Market = filled s a c.args.fills.now in
+    let none : resting_of a.order a.immediate c.args.left ≡ [] = search rules in
+    c.execute.ensures.market ∙ sym (none_rests m a.order.chain) ∙ ap (resting_in m a.order.chain) (sym none) ∙ landed s a c.args.fills.now c.args.left c.requires.ready
 
-pub returns-then-immediate-clause-keyed : goal.returns-then-immediate-clause-keyed
-returns-then-immediate-clause-keyed g c =
-    let t = c.args.tokens.now in
-    let xs = g.B.Book.orders c.args.book.now in
-    keyed_after t.tokens _ t.keys _ (left_by c.args.fills.now xs) _ c.execute.ensures.tokens c.execute.ensures.keys c.execute.ensures.orders (keyed_left t.tokens t.keys c.args.fills.now xs c.requires.keyed)
+pub returns-then-arriving-clause-market : goal.returns-then-arriving-clause-market
+returns-then-arriving-clause-market g c =
+    let s = c.args.state.now in
+    let a = c.args.arriving.now in
+    let m : Market = filled s a c.args.fills.now in
+    let none : resting_of a.order a.immediate c.args.left ≡ [] = search rules in
+    c.execute.ensures.market ∙ sym (none_rests m a.order.chain) ∙ ap (resting_in m a.order.chain) (sym none) ∙ landed s a c.args.fills.now c.args.left c.requires.ready
 
-pub rest_of-requires-clause-before : goal.rest_of-requires-clause-before
-rest_of-requires-clause-before g c =
-    let t = c.args.tokens.now in
-    let xs = g.B.Book.orders c.args.book.now in
-    let x = c.args.order.now in
-    subst (λ (us : List Used). AreBefore us (place_of us x.member x.token) (g.B.Book.orders c.execute.new.book)) (sym c.execute.ensures.tokens)
-    (subst (λ (ys : List Live). AreBefore t.tokens (place_of t.tokens x.member x.token) ys) (sym c.execute.ensures.orders)
-    (before_left t.tokens (place_of t.tokens x.member x.token) c.args.fills.now xs c.requires.before))
-
-pub rest_of-requires-clause-keyed : goal.rest_of-requires-clause-keyed
-rest_of-requires-clause-keyed g c =
-    let t = c.args.tokens.now in
-    let xs = g.B.Book.orders c.args.book.now in
-    keyed_after t.tokens _ t.keys _ (left_by c.args.fills.now xs) _ c.execute.ensures.tokens c.execute.ensures.keys c.execute.ensures.orders (keyed_left t.tokens t.keys c.args.fills.now xs c.requires.keyed)
+pub returns-clause-market : goal.returns-clause-market
+returns-clause-market g c =
+    let s = c.args.state.now in
+    let a = c.args.arriving.now in
+    let m : Market = filled s a c.args.fills.now in
+    let rests : rested m (record a.order { shares = c.args.left }) ≡ resting_in m a.order.chain (resting_of a.order a.immediate c.args.left) = search rules in
+    c.rest_of.ensures.market ∙ ap (λ (z : Market). rested z (record a.order { shares = c.args.left })) c.execute.ensures.market ∙ rests ∙ landed s a c.args.fills.now c.args.left c.requires.ready

@@ -7,6 +7,6 @@ use Rattle.hx_market.proofs.decision.ending.over_at.Given as goal
 -- those that are over so far, and those at the places behind, are those at all places
 abbrev pub invariant-loop-place : goal.invariant-loop-place
 invariant-loop-place g l =
-    let orders = g.B.Book.orders l.book in
-    l.orders.items ++ filter (λ x. is_over l.time x.order.life) (orders_at l.tokens.tokens (drop l.place-index l.places) orders)
-    ≡ filter (λ x. is_over l.time x.order.life) (orders_at l.tokens.tokens l.places orders)
+    let tokens = l.state.market.tokens in
+    l.orders.items ++ filter (λ x. is_over l.time x.order.life) (orders_at tokens (drop l.place-index l.places) l.state.orders)
+    ≡ filter (λ x. is_over l.time x.order.life) (orders_at tokens l.places l.state.orders)

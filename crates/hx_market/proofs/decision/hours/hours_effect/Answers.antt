@@ -1,7 +1,8 @@
-use Rattle.std.proofs.Common.{◌<◌, ◌^◌, List, sym, subst, arith}
+use Rattle.std.proofs.Common.{◌≡◌, ◌<◌, ◌^◌, List, ap, sym, subst, arith, rules}
 use Rattle.std.specs.List.{AllByRecursion}
 use Rattle.hx_itch.specs.declared.message.Feed.{Feed}
 use Rattle.hx_itch.specs.Message.{feed_time}
+use Rattle.hx_market.specs.MarketModel.{MarketState}
 use Rattle.hx_market.proofs.FeedTimes.{code_in}
 use Rattle.hx_market.proofs.decision.hours.hours_effect.Goals as goal
 
@@ -10,5 +11,11 @@ end_orders-requires-clause-times g c =
     let l : c.args.time < 2 ^ 48 = let r = c.requires in omega arith in
     subst (λ (fs : List Feed). AllByRecursion (λ f. feed_time f < 2 ^ 48) fs) (sym c.in_ok-first.ensures.feed) (code_in c.args.setup.now c.args.time c.args.code l)
 
-pub returns-clause-is_effect : goal.returns-clause-is_effect
-returns-clause-is_effect g c = c.in_ok-effect.ensures.is_effect c.args.setup.now
+pub returns-clause-does : goal.returns-clause-does
+returns-clause-does g c = λ counts.
+    let e = c.in_ok-effect.ensures.does counts in
+    let hours : c.state.inside.hours ≡ c.args.state.now.market.hours = ap (λ (v : MarketState). v.market.hours) c.state.view_is in
+    search (rules, e, hours)
+
+pub returns-clause-fit : goal.returns-clause-fit
+returns-clause-fit g c = λ member. c.in_ok-effect.ensures.fit c.args.setup.now member

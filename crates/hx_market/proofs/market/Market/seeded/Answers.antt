@@ -1,48 +1,20 @@
-use Rattle.std.specs.Prelude.{suc, false, length, replicate}
-use Rattle.hx_members.specs.declared.stock.Stock.{Stock}
-use Rattle.std.proofs.Common.{◌≡◌, ℕ, Bool, List, [], Option, refl, sym, ap, ◌∙◌, subst}
-use Rattle.hx_levels.specs.declared.order.Live.{Live}
-use Rattle.hx_levels.specs.Book.{lives}
-use Rattle.hx_members.specs.Chains.{Used, Chain}
-use Rattle.hx_refs.specs.Numbers.{Numbers, opening_numbers}
+use Rattle.std.proofs.Common.{List, sym, subst}
 use Rattle.hx_members.specs.Setups.{Setup}
-use Rattle.hx_rules.specs.declared.matches.Match.{Match}
-use Rattle.hx_rules.specs.Markets.{Market, opening, opening_hours, none_halted, no_counts}
-use Rattle.hx_market.specs.OrderKeys.{AreKeyed}
+use Rattle.hx_expiries.specs.declared.entry.Entry.{Entry}
+use Rattle.hx_rules.specs.Markets.{Market, opening}
 use Rattle.hx_market.specs.Bounds.{IsSound}
 use Rattle.hx_market.specs.Expiries.{AreEntered}
 use Rattle.hx_market.proofs.Bounds.AfterEnter.{sound_opening}
 use Rattle.hx_market.proofs.market.Market.seeded.Goals as goal
 
--- the parts of the opening market
-opens : (setup : Setup) (orders : List Live) (ts : List Used) (cs : List Chain) (n : Numbers) (hours : ℕ) (hs : List Bool) (es : List Match) (counts : List ℕ) → orders ≡ [] → ts ≡ [] → cs ≡ [] → n ≡ opening_numbers → hours ≡ opening_hours setup → hs ≡ none_halted setup → es ≡ [] → counts ≡ no_counts
-    → (let m : Market = record { live = lives orders; tokens = ts; chains = cs; numbers = n; hours = hours; halted = hs; executions = es; recorded = counts } in m) ≡ opening setup
+-- as the day begins there is no order
+none_entered : (setup : Setup) (entries : List Entry) → AreEntered entries (opening setup).tokens (opening setup).live
 unfolding opening
-opens setup orders ts cs n hours hs es counts o t k e h d x r =
-    ap (λ (z : List Live). (let m : Market = record { live = lives z; tokens = ts; chains = cs; numbers = n; hours = hours; halted = hs; executions = es; recorded = counts } in m)) o
-    ∙ ap (λ (z : List Used). (let m : Market = record { live = []; tokens = z; chains = cs; numbers = n; hours = hours; halted = hs; executions = es; recorded = counts } in m)) t
-    ∙ ap (λ (z : List Chain). (let m : Market = record { live = []; tokens = []; chains = z; numbers = n; hours = hours; halted = hs; executions = es; recorded = counts } in m)) k
-    ∙ ap (λ (z : Numbers). (let m : Market = record { live = []; tokens = []; chains = []; numbers = z; hours = hours; halted = hs; executions = es; recorded = counts } in m)) e
-    ∙ ap (λ z. (let m : Market = record { live = []; tokens = []; chains = []; numbers = opening_numbers; hours = z; halted = hs; executions = es; recorded = counts } in m)) h
-    ∙ ap (λ (z : List Bool). (let m : Market = record { live = []; tokens = []; chains = []; numbers = opening_numbers; hours = opening_hours setup; halted = z; executions = es; recorded = counts } in m)) d
-    ∙ ap (λ (z : List Match). (let m : Market = record { live = []; tokens = []; chains = []; numbers = opening_numbers; hours = opening_hours setup; halted = none_halted setup; executions = z; recorded = counts } in m)) x
-    ∙ ap (λ (z : List ℕ). (let m : Market = record { live = []; tokens = []; chains = []; numbers = opening_numbers; hours = opening_hours setup; halted = none_halted setup; executions = []; recorded = z } in m)) r
-
--- no order, no token, no key
-keyed_none : (ts : List Used) (ks : List (Option ℕ)) (xs : List Live) → ts ≡ [] → ks ≡ [] → xs ≡ [] → AreKeyed ts ks xs
-keyed_none ts ks xs t k x =
-    subst (λ (ts : List Used). AreKeyed ts ks xs) (sym t) (subst (λ (ks : List (Option ℕ)). AreKeyed [] ks xs) (sym k) (subst (λ (xs : List Live). AreKeyed [] [] xs) (sym x) (record { as_many = refl; each = tt })))
-
-pub returns-clause-market : goal.returns-clause-market
-returns-clause-market g c =
-    opens c.args.setup (g.B.Book.orders c.args.book) c.seeded.result.tokens c.seeded.result.chains c.in_ok-new.field-0 c.opening_hours-hours.result c.in_ok-new-3.field-0.halted c.in_ok-new-3.field-0.executions c.in_ok-new-2.field-0
-    c.requires c.seeded.ensures.tokens c.seeded.ensures.chains c.in_ok-new.ensures c.opening_hours-hours.ensures (c.in_ok-new-3.ensures.halted ∙ ap (λ (xs : List Stock). replicate (suc (length xs)) false) c.stocks.ensures.stocks) c.in_ok-new-3.ensures.executions c.in_ok-new-2.ensures
+none_entered setup entries = record { each = tt; in_order = tt }
 
 pub invariant_of-result : goal.invariant_of-result
 invariant_of-result g c = (
-  subst IsSound (sym (opens c.args.setup (g.B.Book.orders c.args.book) c.seeded.result.tokens c.seeded.result.chains c.in_ok-new.field-0 c.opening_hours-hours.result c.in_ok-new-3.field-0.halted c.in_ok-new-3.field-0.executions c.in_ok-new-2.field-0
-      c.requires c.seeded.ensures.tokens c.seeded.ensures.chains c.in_ok-new.ensures c.opening_hours-hours.ensures (c.in_ok-new-3.ensures.halted ∙ ap (λ (xs : List Stock). replicate (suc (length xs)) false) c.stocks.ensures.stocks) c.in_ok-new-3.ensures.executions c.in_ok-new-2.ensures)) (sound_opening c.args.setup),
-  keyed_none c.seeded.result.tokens c.seeded.result.keys (g.B.Book.orders c.args.book) c.seeded.ensures.tokens c.seeded.ensures.keys c.requires,
+  subst IsSound (sym c.in_ok-state.ensures) (sound_opening c.args.setup),
+  subst (λ (m : Market). AreEntered c.new.result m.tokens m.live) (sym c.in_ok-state.ensures) (none_entered c.args.setup c.new.result),
   λ p h. cc,
-  subst (λ (xs : List Live). AreEntered c.new-2.result c.seeded.result.tokens (lives xs)) (sym c.requires) (record { each = tt; in_order = tt }),
 )

@@ -1,6 +1,10 @@
-use Rattle.std.proofs.Common.{◌≡◌, drop}
+use Rattle.std.proofs.Common.{◌≡◌, take}
 use Rattle.hx_books.specs.Books.{book_from}
+use Rattle.hx_reader.specs.Faults.{AreFaultless}
 use Rattle.hx_reader.proofs.book.FeedBook.apply_all.Given as goal
 
+-- the messages so far are applied
 abbrev pub invariant-loop-message : goal.invariant-loop-message
-invariant-loop-message l = book_from l.self (drop l.message-index l.messages) ≡ book_from l.fn.self l.fn.messages
+invariant-loop-message l =
+    (l.self ≡ book_from l.fn.self (take l.message-index l.messages))
+    × AreFaultless l.fn.self (take l.message-index l.messages)

@@ -3,7 +3,7 @@ use Rattle.std.specs.Vec.{with_items}
 use Rattle.std.proofs.lemmas.List.{with_items_is}
 use Rattle.hx_market.specs.Refusals.{refusal, or_no_memory}
 use Rattle.hx_market.specs.Steps.{step}
-use Rattle.hx_replay.specs.Text.{Entry, line}
+use Rattle.hx_tape_lines.specs.Text.{Entry, line}
 use Rattle.hx_replay.specs.Run.{Progress, event_of, fault_of}
 use Rattle.hx_replay.specs.Struck.{IsKnown}
 use Rattle.hx_replay.specs.Output.{feed_lines, reply_lines}

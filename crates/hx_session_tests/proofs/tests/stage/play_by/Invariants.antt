@@ -1,7 +1,7 @@
 use Rattle.hx_session_tests.proofs.tests.stage.play_by.Given as goal
 
 abbrev pub ghosts-play_at-V-Venue : goal.ghosts-play_at-V-Venue
-ghosts-play_at-V-Venue g a = record { log = a.log; setup = a.setup }
+ghosts-play_at-V-Venue g a = record { log = a.ends.log; setup = a.setup }
 
 abbrev pub ghosts-play_at-V-Ledger : goal.ghosts-play_at-V-Ledger
-ghosts-play_at-V-Ledger g a = record { name = a.blank.name; parts = a.blank.parts }
+ghosts-play_at-V-Ledger g a = record { name = a.ends.blank.name; parts = a.ends.blank.parts }

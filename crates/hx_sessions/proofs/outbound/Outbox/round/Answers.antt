@@ -6,7 +6,8 @@ use Rattle.hx_blog.specs.Ends.{ReaderState}
 use Rattle.hx_desk.specs.declared.entry.Entry.{Entry}
 use Rattle.hx_desk.specs.Known.{known_replies}
 use Rattle.hx_sessions.specs.Frames.{Sends, Sent, SentSome}
-use Rattle.hx_sessions.proofs.Going.{rows_from, sent_row, sent_row_some, sends_open, sent_none, sent_none_of, still_there, sent_more, sent_some, sent_room, page_all, page_none}
+use Rattle.hx_sessions.proofs.Going.{rows_from, sent_row, sent_row_some, sends_over, sends_open, sent_none, sent_none_of, still_there, sent_more, sent_some, sent_room, page_all, page_none}
+use Rattle.hx_sessions.proofs.HoursStay.{over_stays}
 use Rattle.hx_sessions.proofs.outbound.Outbox.round.Goals as goal
 
 pub returns-in_default-clause-err : goal.returns-in_default-clause-err
@@ -76,7 +77,8 @@ returns-then-ended-clause-err g c =
     let e = c.in-Ok-send.ensures.ok in
     let now = g.W.Write.contents c.send.new.output in
     let ends : Sends d c.send.new.delivery [] true e.0 = subst (λ l. Sends d c.send.new.delivery l true e.0) nothing (subst (λ b. Sends d c.send.new.delivery given b e.0) c.if-ended.true e.1) in
-    (refl, ends.2, subst (λ l. Sent d.next replies l c.send.new.delivery out now) (ap (drop 1) nothing) (sent_more d.next replies given d c.send.new.delivery c.args.ended e.0 _ _ _ none c.requires.live e.1 e.2))
+    let past = over_stays g.V.Venue.setup c.args.self.now.reader.known c.replies_page.new.reader.known c.replies_page.ensures.reader.known (c.requires.past c.if-ended.true) in
+    (refl, ends.2, past, subst (λ l. Sent d.next replies l c.send.new.delivery out now) (ap (drop 1) nothing) (sent_more d.next replies given d c.send.new.delivery c.args.ended e.0 _ _ _ none c.requires.live e.1 e.2))
 
 pub returns-in-Err-clause-err : goal.returns-in-Err-clause-err
 returns-in-Err-clause-err g c =
@@ -91,7 +93,8 @@ returns-in-Err-clause-err g c =
     let rows : given ≡ drop (d.next - 1) replies = page_none (drop (d.next - 1) replies) given (ap texts c.deref.ensures.value ∙ page) nothing in
     let none = sent_none_of d.next replies given d out refl c.requires.live c.requires.next.0 most rows in
     let e = c.in-Err.ensures.err in
-    (drop 1 given, inr (refl, sent_some d.next replies given d c.send.new.delivery c.args.ended e.0 _ _ _ none c.requires.live e.1 e.2))
+    let past = λ (o : c.send.new.delivery.over ≡ true). over_stays g.V.Venue.setup c.args.self.now.reader.known c.replies_page.new.reader.known c.replies_page.ensures.reader.known (c.requires.past (sends_over d c.send.new.delivery given c.args.ended e.0 e.1 o)) in
+    (drop 1 given, inr (refl, past, sent_some d.next replies given d c.send.new.delivery c.args.ended e.0 _ _ _ none c.requires.live e.1 e.2))
 
 pub returns-then-left-eq0-2-clause-err : goal.returns-then-left-eq0-2-clause-err
 returns-then-left-eq0-2-clause-err g c =
@@ -165,7 +168,8 @@ returns-in-Err-send-clause-err g c =
     let sends : Sends d new (drop i (texts rows)) false e.0 = subst (λ l. Sends d new l false e.0) given e.1 in
     let some = sent_row_some first replies (texts rows) behind i d new e.0 _ _ _ inv.sent inv.live room sends e.2 in
     let left = drop 1 (drop i (texts rows) ++ behind) in
-    (left, inr (refl, subst (λ (r : ReaderState Entry). SentSome first (known_replies setup m r.known) left new out (g.W.Write.contents c.send-in-loop-i.new.output)) (sym inv.reader) some))
+    let still = sends_open d new (drop i (texts rows)) e.0 sends in
+    (left, inr (refl, λ o. absurd (cc (still, o)), subst (λ (r : ReaderState Entry). SentSome first (known_replies setup m r.known) left new out (g.W.Write.contents c.send-in-loop-i.new.output)) (sym inv.reader) some))
 
 pub loop-i-preserved : goal.loop-i-preserved
 loop-i-preserved g c =

@@ -1,0 +1,12 @@
+pub mod Prefixes
+pub mod Lines
+pub mod Sealing
+pub mod Torn
+pub mod Moments
+pub mod Groups
+pub mod Measuring
+pub mod Noting
+pub mod Copying
+pub mod Spelling
+pub mod Appending
+pub mod Recovery

@@ -1,0 +1,12 @@
+pub mod Device
+pub mod Calls
+pub mod Lines
+pub mod Records
+pub mod Marks
+pub mod Heads
+pub mod Crashes
+pub mod Errors
+pub mod Files
+pub mod Blocks
+pub mod Openings
+pub mod Unkept

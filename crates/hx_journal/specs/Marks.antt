@@ -1,0 +1,8 @@
+-- The lines of the journal's own.
+use Rattle.std.specs.Prelude.{ℕ, List, ◌∷◌, ◌++◌}
+use Rattle.std.specs.Fmt.{decimal}
+
+-- `#PLACE SIZE PREVIOUS SUM`: the line that ends a block
+abbrev pub mark_of : ℕ → ℕ → ℕ → ℕ → List ℕ
+mark_of place size previous sum =
+    35 ∷ decimal place ++ 32 ∷ decimal size ++ 32 ∷ decimal previous ++ 32 ∷ decimal sum

@@ -1,5 +1,0 @@
-use Rattle.hx_replay.proofs.Values.{chosen}
-use Rattle.hx_replay.proofs.vectors.values.Goals as goal
-
-pub returns : goal.returns
-returns c = chosen c.args.codes c.fits-codes.0 c.fits-codes.1

@@ -1,0 +1,21 @@
+//! What a day is served by.
+
+use crate::args::{OpenArgs, ServeArgs};
+use hx_members::Setup;
+
+/// What a day is served by, from its first connection to its last.
+#[derive(Clone, Copy)]
+pub struct Hosting<'a, G, B> {
+    /// The setup.
+    pub setup: &'a Setup,
+    /// Whether it is the standard one, whose passwords are published: a notice tells of it.
+    pub is_standard: bool,
+    /// What the command line asks.
+    pub args: &'a ServeArgs,
+    /// The gate, which is called round each submit and at each login.
+    pub gate: &'a G,
+    /// Where notices go.
+    pub board: &'a B,
+    /// What the command line asks of an open day: then connections are taken all day.
+    pub open: Option<OpenArgs>,
+}

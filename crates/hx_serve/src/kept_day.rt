@@ -1,0 +1,98 @@
+//! A day whose history goes to a file.
+
+use crate::fault::ServeError;
+use crate::history::write_history;
+use crate::hosting::Hosting;
+use crate::notices::{Board, Notice};
+use crate::serving::{Day, serve_day};
+use crate::sockets::Doors;
+use hx_members::Seed;
+use hx_sessions::Gate;
+use log::Log as Logs;
+use std::alloc::Global;
+use std::fs::OpenOptions;
+use std::io::{BufWriter, ErrorKind, Read, Write};
+use std::net::{Net, TcpListener, TcpStream};
+use std::os::unix::fs::OpenOptionsExt;
+use std::rt::Files;
+use std::sync::Wait;
+use std::thread::Threads;
+use std::time::Clock;
+
+// How many bytes of the history are written at once.
+const BUFFER: usize = 1 << 16;
+
+// A new history is read and written by its owner alone: it has the orders that nobody else may see.
+const OWN: u32 = 0o600;
+
+/// Makes the file of a history, which its owner alone may read and write. A file that is there is not touched:
+/// `HistoryIsThere`. Any other failure is `Write`.
+pub fn new_history<R: Files>(rt: &R, path: &str) -> Result<R::File, ServeError> {
+    let mut options = OpenOptions::new();
+    options.write(true).create_new(true).mode(OWN);
+    match options.open(rt, path) {
+        Ok(file) => Ok(file),
+        Err(e) if e.kind() == ErrorKind::AlreadyExists => Err(ServeError::HistoryIsThere),
+        Err(_) => Err(ServeError::Write),
+    }
+}
+
+/// Writes the history of a day into a file, a piece at a time: if it fails, a beginning is there.
+pub fn keep_history<W: Write + Drop>(alloc: Global, day: &Day, file: W) -> Result<(), ServeError> {
+    let Ok(mut writer) = BufWriter::with_capacity(alloc, BUFFER, file) else {
+        return Err(ServeError::NoMemory);
+    };
+    let written = write_history(alloc, &day.history, &mut writer);
+    if writer.flush().is_err() {
+        return Err(ServeError::Write);
+    }
+    written
+}
+
+// What a served day returns: its own fault before that of its history.
+fn fault_of(day: Day, kept: Result<(), ServeError>) -> Result<(), ServeError> {
+    match day.fault {
+        Some(fault) => Err(fault),
+        None => kept,
+    }
+}
+
+/// Serves a day over sockets at 127.0.0.1, and writes its history as a tape to a new file, if a path is given. The ports
+/// are taken before the file is made: a day that cannot begin leaves no file, and touches none. The last line goes to the
+/// output before the history is written.
+pub fn serve_kept<
+    T: Net<Listener = TcpListener, Stream = TcpStream>
+        + Files
+        + Threads
+        + Wait
+        + Clock
+        + Logs
+        + Sync,
+    G: Gate + Sync,
+    B: Board + Sync,
+    R: Read + Send + Drop,
+    W: Write,
+>(
+    rt: &T,
+    alloc: Global,
+    hosting: &Hosting<'_, G, B>,
+    seed: Seed,
+    input: R,
+    output: &mut W,
+    history: Option<&str>,
+) -> Result<(), ServeError> {
+    let doors = Doors::open(rt, hosting.args)?;
+    let file = match history {
+        Some(path) => Some(new_history(rt, path)?),
+        None => None,
+    };
+    if hosting.is_standard {
+        hosting.board.post(Notice::StandardSetup);
+    }
+    let day = serve_day(rt, alloc, hosting, doors, seed, input, output)?;
+    let kept = match file {
+        Some(file) => keep_history(alloc, &day, file),
+        None => Ok(()),
+    };
+    fault_of(day, kept)
+}

@@ -1,0 +1,190 @@
+//! The operator of an open day: a line that is bad or refused is told of, and the next one is read.
+
+use crate::args::OpenArgs;
+use crate::clock::DayClock;
+use crate::fault::ServeError;
+use crate::hosting::Hosting;
+use crate::notices::{Board, Notice, Refusal};
+use crate::operator::LONGEST;
+use hx_engine::{DeskError, Exchange, Pass, Venue};
+use hx_market::Event;
+use hx_replay::read_operator_line;
+use hx_text::split_once;
+use std::alloc::Global;
+use std::io::{ErrorKind, Read};
+use std::sync::Wait;
+use std::thread;
+use std::time::{Clock, Duration};
+
+// The codes of the hours, in their order (ITCH 5.0, System Event Message).
+const HOURS: [u8; 6] = *b"OSQMEC";
+
+// Where the last codes are not recorded for want of memory they are tried again, after so many milliseconds.
+const AGAIN: u64 = 200;
+
+// How many bytes are read at once.
+const PIECE: usize = 4096;
+
+// The operator's desk: the pass by which his events are sent, and what of his input is not yet a line.
+#[derive(Drop)]
+struct Conductor<V: Venue> {
+    pass: Pass<V>,
+    lines: u64,
+    pending: Vec<u8>,
+    // Whether what is pending belongs to a line that is too long, of which the beginning is thrown away.
+    overlong: bool,
+}
+
+// Why a line is refused.
+fn refusal_of(error: &DeskError) -> Refusal {
+    match error {
+        DeskError::NoMemory => Refusal::NoMemory,
+        DeskError::Full { .. } => Refusal::Full,
+        DeskError::BadTime => Refusal::Time,
+        DeskError::Limit { .. } | DeskError::NoMember => Refusal::Other,
+    }
+}
+
+impl<V: Venue> Conductor<V> {
+    // Sends the event of a line, or answers why not.
+    fn send_line<T: Wait>(
+        &mut self,
+        rt: &T,
+        alloc: Global,
+        exchange: &Exchange<V>,
+        text: &[u8],
+    ) -> Result<(), Refusal> {
+        if self.overlong {
+            return Err(Refusal::Bad);
+        }
+        let Ok(read) = read_operator_line(alloc, text) else {
+            return Err(Refusal::NoMemory);
+        };
+        let Some(event) = read else {
+            return Err(Refusal::Bad);
+        };
+        match exchange.submit(rt, &mut self.pass, &event) {
+            Ok(_) => Ok(()),
+            Err(error) => Err(refusal_of(&error)),
+        }
+    }
+
+    // Takes the next line, and tells where it was refused.
+    fn take_line<B: Board, T: Wait>(
+        &mut self,
+        rt: &T,
+        alloc: Global,
+        exchange: &Exchange<V>,
+        board: &B,
+        text: &[u8],
+    ) {
+        self.lines = self.lines.saturating_add(1);
+        if let Err(why) = self.send_line(rt, alloc, exchange, text) {
+            board.post(Notice::Refused {
+                line: self.lines,
+                why,
+            });
+        }
+        self.overlong = false;
+    }
+
+    // Takes the lines that are whole with the next piece of the input. Of a line that is too long the rest is awaited, and
+    // thrown away.
+    fn take_piece<B: Board, T: Wait>(
+        &mut self,
+        rt: &T,
+        alloc: Global,
+        exchange: &Exchange<V>,
+        board: &B,
+        piece: &[u8],
+    ) -> Result<(), ServeError> {
+        let mut text = Vec::from_slice(alloc, &self.pending)?;
+        text.extend_from_slice(piece)?;
+        let mut rest = text.as_slice();
+        for _ in 0..text.len() {
+            let Some((line, others)) = split_once(rest, b'\n') else {
+                break;
+            };
+            self.take_line(rt, alloc, exchange, board, line);
+            rest = others;
+        }
+        if rest.len() > LONGEST {
+            self.overlong = true;
+            rest = &[];
+        }
+        self.pending = Vec::from_slice(alloc, rest)?;
+        Ok(())
+    }
+
+    // Reads the input to its end, or to a fault of it, in at most so many reads.
+    fn read_all<B: Board, R: Read, T: Wait>(
+        &mut self,
+        rt: &T,
+        alloc: Global,
+        exchange: &Exchange<V>,
+        hosting: (&B, u64),
+        input: &mut R,
+    ) -> Result<(), ServeError> {
+        let (board, turns) = hosting;
+        let mut chunk = [0; PIECE];
+        for _ in 0..turns {
+            match input.read(&mut chunk) {
+                Ok(0) => return Ok(()),
+                Ok(count) => {
+                    self.take_piece(rt, alloc, exchange, board, &chunk[..count])?;
+                    if exchange.ended(rt) {
+                        return Ok(());
+                    }
+                }
+                Err(error) if error.kind() == ErrorKind::Interrupted => {}
+                Err(_) => return Err(ServeError::Read),
+            }
+        }
+        Err(ServeError::Turns)
+    }
+
+    // Sends all codes of the hours, of which those that are past do nothing.
+    fn send_hours<T: Wait>(&mut self, rt: &T, exchange: &Exchange<V>, time: u64) {
+        for code in HOURS {
+            if !exchange.ended(rt) {
+                let _ = exchange.submit(rt, &mut self.pass, &Event::Hours { time, code });
+            }
+        }
+    }
+}
+
+/// Reads the operator's input, and sends the event of each line by his pass; one that is bad or refused is told of, and
+/// the next one is read. Where the input ends, or fails, before code `C` is past, the codes that are left are sent: so
+/// the day ends. Answers the pass, and what was wrong with the input itself.
+pub fn conduct<V: Venue, G, B: Board, R: Read, T: Wait + Clock>(
+    rt: &T,
+    alloc: Global,
+    exchange: &Exchange<V>,
+    hosting: &Hosting<'_, G, B>,
+    open: OpenArgs,
+    pass: Pass<V>,
+    input: &mut R,
+) -> (Pass<V>, Option<ServeError>) {
+    let mut conductor = Conductor {
+        pass,
+        lines: 0,
+        pending: Vec::new(alloc),
+        overlong: false,
+    };
+    let watched = (hosting.board, hosting.args.turns);
+    let fault = conductor
+        .read_all(rt, alloc, exchange, watched, input)
+        .err();
+    if !exchange.ended(rt) {
+        hosting.board.post(Notice::Closing);
+    }
+    for _ in 0..u64::MAX {
+        if exchange.ended(rt) {
+            break;
+        }
+        let time = DayClock::of_day(rt, Some(open.day)).time_of_day();
+        conductor.send_hours(rt, exchange, time);
+        thread::sleep(rt, Duration::from_millis(AGAIN));
+    }
+    (conductor.pass, fault)
+}

@@ -1,0 +1,77 @@
+//! A board that counts what it is told.
+
+use hx_serve::{Board, Left, Notice, Refusal};
+use std::sync::atomic::{AtomicU64, Ordering};
+
+/// How often each thing was told.
+#[derive(Drop)]
+pub struct Counting {
+    pub opened: AtomicU64,
+    pub ended: AtomicU64,
+    pub faulted: AtomicU64,
+    /// Connections that did not log in in time.
+    pub late: AtomicU64,
+    /// Connections that sent something else than a login.
+    pub strange: AtomicU64,
+    /// Connections that were closed since the day was over.
+    pub over: AtomicU64,
+    /// The operator's lines that are none.
+    pub bad: AtomicU64,
+    /// His lines with a time that is not within the day.
+    pub untimely: AtomicU64,
+    pub unanswered: AtomicU64,
+    pub crowds: AtomicU64,
+    /// The end of his input before code `C`.
+    pub closings: AtomicU64,
+}
+
+impl Counting {
+    pub fn new() -> Counting {
+        Counting {
+            opened: AtomicU64::new(0),
+            ended: AtomicU64::new(0),
+            faulted: AtomicU64::new(0),
+            late: AtomicU64::new(0),
+            strange: AtomicU64::new(0),
+            over: AtomicU64::new(0),
+            bad: AtomicU64::new(0),
+            untimely: AtomicU64::new(0),
+            unanswered: AtomicU64::new(0),
+            crowds: AtomicU64::new(0),
+            closings: AtomicU64::new(0),
+        }
+    }
+}
+
+/// How often something was told.
+pub fn told(count: &AtomicU64) -> u64 {
+    count.load(Ordering::SeqCst)
+}
+
+impl Board for Counting {
+    fn post(&self, notice: Notice) {
+        let count = match notice {
+            Notice::Opened { .. } => &self.opened,
+            Notice::Ended { .. } => &self.ended,
+            Notice::Faulted { .. } => &self.faulted,
+            Notice::Left {
+                why: Left::Late | Left::NoPlace,
+                ..
+            } => &self.late,
+            Notice::Left {
+                why: Left::NoLogin,
+                ..
+            } => &self.strange,
+            Notice::Left { .. } => &self.over,
+            Notice::Refused {
+                why: Refusal::Time,
+                ..
+            } => &self.untimely,
+            Notice::Refused { .. } => &self.bad,
+            Notice::Unanswered { .. } => &self.unanswered,
+            Notice::Crowd => &self.crowds,
+            Notice::Closing | Notice::StandardSetup => &self.closings,
+        };
+        count.fetch_add(1, Ordering::SeqCst);
+    }
+}

@@ -1,0 +1,42 @@
+-- What passes keep.
+use Rattle.std.proofs.Common.{◌≡◌, ℕ, List, [], ◌∷◌, ◌++◌, refl, ap, sym, ◌∙◌, subst}
+use mathlib.Core.List.{IsPrefix}
+use Rattle.hx_members.specs.Setups.{Setup}
+use Rattle.hx_rules.specs.declared.event.Event.{Event}
+use Rattle.hx_rules.specs.Markets.{Market, opening}
+use Rattle.hx_rules.specs.Steps.{step}
+use Rattle.hx_blog.specs.Feed.{Entries}
+use Rattle.hx_blog.proofs.Prefixes.{prefix_self, prefix_trans}
+use Rattle.hx_desk.specs.declared.entry.Entry.{Entry}
+use Rattle.hx_desk.specs.declared.entry.Done.{Done}
+use Rattle.hx_desk.specs.Entries.{entry_of, feed_spelled, ledger_from, ledger}
+use Rattle.hx_engine.specs.Passes.{PassState}
+use Rattle.hx_engine.specs.Exchanges.{Sends}
+use Rattle.hx_sessions.specs.Asked.{CarriesOn}
+
+-- the ledger of a longer history begins with that of a shorter
+ledger_more : (setup : Setup) (a : Market) (xs ys : List Entry) → IsPrefix (ledger_from setup a xs) (ledger_from setup a (xs ++ ys))
+unfolding ledger_from
+ledger_more setup a [] ys = (ledger_from setup a ys, refl)
+ledger_more setup a (x ∷ xs) ys =
+    let rest = ledger_more setup (step setup a x.event).market xs ys in
+    (rest.0, ap (λ (l : Entries Entry). (x, feed_spelled (step setup a x.event).told.feed) ∷ l) rest.1)
+
+ledger_begins : (setup : Setup) (xs ys : List Entry) → IsPrefix (ledger setup xs) (ledger setup (xs ++ ys))
+unfolding ledger
+ledger_begins setup xs ys = ledger_more setup (opening setup) xs ys
+
+pub carries_none : (p : PassState) → CarriesOn p p
+carries_none p = record { number = refl; known = prefix_self p.known }
+
+pub carries_same : (old new : PassState) → new ≡ old → CarriesOn old new
+carries_same old new is = subst (CarriesOn old) (sym is) (carries_none old)
+
+pub carries_more : (a b c : PassState) → CarriesOn a b → CarriesOn b c → CarriesOn a c
+carries_more a b c p q = record { number = q.number ∙ p.number; known = prefix_trans a.known b.known c.known p.known q.known }
+
+pub carries_sent : (setup : Setup) (old new : PassState) (event : Event) (done : Done) → Sends setup old new event done → CarriesOn old new
+carries_sent setup old new event done s =
+    let more : IsPrefix old.known (ledger setup (s.before ++ entry_of old.number event ∷ [])) =
+    prefix_trans old.known (ledger setup s.before) (ledger setup (s.before ++ entry_of old.number event ∷ [])) s.knew (ledger_begins setup s.before (entry_of old.number event ∷ [])) in
+    record { number = s.number; known = subst (IsPrefix old.known) (sym s.knows) more }

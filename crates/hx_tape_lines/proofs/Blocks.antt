@@ -1,0 +1,156 @@
+-- Bytes and their digits, block by block.
+use Rattle.std.proofs.Common.{◌≡◌, ℕ, zero, suc, ◌+◌, ◌-◌, ◌*◌, ◌<◌, ◌≤◌, List, [], ◌∷◌, ◌++◌, length, take, drop, refl, sym, ap, subst, ◌∙◌, append_assoc, arith, take-append-drop}
+use Rattle.std.specs.Prelude.{◌≢◌, ◌%◌}
+use Rattle.std.proofs.lemmas.List.{length-take-le}
+use Rattle.std.proofs.Math.Seq.{take_at, drop_at, drop-drop, drop-length, take_all}
+use Rattle.std.proofs.lemmas.List.{get_or-drop, drop_all, drop-append-le, length-drop}
+use Rattle.hex.specs.Hex.{encode_lower, encode_with, lower_digits, IsBytes}
+use Rattle.hex.proofs.HexLemmas.{length-encode_with}
+use Rattle.hx_tape_lines.specs.Digits.{AreWritten, AreRead}
+
+pub digits_length : (xs : List ℕ) → length (encode_lower xs) ≡ 2 * length xs
+digits_length xs = length-encode_with lower_digits xs
+
+pub encode-append : (xs ys : List ℕ) → encode_lower (xs ++ ys) ≡ encode_lower xs ++ encode_lower ys
+unfolding encode_with
+encode-append [] ys = refl
+encode-append (x ∷ xs) ys = ap (λ (t : List ℕ). encode_lower (x ∷ []) ++ t) (encode-append xs ys)
+
+-- digits behind those of the first bytes
+encode-behind : (k : ℕ) (xs : List ℕ) → encode_lower xs ≡ encode_lower (take k xs) ++ encode_lower (drop k xs)
+encode-behind k xs = ap encode_lower (sym (take-append-drop k xs)) ∙ encode-append (take k xs) (drop k xs)
+
+-- the digits behind those of the first bytes
+encode-drop : (k : ℕ) (xs : List ℕ) → drop (2 * k) (encode_lower xs) ≡ encode_lower (drop k xs)
+unfolding encode_with
+encode-drop zero xs = refl
+encode-drop (suc k) [] = drop_all (2 * suc k) [] (omega arith)
+encode-drop (suc k) (x ∷ xs) =
+    let two : 2 * suc k ≡ suc (suc (2 * k)) = omega arith in
+    ap (λ (n : ℕ). drop n (encode_lower (x ∷ xs))) two ∙ encode-drop k xs
+
+-- the digits of the first bytes
+encode-take : (k : ℕ) (xs : List ℕ) → take (2 * k) (encode_lower xs) ≡ encode_lower (take k xs)
+unfolding encode_with
+encode-take zero xs = refl
+encode-take (suc k) [] = take_all (2 * suc k) [] (omega arith)
+encode-take (suc k) (x ∷ xs) =
+    let two : 2 * suc k ≡ suc (suc (2 * k)) = omega arith in
+    ap (λ (n : ℕ). take n (encode_lower (x ∷ xs))) two ∙ ap (λ (t : List ℕ). encode_lower (x ∷ []) ++ t) (encode-take k xs)
+
+-- ---- written
+
+-- a list from a place on at which others were written
+put_drop : (xs ys : List ℕ) (a k : ℕ) → a ≤ length xs → drop a (take a xs ++ (ys ++ drop k (drop a xs))) ≡ ys ++ drop (a + k) xs
+put_drop xs ys a k le = drop_at (take a xs) (ys ++ drop k (drop a xs)) a (length-take-le a xs le) ∙ ap (λ (l : List ℕ). ys ++ l) (drop-drop k a xs)
+
+-- a block more is written in front of those behind it
+pub block_written : (bytes text behind block : List ℕ) (start place size a k : ℕ) → place + size ≤ length bytes → start + 2 * length bytes ≤ length text
+    → a ≡ start + 2 * place → k ≡ 2 * size → block ≡ encode_lower (take size (drop place bytes))
+    → AreWritten bytes (place + size) start text behind → AreWritten bytes place start (take a text ++ (block ++ drop k (drop a text))) behind
+block_written bytes text behind block start place size a k within room at two is written =
+    let next : a + k ≡ start + 2 * (place + size) = omega arith in
+    let front : List ℕ = encode_lower (take size (drop place bytes)) in
+    ap (λ (n : ℕ). drop n (take a text ++ (block ++ drop k (drop a text)))) (sym at) ∙ put_drop text block a k (omega arith)
+    ∙ ap (λ (n : ℕ). block ++ drop n text) next ∙ ap (λ (l : List ℕ). block ++ l) written
+    ∙ ap (λ (l : List ℕ). l ++ (encode_lower (drop (place + size) bytes) ++ behind)) is
+    ∙ ap (λ (l : List ℕ). front ++ (encode_lower l ++ behind)) (sym (drop-drop size place bytes))
+    ∙ sym (append_assoc front (encode_lower (drop size (drop place bytes))) behind)
+    ∙ ap (λ (l : List ℕ). l ++ behind) (sym (encode-behind size (drop place bytes)))
+
+-- what is written from a place on is written from a later one on
+pub written_later : (bytes text behind : List ℕ) (start place later : ℕ) → place ≤ later → later ≤ length bytes → AreWritten bytes place start text behind → AreWritten bytes later start text behind
+written_later bytes text behind start place later le within written =
+    let on : start + 2 * later ≡ start + 2 * place + 2 * (later - place) = omega arith in
+    let whole : place + (later - place) ≡ later = omega arith in
+    let long : 2 * (later - place) ≤ length (encode_lower (drop place bytes)) = omega (arith, digits_length (drop place bytes), length-drop place bytes) in
+    ap (λ (n : ℕ). drop n text) on ∙ sym (drop-drop (2 * (later - place)) (start + 2 * place) text)
+    ∙ ap (λ (l : List ℕ). drop (2 * (later - place)) l) written
+    ∙ drop-append-le (2 * (later - place)) (encode_lower (drop place bytes)) behind long
+    ∙ ap (λ (l : List ℕ). l ++ behind) (encode-drop (later - place) (drop place bytes) ∙ ap encode_lower (drop-drop (later - place) place bytes))
+    ∙ ap (λ (n : ℕ). encode_lower (drop n bytes) ++ behind) whole
+
+-- all are written
+pub all_written : (bytes text behind : List ℕ) (start place : ℕ) → place < 1 → AreWritten bytes place start text behind → drop start text ≡ encode_lower bytes ++ behind
+all_written bytes text behind start place none h =
+    let nothing : place ≡ 0 = omega (arith, none) in
+    let same : start ≡ start + 2 * 0 = omega arith in
+    ap (λ (n : ℕ). drop n text) same ∙ subst (λ (k : ℕ). AreWritten bytes k start text behind) nothing h
+
+-- ---- read
+
+bytes-append : (xs ys : List ℕ) → IsBytes xs → IsBytes ys → IsBytes (xs ++ ys)
+bytes-append [] ys p q i = q i
+bytes-append (x ∷ xs) ys p q zero = p 0
+bytes-append (x ∷ xs) ys p q (suc i) = bytes-append xs ys (λ k. p (suc k)) q i
+
+bytes-drop : (n : ℕ) (xs : List ℕ) → IsBytes xs → IsBytes (drop n xs)
+bytes-drop n xs p i = subst (λ (v : ℕ). v < 256) (sym (get_or-drop n xs i 0)) (p (n + i))
+
+bytes-take : (n : ℕ) (xs : List ℕ) → IsBytes xs → IsBytes (take n xs)
+bytes-take zero xs p i = omega arith
+bytes-take (suc n) [] p i = p i
+bytes-take (suc n) (x ∷ xs) p zero = p 0
+bytes-take (suc n) (x ∷ xs) p (suc i) = bytes-take n xs (λ k. p (suc k)) i
+
+-- before the first block is read
+pub none_read : (text bytes : List ℕ) → length text ≡ 2 * length bytes → AreRead text (length bytes) bytes
+unfolding encode_with
+none_read text bytes size = record {
+  digits = drop_all (2 * length bytes) text (omega (arith, size)) ∙ ap encode_lower (sym (drop-length bytes));
+  are_bytes = subst IsBytes (sym (drop-length bytes)) (λ i. omega arith);
+}
+
+-- a block more is read in front of those behind it
+pub block_read : (text bytes block : List ℕ) (place k : ℕ) → k ≡ 16 → place + 16 ≤ length bytes → take 32 (drop (2 * place) text) ≡ encode_lower block → IsBytes block
+    → AreRead text (place + 16) bytes → AreRead text place (take place bytes ++ (block ++ drop k (drop place bytes)))
+block_read text bytes block place k size within is fits behind =
+    let rest = drop (place + 16) bytes in
+    let now = put_drop bytes block place k (omega (arith, within)) ∙ ap (λ (n : ℕ). block ++ drop (place + n) bytes) size in
+    let next : 2 * place + 32 ≡ 2 * (place + 16) = omega arith in
+    record {
+      digits = sym (take-append-drop 32 (drop (2 * place) text)) ∙ ap (λ (l : List ℕ). l ++ drop 32 (drop (2 * place) text)) is
+          ∙ ap (λ (l : List ℕ). encode_lower block ++ l) (drop-drop 32 (2 * place) text ∙ ap (λ (n : ℕ). drop n text) next ∙ behind.digits)
+          ∙ sym (encode-append block rest) ∙ ap encode_lower (sym now);
+      are_bytes = subst IsBytes (sym now) (bytes-append block rest fits behind.are_bytes);
+    }
+
+-- what is read from a place on is read from a later one on
+pub read_later : (text bytes : List ℕ) (place later : ℕ) → place ≤ later → AreRead text place bytes → AreRead text later bytes
+read_later text bytes place later le a =
+    let on : 2 * later ≡ 2 * place + 2 * (later - place) = omega (arith, le) in
+    let whole : place + (later - place) ≡ later = omega (arith, le) in
+    let same : drop (later - place) (drop place bytes) ≡ drop later bytes = drop-drop (later - place) place bytes ∙ ap (λ (n : ℕ). drop n bytes) whole in
+    record {
+      digits = ap (λ (n : ℕ). drop n text) on ∙ sym (drop-drop (2 * (later - place)) (2 * place) text)
+          ∙ ap (λ (l : List ℕ). drop (2 * (later - place)) l) a.digits ∙ encode-drop (later - place) (drop place bytes) ∙ ap encode_lower same;
+      are_bytes = subst IsBytes same (bytes-drop (later - place) (drop place bytes) a.are_bytes);
+    }
+
+-- all are read
+pub all_read : (text bytes : List ℕ) (place : ℕ) → place ≡ 0 → AreRead text place bytes → (text ≡ encode_lower bytes) × IsBytes bytes
+all_read text bytes place none a =
+    let whole = subst (λ (k : ℕ). AreRead text k bytes) none a in
+    let nothing : 0 ≡ 2 * 0 = omega arith in
+    (ap (λ (n : ℕ). drop n text) nothing ∙ whole.digits, whole.are_bytes)
+
+-- the digits of some bytes are those in front of more
+pub front_digits : (xs rest : List ℕ) (n m : ℕ) → length xs ≡ n → m ≡ 2 * n → take m (encode_lower (xs ++ rest)) ≡ encode_lower xs
+front_digits xs rest n m e two = ap (λ (k : ℕ). take k (encode_lower (xs ++ rest))) two ∙ encode-take n (xs ++ rest) ∙ ap encode_lower (take_at xs rest n e)
+
+-- a text that somewhere has a block of no digits has the digits of no bytes
+pub block_none : (text : List ℕ) (place : ℕ) → ((bytes : List ℕ) → IsBytes bytes → take 32 (drop (2 * place) text) ≢ encode_lower bytes) → (others : List ℕ) → IsBytes others → text ≢ encode_lower others
+block_none text place none others fits is =
+    let two : 32 ≡ 2 * 16 = omega arith in
+    none (take 16 (drop place others)) (bytes-take 16 (drop place others) (bytes-drop place others fits))
+    (ap (λ (t : List ℕ). take 32 (drop (2 * place) t)) is ∙ ap (λ (l : List ℕ). take 32 l) (encode-drop place others)
+    ∙ ap (λ (n : ℕ). take n (encode_lower (drop place others))) two ∙ encode-take 16 (drop place others))
+
+-- before the first block is written
+pub none_written : (bytes was : List ℕ) → was ≡ encode_lower (drop (length bytes) bytes) ++ was
+unfolding encode_with
+none_written bytes was = ap (λ (l : List ℕ). encode_lower l ++ was) (sym (drop-length bytes))
+
+-- an odd number of digits is none
+pub odd_none : (text others : List ℕ) → 0 < length text % 2 → text ≢ encode_lower others
+odd_none text others odd is = let size : length text ≡ 2 * length others = ap length is ∙ digits_length others in omega (arith, odd, size)

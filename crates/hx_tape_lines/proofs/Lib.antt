@@ -1,0 +1,9 @@
+pub mod Pairs
+pub mod Blocks
+pub mod Lanes
+pub mod Values
+pub mod Fronts
+pub mod Eights
+pub mod Lines
+pub mod DigitCounts
+pub mod Growing

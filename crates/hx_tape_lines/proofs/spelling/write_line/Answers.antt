@@ -1,0 +1,53 @@
+use Rattle.std.specs.Fmt.{decimal}
+use Rattle.std.proofs.Common.{ℕ, List, ◌++◌, ap, ◌∙◌}
+use Rattle.std.proofs.lemmas.Result.{err_from_is_err_and}
+use Rattle.hx_tape_lines.proofs.Growing.{wrote_none, wrote_part, has_grown, wrote_time, wrote_space, wrote_member, wrote_second_space}
+use Rattle.hx_tape_lines.proofs.spelling.write_line.Goals as goal
+
+pub returns-in_err-write_number-clause-err : goal.returns-in_err-write_number-clause-err
+returns-in_err-write_number-clause-err c =
+    let p = err_from_is_err_and c.from_residual.result c.from_residual.ensures.1 in
+    rw p.1 (has_grown _ _ _ _ _ (wrote_none _ _ _ c.in_err-write_number.ensures.err))
+
+pub returns-in_err-push-clause-err : goal.returns-in_err-push-clause-err
+returns-in_err-push-clause-err c =
+    let p = err_from_is_err_and c.from_residual-in_err-push.result c.from_residual-in_err-push.ensures.1 in
+    rw p.1 (has_grown _ _ _ _ _ (wrote_time _ _ _ _ (c.in_err-push.ensures.items ∙ c.in_ok-write_number.ensures.ok)))
+
+pub returns-in_err-write_number-2-clause-err : goal.returns-in_err-write_number-2-clause-err
+returns-in_err-write_number-2-clause-err c =
+    let p = err_from_is_err_and c.from_residual-in_err-write_number-2.result c.from_residual-in_err-write_number-2.ensures.1 in
+    rw p.1 (has_grown _ _ _ _ _ (wrote_space _ _ _ _ _ c.in_ok-write_number.ensures.ok (c.in_err-write_number-2.ensures.err ∙ c.in_ok-push.ensures.items)))
+
+pub returns-in_err-push-2-clause-err : goal.returns-in_err-push-2-clause-err
+returns-in_err-push-2-clause-err c =
+    let p = err_from_is_err_and c.from_residual-in_err-push-2.result c.from_residual-in_err-push-2.ensures.1 in
+    let second = wrote_space _ _ _ _ _ c.in_ok-write_number.ensures.ok c.in_ok-push.ensures.items in
+    let member = c.in_ok-write_number-2.ensures.ok ∙ ap (λ (n : ℕ). c.push.new.self.items ++ decimal n) c.from.ensures in
+    rw p.1 (has_grown _ _ _ _ _ (wrote_member _ _ _ _ _ _ _ second (c.in_err-push-2.ensures.items ∙ member)))
+
+pub returns-in_err-digits-clause-err : goal.returns-in_err-digits-clause-err
+returns-in_err-digits-clause-err c =
+    let p = err_from_is_err_and c.from_residual-in_err-digits.result c.from_residual-in_err-digits.ensures.1 in
+    let second = wrote_space _ _ _ _ _ c.in_ok-write_number.ensures.ok c.in_ok-push.ensures.items in
+    let member = c.in_ok-write_number-2.ensures.ok ∙ ap (λ (n : ℕ). c.push.new.self.items ++ decimal n) c.from.ensures in
+    let third = wrote_member _ _ _ _ _ _ _ second member in
+    rw p.1 (has_grown _ _ _ _ _ (wrote_second_space _ _ _ _ _ _ third c.in_ok-push-2.ensures.items))
+
+pub returns-in_err-extend_from_slice-clause-err : goal.returns-in_err-extend_from_slice-clause-err
+returns-in_err-extend_from_slice-clause-err c =
+    let p = err_from_is_err_and c.from_residual-in_err-extend_from_slice.result c.from_residual-in_err-extend_from_slice.ensures.1 in
+    let second = wrote_space _ _ _ _ _ c.in_ok-write_number.ensures.ok c.in_ok-push.ensures.items in
+    let member = c.in_ok-write_number-2.ensures.ok ∙ ap (λ (n : ℕ). c.push.new.self.items ++ decimal n) c.from.ensures in
+    let third = wrote_member _ _ _ _ _ _ _ second member in
+    rw p.1 (has_grown _ _ _ _ _ (wrote_second_space _ _ _ _ _ _ third (c.in_err-extend_from_slice.ensures.items ∙ c.in_ok-push-2.ensures.items)))
+
+pub returns-in_err-push-3-clause-err : goal.returns-in_err-push-3-clause-err
+returns-in_err-push-3-clause-err c =
+    let p = err_from_is_err_and c.from_residual-in_err-push-3.result c.from_residual-in_err-push-3.ensures.1 in
+    let second = wrote_space _ _ _ _ _ c.in_ok-write_number.ensures.ok c.in_ok-push.ensures.items in
+    let member = c.in_ok-write_number-2.ensures.ok ∙ ap (λ (n : ℕ). c.push.new.self.items ++ decimal n) c.from.ensures in
+    let third = wrote_member _ _ _ _ _ _ _ second member in
+    let fourth = wrote_second_space _ _ _ _ _ _ third c.in_ok-push-2.ensures.items in
+    let digits = ap (λ (l : List ℕ). c.push-2.new.self.items ++ l) (c.as_bytes.ensures.value ∙ c.in_ok-digits.ensures) in
+    rw p.1 (has_grown _ _ _ _ _ (wrote_part _ _ _ _ _ _ _ fourth (c.in_err-push-3.ensures.items ∙ c.in_ok-extend_from_slice.ensures.items ∙ digits)))

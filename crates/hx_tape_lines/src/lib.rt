@@ -1,0 +1,13 @@
+//! The lines of a tape: each event has one line, and each line says one event or none.
+#![tactic(auto)]
+
+mod decimal;
+mod hexadecimal;
+pub mod line;
+mod spelling;
+mod vectors;
+
+pub use decimal::digit_count;
+pub use hexadecimal::write_bytes;
+pub use line::Fields;
+pub use spelling::write_event;

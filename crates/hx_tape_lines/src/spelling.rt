@@ -1,0 +1,88 @@
+//! The lines of events.
+ghost use Rattle.std.specs.Prelude.{◌≡◌, ◌++◌, ◌∷◌, [], OnOk, OnErr};
+ghost use Rattle.hx_rules.specs.OperatorMessages.{halt_bytes, break_bytes};
+ghost use Rattle.hx_tape_lines.specs.Text.{line, entry_of_event, HasGrown};
+
+use crate::decimal::write_number;
+use arrayvec::ArrayVec;
+use hx_rules::Event;
+use hx_units::Symbol;
+use hx_units::fields::{put, u64_bytes};
+use std::alloc::{AllocError, Global};
+
+// Appends a line of a member, or of the operator, or a beginning of it.
+fn write_line(
+    alloc: Global,
+    text: &mut Vec<u8>,
+    time: u64,
+    member: u16,
+    bytes: &[u8],
+) -> Result<(), AllocError>
+    ensures ok { OnOk result (
+        text.new.items ≡ text.old.items
+        ++ (line (record { time = time; member = member; bytes = bytes.now }) ++ 10 ∷ [])) }
+    ensures err { OnErr result (HasGrown text.old.items text.new.items
+        (line (record { time = time; member = member; bytes = bytes.now }) ++ 10 ∷ [])) }
+{
+    write_number(text, time)?;
+    text.push(b' ')?;
+    write_number(text, u64::from(member))?;
+    text.push(b' ')?;
+    let digits = hex::encode(alloc, bytes)?;
+    text.extend_from_slice(digits.as_bytes())?;
+    text.push(b'\n')?;
+    Ok(())
+}
+
+// The operator's bytes of a halt.
+fn halt_bytes(stock: Symbol, state: u8, reason: [u8; 4]) -> ArrayVec<u8, 14>
+    ensures { result.items ≡ halt_bytes stock state reason }
+{
+    let mut bytes = ArrayVec::new();
+    bytes.push(b'H');
+    put(&mut bytes, &stock.0);
+    bytes.push(state);
+    put(&mut bytes, &reason);
+    bytes
+}
+
+// The operator's bytes of a break.
+fn break_bytes(number: u64) -> ArrayVec<u8, 9>
+    ensures { result.items ≡ break_bytes number }
+{
+    let mut bytes = ArrayVec::new();
+    bytes.push(b'B');
+    put(&mut bytes, &u64_bytes(number));
+    bytes
+}
+
+/// Appends the line of an event, with its line feed. It takes memory: where a growth was refused, a beginning of the line
+/// stands behind what stood there before.
+pub fn write_event(alloc: Global, text: &mut Vec<u8>, event: &Event) -> Result<(), AllocError>
+    ensures ok { OnOk result (
+        text.new.items ≡ text.old.items ++ (line (entry_of_event event.now) ++ 10 ∷ [])) }
+    ensures err { OnErr result (HasGrown text.old.items text.new.items
+        (line (entry_of_event event.now) ++ 10 ∷ [])) }
+{
+    match event {
+        Event::Message {
+            member,
+            time,
+            bytes,
+        } => write_line(alloc, text, *time, *member, bytes.as_slice()),
+        Event::Tick { time } => write_line(alloc, text, *time, 0, b"K"),
+        Event::Hours { time, code } => write_line(alloc, text, *time, 0, &[*code]),
+        Event::Halt {
+            time,
+            stock,
+            state,
+            reason,
+        } => {
+            let bytes = halt_bytes(*stock, *state, *reason);
+            write_line(alloc, text, *time, 0, bytes.as_slice())
+        }
+        Event::Break { time, number } => {
+            write_line(alloc, text, *time, 0, break_bytes(*number).as_slice())
+        }
+    }
+}
