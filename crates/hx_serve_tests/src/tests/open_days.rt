@@ -42,7 +42,7 @@ fn serve_open<
     args: &ServeArgs,
     open: OpenArgs,
     board: &Counting,
-    input: Lines<'_>,
+    input: Lines<'_, R>,
     output: &mut Vec<u8>,
 ) -> Result<Day, ServeError> {
     let setup = Setup::standard(alloc)?;
@@ -143,7 +143,7 @@ fn strangers_hold_nothing(rt: HostRuntime) -> Result<(), Fail> {
     let open = open_args(&rt, 1, 0);
     let (board, let_go) = (Counting::new(), AtomicU64::new(0));
     let pieces = [CLOSING];
-    let input = Lines::new(&pieces, &let_go);
+    let input = Lines::new(&rt, &pieces, &let_go);
     let mut output = Vec::new(alloc);
     let (served, played) = join(
         &rt,
@@ -176,7 +176,7 @@ fn the_day_ends_beside_silent_connections(rt: HostRuntime) -> Result<(), Fail> {
     let open = open_args(&rt, 3600, 0);
     let (board, let_go) = (Counting::new(), AtomicU64::new(0));
     let pieces = [CLOSING];
-    let input = Lines::new(&pieces, &let_go);
+    let input = Lines::new(&rt, &pieces, &let_go);
     let mut output = Vec::new(alloc);
     let (served, played) = join(
         &rt,
@@ -211,7 +211,7 @@ fn the_operator_can_always_end_the_day(rt: HostRuntime) -> Result<(), Fail> {
         &long,
         b"\n3 0 4d\n",
     ];
-    let input = Lines::new(&pieces, &let_go);
+    let input = Lines::new(&rt, &pieces, &let_go);
     let mut output = Vec::new(alloc);
     let served = serve_open(&rt, alloc, &args, open, &board, input, &mut output);
     let Ok(day) = served else {
@@ -272,7 +272,7 @@ fn the_hours_always_have_room(rt: HostRuntime) -> Result<(), Fail> {
     let open = open_args(&rt, 15, 0);
     let (board, let_go) = (Counting::new(), AtomicU64::new(0));
     let pieces = [CLOSING];
-    let input = Lines::new(&pieces, &let_go);
+    let input = Lines::new(&rt, &pieces, &let_go);
     let mut output = Vec::new(alloc);
     let (served, played) = join(
         &rt,
@@ -314,7 +314,7 @@ fn the_end_of_the_feed_can_be_repaired(rt: HostRuntime) -> Result<(), Fail> {
     let open = open_args(&rt, 15, 2);
     let (board, let_go) = (Counting::new(), AtomicU64::new(1));
     let pieces = [CLOSING];
-    let input = Lines::new(&pieces, &let_go);
+    let input = Lines::new(&rt, &pieces, &let_go);
     let mut output = Vec::new(alloc);
     let (served, heard) = join(
         &rt,
