@@ -56,6 +56,7 @@ impl Failure {
                 | ServeError::Write
                 | ServeError::Network
                 | ServeError::Full
+                | ServeError::Journal
                 | ServeError::HistoryIsThere
                 | ServeError::Turns,
             ) => 4,

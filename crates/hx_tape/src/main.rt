@@ -2,7 +2,6 @@
 //! serves a day, or watches the feed of one.
 #![tactic(auto)]
 
-mod commands;
 mod failure;
 mod serve;
 mod setups;
@@ -11,8 +10,8 @@ mod watch;
 
 use clap::error::ErrorKind;
 use clap::{ArgMatches, Error};
-use commands::command;
 use failure::Failure;
+use hx_commands::command;
 use hx_replay::{Counts, TapeError, replay_ahead, strike_all_tape, strike_tape};
 use hx_units::MemberNo;
 use log::Log;

@@ -1,4 +1,4 @@
-//! The words of the command line.
+//! The commands, each with its options.
 
 use clap::{Arg, ArgAction, ArgGroup, Command, value_parser};
 use std::alloc::{AllocError, Global};

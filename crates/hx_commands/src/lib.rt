@@ -1,0 +1,6 @@
+//! The words of the program's command line: its commands, and what each of them takes.
+#![tactic(auto)]
+
+mod commands;
+
+pub use commands::command;
