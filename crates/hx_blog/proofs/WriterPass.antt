@@ -71,17 +71,17 @@ module _ {E : Type 0} (room : ℕ) where
         refl,
       )
 
-  pub stores_count : (slots id : ℕ) (me : SeatState E) (entry : Entries E) (n : ℕ) → me.0.gone ≡ false → me.0.writes ≡ true → me.0.told ≡ [] → me.0.read ≡ 0
-      → feed entry ≡ me.0.staged → n ≡ length (feed me.0.known) + length me.0.staged
-      → Allows (RuleOfTheLog room) slots id me 0 (λ _. n) (λ _. StoresCount entry (step slots 0 n 0 none) me n)
-  stores_count slots id me entry n live writes told read same count s rule homes at fits =
+  pub stores_count : (slots id : ℕ) (me : SeatState E) (entries : Entries E) (left : List (List ℕ)) (n : ℕ) → me.0.gone ≡ false → me.0.writes ≡ true → me.0.told ≡ [] → me.0.read ≡ 0
+      → feed entries ++ left ≡ me.0.staged → n ≡ length (feed me.0.known) + length (feed entries)
+      → Allows (RuleOfTheLog room) slots id me 0 (λ _. n) (λ _. StoresCount entries left (step slots 0 n 0 none) me n)
+  stores_count slots id me entries left n live writes told read same count s rule homes at fits =
       let v = me.0 in
       let k = the_writer room s id v rule at live writes in
-      let w : View E = record v { known = v.known ++ entry; staged = [] } in
-      let grown : feed w.known ≡ feed v.known ++ v.staged = feed-append v.known entry ∙ ap (λ ms. feed v.known ++ ms) same in
-      let all : feed w.known ++ [] ≡ feed v.known ++ v.staged = append-nil (feed w.known) ∙ grown in
-      let number : n ≡ length (feed w.known) = count ∙ sym (ap length grown ∙ length-append (feed v.known) v.staged) in
-      let words : set s.words 0 n ≡ length (feed w.known) ∷ (words_of (feed w.known ++ []) ++ (v.begun ++ k.unused)) =
+      let w : View E = record v { known = v.known ++ entries; staged = left } in
+      let grown : feed w.known ≡ feed v.known ++ feed entries = feed-append v.known entries in
+      let all : feed w.known ++ left ≡ feed v.known ++ v.staged = ap (λ ms. ms ++ left) grown ∙ (append_assoc (feed v.known) (feed entries) left ∙ ap (λ ms. feed v.known ++ ms) same) in
+      let number : n ≡ length (feed w.known) = count ∙ sym (ap length grown ∙ length-append (feed v.known) (feed entries)) in
+      let words : set s.words 0 n ≡ length (feed w.known) ∷ (words_of (feed w.known ++ left) ++ (v.begun ++ k.unused)) =
       ap (λ ws. set ws 0 n) k.words ∙ (λ i. number i ∷ (words_of (sym all i) ++ (v.begun ++ k.unused))) in
       let mine : KnowsABeginning room id w.known id w = record {
         room_is = (k.seats id v at live).room_is;
@@ -93,6 +93,6 @@ module _ {E : Type 0} (room : ℕ) where
         w,
         keeps,
         tt,
-        writer_moves room s id v w k.unused (set s.words 0 n) k (entry, refl) live writes words (length-set s.words 0 n) (subst (All IsMessage) (sym all) k.messages) mine,
+        writer_moves room s id v w k.unused (set s.words 0 n) k (entries, refl) live writes words (length-set s.words 0 n) (subst (All IsMessage) (sym all) k.messages) mine,
         refl,
       )

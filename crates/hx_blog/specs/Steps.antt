@@ -19,10 +19,11 @@ module _ {E : Type 0} where
   StoresLastWord message step old word new =
       new ≡ (record old.0 { staged = old.0.staged ++ message ∷ []; begun = [] }, old.1)
 
-  -- Second kind: the writer stores the count, also where it stays the same. This entry is published, and nothing is staged any more. It is the one step of an event.
-  abbrev pub StoresCount : Entries E → Step (Unit {0}) → SeatState E → ℕ → SeatState E → Type 0
-  StoresCount entry step old count new =
-      new ≡ (record old.0 { known = old.0.known ++ entry; staged = [] }, old.1)
+  -- Second kind: the writer stores the count, also where it stays the same. These entries are published, and these messages stay staged. It is the one step of an event, or of several.
+  abbrev pub StoresCount :
+      Entries E → List (List ℕ) → Step (Unit {0}) → SeatState E → ℕ → SeatState E → Type 0
+  StoresCount entries left step old count new =
+      new ≡ (record old.0 { known = old.0.known ++ entries; staged = left }, old.1)
 
   -- The readers' pass
 

@@ -24,4 +24,5 @@ mod writer;
 pub use log::Log;
 pub use reader::Reader;
 pub use receipt::Receipt;
+pub use stores::NamesEntries;
 pub use writer::{Full, Writer};

@@ -23,17 +23,22 @@ impl NamesMessage for Brand {
     ghost message = { [] };
 }
 
-/// Names the entry that is published, as a list of one.
-pub(crate) trait NamesEntry<E> {
+/// Names the entries that are published, and the messages that stay staged.
+pub trait NamesEntries<E> {
+    ghost use Rattle.std.specs.Prelude.{List, ℕ};
     ghost use Rattle.hx_blog.specs.Feed.{Entries};
 
-    ghost entry: { Entries E };
+    ghost entries: { Entries E };
+
+    ghost left: { List (List ℕ) };
 }
 
-impl<E> NamesEntry<E> for Brand {
+impl<E> NamesEntries<E> for Brand {
     ghost use Rattle.std.specs.Prelude.{[]};
 
-    ghost entry = { [] };
+    ghost entries = { [] };
+
+    ghost left = { [] };
 }
 
 struct StoreWord;
@@ -58,10 +63,10 @@ struct StoreCount<N> {
     named: PhantomData<N>,
 }
 
-impl<E, N: NamesEntry<E>> Play<(), View<E>> for StoreCount<N> {
+impl<E, N: NamesEntries<E>> Play<(), View<E>> for StoreCount<N> {
     ghost use Rattle.hx_blog.specs.Steps.{StoresCount};
 
-    ghost then = { StoresCount N.entry };
+    ghost then = { StoresCount N.entries N.left };
 }
 
 /// Stores the six words of a message behind those that stand, from the word `first` on, and leaves the count.
@@ -95,8 +100,8 @@ pub(crate) fn store_message<E, N: NamesMessage>(
         .store::<StoreLastWord<N>>(seat, first + 5, words[5]);
 }
 
-/// Stores the count, which publishes what is staged.
-pub(crate) fn store_count<E, N: NamesEntry<E>>(
+/// Stores the count, which publishes the first of what is staged.
+pub(crate) fn store_count<E, N: NamesEntries<E>>(
     table: &LogTable<E>,
     seat: &mut LogSeat<E>,
     count: u64,
@@ -104,12 +109,12 @@ pub(crate) fn store_count<E, N: NamesEntry<E>>(
     requires log { seat.old.table_id ≡ table.now.shared.table_id }
     requires sized { table.now.shared.table_id.words ≡ 6 * table.now.shared.key + 1 }
     requires writing { IsWriting seat.old.me }
-    requires count { count ≡ length (feed seat.old.me.0.known) + length seat.old.me.0.staged }
-    requires entry { feed N.entry ≡ seat.old.me.0.staged }
+    requires count { count ≡ length (feed seat.old.me.0.known) + length (feed N.entries) }
+    requires entries { feed N.entries ++ N.left ≡ seat.old.me.0.staged }
     ensures log { seat.new.table_id ≡ seat.old.table_id }
     ensures published { seat.new.me ≡ (
       writing seat.old.me.0.room
-          (seat.old.me.0.known ++ N.entry) [] [],
+          (seat.old.me.0.known ++ N.entries) N.left [],
       [],
     ) }
 {

@@ -8,7 +8,7 @@ use crate::log::Log;
 use crate::receipt::Receipt;
 use crate::rule::LogSeat;
 use crate::seats::{split_off, tell_writer};
-use crate::stores::{NamesEntry, NamesMessage, store_count, store_message};
+use crate::stores::{NamesEntries, NamesMessage, store_count, store_message};
 use crate::words::pack;
 use arrayvec::ArrayVec;
 use std::marker::{Brand, Model};
@@ -61,6 +61,14 @@ impl<E> Writer<E> {
         self.count
     }
 
+    /// How many messages are published or staged, at most 1,000,000.
+    pub fn reached(&self) -> u64
+        ensures messages { result ≡ length (feed self.now.published) + length self.now.staged }
+        ensures limit { result ≤ most_room }
+    {
+        self.count + self.staged
+    }
+
     /// Stores a message above the count, where no reader looks yet. It is refused exactly where no slot is
     /// free, and then nothing changes.
     pub fn stage(&mut self, log: &Log<E>, message: &ArrayVec<u8, 44>) -> Result<(), Full>
@@ -104,18 +112,35 @@ impl<E> Writer<E> {
         self.publish_as::<Brand>(log, event);
     }
 
-    fn publish_as<N: NamesEntry<E>>(&mut self, log: &Log<E>, event: &E)
+    fn publish_as<N: NamesEntries<E>>(&mut self, log: &Log<E>, event: &E)
         requires log { self.old.log ≡ log.now }
-        requires named { N.entry ≡ (event.now, self.old.staged) ∷ [] }
+        requires entries { N.entries ≡ (event.now, self.old.staged) ∷ [] }
+        requires left { N.left ≡ [] }
         ensures { self.new ≡ record {
           log = self.old.log;
-          published = self.old.published ++ N.entry;
+          published = self.old.published ++ N.entries;
           staged = [];
         } }
     {
-        store_count::<E, N>(&log.table, &mut self.seat, self.count + self.staged);
-        self.count += self.staged;
-        self.staged = 0;
+        let count = self.staged;
+        self.publish_first::<N>(log, count);
+    }
+
+    /// Publishes so many of the staged messages, the first ones, as those of the entries that `N` names, each of which
+    /// may have some or none: one store of the count, also where it stays. The others stay staged.
+    pub fn publish_first<N: NamesEntries<E>>(&mut self, log: &Log<E>, count: u64)
+        requires log { self.old.log ≡ log.now }
+        requires count { count ≡ length (feed N.entries) }
+        requires named { feed N.entries ++ N.left ≡ self.old.staged }
+        ensures { self.new ≡ record {
+          log = self.old.log;
+          published = self.old.published ++ N.entries;
+          staged = N.left;
+        } }
+    {
+        store_count::<E, N>(&log.table, &mut self.seat, self.count + count);
+        self.count += count;
+        self.staged -= count;
     }
 
     /// A receipt for all that is published.

@@ -4,7 +4,7 @@ use Rattle.std.proofs.Common.{take, drop, min, length-drop}
 use Rattle.std.specs.Global.{Vec}
 use Rattle.std.specs.Vec.{vec_len, vec_capacity}
 use Rattle.std.specs.List.{take-map}
-use Rattle.std.proofs.lemmas.List.{map-append, map-set, length-map}
+use Rattle.std.proofs.lemmas.List.{map-append, map-set, length-map, get_or_read}
 use Rattle.arrayvec.specs.ArrayVec.{ArrayVec}
 use Rattle.hx_ouch.specs.declared.outbound.Outbound.{Outbound}
 use Rattle.hx_ouch.specs.Outbound.{outbound_bytes}
@@ -164,3 +164,35 @@ pub room_left : (rows : List (Vec (ArrayVec ℕ))) (i : ℕ) (x y : Vec (ArrayVe
     → vec_len y ≡ vec_len x + 1 → vec_capacity y ≡ vec_capacity x → HasRoomFor (map row_spare rows) (i ∷ ms) → HasRoomFor (map row_spare (set rows i y)) ms
 room_left rows i x y ms in' small is len capacity room m l =
     room_set row_spare rows i y (λ k. times k ms) m in' (omega (arith, has_room rows i x ms in' small is room)) (inl (omega (arith, room m l)))
+
+-- the first replies of a row, where so many are told
+pub row_told : (rows : List (Vec (ArrayVec ℕ))) (counts : List ℕ) (m : ℕ) (row : Vec (ArrayVec ℕ)) (items : List (ArrayVec ℕ)) (n k : ℕ) → m < length rows → m < length counts
+    → row ≡ get_or rows m row → items ≡ row.items → n ≡ get_or counts m n → k ≡ min n (length items)
+    → texts (take k items) ≡ take (slice_index counts m) (row_of (map row_texts rows) m)
+row_told rows counts m row items n k in_rows in_counts is same at least =
+    ap texts (take_min items n k least)
+    ∙ sym (take-map (λ (x : ArrayVec ℕ). x.items) n items)
+    ∙ ap (λ (l : List (ArrayVec ℕ)). take n (texts l)) same
+    ∙ ap (take n) (sym (row_at rows m row in_rows is))
+    ∙ ap (λ j. take j (row_of (map row_texts rows) m)) (get_or_read counts m n in_counts at 0)
+
+-- a member is among the first of these as often as among all at most
+pub times_of_first : (m : ℕ) (ms : List ℕ) (i : ℕ) → times m (take i ms) ≤ times m ms
+times_of_first m ms zero = omega arith
+times_of_first m [] (suc i) = omega arith
+times_of_first m (x ∷ ms) (suc i) = at (cond (eqb x m) 1 0) (times m (take i ms)) (times m ms) (times_of_first m ms i)
+  where
+    at : (b n k : ℕ) → n ≤ k → b + n ≤ b + k
+    at b n k l = omega arith
+
+-- one more of these members is told
+pub one_told : (counts old members : List ℕ) (rows : List (Vec (ArrayVec ℕ))) (row : Vec (ArrayVec ℕ)) (i place n : ℕ) → i < length members → place < length counts → place < length rows
+    → place ≡ slice_index members i → n ≡ get_or counts place n → row ≡ get_or rows place row
+    → slice_index counts place ≡ slice_index old place + times place (take i members)
+    → slice_index old place + times place members ≤ length (row_of (map row_texts rows) place)
+    → (n ≡ slice_index counts place) × (n < length row.items)
+one_told counts old members rows row i place n within in_counts in_rows is at here all room =
+    let read : n ≡ slice_index counts place = get_or_read counts place n in_counts at 0 in
+    let once : ◌≡◌ {A = ℕ} (cond (eqb (slice_index members i) place) 1 0) 1 = ap (λ (b : Bool). cond b 1 0) (eq-eqb (slice_index members i) place (sym is)) in
+    let row_is : length (row_of (map row_texts rows) place) ≡ length row.items = ap (λ (r : List (List ℕ)). length r) (row_at rows place row in_rows here) ∙ length-map row.items (λ (x : ArrayVec ℕ). x.items) in
+    (read, omega (arith, read, once, all, room, row_is, next_time place members i within, times_of_first place members (i + 1)))

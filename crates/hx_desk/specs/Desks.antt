@@ -1,5 +1,5 @@
 -- What contracts see of a desk.
-use Rattle.std.specs.Prelude.{◌≡◌, ℕ, ◌+◌, ◌-◌, ◌<◌, ◌≤◌, Bool, nat_le, List, [], ◌∷◌, ◌++◌, length, Option, Some, None}
+use Rattle.std.specs.Prelude.{◌≡◌, ℕ, ◌+◌, ◌-◌, ◌<◌, ◌≤◌, Bool, nat_le, List, [], ◌∷◌, ◌++◌, length, take, drop, Option, Some, None}
 use Rattle.hx_blog.specs.Feed.{Entries, feed}
 use Rattle.hx_blog.specs.Ends.{LogId, WriterState, room_of}
 use Rattle.hx_itch.specs.declared.message.Feed.{Feed}
@@ -13,36 +13,56 @@ use Rattle.hx_market.specs.Outputs.{Outcome}
 use Rattle.hx_market.specs.Refusals.{refusal}
 use Rattle.hx_market.specs.MarketModel.{Seen}
 use Rattle.hx_market.specs.Steps.{step, run, replies}
+use Rattle.hx_laws.specs.Recorded.{AreRecorded}
 use Rattle.hx_desk.specs.declared.entry.Entry.{Entry}
 use Rattle.hx_desk.specs.declared.entry.Done.{Done}
+use Rattle.hx_desk.specs.declared.mark.Mark.{Mark}
 use Rattle.hx_desk.specs.declared.fault.DeskError.{DeskError}
 use Rattle.hx_desk.specs.declared.fault.DeskError.TheVariants as fault
-use Rattle.hx_desk.specs.Rows.{RowList, RoomyRows, Part, row_of, row_count, no_rows, replies_spelled}
-use Rattle.hx_desk.specs.Entries.{events_of, feed_spelled, ledger}
+use Rattle.hx_desk.specs.Rows.{RowList, RoomyRows, Part, row_of, row_count, no_rows, shown, replies_spelled}
+use Rattle.hx_desk.specs.Entries.{entry_of, restored, events_of, feed_spelled, ledger}
 use Rattle.hx_desk.specs.Secrecy.{IsFeedWithoutTrace, AreRepliesWithoutTrace}
 
--- A desk: its log and its setup; the history; its market; what is published in the log; the replies
--- to each member number; and how many slots of the log are kept for the hours.
+-- A desk: its log and its setup; the history; how many of its entries are told, and how many are told
+-- or in flight to where they are kept; its market; what is published in the log; the replies that each
+-- member number was told; and how many slots of the log are kept for the hours.
 pub record DeskState : Type 0 where
   pub log : LogId
   pub setup : Setup
   pub history : List Entry
+  pub told : ℕ
+  pub sealed : ℕ
   pub market : Market
   pub published : Entries Entry
   pub rows : RowList
   pub kept : ℕ
 
--- the desk of a log's writer, a market, a history, the rows of replies, and the slots that are kept
+-- the entries that are told, and those that wait to be: the history is both
+abbrev pub told_of : DeskState → List Entry
+told_of d = take d.told d.history
+
+abbrev pub waiting_of : DeskState → List Entry
+waiting_of d = drop d.told d.history
+
+-- the entries that are in flight
+abbrev pub flying_of : DeskState → List Entry
+flying_of d = drop d.told (take d.sealed d.history)
+
+-- the desk of a log's writer, a market, a history, the rows of replies, how far it told and sealed, and
+-- the slots that are kept
 abbrev pub desk_of :
-    WriterState Entry → Seen → List Entry → RoomyRows → (kept : ℕ) → DeskState
-desk_of writer market history rows kept =
+    WriterState Entry → Seen → List Entry → RoomyRows → (told sealed : Mark) → (kept : ℕ)
+    → DeskState
+desk_of writer market history rows told sealed kept =
     record {
       log = writer.log;
       setup = market.setup;
       history = history;
+      told = told.entries;
+      sealed = sealed.entries;
       market = market.market;
       published = writer.published;
-      rows = rows.rows;
+      rows = shown rows.told rows.rows;
       kept = kept;
     }
 
@@ -53,34 +73,43 @@ start_of log setup =
       log = log;
       setup = setup;
       history = [];
+      told = 0;
+      sealed = 0;
       market = opening setup;
       published = [];
       rows = no_rows;
       kept = 0;
     }
 
--- The market is the run of the history, what is published is the history with its feed, and each row
--- is its member's replies.
+-- The market is the run of the whole history, each event of which it accepted; what is published is what
+-- is told of it, with its feed, and each row is its member's replies to what is told.
 pub record IsStanding (d : DeskState) : Type 0 where
+  pub order : d.told ≤ d.sealed
+  pub within : d.sealed ≤ length d.history
   pub market : d.market ≡ run d.setup (events_of d.history)
-  pub published : d.published ≡ ledger d.setup d.history
+  pub accepted : AreRecorded d.setup (events_of d.history)
+  pub published : d.published ≡ ledger d.setup (told_of d)
   pub rows :
       (member : ℕ) → member < row_count
-      → row_of d.rows member ≡ replies_spelled (replies d.setup member (events_of d.history))
+      → row_of d.rows member ≡ replies_spelled (replies d.setup member (events_of (told_of d)))
+
+-- the market after what is told
+abbrev pub told_market : DeskState → Market
+told_market d = run d.setup (events_of (told_of d))
 
 -- all replies
 abbrev pub all_of_them : Part
 all_of_them replies = replies
 
--- the rows are this part of the replies to a member of a desk, and tell nothing of others' quiet
--- chains
+-- the rows are this part of the replies that a member of a desk was told, and tell nothing of others'
+-- quiet chains
 abbrev pub AreRepliesAt : DeskState → (reader : ℕ) → Part → List (List ℕ) → Type 0
 AreRepliesAt d reader part rows =
-    AreRepliesWithoutTrace d.setup (events_of d.history) reader part rows
+    AreRepliesWithoutTrace d.setup (events_of (told_of d)) reader part rows
 
 -- the published feed, and the row of each member, tell nothing of quiet chains
 pub record TellsNoSecret (d : DeskState) : Type 0 where
-  pub feed_published : IsFeedWithoutTrace d.setup (events_of d.history) (feed d.published)
+  pub feed_published : IsFeedWithoutTrace d.setup (events_of (told_of d)) (feed d.published)
   pub rows :
       (member : ℕ) → member < row_count
       → AreRepliesAt d member all_of_them (row_of d.rows member)
@@ -100,9 +129,13 @@ kept_from kept (events.Hours time code) = 0
 kept_from kept (events.Halt time stock state reason) = kept
 kept_from kept (events.Break time number) = kept
 
+-- how many messages of the feed the whole history gives, told or not
+abbrev pub reached_of : DeskState → ℕ
+reached_of d = length (feed (ledger d.setup d.history))
+
 -- how many slots of the log are free for an event, and how many messages of the feed it gives
 abbrev pub free_of : DeskState → Event → ℕ
-free_of d event = room_of d.log - length (feed d.published) - kept_from d.kept event
+free_of d event = room_of d.log - reached_of d - kept_from d.kept event
 
 abbrev pub needed_of : DeskState → Event → ℕ
 needed_of d event = length (step d.setup d.market event).told.feed
@@ -111,18 +144,51 @@ needed_of d event = length (step d.setup d.market event).told.feed
 abbrev pub refusal_of : DeskState → Event → Option PrepareError
 refusal_of d event = refusal d.setup d.market.recorded event
 
--- The desk has grown by an entry: its place in the history is counted from 1, and so is the number
--- of its first message of the feed.
+-- The desk has grown by an entry, and told nothing: its place in the history is counted from 1, and so
+-- is the number of its first message of the feed.
 pub record Grows (old new : DeskState) (entry : Entry) (done : Done) : Type 0 where
   pub log : new.log ≡ old.log
   pub setup : new.setup ≡ old.setup
   pub history : new.history ≡ old.history ++ entry ∷ []
+  pub told : new.told ≡ old.told
+  pub sealed : new.sealed ≡ old.sealed
+  pub published : new.published ≡ old.published
+  pub rows : new.rows ≡ old.rows
   pub place : done.place ≡ length new.history
-  pub first : done.first ≡ length (feed old.published) + 1
+  pub first : done.first ≡ reached_of old + 1
   pub count : done.count ≡ needed_of old entry.event
   pub accepted : refusal_of old entry.event ≡ None
   pub room : needed_of old entry.event ≤ free_of old entry.event
   pub kept : new.kept ≡ old.kept
+
+-- What was in flight is told, and nothing else has changed.
+pub record Releases (old new : DeskState) : Type 0 where
+  pub log : new.log ≡ old.log
+  pub setup : new.setup ≡ old.setup
+  pub history : new.history ≡ old.history
+  pub told : new.told ≡ old.sealed
+  pub sealed : new.sealed ≡ old.sealed
+  pub market : new.market ≡ old.market
+  pub kept : new.kept ≡ old.kept
+
+-- The desk has grown by an event of no pass, and all of its history is told.
+pub record Restores (old new : DeskState) (event : Event) : Type 0 where
+  pub log : new.log ≡ old.log
+  pub setup : new.setup ≡ old.setup
+  pub history : new.history ≡ old.history ++ entry_of 0 event ∷ []
+  pub told : new.told ≡ length new.history
+  pub kept : new.kept ≡ old.kept
+
+-- A desk that was resumed from these events: they are its history, under no pass, all of it is told, and
+-- no slots are kept.
+-- Since it stands, its market, its feed and its members' rows are those of these events.
+pub record IsResumed (id : LogId) (rules : Setup) (events : List Event) (d : DeskState) : Type 0 where
+  pub log : d.log ≡ id
+  pub setup : d.setup ≡ rules
+  pub history : d.history ≡ restored events
+  pub told : d.told ≡ length d.history
+  pub kept : d.kept ≡ 0
+  pub standing : IsStanding d
 
 -- the event was not refused for its time, its member or a limit, and its messages of the feed exceed
 -- the free slots
@@ -145,10 +211,10 @@ Faults d event fault.NoMemory = refusal_of d event ≡ None
 abbrev pub messages_in : WriterState Entry → ℕ
 messages_in writer = length (feed writer.published) + length writer.staged
 
--- the entry and its messages of the feed are published
-abbrev pub with_published : WriterState Entry → Entry → List Feed → WriterState Entry
-with_published writer entry messages =
-    record writer { published = writer.published ++ (entry, feed_spelled messages) ∷ [] }
+-- the messages of the feed are staged
+abbrev pub with_staged : WriterState Entry → List Feed → WriterState Entry
+with_staged writer messages =
+    record writer { staged = writer.staged ++ feed_spelled messages }
 
 -- code C, the last of the six hours codes, is past
 abbrev pub is_over : Market → Bool

@@ -13,6 +13,10 @@ use Rattle.hx_desk.specs.declared.entry.Entry.{Entry}
 abbrev pub entry_of : (pass : ℕ) → Event → Entry
 entry_of pass event = record { pass = pass; event = event }
 
+-- the history of events that no pass sent
+abbrev pub restored : List Event → List Entry
+restored events = map (entry_of 0) events
+
 -- the events of a history
 abbrev pub events_of : List Entry → List Event
 events_of history = map (λ e. e.event) history

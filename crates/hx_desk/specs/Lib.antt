@@ -3,4 +3,5 @@ pub mod Entries
 pub mod Faults
 pub mod Secrecy
 pub mod Desks
+pub mod InStep
 pub mod Known

@@ -52,10 +52,22 @@ with_replies rows (reply ∷ replies) = with_replies (with_reply rows reply) rep
 
 -- Room for replies.
 
--- what contracts see of the rows: the replies, and for how many more each row has room
+-- what contracts see of the rows: the replies, for how many more each row has room, and how many of
+-- each are told
 pub record RoomyRows : Type 0 where
   pub rows : RowList
   pub spare : List ℕ
+  pub told : List ℕ
+
+-- the first ones of each row, so many as these counts say
+abbrev pub shown : (counts : List ℕ) → RowList → RowList
+shown [] rows = []
+shown (n ∷ counts) [] = []
+shown (n ∷ counts) (row ∷ rows) = take n row ∷ shown counts rows
+
+-- the replies that a member was told
+abbrev pub told_row : RoomyRows → (member : ℕ) → List (List ℕ)
+told_row rows member = take (slice_index rows.told member) (row_of rows.rows member)
 
 -- the replies to one member as their bytes, and for how many more there is room
 abbrev pub row_texts : Vec (ArrayVec ℕ) → List (List ℕ)
@@ -77,6 +89,18 @@ times member (m ∷ ms) = (if m == member then 1 else 0) + times member ms
 abbrev pub HasRoomFor : (spare members : List ℕ) → Type 0
 HasRoomFor spare members =
     (member : ℕ) → member < row_count → times member members ≤ slice_index spare member
+
+-- the counts of these members are raised, each as often as he is among them
+abbrev pub AreRaised : (old new members : List ℕ) → Type 0
+AreRaised old new members =
+    (member : ℕ) → member < row_count
+    → slice_index new member ≡ slice_index old member + times member members
+
+-- as many replies to each of these members stand beyond those that are told
+abbrev pub HasUntold : RoomyRows → (members : List ℕ) → Type 0
+HasUntold rows members =
+    (member : ℕ) → member < row_count
+    → slice_index rows.told member + times member members ≤ length (row_of rows.rows member)
 
 -- the counts of these members are 0
 abbrev pub AreZeroAt : (counts members : List ℕ) → Type 0

@@ -6,7 +6,7 @@ ghost use Rattle.hx_itch.specs.Message.{feed_time};
 ghost use Rattle.hx_blog.specs.Ends.{room_of};
 ghost use Rattle.hx_desk.specs.Rows.{members_of, with_replies, HasRoomFor};
 ghost use Rattle.hx_desk.specs.Entries.{feed_spelled};
-ghost use Rattle.hx_desk.specs.Desks.{outcome_at, messages_in, with_published};
+ghost use Rattle.hx_desk.specs.Desks.{outcome_at, messages_in, with_staged};
 
 use crate::entry::Entry;
 use crate::rows::Rows;
@@ -32,8 +32,8 @@ fn stage_all(writer: &mut Writer<Entry>, log: &Log<Entry>, messages: &[Feed])
     }
 }
 
-/// Does what was prepared for an entry: one step of the market, whose messages of the feed are published, and whose
-/// replies are added to their members' rows.
+/// Does what was prepared for an entry: one step of the market, whose messages of the feed are staged, and whose
+/// replies are added to their members' rows, where they are not told yet.
 pub(crate) fn commit_entry(
     market: &mut Market<LevelBook>,
     writer: &mut Writer<Entry>,
@@ -46,7 +46,6 @@ pub(crate) fn commit_entry(
     requires ready { market.old.ready ≡ Some prepared }
     requires event { prepared.event ≡ entry.event }
     requires log { writer.old.log ≡ log.now }
-    requires staged { writer.old.staged ≡ [] }
     requires slots { messages_in writer.old + length
         (outcome_at market.old entry.event).told.feed ≤ room_of log.now }
     requires place { vec_len history.old < vec_capacity history.old }
@@ -55,14 +54,14 @@ pub(crate) fn commit_entry(
     ensures market { market.new.market ≡ (outcome_at market.old entry.event).market }
     ensures setup { market.new.setup ≡ market.old.setup }
     ensures writer { writer.new
-        ≡ with_published writer.old entry (outcome_at market.old entry.event).told.feed }
+        ≡ with_staged writer.old (outcome_at market.old entry.event).told.feed }
     ensures history { history.new.items ≡ history.old.items ++ entry ∷ [] }
     ensures rows { rows.new.rows
         ≡ with_replies rows.old.rows (outcome_at market.old entry.event).told.replies }
+    ensures told { rows.new.told ≡ rows.old.told }
 {
     let output = market.commit(prepared);
     stage_all(writer, log, &output.feed);
-    writer.publish(log, &entry);
     history.push_reserved(entry);
     rows.add(&output.replies);
     market.take_back(output);

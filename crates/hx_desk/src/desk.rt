@@ -1,25 +1,28 @@
 //! The desk.
-ghost use Rattle.std.specs.Prelude.{◌≡◌, ◌<◌, ◌^◌, [], length, IfOk, IfErr, OnErr};
+ghost use Rattle.std.specs.Prelude.{◌≡◌, ◌<◌, ◌≤◌, ◌++◌, ◌^◌, [], length, take, drop, IfOk, IfErr, OnOk, OnErr};
 ghost use mathlib.Core.List.{IsPrefix};
 ghost use Rattle.hx_blog.specs.Feed.{feed};
 ghost use Rattle.hx_units.specs.Fields.{texts};
 ghost use Rattle.hx_desk.specs.Rows.{row_of, from_number, page};
-ghost use Rattle.hx_desk.specs.Entries.{entry_of};
-ghost use Rattle.hx_desk.specs.Desks.{AreRepliesAt, IsStanding, TellsNoSecret, Grows, Faults, kept_from, start_of, is_over};
+ghost use Rattle.hx_desk.specs.Entries.{entry_of, ledger};
+ghost use Rattle.hx_desk.specs.InStep.{IsMark};
+ghost use Rattle.hx_desk.specs.Desks.{AreRepliesAt, IsStanding, TellsNoSecret, Grows, Releases, Restores, IsResumed, Faults, kept_from, start_of, is_over, told_of, told_market};
 ghost use Rattle.hx_desk.specs.Known.{CatchesUp};
 
 use crate::commit::commit_entry;
 use crate::entry::{Done, Entry};
 use crate::fault::DeskError;
+use crate::mark::Mark;
 use crate::rows::Rows;
 use arrayvec::ArrayVec;
-use hx_blog::{Log, Reader, Receipt, Writer};
+use hx_blog::{Log, NamesEntries, Reader, Receipt, Writer};
 use hx_levels::LevelBook;
 use hx_market::{Event, Market};
 use hx_members::{Seed, Setup};
 use hx_units::{MemberNo, NoMemory};
 use std::alloc::Global;
-use std::marker::Model;
+use std::marker::{Brand, Model};
+use std::mem::swap;
 
 // How many hours codes a day has: `O`, `S`, `Q`, `M`, `E`, `C` (ITCH 5.0, System Event Message).
 const HOURS_CODES: u8 = 6;
@@ -34,31 +37,77 @@ fn kept_from(kept: u64, event: &Event) -> u64
     }
 }
 
-/// The market with its history, the writer of the log, and the replies to each member.
+/// The market with its history, the writer of the log, and the replies to each member. Its entries are admitted first,
+/// then sealed, several at once, to be kept, and then told.
 #[derive(Drop)]
 pub struct Desk {
     market: Market<LevelBook>,
     writer: Writer<Entry>,
     history: Vec<Entry>,
     rows: Rows,
+    // Up to where entries are told, and up to where they are told or in flight.
+    told: Mark,
+    sealed: Mark,
+    // To whom the replies to the entries in flight go, and those to the entries behind them.
+    flying: Vec<MemberNo>,
+    waiting: Vec<MemberNo>,
     // So many slots of the log are kept for the codes of the hours and for ticks.
     kept: u64,
     alloc: Global,
 }
 
 impl Model for Desk {
-    ghost use Rattle.std.specs.Prelude.{◌≡◌, [], length};
-    ghost use Rattle.hx_desk.specs.Rows.{row_count};
-    ghost use Rattle.hx_desk.specs.Desks.{DeskState, IsStanding, desk_of};
+    ghost use Rattle.hx_desk.specs.Desks.{DeskState, desk_of};
+    ghost use Rattle.hx_desk.specs.InStep.{AreInStep};
 
     ghost Value = { DeskState };
 
-    ghost view = { λ d. desk_of d.writer d.market d.history.items d.rows d.kept };
+    ghost view = { λ d. desk_of d.writer d.market d.history.items d.rows d.told d.sealed
+        d.kept };
 
-    ghost invariant = { λ d.
-        (d.writer.staged ≡ [])
-        × (length d.rows.rows ≡ row_count)
-        × IsStanding (desk_of d.writer d.market d.history.items d.rows d.kept) };
+    ghost invariant = { λ d. AreInStep d.market.setup d.market.market d.writer.published
+        d.writer.staged d.history.items d.rows.rows d.rows.told d.told d.sealed
+        d.flying.items d.waiting.items };
+}
+
+// Publishes what is staged up to the second mark, with one store.
+fn publish_up_to<N: NamesEntries<Entry>>(
+    writer: &mut Writer<Entry>,
+    log: &Log<Entry>,
+    market: &Market<LevelBook>,
+    history: &[Entry],
+    told: Mark,
+    sealed: Mark,
+)
+    requires log { writer.old.log ≡ log.now }
+    requires told { IsMark market.now.setup history.now told }
+    requires sealed { IsMark market.now.setup history.now sealed }
+    requires order { told.entries ≤ sealed.entries }
+    requires published { writer.old.published
+        ≡ ledger market.now.setup (take told.entries history.now) }
+    requires staged { feed writer.old.published ++ writer.old.staged
+        ≡ feed (ledger market.now.setup history.now) }
+    requires entries { N.entries ≡ drop told.entries
+        (take sealed.entries (ledger market.now.setup history.now)) }
+    requires left { N.left
+        ≡ feed (drop sealed.entries (ledger market.now.setup history.now)) }
+    ensures log { writer.new.log ≡ writer.old.log }
+    ensures published { writer.new.published
+        ≡ ledger market.now.setup (take sealed.entries history.now) }
+    ensures staged { feed writer.new.published ++ writer.new.staged
+        ≡ feed (ledger market.now.setup history.now) }
+{
+    let count = sealed.messages - told.messages;
+    writer.publish_first::<N>(log, count);
+}
+
+// Lists members behind others.
+fn list_members(listed: &mut Vec<MemberNo>, members: &[MemberNo]) -> Result<(), NoMemory>
+    ensures ok { OnOk result (listed.new.items ≡ listed.old.items ++ members.now) }
+    ensures err { OnErr result (listed.new.items ≡ listed.old.items) }
+{
+    listed.extend_from_slice(members)?;
+    Ok(())
 }
 
 impl Desk {
@@ -82,18 +131,28 @@ impl Desk {
         requires { (writer.published ≡ []) × (writer.staged ≡ []) }
         ensures { IfOk result (λ desk. desk ≡ start_of writer.log setup) }
     {
+        let market = Market::seeded(alloc, setup, LevelBook::new(alloc), seed)?;
+        let start = Mark {
+            entries: 0,
+            messages: 0,
+            hours: market.hours(),
+        };
         Ok(Desk {
-            market: Market::seeded(alloc, setup, LevelBook::new(alloc), seed)?,
+            market,
             writer,
             history: Vec::new(alloc),
             rows: Rows::new(alloc)?,
+            told: start,
+            sealed: start,
+            flying: Vec::new(alloc),
+            waiting: Vec::new(alloc),
             kept: 0,
             alloc,
         })
     }
 
-    /// Keeps so many slots of the log for the codes of the hours and for ticks: from now on no other event is given
-    /// one of the last so many.
+    /// Keeps this number of slots of the log for the codes of the hours and for ticks: from now on no other event is
+    /// given one of them, the last ones.
     pub fn keep(&mut self, slots: u64)
         ensures { self.new ≡ record self.old { kept = slots } }
     {
@@ -130,9 +189,10 @@ impl Desk {
         };
         self.history.reserve(1).map_err(|_| NoMemory)?;
         self.rows.reserve(prepared.reply_members())?;
+        list_members(&mut self.waiting, prepared.reply_members())?;
         let done = Done {
             place: self.history.len() as u64 + 1,
-            first: self.writer.count() + 1,
+            first: self.writer.reached() + 1,
             count: needed,
         };
         commit_entry(
@@ -147,23 +207,103 @@ impl Desk {
         Ok(done)
     }
 
-    /// Records an event for a pass: one step of the market, whose messages of the feed are published, and whose
-    /// replies are added to their members' rows. Where it is refused, nothing changes. The refusals come in the order
+    /// Admits an event for a pass: one step of the market. Nothing is told of it yet: its messages of the feed are
+    /// staged, and the replies to it are at hand. Where it is refused, nothing changes. The refusals come in the order
     /// `BadTime`, `NoMember`, `Limit`, and then `NoMemory` or `Full`, as they are met.
-    pub fn submit(&mut self, log: &Log<Entry>, pass: u16, event: &Event) -> Result<Done, DeskError>
+    pub fn admit(&mut self, log: &Log<Entry>, pass: u16, event: &Event) -> Result<Done, DeskError>
         requires { self.old.log ≡ log.now }
         ensures ok { IfOk result (Grows self.old self.new (entry_of pass event.now)) }
         ensures err { OnErr result (self.new ≡ self.old) }
         ensures refused { IfErr result (Faults self.old event.now) }
 
-        // Ok or not: the market is the run of the history, what is published is the history with its feed, and
-        // each row is its member's replies; and they tell nothing of quiet chains.
+        // Ok or not: the market is the run of the history, what is published is what is told of it with its feed, and
+        // each row is its member's replies to that; and they tell nothing of quiet chains.
         ensures standing { IsStanding self.new }
         ensures secret { TellsNoSecret self.new }
     {
         let done = self.record(log, pass, event);
         self.stands();
         done
+    }
+
+    /// Seals all that waits: it is in flight from now on, to where it is kept. Nothing else may be in flight.
+    pub fn seal(&mut self)
+        requires { self.old.sealed ≡ self.old.told }
+        ensures { self.new ≡ record self.old { sealed = length self.old.history } }
+    {
+        self.sealed = Mark {
+            entries: self.history.len() as u64,
+            messages: self.writer.reached(),
+            hours: self.market.hours(),
+        };
+        swap(&mut self.flying, &mut self.waiting);
+    }
+
+    // Tells what is in flight.
+    fn tell(&mut self, log: &Log<Entry>)
+        requires { self.old.log ≡ log.now }
+        ensures { Releases self.old self.new }
+    {
+        publish_up_to::<Brand>(
+            &mut self.writer,
+            log,
+            &self.market,
+            &self.history,
+            self.told,
+            self.sealed,
+        );
+        self.rows.tell(&self.flying);
+        self.flying.clear();
+        self.told = self.sealed;
+    }
+
+    /// Tells what is in flight, once it is kept: its messages of the feed are published, with one store, and the
+    /// replies to it stand in their members' rows. It takes no memory, and cannot fail.
+    pub fn release(&mut self, log: &Log<Entry>)
+        requires { self.old.log ≡ log.now }
+        ensures released { Releases self.old self.new }
+        ensures standing { IsStanding self.new }
+        ensures secret { TellsNoSecret self.new }
+    {
+        self.tell(log);
+        self.stands();
+    }
+
+    /// Records an event of a history that is kept already, under no pass, and tells it at once. Nothing may wait to be
+    /// told. Where it is refused, nothing changes.
+    pub fn restore(&mut self, log: &Log<Entry>, event: &Event) -> Result<(), DeskError>
+        requires log { self.old.log ≡ log.now }
+        requires settled { self.old.told ≡ length self.old.history }
+        ensures ok { OnOk result (Restores self.old self.new event.now) }
+        ensures err { OnErr result (self.new ≡ self.old) }
+        ensures refused { IfErr result (Faults self.old event.now) }
+    {
+        self.stands();
+        self.admit(log, 0, event)?;
+        self.seal();
+        self.release(log);
+        Ok(())
+    }
+
+    /// A desk that goes on from a history that was kept: it has recorded these events, in this order, and told them.
+    pub fn resume(
+        alloc: Global,
+        setup: Setup,
+        writer: Writer<Entry>,
+        seed: Seed,
+        log: &Log<Entry>,
+        events: &[Event],
+    ) -> Result<Desk, DeskError>
+        requires empty { (writer.published ≡ []) × (writer.staged ≡ []) }
+        requires log { writer.log ≡ log.now }
+        ensures { IfOk result (λ desk. IsResumed log.now setup events.now desk) }
+    {
+        let mut desk = Desk::seeded(alloc, setup, writer, seed)?;
+        for event in events {
+            desk.restore(log, event)?;
+        }
+        desk.stands();
+        Ok(desk)
     }
 
     /// Why the event is refused where there is no memory for it: as `submit` would refuse it, or for want of memory.
@@ -177,7 +317,7 @@ impl Desk {
         }
     }
 
-    /// How many replies a member has.
+    /// How many replies a member was told.
     pub fn reply_count(&self, member: MemberNo) -> u64
         ensures count { result ≡ length (row_of self.now.rows member) }
         ensures few { result < 2 ^ 63 }
@@ -186,8 +326,8 @@ impl Desk {
         self.rows.count(member)
     }
 
-    /// The replies to a member from this number on, which count from 1; 0 is read as 1. It takes memory where there
-    /// are any.
+    /// The replies that a member was told, from this number on, which count from 1; 0 is read as 1. It takes memory
+    /// where there are any.
     pub fn replies_from(
         &self,
         member: MemberNo,
@@ -220,18 +360,32 @@ impl Desk {
         self.rows.page(member, from, most)
     }
 
-    /// Whether hours code `C`, the last of the day, is past.
+    /// Whether hours code `C`, the last of the day, is past in what is told.
     pub fn ended(&self) -> bool
-        ensures { result ≡ is_over self.now.market }
+        ensures { result ≡ is_over (told_market self.now) }
     {
-        self.market.hours() >= HOURS_CODES
+        self.told.hours >= HOURS_CODES
     }
 
-    /// How many entries the history has.
+    /// How many entries the history has, told or not.
     pub fn history_len(&self) -> u64
         ensures { result ≡ length self.now.history }
     {
         self.history.len() as u64
+    }
+
+    /// How many entries are told.
+    pub fn told_len(&self) -> u64
+        ensures { result ≡ self.now.told }
+    {
+        self.told.entries
+    }
+
+    /// How many entries are told or in flight.
+    pub fn sealed_len(&self) -> u64
+        ensures { result ≡ self.now.sealed }
+    {
+        self.sealed.entries
     }
 
     /// How many messages of the feed are published.
@@ -241,12 +395,13 @@ impl Desk {
         self.writer.count()
     }
 
-    /// A copy of the history.
+    /// A copy of what is told of the history.
     pub fn copy_history(&self) -> Result<Vec<Entry>, NoMemory>
-        ensures { IfOk result (λ history. history.items ≡ self.now.history) }
+        ensures { IfOk result (λ history. history.items ≡ told_of self.now) }
     {
-        let mut history = Vec::with_capacity(self.alloc, self.history.len())?;
-        for entry in &self.history {
+        let told = &self.history[..self.told.entries as usize];
+        let mut history = Vec::with_capacity(self.alloc, told.len())?;
+        for entry in told {
             let pass = entry.pass;
             let event = entry.event.copy(self.alloc)?;
             history.push(Entry { pass, event })?;
@@ -254,19 +409,25 @@ impl Desk {
         Ok(history)
     }
 
-    /// The history, given out.
-    pub fn into_history(self) -> Vec<Entry>
-        ensures { result.items ≡ self.history }
+    /// The history and the writer of the log, given out.
+    pub fn into_parts(self) -> (Vec<Entry>, Writer<Entry>)
+        ensures history { result.0.items ≡ self.history }
+        ensures published { (result.1.log ≡ self.log) × (result.1.published ≡ self.published) }
+        ensures whole { self.told ≡ length self.history → result.1.staged ≡ [] }
     {
         let Desk {
             market: _,
-            writer: _,
+            writer,
             history,
             rows: _,
+            told: _,
+            sealed: _,
+            flying: _,
+            waiting: _,
             kept: _,
             alloc: _,
         } = self;
-        history
+        (history, writer)
     }
 
     /// Takes in what a receipt knows: it is a beginning of what is published.

@@ -9,6 +9,7 @@ mod desk;
 mod entry;
 mod fault;
 pub mod laws;
+mod mark;
 mod rows;
 
 pub use desk::Desk;

@@ -1,7 +1,7 @@
 //! The replies that were sent to each member.
-ghost use Rattle.std.specs.Prelude.{◌≡◌, ℕ, ◌<◌, ◌^◌, map, length, slice_index, IfOk, IfErr, OnOk};
+ghost use Rattle.std.specs.Prelude.{◌≡◌, ℕ, ◌+◌, ◌<◌, ◌≤◌, ◌^◌, map, length, slice_index, IfOk, IfErr, OnOk, replicate};
 ghost use Rattle.hx_units.specs.Fields.{texts};
-ghost use Rattle.hx_desk.specs.Rows.{AreZeroAt, row_texts, row_spare, row_of, row_count, no_rows, members_of, with_replies, HasRoomFor, from_number, page};
+ghost use Rattle.hx_desk.specs.Rows.{AreZeroAt, AreRaised, HasUntold, told_row, row_texts, row_spare, row_of, row_count, no_rows, members_of, times, with_replies, HasRoomFor, from_number, page};
 
 use arrayvec::ArrayVec;
 use hx_ouch::{Outbound, encode_out};
@@ -12,13 +12,15 @@ use std::marker::Model;
 // The replies to one member.
 type Row = Vec<ArrayVec<u8, 80>>;
 
-/// The replies that were sent, in bytes, a row for each member number. Contracts see them, and for how many
-/// more replies each row has room.
+/// The replies to each member, in bytes, a row for each member number: the first of them he was told. Contracts see
+/// them, for how many more replies each row has room, and how many of each are told.
 #[derive(Drop)]
 pub struct Rows {
     rows: Vec<Row>,
     // For `reserve` alone: how many replies it has counted to a member.
     counts: Vec<usize>,
+    // How many of each row are told.
+    told: Vec<usize>,
     alloc: Global,
 }
 
@@ -31,11 +33,13 @@ impl Model for Rows {
     ghost view = { λ r. record {
       rows = map row_texts r.rows.items;
       spare = map row_spare r.rows.items;
+      told = r.told.items;
     } };
 
     ghost invariant = { λ r.
         (length r.rows.items ≡ row_count)
-        × (length r.counts.items ≡ row_count) };
+        × (length r.counts.items ≡ row_count)
+        × (length r.told.items ≡ row_count) };
 }
 
 // Sets the counts of these members to 0.
@@ -111,14 +115,34 @@ fn copy_of(alloc: Global, replies: &[ArrayVec<u8, 80>]) -> Result<Row, NoMemory>
     Ok(row)
 }
 
+// Raises the counts of these members, each as often as he is among them.
+fn raise(counts: &mut Vec<usize>, rows: &[Row], members: &[MemberNo])
+    requires counts { length counts.old.items ≡ row_count }
+    requires rows { length rows.now ≡ row_count }
+    requires untold { (m : ℕ) → m < row_count → slice_index counts.old.items m
+        + times m members.now ≤ length (row_of (map row_texts rows.now) m) }
+    ensures counts { length counts.new.items ≡ row_count }
+    ensures raised { AreRaised counts.old.items counts.new.items members.now }
+{
+    for member in members {
+        let place = member.get() as usize;
+        let most = rows[place].len();
+        let count = counts[place];
+        prove!(count < most);
+        counts[place] = count + 1;
+    }
+}
+
 impl Rows {
     /// No reply to anybody. `NoMemory` where there is no place for the rows.
     pub fn new(alloc: Global) -> Result<Rows, NoMemory>
-        ensures { IfOk result (λ rows. rows.rows ≡ no_rows) }
+        ensures rows { IfOk result (λ rows. rows.rows ≡ no_rows) }
+        ensures told { IfOk result (λ rows. rows.told ≡ replicate row_count 0) }
     {
         Ok(Rows {
             rows: empty_rows(alloc)?,
             counts: vec![in alloc; 0; 4096]?,
+            told: vec![in alloc; 0; 4096]?,
             alloc,
         })
     }
@@ -126,35 +150,59 @@ impl Rows {
     /// Makes room for the replies to these members.
     pub fn reserve(&mut self, members: &[MemberNo]) -> Result<(), NoMemory>
         ensures same { self.new.rows ≡ self.old.rows }
+        ensures told { self.new.told ≡ self.old.told }
         ensures room { OnOk result (HasRoomFor self.new.spare members.now) }
     {
         make_room(&mut self.rows, &mut self.counts, members)
     }
 
-    /// Adds replies, for which there is room.
+    /// Adds replies, for which there is room. They are not told yet.
     pub fn add(&mut self, replies: &[(MemberNo, Outbound)])
         requires { HasRoomFor self.old.spare (members_of replies.now) }
-        ensures { self.new.rows ≡ with_replies self.old.rows replies.now }
+        ensures rows { self.new.rows ≡ with_replies self.old.rows replies.now }
+        ensures told { self.new.told ≡ self.old.told }
     {
         add_all(&mut self.rows, replies);
     }
 
-    /// How many replies a member has.
+    /// Tells each of these members the next of his replies, each as often as he is among them.
+    pub fn tell(&mut self, members: &[MemberNo])
+        requires { HasUntold self.old members.now }
+        ensures rows { self.new.rows ≡ self.old.rows }
+        ensures told { AreRaised self.old.told self.new.told members.now }
+        ensures sized { length self.new.told ≡ row_count }
+    {
+        raise(&mut self.told, &self.rows, members);
+    }
+
+    // The replies that a member was told.
+    fn row(&self, member: MemberNo) -> &[ArrayVec<u8, 80>]
+        ensures replies { texts result.now ≡ told_row self.now member }
+        ensures few { length (told_row self.now member) < 2 ^ 63 }
+        ensures range { member < 4096 }
+    {
+        let place = member.get() as usize;
+        let row = &self.rows[place];
+        let told = self.told[place].min(row.len());
+        &row[..told]
+    }
+
+    /// How many replies a member was told.
     pub fn count(&self, member: MemberNo) -> u64
-        ensures count { result ≡ length (row_of self.now.rows member) }
+        ensures count { result ≡ length (told_row self.now member) }
         ensures few { result < 2 ^ 63 }
         ensures range { member < 4096 }
     {
-        self.rows[member.get() as usize].len() as u64
+        self.row(member).len() as u64
     }
 
     // The replies to a member from this number on, where they stand.
     fn end(&self, member: MemberNo, from: u64) -> &[ArrayVec<u8, 80>]
-        ensures replies { texts result.now ≡ from_number from (row_of self.now.rows member) }
-        ensures few { length (row_of self.now.rows member) < 2 ^ 63 }
+        ensures replies { texts result.now ≡ from_number from (told_row self.now member) }
+        ensures few { length (told_row self.now member) < 2 ^ 63 }
         ensures range { member < 4096 }
     {
-        let row = &self.rows[member.get() as usize];
+        let row = self.row(member);
         let first = (from.saturating_sub(1) as usize).min(row.len());
         &row[first..]
     }
@@ -163,10 +211,10 @@ impl Rows {
     /// are any.
     pub fn from(&self, member: MemberNo, from: u64) -> Result<Vec<ArrayVec<u8, 80>>, NoMemory>
         ensures replies { IfOk result (λ rows.
-            texts rows.items ≡ from_number from (row_of self.now.rows member)) }
+            texts rows.items ≡ from_number from (told_row self.now member)) }
         ensures memory { IfErr result (λ _.
-            0 < length (from_number from (row_of self.now.rows member))) }
-        ensures few { length (row_of self.now.rows member) < 2 ^ 63 }
+            0 < length (from_number from (told_row self.now member))) }
+        ensures few { length (told_row self.now member) < 2 ^ 63 }
         ensures range { member < 4096 }
     {
         copy_of(self.alloc, self.end(member, from))
@@ -180,10 +228,10 @@ impl Rows {
         most: u64,
     ) -> Result<Vec<ArrayVec<u8, 80>>, NoMemory>
         ensures replies { IfOk result (λ rows.
-            texts rows.items ≡ page from most (row_of self.now.rows member)) }
+            texts rows.items ≡ page from most (told_row self.now member)) }
         ensures memory { IfErr result (λ _.
-            0 < length (page from most (row_of self.now.rows member))) }
-        ensures few { length (row_of self.now.rows member) < 2 ^ 63 }
+            0 < length (page from most (told_row self.now member))) }
+        ensures few { length (told_row self.now member) < 2 ^ 63 }
         ensures range { member < 4096 }
     {
         let end = self.end(member, from);

@@ -1,18 +1,21 @@
 -- When all passes are back, each entry is one of theirs.
-use Rattle.std.proofs.Common.{◌≡◌, ◌⊎◌, inl, inr, ℕ, zero, suc, ◌+◌, ◌<◌, ◌≤◌, Bool, true, false, cond, eqb, eqb-true, eq-eqb, List, [], ◌∷◌, ◌++◌, length, refl, ap, sym, ◌∙◌, subst, arith}
+use Rattle.std.proofs.Common.{◌≡◌, ◌⊎◌, inl, inr, ℕ, zero, suc, ◌+◌, ◌<◌, ◌≤◌, Bool, true, false, cond, eqb, eqb-true, eq-eqb, List, [], ◌∷◌, ◌++◌, length, take, drop, refl, ap, sym, ◌∙◌, subst, arith, length-append}
+use Rattle.std.proofs.lemmas.List.{take-append-drop, length-take-le}
 use Rattle.std.specs.List.{AllByRecursion}
 use mathlib.Core.List.{IsPrefix}
 use Rattle.hx_blog.specs.Feed.{Entries}
 use Rattle.hx_blog.specs.Feed as blog
 use Rattle.hx_members.specs.Setups.{Setup}
+use Rattle.hx_rules.specs.declared.event.Event.{Event}
 use Rattle.hx_market.specs.Steps.{feed}
+use Rattle.hx_laws.specs.Recorded.{AreRecorded}
 use Rattle.hx_desk.specs.declared.entry.Entry.{Entry}
-use Rattle.hx_desk.specs.Entries.{events_of, ledger}
+use Rattle.hx_desk.specs.Entries.{entry_of, restored, events_of, ledger}
 use Rattle.hx_desk.specs.Known.{history_of}
-use Rattle.hx_desk.specs.Desks.{DeskState, IsStanding}
+use Rattle.hx_desk.specs.Desks.{DeskState, IsStanding, told_of}
 use Rattle.hx_engine.specs.Passes.{PassState, sent_from, sent_in, AreSomeOf}
-use Rattle.hx_engine.specs.Finish.{times_given, AreAllOnce, sent_by_all, IsReturned, IsFinished}
-use Rattle.hx_desk.proofs.Standing.{published_is}
+use Rattle.hx_engine.specs.Finish.{times_given, AreAllOnce, sent_by_all, is_any_waiting, IsReturned, IsFinished}
+use Rattle.hx_desk.proofs.Standing.{published_is, take_whole}
 use Rattle.hx_engine.proofs.Places.{some_length, some_all}
 use Rattle.hx_engine.proofs.PassLaws.{published_by, history_known}
 use lib.ListN.{length-map}
@@ -25,6 +28,20 @@ sent_more (q ∷ ps) p = omega (arith, sent_more ps p)
 pub all_more : (P : PassState → Type 0) (ps : List PassState) (p : PassState) → AllByRecursion P ps → P p → AllByRecursion P (ps ++ p ∷ [])
 all_more P [] p a h = (h, tt)
 all_more P (q ∷ ps) p a h = (a.0, all_more P ps p a.1 h)
+
+-- of these none waits
+pub none_waiting : (ps : List PassState) (p : PassState) → is_any_waiting (ps ++ p ∷ []) ≡ false → (is_any_waiting ps ≡ false) × (length p.waiting ≡ 0)
+none_waiting [] p h = (refl, here (eqb (length p.waiting) 0) refl h)
+  where
+    here : (b : Bool) → eqb (length p.waiting) 0 ≡ b → cond b false true ≡ false → length p.waiting ≡ 0
+    here true e h = eqb-true (length p.waiting) 0 e
+    here false e h = absurd (let z : true ≡ false = h in cc)
+none_waiting (q ∷ ps) p h = at (eqb (length q.waiting) 0) (none_waiting ps p) h
+  where
+    at : (b : Bool) → (is_any_waiting (ps ++ p ∷ []) ≡ false → (is_any_waiting ps ≡ false) × (length p.waiting ≡ 0)) → cond b (is_any_waiting (ps ++ p ∷ [])) true ≡ false
+        → (cond b (is_any_waiting ps) true ≡ false) × (length p.waiting ≡ 0)
+    at true rest h = rest h
+    at false rest h = absurd (let z : true ≡ false = h in cc)
 
 weaker_all : (P Q : PassState → Type 0) (ps : List PassState) → ((p : PassState) → P p → Q p) → AllByRecursion P ps → AllByRecursion Q ps
 weaker_all P Q [] f a = tt
@@ -153,17 +170,60 @@ all_sent history (p ∷ ps) a l =
     let rest = sent_at_most history ps a.1 in
     (some_all p.sent (sent_in p.number history) a.0 (omega arith), all_sent history ps a.1 (omega arith))
 
-pub finished : (setup : Setup) (d : DeskState) (n : ℕ) (ps : List PassState) (history : List Entry) (messages : ℕ) → IsStanding d → d.setup ≡ setup → AllByRecursion (IsReturned n d.published) ps → AreAllOnce n ps
-    → length d.history ≡ sent_by_all ps → history ≡ d.history → messages ≡ length (blog.feed d.published) → IsFinished setup ps history messages
-finished setup d n ps history messages s of_setup returned once counted same count =
-    let known : history_of d.published ≡ history = history_known d d.published s refl ∙ sym same in
-    let published : d.published ≡ ledger setup history = published_by setup d s of_setup ∙ ap (ledger setup) (sym same) in
-    let some : AllByRecursion (λ p. AreSomeOf p.sent (sent_in p.number history)) ps =
-    weaker_all (IsReturned n d.published) (λ p. AreSomeOf p.sent (sent_in p.number history)) ps (λ p r. subst (λ (h : List Entry). AreSomeOf p.sent (sent_in p.number h)) known r.sent) returned in
-    let all : length history ≡ sent_by_all ps = ap (λ (h : List Entry). length h) same ∙ counted in
+-- entries of no pass are nobody's
+nobodys : (k : ℕ) (ps : List PassState) (events : List Event) (rest : List Entry) → times_given 0 ps ≡ 0 → entries_of_all k ps (restored events ++ rest) ≡ entries_of_all (k + length events) ps rest
+nobodys k ps [] rest none = ap (λ j. entries_of_all j ps rest) (let e : k ≡ k + 0 = omega arith in e)
+nobodys k ps (x ∷ events) rest none =
+    one_entry_of_all k ps (entry_of 0 x) (restored events ++ rest)
+    ∙ ap (λ n. n + entries_of_all (k + 1) ps (restored events ++ rest)) none
+    ∙ (let e : 0 + entries_of_all (k + 1) ps (restored events ++ rest) ≡ entries_of_all (k + 1) ps (restored events ++ rest) = omega arith in e)
+    ∙ nobodys (k + 1) ps events rest none
+    ∙ ap (λ j. entries_of_all j ps rest) (let e : k + 1 + length events ≡ k + suc (length events) = omega arith in e)
+
+no_pass_is_0 : (n : ℕ) (published : Entries Entry) (ps : List PassState) → AllByRecursion (IsReturned n published) ps → times_given 0 ps ≡ 0
+no_pass_is_0 n published ps a = none_given ps (weaker_all (IsReturned n published) (λ p. 1 ≤ p.number) ps (λ p r. r.first) a)
+
+-- all of it is told
+pub all_told : (setup : Setup) (before : List Event) (d : DeskState) (n : ℕ) (ps : List PassState) → IsStanding d → d.setup ≡ setup → AllByRecursion (IsReturned n d.published) ps
+    → AreAllOnce n ps → length d.history ≡ length before + sent_by_all ps → take (length before) (told_of d) ≡ restored before → told_of d ≡ d.history
+all_told setup before d n ps s of_setup returned once counted began =
+    let told : List Entry = told_of d in
+    let rest : List Entry = drop (length before) told in
+    let known : history_of d.published ≡ told = history_known d d.published s refl in
+    let some : AllByRecursion (λ p. AreSomeOf p.sent (sent_in p.number told)) ps =
+    weaker_all (IsReturned n d.published) (λ p. AreSomeOf p.sent (sent_in p.number told)) ps (λ p r. subst (λ (h : List Entry). AreSomeOf p.sent (sent_in p.number h)) known r.sent) returned in
+    let parts : restored before ++ rest ≡ told = ap (λ (l : List Entry). l ++ rest) (sym began) ∙ take-append-drop (length before) told in
+    let long : length told ≡ length before + length rest = sym (ap (λ (l : List Entry). length l) parts) ∙ length-append (restored before) rest ∙ ap (λ k. k + length rest) (length-map before (entry_of 0)) in
+    let entries : entries_of_all 1 ps told ≤ length rest =
+    omega (arith, ap (λ (l : List Entry). entries_of_all 1 ps l) (sym parts), nobodys 1 ps before rest (no_pass_is_0 n d.published ps returned), at_most_all (1 + length before) ps rest (once_at_most n d.published ps returned once)) in
+    let sent : sent_by_all ps ≤ entries_of_all 1 ps told = sent_at_most told ps some in
+    let whole : d.told ≡ length d.history = omega (arith, counted, long, entries, sent, length-take-le d.told d.history (omega (arith, s.order, s.within)), s.order, s.within) in
+    take_whole d.history d.told whole
+
+pub finished : (setup : Setup) (before : List Event) (d : DeskState) (n : ℕ) (ps : List PassState) (history : List Entry) (messages : ℕ) → IsStanding d → d.setup ≡ setup → AllByRecursion (IsReturned n d.published) ps
+    → AreAllOnce n ps → length d.history ≡ length before + sent_by_all ps → take (length before) (told_of d) ≡ restored before → history ≡ d.history → messages ≡ length (blog.feed d.published)
+    → IsFinished setup before ps history messages
+finished setup before d n ps history messages s of_setup returned once counted began same count =
+    let told : List Entry = told_of d in
+    let rest : List Entry = drop (length before) told in
+    let known : history_of d.published ≡ told = history_known d d.published s refl in
+    let some : AllByRecursion (λ p. AreSomeOf p.sent (sent_in p.number told)) ps =
+    weaker_all (IsReturned n d.published) (λ p. AreSomeOf p.sent (sent_in p.number told)) ps (λ p r. subst (λ (h : List Entry). AreSomeOf p.sent (sent_in p.number h)) known r.sent) returned in
+    let parts : restored before ++ rest ≡ told = ap (λ (l : List Entry). l ++ rest) (sym began) ∙ take-append-drop (length before) told in
+    let long : length told ≡ length before + length rest = sym (ap (λ (l : List Entry). length l) parts) ∙ length-append (restored before) rest ∙ ap (λ k. k + length rest) (length-map before (entry_of 0)) in
+    let entries : entries_of_all 1 ps told ≤ length rest =
+    omega (arith, ap (λ (l : List Entry). entries_of_all 1 ps l) (sym parts), nobodys 1 ps before rest (no_pass_is_0 n d.published ps returned), at_most_all (1 + length before) ps rest (once_at_most n d.published ps returned once)) in
+    let sent : sent_by_all ps ≤ entries_of_all 1 ps told = sent_at_most told ps some in
+    let whole : d.told ≡ length d.history = omega (arith, counted, long, entries, sent, length-take-le d.told d.history (omega (arith, s.order, s.within)), s.order, s.within) in
+    let is : told ≡ history = take_whole d.history d.told whole ∙ sym same in
+    let published : d.published ≡ ledger setup history = published_by setup d s of_setup ∙ ap (ledger setup) is in
+    let all : AllByRecursion (λ p. p.sent ≡ sent_in p.number told) ps = all_sent told ps some (omega (arith, entries, counted, long, whole, ap (λ (l : List Entry). length l) (take_whole d.history d.told whole))) in
+    let accepted : AreRecorded setup (events_of d.history) = subst (λ (x : Setup). AreRecorded x (events_of d.history)) of_setup s.accepted in
     record {
-      all = all;
-      each = all_sent history ps some (omega (arith, at_most_all 1 ps history (once_at_most n d.published ps returned once)));
+      accepted = subst (λ (h : List Entry). AreRecorded setup (events_of h)) (sym same) accepted;
+      begins = (rest, parts ∙ is);
+      all = ap (λ (h : List Entry). length h) same ∙ counted;
+      each = subst (λ (h : List Entry). AllByRecursion (λ p. p.sent ≡ sent_in p.number h) ps) is all;
       knew = weaker_all (IsReturned n d.published) (λ p. IsPrefix p.known (ledger setup history)) ps (λ p r. subst (IsPrefix p.known) published r.knew) returned;
       feed_count =
           count ∙ ap (λ (k : Entries Entry). length (blog.feed k)) published ∙ ap (λ (l : List (List ℕ)). length l) (published_is setup history)

@@ -1,3 +1,6 @@
+pub mod HeldLaws
 pub mod Places
 pub mod PassLaws
 pub mod AllBack
+pub mod Refusing
+pub mod Records

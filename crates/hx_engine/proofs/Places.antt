@@ -11,7 +11,7 @@ use Rattle.hx_market.specs.Steps.{step}
 use Rattle.hx_desk.specs.declared.entry.Entry.{Entry}
 use Rattle.hx_desk.specs.Entries.{ledger_from, ledger}
 use Rattle.hx_desk.specs.Known.{history_of}
-use Rattle.hx_engine.specs.Passes.{Sent, sent_from, sent_in, AreSomeOf, StandsAt}
+use Rattle.hx_engine.specs.Passes.{Sent, sent_from, sent_in, sent_by, placed, AreSomeOf, StandsAt}
 
 -- Some of a list.
 
@@ -71,16 +71,21 @@ more_known n sent xs ys p h =
     subst (λ (l : List Entry). AreSomeOf sent (sent_in n l)) (sym (map-append (λ (x : Entry × List (List ℕ)). x.0) xs p.0) ∙ ap history_of p.1)
     (subst (AreSomeOf sent) (sym (sent_append n 1 (history_of xs) rest)) (some_of_more sent (sent_in n (history_of xs)) (sent_from n (1 + length (history_of xs)) rest) h))
 
--- one entry more under this number
-pub one_sent : (n : ℕ) (sent : List Sent) (history : List Entry) (event : Event) (place : ℕ) → place ≡ length history + 1 → AreSomeOf sent (sent_in n history)
-    → AreSomeOf (sent ++ (place, event) ∷ []) (sent_in n (history ++ record { pass = n; event = event } ∷ []))
-one_sent n sent history event place is h =
-    subst (AreSomeOf (sent ++ (place, event) ∷ []))
-    (ap (λ (l : List Sent). sent_in n history ++ l) (sym (last (1 + length history))) ∙ sym (sent_append n 1 history (record { pass = n; event = event } ∷ [])))
-    (some_of_both sent (sent_in n history) ((place, event) ∷ []) h)
-  where
-    last : (k : ℕ) → sent_from n (1 + length history) (record { pass = n; event = event } ∷ []) ≡ (place, event) ∷ []
-    last k = ap (λ b. cond b ((1 + length history, event) ∷ []) []) (eq-eqb n n refl) ∙ ap (λ j. (j, event) ∷ []) (let e : 1 + length history ≡ place = omega arith in e)
+-- entries more under this number
+
+all_placed : (n k : ℕ) (events : List Event) → sent_from n (k + 1) (sent_by n events) ≡ placed k events
+all_placed n k [] = refl
+all_placed n k (e ∷ events) =
+    ap (λ b. cond b ((k + 1, e) ∷ sent_from n (k + 1 + 1) (sent_by n events)) (sent_from n (k + 1 + 1) (sent_by n events))) (eq-eqb n n refl) ∙ ap (λ (l : List Sent). (k + 1, e) ∷ l) (all_placed n (k + 1) events)
+
+pub all_sent : (n : ℕ) (sent : List Sent) (history : List Entry) (events : List Event) → AreSomeOf sent (sent_in n history)
+    → AreSomeOf (sent ++ placed (length history) events) (sent_in n (history ++ sent_by n events))
+all_sent n sent history events h =
+    let last : sent_from n (1 + length history) (sent_by n events) ≡ placed (length history) events =
+    ap (λ j. sent_from n j (sent_by n events)) (let e : 1 + length history ≡ length history + 1 = omega arith in e) ∙ all_placed n (length history) events in
+    subst (AreSomeOf (sent ++ placed (length history) events))
+    (ap (λ (l : List Sent). sent_in n history ++ l) (sym last) ∙ sym (sent_append n 1 history (sent_by n events)))
+    (some_of_both sent (sent_in n history) (placed (length history) events) h)
 
 weaker : (P Q : Sent → Type 0) (xs : List Sent) → ((x : Sent) → P x → Q x) → AllByRecursion P xs → AllByRecursion Q xs
 weaker P Q [] f h = tt

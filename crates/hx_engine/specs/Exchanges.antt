@@ -1,5 +1,5 @@
 -- What the calls of an exchange promise.
-use Rattle.std.specs.Prelude.{◌≡◌, ◌↔◌, ℕ, ◌+◌, ◌^◌, ◌<◌, List, [], ◌∷◌, ◌++◌, length, Bool, true, false, nat_le, Result, Err}
+use Rattle.std.specs.Prelude.{◌≡◌, ◌↔◌, ℕ, ◌+◌, ◌^◌, ◌<◌, ◌≤◌, List, [], ◌∷◌, ◌++◌, length, take, Bool, true, false, nat_le, Result, Err, Option, Some, None, zero, suc, slice_get}
 use Rattle.std.specs.List.{AllByRecursion}
 use mathlib.Core.List.{IsPrefix}
 use Rattle.hx_blog.specs.Feed.{Entries, feed}
@@ -8,10 +8,13 @@ use Rattle.hx_units.specs.Limits.{day}
 use Rattle.hx_members.specs.Setups.{Setup}
 use Rattle.hx_rules.specs.declared.event.Event.{Event}
 use Rattle.hx_market.specs.Refusals.{is_from_stranger}
+use Rattle.hx_laws.specs.Recorded.{AreRecorded}
 use Rattle.hx_market.specs.Steps.{step, run, time_of}
 use Rattle.hx_desk.specs.declared.entry.Entry.{Entry}
 use Rattle.hx_desk.specs.declared.entry.Done.{Done}
-use Rattle.hx_desk.specs.declared.fault.DeskError.{DeskError}
+use Rattle.hx_engine.specs.declared.answers.SubmitError.{SubmitError}
+use Rattle.hx_engine.specs.declared.answers.SubmitError.TheVariants.{Refused}
+use Rattle.hx_engine.specs.Journals.{unspoken}
 use Rattle.hx_desk.specs.declared.fault.DeskError.TheVariants as fault
 use Rattle.hx_desk.specs.Rows.{Part}
 use Rattle.hx_desk.specs.Entries.{entry_of, events_of, ledger}
@@ -19,20 +22,93 @@ use Rattle.hx_desk.specs.Known.{history_of, known_market, known_replies}
 use Rattle.hx_desk.specs.Secrecy.{IsFeedWithoutTrace, AreRepliesWithoutTrace}
 use Rattle.hx_desk.specs.Desks.{is_over}
 use Rattle.hx_engine.specs.declared.answers.News.{News}
-use Rattle.hx_engine.specs.Passes.{PassState, sent_in, AreSomeOf, StandsAt}
+use Rattle.hx_engine.specs.Passes.{PassState, sent_by, placed, sent_in, AreSomeOf, StandsAt}
 
--- The pass sent an event: it knows a history of which its entry is the last, at this place, which is
--- above all earlier ones of the pass; what it knew is a beginning of the history before.
+-- The pass sent an event: it knows a history, which the market accepts, in which its entry stands at
+-- this place, which is above all earlier ones of the pass; what it knew is a beginning of the history
+-- before.
 pub record Sends (setup : Setup) (old new : PassState) (event : Event) (done : Done) : Type 0 where
   pub before : List Entry
+  pub after : List Entry
   pub knew : IsPrefix old.known (ledger setup before)
-  pub knows : new.known ≡ ledger setup (before ++ entry_of old.number event ∷ [])
+  pub knows : new.known ≡ ledger setup (before ++ entry_of old.number event ∷ after)
+  pub accepted : AreRecorded setup (events_of (before ++ entry_of old.number event ∷ after))
   pub number : new.number ≡ old.number
   pub sent : new.sent ≡ old.sent ++ (done.place, event) ∷ []
   pub place : done.place ≡ length before + 1
   pub above : AllByRecursion (λ x. x.0 < done.place) old.sent
   pub first : done.first ≡ length (feed (ledger setup before)) + 1
   pub count : done.count ≡ length (step setup (run setup (events_of before)) event).told.feed
+  pub idle : (old.waiting ≡ []) × (new.waiting ≡ [])
+
+-- where an event was recorded behind a history
+pub record DoneAt (setup : Setup) (before : List Entry) (event : Event) (done : Done) : Type 0 where
+  pub place : done.place ≡ length before + 1
+  pub first : done.first ≡ length (feed (ledger setup before)) + 1
+  pub count : done.count ≡ length (step setup (run setup (events_of before)) event).told.feed
+
+-- where the last of a pass's events was recorded, the first of which stands behind a history
+abbrev pub LastDone :
+    Setup → (number : ℕ) → (before : List Entry) → List Event → Done → Type 0
+LastDone setup number before events done =
+    (earlier : List Event) (event : Event)
+    → events ≡ earlier ++ event ∷ []
+    → DoneAt setup (before ++ sent_by number earlier) event done
+
+-- The pass sent these events, one behind the other: it knows a history, which the market accepts, in
+-- which their entries stand at consecutive places, which are above all earlier ones of the pass; what it
+-- knew is a beginning of the history before.
+pub record SendsAll
+    (setup : Setup) (old new : PassState) (events : List Event) (done : Done)
+    : Type 0 where
+  pub before : List Entry
+  pub after : List Entry
+  pub knew : IsPrefix old.known (ledger setup before)
+  pub knows : new.known ≡ ledger setup (before ++ (sent_by old.number events ++ after))
+  pub accepted : AreRecorded setup (events_of (before ++ (sent_by old.number events ++ after)))
+  pub number : new.number ≡ old.number
+  pub sent : new.sent ≡ old.sent ++ placed (length before) events
+  pub above : AllByRecursion (λ x. x.0 < length before + 1) old.sent
+  pub place : done.place ≡ length before + length events
+  pub last : LastDone setup old.number before events done
+  pub idle : (old.waiting ≡ []) × (new.waiting ≡ [])
+
+-- It is as before, but that events of it may wait from now on.
+pub record Stays (old new : PassState) : Type 0 where
+  pub number : new.number ≡ old.number
+  pub sent : new.sent ≡ old.sent
+  pub known : new.known ≡ old.known
+
+-- Of these events the pass sent the first so many, and where that is none it is as before.
+abbrev pub SendsFirst :
+    Setup → (old new : PassState) → List Event → (count : ℕ) → Type 0
+SendsFirst setup old new events zero = Stays old new
+SendsFirst setup old new events (suc n) =
+    (done : Done) × SendsAll setup old new (take (suc n) events) done
+
+-- The events were admitted behind a history, of which what is known is a beginning.
+pub record Enters
+    (setup : Setup) (number : ℕ) (events : List Event) (known : Entries Entry) (entered : Entries Entry)
+    (done : Done)
+    : Type 0 where
+  pub before : List Entry
+  pub knew : IsPrefix known (ledger setup before)
+  pub written : entered ≡ unspoken (before ++ sent_by number events)
+  pub place : done.place ≡ length before + length events
+  pub last : LastDone setup number before events done
+
+-- So much of a history, which the market accepts, is told that what was admitted up to this place is,
+-- and all of that is known.
+pub record Settles
+    (setup : Setup) (place : ℕ) (entered old new : Entries Entry)
+    : Type 0 where
+  pub history : List Entry
+  pub told : ℕ
+  pub begins : IsPrefix entered (unspoken history)
+  pub far : place ≤ told
+  pub knew : IsPrefix old new
+  pub knows : new ≡ ledger setup (take told history)
+  pub accepted : AreRecorded setup (events_of history)
 
 -- a time that is not within the day
 abbrev pub is_bad_time : Event → Bool
@@ -41,12 +117,29 @@ is_bad_time event = nat_le day (time_of event)
 -- It is refused for its time exactly where that is not within the day, and for its member exactly
 -- where the time is and the setup has no such member.
 pub record IsRefusedOutright
-    (setup : Setup) (event : Event) (result : Result Done DeskError)
+    (setup : Setup) (event : Event) (result : Result Done SubmitError)
     : Type 0 where
-  pub bad_time : (result ≡ Err fault.BadTime) ↔ (is_bad_time event ≡ true)
+  pub bad_time : (result ≡ Err (Refused fault.BadTime)) ↔ (is_bad_time event ≡ true)
   pub no_member :
-      (result ≡ Err fault.NoMember)
+      (result ≡ Err (Refused fault.NoMember))
       ↔ ((is_bad_time event ≡ false) × (is_from_stranger setup event ≡ true))
+
+-- an event that is refused neither for its time nor for its member
+abbrev pub IsInOrder : Setup → Event → Type 0
+IsInOrder setup event =
+    (is_bad_time event ≡ false) × (is_from_stranger setup event ≡ false)
+
+-- So many of the events were refused neither for their time nor for their member; they are all, or the
+-- one behind them is refused, for these exactly where they are wrong.
+abbrev pub AreAdmittedUpTo :
+    Setup → List Event → (count : ℕ) → (refused : Option SubmitError) → Type 0
+AreAdmittedUpTo setup events count None =
+    (count ≡ length events) × AllByRecursion (IsInOrder setup) events
+AreAdmittedUpTo setup events count (Some error) =
+    (count < length events)
+    × AllByRecursion (IsInOrder setup) (take count events)
+    × ((event : Event) → slice_get events count ≡ Some event
+    → IsRefusedOutright setup event (Err error))
 
 -- the pass knows as much or more, and is as before otherwise
 pub record LearnsMore (old new : PassState) : Type 0 where
@@ -54,12 +147,13 @@ pub record LearnsMore (old new : PassState) : Type 0 where
   pub sent : new.sent ≡ old.sent
   pub known : IsPrefix old.known new.known
 
--- The history is exactly what the reader and the pass know; the events of the pass are among its
--- entries under its number, each at its place, in their order; and the feed that the reader knows,
--- of which it has read a beginning, tells nothing of quiet chains.
+-- The market accepts the history, which is exactly what the reader and the pass know; the events of the
+-- pass are among its entries under its number, each at its place, in their order; and the feed that the
+-- reader knows, of which it has read a beginning, tells nothing of quiet chains.
 pub record IsAudit
     (setup : Setup) (history : List Entry) (reader : ReaderState Entry) (pass : PassState)
     : Type 0 where
+  pub accepted : AreRecorded setup (events_of history)
   pub reader_knows : reader.known ≡ ledger setup history
   pub pass_knows : pass.known ≡ ledger setup history
   pub sent : AreSomeOf pass.sent (sent_in pass.number history)

@@ -1,12 +1,14 @@
 -- How an exchange ends.
-use Rattle.std.specs.Prelude.{◌≡◌, ◌≢◌, ℕ, ◌+◌, ◌<◌, ◌≤◌, ◌==◌, if◌then◌else◌, List, [], ◌∷◌, length}
+use Rattle.std.specs.Prelude.{◌≡◌, ◌≢◌, ℕ, ◌+◌, ◌<◌, ◌≤◌, ◌==◌, if◌then◌else◌, Bool, true, false, List, [], ◌∷◌, length}
 use Rattle.std.specs.List.{AllByRecursion}
 use mathlib.Core.List.{IsPrefix}
 use Rattle.hx_blog.specs.Feed.{Entries}
 use Rattle.hx_members.specs.Setups.{Setup}
+use Rattle.hx_laws.specs.Recorded.{AreRecorded}
 use Rattle.hx_market.specs.Steps.{feed}
+use Rattle.hx_rules.specs.declared.event.Event.{Event}
 use Rattle.hx_desk.specs.declared.entry.Entry.{Entry}
-use Rattle.hx_desk.specs.Entries.{events_of, ledger}
+use Rattle.hx_desk.specs.Entries.{restored, events_of, ledger}
 use Rattle.hx_desk.specs.Known.{history_of}
 use Rattle.hx_engine.specs.Passes.{PassState, sent_in, AreSomeOf}
 
@@ -33,13 +35,22 @@ abbrev pub sent_by_all : List PassState → ℕ
 sent_by_all [] = 0
 sent_by_all (p ∷ passes) = length p.sent + sent_by_all passes
 
--- The history has exactly as many entries as the passes sent events; the entries of each pass are its
--- events, each once, at its places, in its order; what a pass knew is a beginning of the history with
--- its feed; and so many messages of the feed it gave.
+-- an event of one of these passes was admitted, and was never told
+abbrev pub is_any_waiting : List PassState → Bool
+is_any_waiting [] = false
+is_any_waiting (p ∷ passes) = if length p.waiting == 0 then is_any_waiting passes else true
+
+-- The market accepts the history, which begins with what was kept before, and has exactly as many
+-- entries more as the passes sent events; the entries of each pass are its events, each once, at its
+-- places, in its order; what a pass knew is a beginning of the history with its feed; and so many
+-- messages of the feed it gave.
 pub record IsFinished
-    (setup : Setup) (passes : List PassState) (history : List Entry) (messages : ℕ)
+    (setup : Setup) (kept_before : List Event) (passes : List PassState) (history : List Entry)
+    (messages : ℕ)
     : Type 0 where
-  pub all : length history ≡ sent_by_all passes
+  pub accepted : AreRecorded setup (events_of history)
+  pub begins : IsPrefix (restored kept_before) history
+  pub all : length history ≡ length kept_before + sent_by_all passes
   pub each : AllByRecursion (λ p. p.sent ≡ sent_in p.number history) passes
   pub knew : AllByRecursion (λ p. IsPrefix p.known (ledger setup history)) passes
   pub feed_count : messages ≡ length (feed setup (events_of history))

@@ -1,4 +1,6 @@
+pub mod Journals
 pub mod Nowhere
 pub mod Passes
 pub mod Exchanges
 pub mod Finish
+pub mod Opening

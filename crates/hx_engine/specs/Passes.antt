@@ -1,5 +1,5 @@
 -- What contracts see of a pass.
-use Rattle.std.specs.Prelude.{◌≡◌, ◌⊎◌, ℕ, zero, suc, ◌+◌, ◌-◌, ◌≤◌, ◌==◌, if◌then◌else◌, List, [], ◌∷◌, ◌++◌, slice_get, Some}
+use Rattle.std.specs.Prelude.{◌≡◌, ◌⊎◌, ℕ, zero, suc, ◌+◌, ◌-◌, ◌≤◌, ◌==◌, if◌then◌else◌, List, [], ◌∷◌, ◌++◌, map, slice_get, Some}
 use Rattle.hx_blog.specs.Feed.{Entries}
 use Rattle.hx_rules.specs.declared.event.Event.{Event}
 use Rattle.hx_desk.specs.declared.entry.Entry.{Entry}
@@ -9,15 +9,17 @@ use Rattle.hx_desk.specs.Entries.{entry_of}
 abbrev pub Sent : Type 0
 Sent = ℕ × Event
 
--- A pass: its number, the events that it sent, and the entries that it knows.
+-- A pass: its number, the events that it sent, those of its events that were admitted and of which it is
+-- not known whether they are kept, and the entries that it knows.
 pub record PassState : Type 0 where
   pub number : ℕ
   pub sent : List Sent
+  pub waiting : List Sent
   pub known : Entries Entry
 
 -- a pass that has sent nothing and knows nothing
 abbrev pub new_pass : (number : ℕ) → PassState
-new_pass number = record { number = number; sent = []; known = [] }
+new_pass number = record { number = number; sent = []; waiting = []; known = [] }
 
 -- the passes 1 to n of a new exchange
 abbrev pub new_passes : (count : ℕ) → List PassState
@@ -45,3 +47,12 @@ AreSomeOf xs (y ∷ ys) =
 abbrev pub StandsAt : (number : ℕ) → List Entry → Sent → Type 0
 StandsAt number history x =
     (1 ≤ x.0) × (slice_get history (x.0 - 1) ≡ Some (entry_of number x.1))
+
+-- the entries of events that a pass sends
+abbrev pub sent_by : (number : ℕ) → List Event → List Entry
+sent_by number events = map (entry_of number) events
+
+-- events with their places, behind so many entries
+abbrev pub placed : (behind : ℕ) → List Event → List Sent
+placed behind [] = []
+placed behind (e ∷ events) = (behind + 1, e) ∷ placed (behind + 1) events

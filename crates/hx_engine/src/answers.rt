@@ -1,9 +1,14 @@
 //! What an exchange answers.
+ghost use Rattle.std.specs.Prelude.{◌≡◌, ◌↔◌};
+ghost use Rattle.hx_desk.specs.declared.fault.DeskError.TheVariants.{BadTime, NoMember};
+ghost use Rattle.hx_engine.specs.declared.answers.SubmitError.TheVariants.{Refused};
 
 use crate::exchange::Exchange;
 use crate::pass::Pass;
 use crate::venue::Venue;
-use hx_desk::Entry;
+use hx_blog::{Log, Writer};
+use hx_desk::{DeskError, Entry};
+use hx_journal::Journal;
 
 /// A history, as it was audited.
 #[derive(Drop)]
@@ -23,23 +28,71 @@ pub struct News {
 
 /// What an exchange leaves.
 #[derive(Drop)]
-pub struct Finished {
+pub struct Finished<J: Journal> {
     /// The history.
     pub history: Vec<Entry>,
     /// How many messages of the feed it gave.
     pub feed: u64,
+    /// The log of the feed.
+    pub log: Log<Entry>,
+    /// Its writer, which has published the history with its feed.
+    pub writer: Writer<Entry>,
+    /// The journal, where it did not fail.
+    pub journal: Option<J>,
 }
 
 /// Why an exchange does not end. It comes back with the passes.
 #[derive(Drop)]
-pub enum FinishError<V: Venue> {
+pub enum FinishError<V: Venue, J: Journal> {
     /// A pass was not handed in exactly once.
     Missing {
         /// The least number of such a pass.
         number: u16,
         /// The exchange.
-        exchange: Exchange<V>,
+        exchange: Exchange<V, J>,
         /// The passes that were handed in.
         passes: Vec<Pass<V>>,
     },
+    /// The journal failed before an event of a pass was told.
+    Stopped {
+        /// The exchange.
+        exchange: Exchange<V, J>,
+        /// The passes that were handed in.
+        passes: Vec<Pass<V>>,
+    },
+}
+
+/// Why an event is not recorded.
+#[derive(Clone, Copy, Debug, PartialEq, Eq, Drop)]
+pub enum SubmitError {
+    /// The desk refused it: nothing of it is recorded.
+    Refused(DeskError),
+    /// The journal failed: whether a crash leaves the event is not known.
+    Stopped,
+}
+
+impl From<DeskError> for SubmitError {
+    ghost from_gives = { λ d e. e ≡ Refused d };
+
+    fn from(error: DeskError) -> SubmitError {
+        SubmitError::Refused(error)
+    }
+}
+
+/// Why an event is refused: for its time or its member, or because the exchange has stopped, or as the desk says. What
+/// the desk of a stopped exchange says of limits and of the log rests on events that may be lost.
+pub(crate) fn refused(error: DeskError, stopped: bool) -> SubmitError
+    ensures bad_time { (result ≡ Refused BadTime) ↔ (error ≡ BadTime) }
+    ensures no_member { (result ≡ Refused NoMember) ↔ (error ≡ NoMember) }
+{
+    match error {
+        DeskError::BadTime | DeskError::NoMember => SubmitError::Refused(error),
+        _ => {
+            if stopped {
+                SubmitError::Stopped
+            } else {
+                SubmitError::Refused(error)
+            }
+        }
+    }
 }

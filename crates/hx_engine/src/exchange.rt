@@ -1,97 +1,91 @@
 //! The exchange: a desk behind a lock.
-ghost use Rattle.std.specs.Prelude.{◌≡◌, ℕ, ◌≤◌, [], IfOk, IfErr, OnErr, OnOk};
-ghost use Rattle.hx_desk.specs.Known.{CatchesUp};
-ghost use Rattle.hx_engine.specs.Passes.{new_passes};
-ghost use Rattle.hx_engine.specs.Exchanges.{Sends, IsRefusedOutright, LearnsMore, IsAudit};
-ghost use Rattle.hx_engine.specs.Finish.{AreAllOnce, IsMissing, IsFinished};
+ghost use Rattle.std.specs.Prelude.{◌≡◌, ◌⊎◌, ℕ, List, [], false, true, IfOk, IfErr, IfSome, OnErr, OnOk};
+ghost use Rattle.hx_tape_lines.specs.Text.{record_of};
+ghost use mathlib.Core.List.{IsPrefix};
+ghost use Rattle.hx_journal.specs.Crashes.{IsBetween};
+ghost use Rattle.hx_desk.specs.declared.entry.Entry.{Entry};
+ghost use Rattle.hx_desk.specs.Entries.{restored, ledger};
+ghost use Rattle.hx_desk.specs.Known.{CatchesUp, IsWhole, history_of};
+ghost use Rattle.hx_engine.specs.Exchanges.{LearnsMore, IsAudit};
+ghost use Rattle.hx_engine.specs.Finish.{is_any_waiting, AreAllOnce, IsMissing, IsFinished};
+ghost use Rattle.hx_engine.specs.Journals.{lines, unspoken, IsLeft};
 
 use crate::answers::{Audit, FinishError, Finished};
-use crate::handed_in::{missing, take_all_back};
+use crate::handed_in::{is_any_waiting, missing, take_all_back};
 use crate::held::Held;
-use crate::pass::{Pass, make_passes};
+use crate::keeper::Keeper;
+use crate::pass::Pass;
 use crate::pass_count::PassCount;
 use crate::venue::Venue;
-use hx_blog::{Log, Reader, Writer};
-use hx_desk::{Desk, DeskError, Done, Entry};
-use hx_market::Event;
-use hx_members::{Seed, Setup};
+use hx_blog::{Log, Reader, Receipt};
+use hx_desk::Entry;
+use hx_journal::{Journal, JournalError};
 use hx_units::NoMemory;
 use std::alloc::Global;
-use std::sync::ledger::Blank;
 use std::sync::{Condvar, Mutex, Wait};
 
-/// A desk behind a lock, with the log that everybody may read.
+/// A desk behind a lock, with the log that everybody may read, and a journal: nothing is told before the journal keeps
+/// it.
 #[derive(Drop)]
-pub struct Exchange<V: Venue> {
+pub struct Exchange<V: Venue, J: Journal> {
     pub(crate) log: Log<Entry>,
-    pub(crate) desk: Mutex<Held<V>>,
-    // Told of each event that was recorded.
+    // The logs of what is admitted and of what is kept, which have no messages.
+    pub(crate) admitted: Log<Entry>,
+    pub(crate) kept: Log<Entry>,
+    pub(crate) desk: Mutex<Held<V, J>>,
+    // Told of each batch that is told, and of a journal that failed.
     pub(crate) recorded: Condvar,
-    passes: PassCount<V>,
-    alloc: Global,
-    ghost named: { log ≡ V.log },
+    pub(crate) passes: PassCount<V>,
+    pub(crate) alloc: Global,
+    pub ghost named: { log ≡ V.log },
+    pub ghost admitted_named: { admitted ≡ V.admitted },
+    pub ghost kept_named: { kept ≡ V.kept },
 }
 
-impl<V: Venue> Exchange<V> {
-    /// An exchange over a new log, with so many passes, 1 to 64, and the fixed seed. What it was given is gone after
-    /// `NoMemory`.
-    pub fn new(
-        alloc: Global,
-        setup: Setup,
-        log: Log<Entry>,
-        writer: Writer<Entry>,
-        blank: Blank,
-        passes: u16,
-    ) -> Result<(Exchange<V>, Vec<Pass<V>>), NoMemory>
-        requires log { log ≡ V.log }
-        requires of_setup { setup ≡ V.setup }
-        requires writer { writer ≡ record { log = V.log; published = []; staged = [] } }
-        requires blank { (blank.name ≡ V.name) × (blank.parts ≡ V.parts) }
-        requires passes { (1 ≤ passes) × (passes ≤ 64) × (passes ≡ V.parts) }
-        ensures { IfOk result (λ made. made.1.items ≡ new_passes passes) }
-    {
-        Exchange::seeded(alloc, setup, log, writer, blank, passes, Seed::Fixed)
+// The journal of a keeper, which keeps the records of all that is told.
+fn journal_of<V: Venue, J: Journal + Drop>(keeper: Option<Keeper<V, J>>) -> Option<J>
+    ensures { (h : List Entry) → IfSome keeper (λ k. k.writer.published ≡ unspoken h)
+        → IfSome result (λ j. (J.appended j ≡ lines record_of h) × (J.kept j ≡ J.appended j)
+        × (J.is_open j ≡ true)
+        × ((records : List (List ℕ)) → J.left_since j (J.moment j) records
+        → IsBetween (J.kept j) records (J.appended j))) }
+{
+    match keeper {
+        Some(keeper) => {
+            let Keeper {
+                journal,
+                writer: _,
+                of: _,
+            } = keeper;
+            journal.stands();
+            Some(journal)
+        }
+        None => None,
     }
+}
 
-    /// An exchange over a new log, with so many passes, 1 to 64, whose table of tokens has this seed: members choose
-    /// their tokens, so where strangers trade it should be drawn. What it was given is gone after `NoMemory`.
-    pub fn seeded(
-        alloc: Global,
-        setup: Setup,
-        log: Log<Entry>,
-        writer: Writer<Entry>,
-        blank: Blank,
-        passes: u16,
-        seed: Seed,
-    ) -> Result<(Exchange<V>, Vec<Pass<V>>), NoMemory>
-        requires log { log ≡ V.log }
-        requires of_setup { setup ≡ V.setup }
-        requires writer { writer ≡ record { log = V.log; published = []; staged = [] } }
-        requires blank { (blank.name ≡ V.name) × (blank.parts ≡ V.parts) }
-        requires passes { (1 ≤ passes) × (passes ≤ 64) × (passes ≡ V.parts) }
-        ensures { IfOk result (λ made. made.1.items ≡ new_passes passes) }
-    {
-        let mut writer = writer;
-        let (book, mut spare) = blank.open::<V>();
-        let made = make_passes(alloc, &log, &mut writer, &mut spare, passes)?;
-        let desk = Desk::seeded(alloc, setup, writer, seed)?;
-        let exchange = Exchange {
-            log,
-            desk: Mutex::new(Held::new(desk, book, spare)),
-            recorded: Condvar::new(),
-            passes: PassCount::of(passes),
-            alloc,
-        };
-        Ok((exchange, made))
-    }
-
-    /// Ends the exchange, where each of its passes is handed in exactly once.
-    pub fn finish(self, passes: Vec<Pass<V>>) -> Result<Finished, FinishError<V>>
-        ensures ok { IfOk result (λ f. IsFinished V.setup passes.items f.history.items f.feed) }
+impl<V: Venue, J: Journal + Drop> Exchange<V, J> {
+    /// Ends the exchange, where each of its passes is handed in exactly once, and all that they submitted is told. A
+    /// reader's receipt can be confirmed by the writer that it gives back: what the reader knew is a beginning of the
+    /// history with its feed.
+    pub fn finish(self, passes: Vec<Pass<V>>) -> Result<Finished<J>, FinishError<V, J>>
+        ensures ok { IfOk result (λ f.
+            IsFinished V.setup V.before passes.items f.history.items f.feed) }
         ensures once { OnOk result (AreAllOnce V.parts passes.items) }
-        ensures missing { IfErr result (λ e.
-            (number : ℕ) × IsMissing V.parts passes.items number
-            × (e ≡ FinishError.Missing number self passes)) }
+        ensures idle { OnOk result (is_any_waiting passes.items ≡ false) }
+        ensures published { IfOk result (λ f. (f.log ≡ V.log) × (f.writer ≡ record {
+          log = V.log;
+          published = ledger V.setup f.history.items;
+          staged = [];
+        })) }
+        ensures kept { IfOk result (λ f. IfSome f.journal (λ j.
+            (J.appended j ≡ lines record_of f.history.items) × (J.kept j ≡ J.appended j)
+            × (J.is_open j ≡ true))) }
+        ensures err { IfErr result (λ e.
+            ((number : ℕ) × IsMissing V.parts passes.items number
+            × (e ≡ FinishError.Missing number self passes))
+            ⊎ (AreAllOnce V.parts passes.items × (is_any_waiting passes.items ≡ true)
+            × (e ≡ FinishError.Stopped self passes))) }
     {
         if let Some(number) = missing(&passes, self.passes.get()) {
             return Err(FinishError::Missing {
@@ -100,8 +94,16 @@ impl<V: Venue> Exchange<V> {
                 passes,
             });
         }
+        if is_any_waiting(&passes) {
+            return Err(FinishError::Stopped {
+                exchange: self,
+                passes,
+            });
+        }
         let Exchange {
             log,
+            admitted: _,
+            kept: _,
             desk,
             recorded: _,
             passes: _,
@@ -111,60 +113,50 @@ impl<V: Venue> Exchange<V> {
             mut desk,
             mut book,
             mut spare,
+            keeper,
+            ..
         } = desk.into_inner();
         take_all_back(&mut desk, &log, &mut spare, passes);
         book.audit(&mut spare);
         desk.stands();
         let feed = desk.feed_count();
+        let (history, writer) = desk.into_parts();
         Ok(Finished {
-            history: desk.into_history(),
+            history,
             feed,
+            log,
+            writer,
+            journal: journal_of(keeper),
         })
     }
 
-    /// Records an event for a pass, and wakes who waits for news. Where it is refused, the pass is as before.
-    pub fn submit(
-        &self,
-        rt: &impl Wait,
-        pass: &mut Pass<V>,
-        event: &Event,
-    ) -> Result<Done, DeskError>
-        ensures ok { IfOk result (Sends V.setup pass.old pass.new event.now) }
-        ensures err { OnErr result (pass.new ≡ pass.old) }
-        ensures outright { IsRefusedOutright V.setup event.now result }
+    /// The journal, as a crash finds it that ends the exchange here, where nobody is writing to it: what is left of it are
+    /// the records of a history that the market accepts, and they begin with those of all that the reader knows.
+    pub fn crashed(self, reader: &mut Reader<Entry>) -> Option<J>
+        requires { reader.old.log ≡ V.log }
+        ensures begins { IfSome result (λ j. (c : List (List ℕ)) → J.left_since j (J.moment j) c
+            → IsPrefix (lines record_of (history_of reader.old.known)) c) }
+        ensures left { IfSome result (λ j. (c : List (List ℕ)) → J.left_since j (J.moment j) c
+            → IsLeft V.setup V.before reader.old.known c) }
     {
-        let done = self.record(rt, pass, event);
-        if done.is_ok() {
-            self.recorded.notify_all();
-        }
-        done
-    }
-
-    // Records an event for a pass: what takes memory for the pass comes before the lock, and what it refuses is
-    // answered under the lock, where the market's own refusals come first.
-    fn record(&self, rt: &impl Wait, pass: &mut Pass<V>, event: &Event) -> Result<Done, DeskError>
-        ensures ok { IfOk result (Sends V.setup pass.old pass.new event.now) }
-        ensures err { OnErr result (pass.new ≡ pass.old) }
-        ensures outright { IsRefusedOutright V.setup event.now result }
-    {
-        let room = pass.sent.reserve(1);
-        let copy = event.copy(self.alloc);
-        let mut held = self.desk.lock(rt);
-        let held = &mut *held;
-        if room.is_err() {
-            return Err(held.desk.refuse(event));
-        }
-        let Ok(copy) = copy else {
-            return Err(held.desk.refuse(event));
-        };
-        let known = pass.knows.again(&self.log);
-        held.desk.confirm(&self.log, known);
-        held.desk.stands();
-        let done = held.submit(&self.log, pass.number, &mut pass.share, event)?;
-        held.desk.stands();
-        held.desk.renew(&self.log, &mut pass.knows);
-        pass.sent.push_reserved((done.place, copy));
-        Ok(done)
+        let Exchange {
+            log,
+            admitted: _,
+            kept: _,
+            desk,
+            recorded: _,
+            passes: _,
+            alloc: _,
+        } = self;
+        let Held {
+            mut desk,
+            keeper,
+            ..
+        } = desk.into_inner();
+        let receipt = reader.receipt(&log);
+        desk.confirm(&log, receipt);
+        desk.stands();
+        journal_of(keeper)
     }
 
     /// A copy of the history, which is what the reader and the pass know from then on.
@@ -189,11 +181,44 @@ impl<V: Venue> Exchange<V> {
         Ok(Audit { history })
     }
 
-    /// Keeps so many slots of the log for the codes of the hours and for ticks: from now on no other event is given one
-    /// of the last so many. No clause says what the exchange was then.
+    /// Keeps this number of slots of the log for the codes of the hours and for ticks: from now on no other event is
+    /// given one of them, the last ones. No clause says what the exchange was then.
     pub fn keep(&self, rt: &impl Wait, slots: u64) {
         let mut held = self.desk.lock(rt);
         held.desk.keep(slots);
+    }
+
+    /// The reader knows from now on all that is told, of a history that begins with what was kept before, and gets a
+    /// receipt for its being kept: whoever has the journal can show by it that each crash leaves the records of all that
+    /// the reader knows.
+    pub fn vouch(&self, rt: &impl Wait, reader: &mut Reader<Entry>) -> Receipt<Entry>
+        requires { reader.old.log ≡ V.log }
+        ensures reader { CatchesUp reader.old reader.new }
+        ensures whole { IsWhole V.setup reader.new.known }
+        ensures before { IsPrefix (restored V.before) (history_of reader.new.known) }
+        ensures kept { result ≡ record {
+          log = V.kept;
+          known = unspoken (history_of reader.new.known);
+        } }
+    {
+        let mut held = self.desk.lock(rt);
+        let held = &mut *held;
+        held.desk.inform(&self.log, reader);
+        held.desk.stands();
+        held.kept.again(&self.kept)
+    }
+
+    /// Why the journal failed, where it did: nothing is recorded any more then. No clause says what the exchange was when
+    /// it was asked.
+    pub fn failure(&self, rt: &impl Wait) -> Option<JournalError> {
+        self.desk.lock(rt).failed
+    }
+
+    /// The log of what is kept, to which such receipts belong.
+    pub fn kept_log(&self) -> &Log<Entry>
+        ensures { result.now ≡ V.kept }
+    {
+        &self.kept
     }
 
     /// The log of the feed, which waits for nobody.

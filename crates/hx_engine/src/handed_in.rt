@@ -1,7 +1,7 @@
 //! Passes that are handed in at the end.
-ghost use Rattle.std.specs.Prelude.{◌≡◌, ◌+◌, ◌-◌, ◌<◌, ◌≤◌, [], length, IfOk, IfErr, IfSome, IfNone};
+ghost use Rattle.std.specs.Prelude.{◌≡◌, ◌+◌, ◌-◌, ◌<◌, ◌≤◌, [], length, false, IfOk, IfErr, IfSome, IfNone};
 ghost use Rattle.std.specs.List.{AllByRecursion};
-ghost use Rattle.hx_engine.specs.Finish.{times_given, sent_by_all, AreAllOnce, IsMissing, IsReturned};
+ghost use Rattle.hx_engine.specs.Finish.{is_any_waiting, times_given, sent_by_all, AreAllOnce, IsMissing, IsReturned};
 
 use crate::pass::Pass;
 use crate::venue::Venue;
@@ -36,10 +36,23 @@ pub fn missing<V: Venue>(passes: &[Pass<V>], count: u16) -> Option<u16>
     None
 }
 
+/// Whether an event of one of these passes was admitted, and was never told.
+pub fn is_any_waiting<V: Venue>(passes: &[Pass<V>]) -> bool
+    ensures { result ≡ is_any_waiting passes.now }
+{
+    for pass in passes {
+        if pass.waiting_len() != 0 {
+            return true;
+        }
+    }
+    false
+}
+
 // Takes a pass back: its share, and what it knew.
 fn take_back<V: Venue>(desk: &mut Desk, log: &Log<Entry>, share: &mut Share<V>, pass: Pass<V>)
     requires log { log.now ≡ V.log }
     requires desk { desk.old.log ≡ V.log }
+    requires live { length pass.waiting ≡ 0 }
     ensures same { desk.new ≡ desk.old }
     ensures parts { share.new.parts ≡ share.old.parts + 1 }
     ensures amount { share.new.amount ≡ share.old.amount + length pass.sent }
@@ -48,7 +61,9 @@ fn take_back<V: Venue>(desk: &mut Desk, log: &Log<Entry>, share: &mut Share<V>, 
     let Pass {
         number: _,
         sent: _,
+        told: _,
         knows,
+        entered: _,
         share: own,
     } = pass;
     desk.confirm(log, knows);
@@ -64,6 +79,7 @@ pub fn take_all_back<V: Venue>(
 )
     requires log { log.now ≡ V.log }
     requires desk { desk.old.log ≡ V.log }
+    requires live { is_any_waiting passes.items ≡ false }
     ensures same { desk.new ≡ desk.old }
     ensures parts { share.new.parts ≡ share.old.parts + length passes.items }
     ensures amount { share.new.amount ≡ share.old.amount + sent_by_all passes.items }

@@ -1,51 +1,163 @@
 //! What lies under the lock.
-ghost use Rattle.std.specs.Prelude.{◌≡◌, ◌+◌, ◌<◌, length, IfOk, IfErr, OnOk, OnErr};
-ghost use Rattle.hx_desk.specs.Entries.{entry_of};
-ghost use Rattle.hx_desk.specs.Desks.{Grows, Faults, start_of};
+ghost use Rattle.std.specs.Prelude.{◌≡◌, ◌+◌, ◌<◌, [], ◌∷◌, ◌++◌, length, map, take, drop, Some, Err, IfOk, IfErr, IfSome, OnOk, OnErr};
+ghost use Rattle.hx_tape_lines.specs.Text.{record_of};
+ghost use mathlib.Core.List.{IsPrefix};
+ghost use Rattle.hx_desk.specs.Entries.{entry_of, restored};
+ghost use Rattle.std.proofs.Props.{props};
+ghost use Rattle.hx_desk.specs.Desks.{Grows, Faults, IsResumed};
+ghost use Rattle.hx_engine.specs.Journals.{unspoken, lines, record_texts};
+ghost use Rattle.hx_engine.specs.Passes.{sent_by};
+ghost use Rattle.hx_engine.specs.Exchanges.{DoneAt, LastDone, AreAdmittedUpTo, IsRefusedOutright};
 
+use crate::answers::{SubmitError, refused};
+use crate::flight::{Flight, Landed};
+use crate::keeper::Keeper;
 use crate::venue::Venue;
-use hx_blog::Log;
+use hx_blog::{Log, NamesEntries, Receipt, Writer};
 use hx_desk::{Desk, DeskError, Done, Entry};
+use hx_journal::{Journal, JournalError};
 use hx_market::Event;
+use std::alloc::Global;
+use std::marker::Brand;
+use std::mem::replace;
 use std::sync::ledger::{Book, Share};
 
-/// The desk of a venue, beside the book that counts each of its entries once.
+/// How many events were admitted, where the last of them was recorded, and why the next one was refused.
 #[derive(Drop)]
-pub struct Held<V: Venue> {
+pub struct Entered {
+    pub count: usize,
+    pub last: Done,
+    pub refused: Option<SubmitError>,
+}
+
+impl Entered {
+    /// None, since the first of them was refused.
+    pub fn none(error: SubmitError) -> Entered
+        ensures { result ≡ record {
+          count = 0;
+          last = record { place = 0; first = 0; count = 0 };
+          refused = Some error;
+        } }
+    {
+        Entered {
+            count: 0,
+            last: Done {
+                place: 0,
+                first: 0,
+                count: 0,
+            },
+            refused: Some(error),
+        }
+    }
+}
+
+/// The desk of a venue, beside the book that counts each of its entries once, and the journal, while nobody writes to it.
+#[derive(Drop)]
+pub struct Held<V: Venue, J: Journal> {
     /// The desk.
     pub desk: Desk,
     /// How many entries all passes sent.
     pub book: Book<V>,
     /// The share of no pass.
     pub spare: Share<V>,
+    // The writer of the log of what is admitted, and a receipt for what is kept.
+    pub register: Writer<Entry>,
+    pub kept: Receipt<Entry>,
+    // The records of the entries that are not sealed.
+    pub records: Vec<Vec<u8>>,
+    pub keeper: Option<Keeper<V, J>>,
+    // Why the journal failed, where it did.
+    pub failed: Option<JournalError>,
+    pub alloc: Global,
     pub ghost named: { desk.log ≡ V.log },
     pub ghost of_setup: { desk.setup ≡ V.setup },
-    pub ghost counted: { length desk.history ≡ book.total },
+    pub ghost counted: { length desk.history ≡ length V.before + book.total },
+    pub ghost began: { take (length V.before) (take desk.told desk.history) ≡ restored V.before },
     pub ghost no_parts: { spare.parts ≡ 0 },
     pub ghost no_amount: { spare.amount ≡ 0 },
+    pub ghost registered: { register ≡ record {
+      log = V.admitted;
+      published = unspoken desk.history;
+      staged = [];
+    } },
+    pub ghost covered: { kept ≡ record {
+      log = V.kept;
+      known = unspoken (take desk.told desk.history);
+    } },
+    pub ghost spelled: { record_texts records.items ≡ lines record_of (drop desk.sealed desk.history) },
+    pub ghost home: { IfSome keeper (λ k.
+        (k.writer.published ≡ unspoken (take desk.told desk.history)) × (desk.sealed ≡ desk.told)) } by { Prim.hlevel props },
 }
 
-impl<V: Venue> Held<V> {
-    /// A desk at its start, and a book in which nothing is counted.
-    pub fn new(desk: Desk, book: Book<V>, spare: Share<V>) -> Held<V>
-        requires desk { desk ≡ start_of V.log V.setup }
+// Writes an entry of a pass down.
+fn write_down<N: NamesEntries<Entry>>(
+    register: &mut Writer<Entry>,
+    log: &Log<Entry>,
+    pass: u16,
+    event: &Event,
+)
+    requires log { register.old.log ≡ log.now }
+    requires staged { register.old.staged ≡ [] }
+    requires entries { N.entries ≡ unspoken (entry_of pass event.now ∷ []) }
+    requires left { N.left ≡ [] }
+    ensures { register.new ≡ record register.old {
+      published = register.old.published
+          ++ unspoken (entry_of pass event.now ∷ []);
+    } }
+{
+    register.publish_first::<N>(log, 0);
+}
+
+impl<V: Venue, J: Journal + Drop> Held<V, J> {
+    /// What lies under the lock at the start of an exchange that goes on from events, which its desk has recorded and its
+    /// journal keeps.
+    pub fn open(
+        alloc: Global,
+        desk: Desk,
+        book: Book<V>,
+        spare: Share<V>,
+        register: Writer<Entry>,
+        kept: Receipt<Entry>,
+        keeper: Keeper<V, J>,
+    ) -> Held<V, J>
+        requires desk { IsResumed V.log V.setup V.before desk }
         requires book { book.total ≡ 0 }
         requires spare { (spare.parts ≡ 0) × (spare.amount ≡ 0) }
-        ensures { result.desk ≡ desk }
+        requires register { register ≡ record {
+          log = V.admitted;
+          published = unspoken (restored V.before);
+          staged = [];
+        } }
+        requires kept { kept ≡ record { log = V.kept; known = unspoken (restored V.before) } }
+        requires keeper { keeper.writer.published ≡ unspoken (restored V.before) }
     {
-        Held { desk, book, spare }
+        Held {
+            desk,
+            book,
+            spare,
+            register,
+            kept,
+            records: Vec::new(alloc),
+            keeper: Some(keeper),
+            failed: None,
+            alloc,
+        }
     }
 
-    /// Records an event for a pass, and counts it in its share.
-    pub fn submit(
+    /// Admits an event for a pass, with its record, and counts it in its share.
+    pub fn admit(
         &mut self,
         log: &Log<Entry>,
+        admitted: &Log<Entry>,
         pass: u16,
         share: &mut Share<V>,
         event: &Event,
+        written: Vec<u8>,
     ) -> Result<Done, DeskError>
         requires log { log.now ≡ V.log }
+        requires admitted { admitted.now ≡ V.admitted }
         requires share { 0 < share.old.parts }
+        requires written { written.items ≡ record_of event.now }
         ensures ok { IfOk result (Grows self.old.desk self.new.desk (entry_of pass event.now)) }
         ensures err { OnErr result (self.new.desk ≡ self.old.desk) }
         ensures refused { IfErr result (Faults self.old.desk event.now) }
@@ -53,9 +165,199 @@ impl<V: Venue> Held<V> {
         ensures uncounted { OnErr result (share.new.amount ≡ share.old.amount) }
         ensures parts { share.new.parts ≡ share.old.parts }
     {
-        let Held { desk, book, .. } = self;
-        let done = desk.submit(log, pass, event)?;
+        let Held {
+            desk,
+            book,
+            register,
+            records,
+            ..
+        } = self;
+        desk.stands();
+        if records.reserve(1).is_err() {
+            return Err(desk.refuse(event));
+        }
+        let done = desk.admit(log, pass, event)?;
+        write_down::<Brand>(register, admitted, pass, event);
+        records.push_reserved(written);
         book.add(share, 1);
         Ok(done)
+    }
+
+    /// Admits an event for a pass, with its record.
+    fn enter(
+        &mut self,
+        log: &Log<Entry>,
+        admitted: &Log<Entry>,
+        pass: u16,
+        share: &mut Share<V>,
+        event: &Event,
+        written: Vec<u8>,
+    ) -> Result<Done, SubmitError>
+        requires log { log.now ≡ V.log }
+        requires admitted { admitted.now ≡ V.admitted }
+        requires share { 0 < share.old.parts }
+        requires written { written.items ≡ record_of event.now }
+        ensures history { OnOk result (self.new.desk.history
+            ≡ self.old.desk.history ++ entry_of pass event.now ∷ []) }
+        ensures err { OnErr result (self.new.desk.history ≡ self.old.desk.history) }
+        ensures done { IfOk result (DoneAt V.setup self.old.desk.history event.now) }
+        ensures counted { OnOk result (share.new.amount ≡ share.old.amount + 1) }
+        ensures uncounted { OnErr result (share.new.amount ≡ share.old.amount) }
+        ensures parts { share.new.parts ≡ share.old.parts }
+        ensures outright { IsRefusedOutright V.setup event.now result }
+    {
+        self.desk.stands();
+        match self.admit(log, admitted, pass, share, event, written) {
+            Ok(done) => Ok(done),
+            Err(error) => Err(refused(error, false)),
+        }
+    }
+
+    /// Why an event is refused that cannot be admitted, since the exchange has stopped or there is no memory for it.
+    pub fn refuse(&mut self, event: &Event, stopped: bool) -> SubmitError
+        ensures desk { self.new.desk ≡ self.old.desk }
+        ensures outright { IsRefusedOutright V.setup event.now (Err result) }
+    {
+        refused(self.desk.refuse(event), stopped || self.failed.is_some())
+    }
+
+    /// Admits events for a pass, with their records, one after another, up to the first that is refused.
+    pub fn enter_all(
+        &mut self,
+        log: &Log<Entry>,
+        admitted: &Log<Entry>,
+        pass: u16,
+        share: &mut Share<V>,
+        events: &[Event],
+        written: Vec<Vec<u8>>,
+    ) -> Entered
+        requires log { log.now ≡ V.log }
+        requires admitted { admitted.now ≡ V.admitted }
+        requires share { 0 < share.old.parts }
+        requires written { record_texts written.items ≡ map record_of events.now }
+        ensures history { self.new.desk.history
+            ≡ self.old.desk.history ++ sent_by pass (take result.count events.now) }
+        ensures place { 0 < result.count
+            → result.last.place ≡ length self.old.desk.history + result.count }
+        ensures last { LastDone V.setup pass self.old.desk.history
+            (take result.count events.now) result.last }
+        ensures counted { share.new.amount ≡ share.old.amount + result.count }
+        ensures parts { share.new.parts ≡ share.old.parts }
+        ensures outright { AreAdmittedUpTo V.setup events.now result.count result.refused }
+    {
+        let mut written = written;
+        let mut last = Done {
+            place: 0,
+            first: 0,
+            count: 0,
+        };
+        for i in 0..events.len() {
+            let text = replace(&mut written[i], Vec::new(self.alloc));
+            match self.enter(log, admitted, pass, share, &events[i], text) {
+                Ok(done) => last = done,
+                Err(error) => {
+                    return Entered {
+                        count: i,
+                        last,
+                        refused: Some(error),
+                    };
+                }
+            }
+        }
+        Entered {
+            count: events.len(),
+            last,
+            refused: None,
+        }
+    }
+
+    /// Takes the journal and what is to be kept next, where the journal is there.
+    pub fn begin(&mut self, admitted: &Log<Entry>) -> Option<Flight<V, J>>
+        requires admitted { admitted.now ≡ V.admitted }
+        ensures desk { self.new.desk.history ≡ self.old.desk.history }
+    {
+        let Held {
+            desk,
+            register,
+            records,
+            keeper,
+            alloc,
+            ..
+        } = self;
+        let keeper = keeper.take()?;
+        desk.stands();
+        desk.seal();
+        let records = replace(records, Vec::new(*alloc));
+        Some(Flight {
+            keeper,
+            records,
+            knows: register.receipt(admitted),
+            end: desk.sealed_len(),
+        })
+    }
+
+    /// Takes the journal back, and tells what it keeps now. What cannot be stops the exchange: that this is another batch
+    /// than the one that was taken.
+    pub fn land(
+        &mut self,
+        log: &Log<Entry>,
+        admitted: &Log<Entry>,
+        kept: &Log<Entry>,
+        landed: Landed<V, J>,
+    )
+        requires log { log.now ≡ V.log }
+        requires admitted { admitted.now ≡ V.admitted }
+        requires kept { kept.now ≡ V.kept }
+    {
+        let Landed { keeper, knows, end } = landed;
+        if self.keeper.is_some() || self.desk.sealed_len() != end {
+            self.failed = Some(JournalError::Closed);
+            return;
+        }
+        self.register.confirm(admitted, knows);
+        self.tell(log, kept, keeper);
+    }
+
+    // Tells what the journal keeps.
+    fn tell(&mut self, log: &Log<Entry>, kept: &Log<Entry>, keeper: Keeper<V, J>)
+        requires log { log.now ≡ V.log }
+        requires kept { kept.now ≡ V.kept }
+        requires keeps { keeper.writer.published
+            ≡ unspoken (take self.old.desk.sealed self.old.desk.history) }
+    {
+        let mut keeper = keeper;
+        let Held {
+            desk,
+            kept: receipt,
+            keeper: home,
+            ..
+        } = self;
+        desk.stands();
+        desk.release(log);
+        keeper.renew(kept, receipt);
+        *home = Some(keeper);
+    }
+
+    /// The receipt knows from now on the whole history, told or not.
+    pub fn note(&mut self, admitted: &Log<Entry>, entered: &mut Receipt<Entry>)
+        requires admitted { admitted.now ≡ V.admitted }
+        requires entered { entered.old.log ≡ V.admitted }
+        ensures desk { self.new.desk ≡ self.old.desk }
+        ensures entered { entered.new ≡ record {
+          log = V.admitted;
+          known = unspoken self.old.desk.history;
+        } }
+    {
+        entered.catch_up(admitted, &mut self.register);
+    }
+
+    /// What a receipt knows of the history is a beginning of it.
+    pub fn recall(&mut self, admitted: &Log<Entry>, entered: Receipt<Entry>)
+        requires admitted { admitted.now ≡ V.admitted }
+        requires entered { entered.log ≡ V.admitted }
+        ensures desk { self.new.desk ≡ self.old.desk }
+        ensures begins { IsPrefix entered.known (unspoken self.old.desk.history) }
+    {
+        self.register.confirm(admitted, entered);
     }
 }

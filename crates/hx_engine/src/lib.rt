@@ -12,15 +12,22 @@
 
 mod answers;
 mod exchange;
+mod flight;
 mod handed_in;
 mod held;
+mod keeper;
+mod opening;
 mod pass;
 mod pass_count;
 mod replies;
+mod submitting;
 mod venue;
 
-pub use answers::{Audit, FinishError, Finished, News};
+pub use answers::{Audit, FinishError, Finished, News, SubmitError};
 pub use exchange::Exchange;
 pub use hx_desk::{Desk, DeskError, Done, Entry, laws};
+pub use hx_journal::{Journal, JournalError};
+pub use keeper::Keeper;
+pub use opening::{Logs, Recovered};
 pub use pass::Pass;
 pub use venue::Venue;

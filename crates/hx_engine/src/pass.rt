@@ -1,5 +1,5 @@
 //! Passes, through which events are sent.
-ghost use Rattle.std.specs.Prelude.{◌≡◌, ◌<◌, ◌≤◌, [], IfOk, OnOk};
+ghost use Rattle.std.specs.Prelude.{◌≡◌, ◌<◌, ◌≤◌, [], length, IfOk, OnOk};
 ghost use Rattle.hx_engine.specs.Passes.{new_passes};
 
 use crate::venue::Venue;
@@ -11,32 +11,43 @@ use std::alloc::Global;
 use std::marker::Model;
 use std::sync::ledger::Share;
 
-/// What one client of an exchange sent, and what he knows. Contracts see its number, its events with their places, and
-/// the entries that it knows.
+/// What one client of an exchange sent, and what he knows. Contracts see its number, its events with their places, those
+/// of them that were admitted and not told, and the entries that it knows.
 #[derive(Drop)]
 pub struct Pass<V: Venue> {
     pub(crate) number: u16,
+    // Its events that were admitted, of which so many are told; the others wait.
     pub(crate) sent: Vec<(u64, Event)>,
+    pub(crate) told: usize,
     pub(crate) knows: Receipt<Entry>,
+    // A receipt for the history up to its last event, told or not.
+    pub(crate) entered: Receipt<Entry>,
     pub(crate) share: Share<V>,
 }
 
 impl<V: Venue> Model for Pass<V> {
-    ghost use Rattle.std.specs.Prelude.{◌≡◌, ◌<◌, ◌≤◌, length};
+    ghost use Rattle.std.specs.Prelude.{◌≡◌, ◌<◌, ◌≤◌, length, take, drop};
     ghost use Rattle.hx_desk.specs.Known.{history_of};
     ghost use Rattle.hx_engine.specs.Passes.{PassState, sent_in, AreSomeOf};
 
     ghost Value = { PassState };
 
-    ghost view = { λ p. record { number = p.number; sent = p.sent.items; known = p.knows.known } };
+    ghost view = { λ p. record {
+      number = p.number;
+      sent = take p.told p.sent.items;
+      waiting = drop p.told p.sent.items;
+      known = p.knows.known;
+    } };
 
     ghost invariant = { λ p.
         (p.share.parts ≡ 1)
         × (p.share.amount ≡ length p.sent.items)
         × (p.knows.log ≡ V.log)
+        × (p.entered.log ≡ V.admitted)
         × (0 < p.number)
         × (p.number ≤ V.parts)
-        × AreSomeOf p.sent.items (sent_in p.number (history_of p.knows.known)) };
+        × AreSomeOf (take p.told p.sent.items) (sent_in p.number (history_of p.knows.known))
+        × (p.told ≤ length p.sent.items) };
 }
 
 impl<V: Venue> Pass<V> {
@@ -52,7 +63,14 @@ impl<V: Venue> Pass<V> {
     pub fn sent(&self) -> &[(u64, Event)]
         ensures { result.now ≡ self.now.sent }
     {
-        &self.sent
+        &self.sent[..self.told]
+    }
+
+    /// How many of its events were admitted and not told, since the journal failed.
+    pub fn waiting_len(&self) -> usize
+        ensures { result ≡ length self.now.waiting }
+    {
+        self.sent.len() - self.told
     }
 
     /// A receipt for what it knows: a reader that learns it reads at least the feed of all that the pass sent.
@@ -69,16 +87,22 @@ impl<V: Venue> Pass<V> {
 pub(crate) fn make_passes<V: Venue>(
     alloc: Global,
     log: &Log<Entry>,
+    admitted: &Log<Entry>,
     writer: &mut Writer<Entry>,
+    register: &mut Writer<Entry>,
     spare: &mut Share<V>,
     count: u16,
 ) -> Result<Vec<Pass<V>>, NoMemory>
     requires log { log.now ≡ V.log }
+    requires admitted { admitted.now ≡ V.admitted }
     requires writer { writer.old ≡ record { log = V.log; published = []; staged = [] } }
+    requires register { register.old
+        ≡ record { log = V.admitted; published = []; staged = [] } }
     requires spare { (spare.old.parts ≡ count) × (spare.old.amount ≡ 0) }
     requires passes { (count ≡ V.parts) × (count ≤ 64) }
     ensures passes { IfOk result (λ passes. passes.items ≡ new_passes count) }
     ensures writer { writer.new ≡ writer.old }
+    ensures register { register.new ≡ register.old }
     ensures spare { OnOk result ((spare.new.parts ≡ 0) × (spare.new.amount ≡ 0)) }
 {
     let mut passes = Vec::with_capacity(alloc, count as usize)?;
@@ -86,10 +110,13 @@ pub(crate) fn make_passes<V: Venue>(
         let number = before + 1;
         let share = spare.split_off(1, 0);
         let knows = writer.receipt(log);
+        let entered = register.receipt(admitted);
         passes.push(Pass {
             number,
             sent: Vec::new(alloc),
+            told: 0,
             knows,
+            entered,
             share,
         })?;
     }

@@ -13,13 +13,14 @@ use crate::venue::Venue;
 use arrayvec::ArrayVec;
 use hx_blog::{Log, Reader};
 use hx_desk::Entry;
+use hx_journal::Journal;
 use hx_units::{MemberNo, NoMemory};
 use std::sync::{CondvarTimeouts, Wait};
 use std::time::{Clock, Duration};
 
 // The reader knows from now on all that is published: how much stands then for a member.
-fn tell<V: Venue>(
-    held: &mut Held<V>,
+fn tell<V: Venue, J: Journal + Drop>(
+    held: &mut Held<V, J>,
     log: &Log<Entry>,
     reader: &mut Reader<Entry>,
     member: MemberNo,
@@ -39,7 +40,11 @@ fn tell<V: Venue>(
 }
 
 // The reader knows from now on all that is published: whether the day is over then.
-fn tell_end<V: Venue>(held: &mut Held<V>, log: &Log<Entry>, reader: &mut Reader<Entry>) -> bool
+fn tell_end<V: Venue, J: Journal + Drop>(
+    held: &mut Held<V, J>,
+    log: &Log<Entry>,
+    reader: &mut Reader<Entry>,
+) -> bool
     requires log { log.now ≡ V.log }
     requires reader { reader.old.log ≡ V.log }
     ensures over { result ≡ is_over (known_market V.setup reader.new.known) }
@@ -51,7 +56,7 @@ fn tell_end<V: Venue>(held: &mut Held<V>, log: &Log<Entry>, reader: &mut Reader<
     held.desk.ended()
 }
 
-impl<V: Venue> Exchange<V> {
+impl<V: Venue, J: Journal + Drop> Exchange<V, J> {
     /// How many replies a member has, and whether the day is over. The reader knows from then on the history of which
     /// that is.
     pub fn news(&self, rt: &impl Wait, reader: &mut Reader<Entry>, member: MemberNo) -> News

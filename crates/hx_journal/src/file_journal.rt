@@ -100,7 +100,7 @@ impl<D: Device> FileJournal<D> {
         self.lines.is_open()
     }
 
-    /// Writes so many zeros behind the blocks and syncs, so that the blocks to come lie in a file
+    /// Writes this number of zeros behind the blocks and syncs, so that the blocks to come lie in a file
     /// that needs no growth: their syncs are cheaper then. After a device's `Err` the journal is
     /// closed.
     pub fn zeros_ahead(&mut self, alloc: Global, len: usize) -> Result<(), JournalError>

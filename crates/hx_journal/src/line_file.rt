@@ -155,7 +155,7 @@ impl<D: Device> LineFile<D> {
         Ok(())
     }
 
-    /// Writes so many zeros behind the lines and syncs, so that the groups to come lie in a file
+    /// Writes this number of zeros behind the lines and syncs, so that the groups to come lie in a file
     /// that needs no growth: their syncs are cheaper then. No lines change. After a device's `Err`
     /// the file refuses everything.
     pub fn zeros_ahead(&mut self, alloc: Global, len: usize) -> Result<(), JournalError>

@@ -13,7 +13,7 @@ pub struct MemoryFile {
 }
 
 impl MemoryFile {
-    /// A file with these bytes, all of them on the disk. After so many calls each one fails.
+    /// A file with these bytes, all of them on the disk. After this number of calls each one fails.
     pub fn new(alloc: Global, bytes: &[u8], calls: u64) -> Result<MemoryFile, AllocError> {
         Ok(MemoryFile {
             alloc,
@@ -28,7 +28,7 @@ impl MemoryFile {
         &self.bytes
     }
 
-    /// One of the files that a crash may leave: so many bytes, of which those in the range are as
+    /// One of the files that a crash may leave: a number of bytes, of which those in the range are as
     /// they were written and the others as they were at the last sync. A byte that is not there is
     /// zero.
     pub fn torn(

@@ -7,7 +7,8 @@ use Rattle.hx_market.specs.Outputs.{Reply}
 use Rattle.hx_market.specs.Steps.{step}
 use Rattle.hx_tape_lines.specs.Text.{Entry}
 use Rattle.hx_replay.specs.Output.{counts_after}
-use Rattle.hx_replay.specs.Run.{Progress, IsFew, start, after, event_of}
+use Rattle.hx_tape_lines.specs.Events.{event_of}
+use Rattle.hx_replay.specs.Run.{Progress, IsFew, start, after}
 use Rattle.hx_replay.proofs.Told.{told_few}
 
 pub raised-length : (xs : List ℕ) (i : ℕ) → length (raised xs i) ≡ length xs

@@ -17,8 +17,9 @@ use Rattle.hx_audit.specs.declared.bearing.Bearing.{Bearing}
 use Rattle.hx_text.specs.Cuts.{Lacks}
 use Rattle.hx_text.proofs.Splits.{same_split, none_split}
 use Rattle.hx_tape_lines.specs.Text.{Entry, line}
-use Rattle.hx_replay.specs.Run.{event_of, tape, IsFront}
-use Rattle.hx_replay.specs.Struck.{IsKnown, without_chosen, left_by, counts_of_lines, StrikesAll, StrikesSome}
+use Rattle.hx_tape_lines.specs.Events.{event_of, IsKnown}
+use Rattle.hx_replay.specs.Run.{tape, IsFront}
+use Rattle.hx_replay.specs.Struck.{without_chosen, left_by, counts_of_lines, StrikesAll, StrikesSome}
 use Rattle.hx_replay.specs.Taking.{AreBearings, IsTape, Takes}
 use Rattle.hx_replay.proofs.OneReading.{line_no_feed, tape-cons}
 use Rattle.hx_replay.proofs.Runs.{tape-append}

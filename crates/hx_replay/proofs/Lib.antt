@@ -15,7 +15,6 @@ pub mod Taken
 pub mod Leaving
 pub mod Texts
 pub mod StruckTapes
-pub mod Operators
 pub mod Reading
 pub mod Spelled
 pub mod Marked

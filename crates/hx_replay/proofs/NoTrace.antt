@@ -18,7 +18,8 @@ use Rattle.hx_laws.proofs.Quiet.StruckChoices.{among_quiet, listed_is_choice, qu
 use Rattle.hx_tape_lines.specs.Text.{Entry}
 use Rattle.hx_replay.specs.Output.{feed_lines, counts_after, told_lines}
 use Rattle.hx_replay.specs.Output as output
-use Rattle.hx_replay.specs.Run.{start, event_of, output_all}
+use Rattle.hx_tape_lines.specs.Events.{event_of}
+use Rattle.hx_replay.specs.Run.{start, output_all}
 use Rattle.hx_replay.specs.Seen.{Numbered}
 use Rattle.hx_replay.specs.Seen.Numbered.{OfFeed, OfMember}
 use Rattle.hx_replay.specs.Seen.{texts_of, numbered, output_lines, not_to, is_to, LeavesNoTrace}

@@ -4,7 +4,8 @@ use Rattle.hx_members.specs.Setups.{Setup}
 use Rattle.hx_market.specs.Steps.{told, told_from, run, market_after}
 use Rattle.hx_tape_lines.specs.Text.{Entry}
 use Rattle.hx_replay.specs.Output.{told_lines}
-use Rattle.hx_replay.specs.Run.{Progress, start, event_of, output_of, output_all, after, after_all}
+use Rattle.hx_tape_lines.specs.Events.{event_of}
+use Rattle.hx_replay.specs.Run.{Progress, start, output_of, output_all, after, after_all}
 
 output_from : (p : Progress) (es : List Entry) → output_all p es ≡ told_lines p.feed p.counts (told_from p.setup p.market (map event_of es))
 unfolding output_of after told_from

@@ -11,7 +11,8 @@ use Rattle.hx_replay.specs.declared.fault.Kind.TheVariants as kinds
 use Rattle.hx_members.specs.Setups.{Setup, IsSetup}
 use Rattle.hx_text.specs.Cuts.{Lacks}
 use Rattle.hx_tape_lines.specs.Text.{Entry, longest_line}
-use Rattle.hx_replay.specs.Run.{Progress, event_of, tape, after_all, output_all, start, counts_of, FailsAs, IsFew, AreEvents, Replays, Stops, EndsBy, BeginsBadly, IsFront}
+use Rattle.hx_tape_lines.specs.Events.{event_of}
+use Rattle.hx_replay.specs.Run.{Progress, tape, after_all, output_all, start, counts_of, FailsAs, IsFew, AreEvents, Replays, Stops, EndsBy, BeginsBadly, IsFront}
 use Rattle.hx_replay.specs.Whole.{ReplaysAll, StopsAt}
 use Rattle.hx_replay.proofs.NoTrace.{no_trace, tells_nothing}
 use Rattle.hx_replay.proofs.StruckTapes.{texts_tell_nothing}

@@ -14,7 +14,8 @@ use Rattle.hx_replay.specs.declared.fault.Kind.TheVariants as kind
 use Rattle.hx_replay.specs.declared.fault.TapeError.{TapeError}
 use Rattle.hx_tape_lines.specs.Text.{Entry, IsEntry, line}
 use Rattle.hx_replay.specs.Output.{feed_lines, reply_lines, counts_after}
-use Rattle.hx_replay.specs.Run.{Progress, event_of, is_unknown, kind_of, fault_of, check_of, output_of, after, Plays, Faults}
+use Rattle.hx_tape_lines.specs.Events.{event_of, is_unknown}
+use Rattle.hx_replay.specs.Run.{Progress, kind_of, fault_of, check_of, output_of, after, Plays, Faults}
 
 -- an entry that says something is checked by the market
 pub checked : (p : Progress) (e : Entry) → is_unknown e ≡ false → check_of p e ≡ kind_of (refusal p.setup p.market.recorded (event_of e))

@@ -4,8 +4,8 @@ use Rattle.std.proofs.lemmas.List.{append-nil}
 use Rattle.hx_rules.specs.declared.event.Event.{Event}
 use Rattle.hx_match.proofs.First.{all_append}
 use Rattle.hx_tape_lines.specs.Text.{Entry}
-use Rattle.hx_replay.specs.Run.{event_of, tape}
-use Rattle.hx_replay.specs.Struck.{IsKnown, IsLineOf}
+use Rattle.hx_tape_lines.specs.Events.{event_of, IsKnown, IsLineOf}
+use Rattle.hx_replay.specs.Run.{tape}
 use Rattle.hx_replay.specs.Ahead.{IsAhead, TakesLines}
 use Rattle.hx_replay.proofs.OneReading.{tape-cons}
 use Rattle.hx_replay.proofs.Runs.{tape-append}

@@ -13,10 +13,11 @@ use Rattle.hx_audit.specs.Recording.{AreAccepted, AreRecorded}
 use Rattle.hx_audit.proofs.StruckRecorded.{struck_recorded}
 use Rattle.hx_replay.specs.declared.fault.Kind.TheVariants as kind
 use Rattle.hx_tape_lines.specs.Text.{Entry}
-use Rattle.hx_replay.specs.Run.{Progress, start, event_of, is_unknown, kind_of, check_of, after, output_all, AreEvents}
+use Rattle.hx_tape_lines.specs.Events.{event_of, is_unknown, IsKnown}
+use Rattle.hx_replay.specs.Run.{Progress, start, kind_of, check_of, after, output_all, AreEvents}
 use Rattle.hx_replay.specs.Seen.{texts_of, output_lines}
 use Rattle.hx_replay.specs.Grep.{lines_except, lines_of_feed}
-use Rattle.hx_replay.specs.Struck.{without_chosen, struck, struck_all, IsKnown}
+use Rattle.hx_replay.specs.Struck.{without_chosen, struck, struck_all}
 use Rattle.hx_replay.specs.Quiet.{TextsTellNothing}
 use Rattle.hx_replay.proofs.NoTrace.{texts_are, no_trace, tells_nothing}
 use Rattle.hx_replay.proofs.Strikes.{filter-events, recorded}

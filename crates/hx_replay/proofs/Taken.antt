@@ -19,8 +19,9 @@ use Rattle.hx_replay.specs.declared.fault.Kind.TheVariants as kind
 use Rattle.hx_replay.specs.declared.fault.TapeError.{TapeError}
 use Rattle.hx_replay.specs.declared.fault.TapeError.TheVariants as fault
 use Rattle.hx_tape_lines.specs.Text.{Entry, line}
-use Rattle.hx_replay.specs.Run.{Progress, start, event_of, kind_of, fault_of, check_of, after_all, tape, FailsAs, BeginsBadly}
-use Rattle.hx_replay.specs.Struck.{IsLineOf, IsNoLine, FirstFault, StrikeStops}
+use Rattle.hx_tape_lines.specs.Events.{event_of, IsLineOf, IsNoLine}
+use Rattle.hx_replay.specs.Run.{Progress, start, kind_of, fault_of, check_of, after_all, tape, FailsAs, BeginsBadly}
+use Rattle.hx_replay.specs.Struck.{FirstFault, StrikeStops}
 use Rattle.hx_replay.specs.Taking.{AreBearings, Takes, IsFaultOf, StopsReading}
 use Rattle.hx_replay.proofs.Playing.{unknown_is_bad}
 use Rattle.hx_replay.proofs.OneReading.{tape-cons}

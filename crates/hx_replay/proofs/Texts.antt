@@ -10,7 +10,7 @@ use Rattle.hx_units.proofs.Booleans.{same_bools}
 use Rattle.hx_itch.specs.Message.{feed_bytes}
 use Rattle.hx_ouch.specs.declared.outbound.Outbound.{Outbound}
 use Rattle.hx_ouch.specs.Outbound.{outbound_bytes}
-use Rattle.hx_replay.specs.Grep.{lines_in, begins_with, of_feed, of_member, lines_except, lines_of_feed}
+use Rattle.hx_replay.specs.Grep.{lines_in, begins_with, lines_with, of_feed, of_member, lines_except, lines_of_feed}
 use Rattle.hx_replay.specs.Seen.{Numbered}
 use Rattle.hx_replay.specs.Seen.Numbered.{OfFeed, OfMember}
 use Rattle.hx_replay.specs.Seen.{text_of, texts_of, not_to, is_to}
@@ -198,6 +198,12 @@ pub except_texts : (m : ℕ) → m < 4096 → (lines : List Numbered) → lines_
 except_texts m low lines =
     ap (λ (ls : List (List ℕ)). concat (filter (λ l. not (begins_with (of_member m) l)) ls)) (lines_are lines)
     ∙ chosen_texts (λ l. not (begins_with (of_member m) l)) (λ line. not (is_to m line)) (λ line. ap not (to_member m low line)) lines
+
+-- the lines to a member
+pub member_texts : (m : ℕ) → m < 4096 → (lines : List Numbered) → lines_with (of_member m) (texts_of lines) ≡ texts_of (filter (λ line. is_to m line) lines)
+member_texts m low lines =
+    ap (λ (ls : List (List ℕ)). concat (filter (λ l. begins_with (of_member m) l) ls)) (lines_are lines)
+    ∙ chosen_texts (λ l. begins_with (of_member m) l) (λ line. is_to m line) (λ line. to_member m low line) lines
 
 in_feed : (line : Numbered) → begins_with of_feed (text_of line) ≡ is_of_feed line
 in_feed (OfFeed number message) = refl

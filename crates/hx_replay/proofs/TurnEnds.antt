@@ -9,7 +9,8 @@ use Rattle.hx_replay.specs.declared.fault.TapeError.{TapeError}
 use Rattle.hx_replay.specs.declared.fault.TapeError.TheVariants as fault
 use Rattle.hx_replay.specs.declared.turn.Turn.{Turn}
 use Rattle.hx_tape_lines.specs.Text.{Entry}
-use Rattle.hx_replay.specs.Run.{Progress, event_of, tape, output_all, Replays, Stops, Writes, IsFew}
+use Rattle.hx_tape_lines.specs.Events.{event_of}
+use Rattle.hx_replay.specs.Run.{Progress, tape, output_all, Replays, Stops, Writes, IsFew}
 use Rattle.hx_replay.specs.Ahead.{AreOf, IsAhead, PlaysAll, FailsAmong, IsAtTurn, IsUnwritten}
 use Rattle.hx_replay.specs.Turns.{events_of, told_of, PlaysTurns, FailsInTurns}
 use Rattle.hx_replay.proofs.TurnLists.{events_append, told_append, told_with, in_parts}

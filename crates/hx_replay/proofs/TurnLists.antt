@@ -9,8 +9,7 @@ use Rattle.rtrb.specs.declared.producer.Producer.{Producer}
 use Rattle.hx_rules.specs.declared.event.Event.{Event}
 use Rattle.hx_replay.specs.declared.turn.Turn.{Turn}
 use Rattle.hx_tape_lines.specs.Text.{Entry}
-use Rattle.hx_replay.specs.Struck.{IsKnown}
-use Rattle.hx_replay.specs.Run.{event_of}
+use Rattle.hx_tape_lines.specs.Events.{IsKnown, event_of}
 use Rattle.hx_replay.specs.Ahead.{AreOf}
 use Rattle.hx_replay.specs.Turns.{events_of, told_of}
 

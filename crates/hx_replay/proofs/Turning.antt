@@ -8,10 +8,11 @@ use Rattle.hx_text.specs.Cuts.{Lacks}
 use Rattle.hx_replay.specs.declared.fault.TapeError.{TapeError}
 use Rattle.hx_replay.specs.declared.fault.TapeError.TheVariants as fault
 use Rattle.hx_tape_lines.specs.Text.{Entry, line}
-use Rattle.hx_replay.specs.Struck.{IsKnown}
-use Rattle.hx_replay.specs.Run.{Progress, event_of, tape, after, after_all, output_of, output_all, AreEvents, IsEvent, Plays, Replays, Stops, Faults, IsFew}
+use Rattle.hx_tape_lines.specs.Events.{IsKnown, event_of}
+use Rattle.hx_replay.specs.Run.{Progress, tape, after, after_all, output_of, output_all, AreEvents, IsEvent, Plays, Replays, Stops, Faults, IsFew}
 use Rattle.hx_replay.specs.Ahead.{AreOf, IsAhead, Gathers, PlaysAll, FailsAmong, IsAtTurn}
-use Rattle.hx_replay.proofs.OneReading.{line_same, line_no_feed, tape-cons}
+use Rattle.hx_replay.proofs.OneReading.{line_no_feed, tape-cons}
+use Rattle.hx_tape_lines.proofs.OneLine.{line_same}
 use Rattle.hx_replay.proofs.Runs.{tape-append, after-append, output-append, events-append, length-tape, events_counted, few_all}
 use Rattle.hx_replay.proofs.PieceByPiece.{replays_then, stops_then}
 use Rattle.hx_replay.proofs.Gathering.{all_written, gathers_counts}

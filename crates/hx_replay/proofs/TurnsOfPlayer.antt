@@ -4,7 +4,8 @@ use Rattle.std.proofs.lemmas.List.{append-nil, length-append, length-map, nil_fr
 use Rattle.hx_rules.specs.declared.event.Event.{Event}
 use Rattle.hx_replay.specs.declared.turn.Turn.{Turn}
 use Rattle.hx_tape_lines.specs.Text.{Entry}
-use Rattle.hx_replay.specs.Run.{Progress, event_of, after_all, output_all, AreEvents, IsFew}
+use Rattle.hx_tape_lines.specs.Events.{event_of}
+use Rattle.hx_replay.specs.Run.{Progress, after_all, output_all, AreEvents, IsFew}
 use Rattle.hx_replay.specs.Ahead.{AreOf, PlaysAll}
 use Rattle.hx_replay.specs.Turns.{events_of, told_of, MayFollow, PlaysTurns}
 use Rattle.hx_replay.proofs.TurnLists.{events_with, told_with, are_joined, in_parts}

@@ -6,8 +6,8 @@ use Rattle.hx_rules.specs.declared.event.Event.{Event}
 use Rattle.hx_tape_lines.specs.Text.{Entry, line}
 use Rattle.hx_replay.specs.declared.fault.TapeError.{TapeError}
 use Rattle.hx_replay.specs.declared.fault.TapeError.TheVariants as fault
-use Rattle.hx_replay.specs.Run.{Progress, event_of, tape, Faults, AreEvents, after_all, output_all}
-use Rattle.hx_replay.specs.Struck.{IsKnown}
+use Rattle.hx_tape_lines.specs.Events.{event_of, IsKnown}
+use Rattle.hx_replay.specs.Run.{Progress, tape, Faults, AreEvents, after_all, output_all}
 
 -- events of entries that say something
 pub record AreOf (entries : List Entry) (events : List Event) : Type 0 where

@@ -3,7 +3,8 @@ use Rattle.std.specs.Prelude.{◌≡◌, List, map}
 use Rattle.hx_members.specs.Setups.{Setup}
 use Rattle.hx_rules.specs.declared.event.Event.{Event}
 use Rattle.hx_tape_lines.specs.Text.{Entry}
-use Rattle.hx_replay.specs.Run.{start, event_of, output_all, AreEvents}
+use Rattle.hx_tape_lines.specs.Events.{event_of}
+use Rattle.hx_replay.specs.Run.{start, output_all, AreEvents}
 use Rattle.hx_replay.specs.Seen.{texts_of, output_lines}
 
 -- The entries are those of the events, `replay` takes them, and writes what the market told of the events.

@@ -6,7 +6,6 @@ pub mod Whole
 pub mod Struck
 pub mod Taking
 pub mod Quiet
-pub mod Operators
 pub mod Histories
 pub mod Ahead
 pub mod MarkWords

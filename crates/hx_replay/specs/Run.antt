@@ -1,19 +1,15 @@
 -- What is written for a tape.
-use Rattle.std.specs.Prelude.{◌≡◌, ◌≢◌, ◌⊎◌, ℕ, ◌+◌, ◌*◌, ◌<◌, ◌≤◌, ◌==◌, if◌then◌else◌, List, [], ◌∷◌, ◌++◌, length, replicate, slice_index, Option, Some, None, Bool, ◌&&◌, is_none}
+use Rattle.std.specs.Prelude.{◌≡◌, ◌≢◌, ◌⊎◌, ℕ, ◌+◌, ◌*◌, ◌<◌, ◌≤◌, if◌then◌else◌, List, [], ◌∷◌, ◌++◌, length, replicate, slice_index, Option, Some, None}
 use Rattle.std.specs.List.{flat_map}
-use Rattle.std.specs.Option.{option_map_or}
 use Rattle.std.specs.Io.KnownBytes.{Appends}
 use Rattle.hx_units.specs.Limits.{member_numbers}
 use Rattle.hx_units.specs.Letters.{line_feed}
 use Rattle.hx_members.specs.Setups.{Setup}
-use Rattle.hx_rules.specs.declared.event.Event.{Event}
-use Rattle.hx_rules.specs.declared.event.Event.TheVariants as event
 use Rattle.hx_rules.specs.declared.fault.PrepareError.{PrepareError}
 use Rattle.hx_rules.specs.declared.fault.PrepareError.TheVariants as refused
 use Rattle.hx_market.specs.Markets.{Market, opening}
 use Rattle.hx_market.specs.Outputs.{Outcome}
 use Rattle.hx_market.specs.Refusals.{refusal}
-use Rattle.hx_market.specs.OperatorMessages.{operator_event}
 use Rattle.hx_market.specs.Steps.{step}
 use Rattle.hx_replay.specs.declared.fault.Kind.{Kind}
 use Rattle.hx_replay.specs.declared.fault.Kind.TheVariants as kind
@@ -22,6 +18,7 @@ use Rattle.hx_replay.specs.declared.fault.TapeError.TheVariants as fault
 use Rattle.hx_replay.specs.declared.run.Counts.{Counts}
 use Rattle.hx_text.specs.Cuts.{Lacks}
 use Rattle.hx_tape_lines.specs.Text.{Entry, IsEntry, line, longest_line}
+use Rattle.hx_tape_lines.specs.Events.{event_of, is_unknown}
 use Rattle.hx_replay.specs.Output.{feed_lines, reply_lines, counts_after}
 
 -- ---- one event
@@ -45,24 +42,6 @@ start setup =
       replies = 0;
       counts = replicate member_numbers 0;
     }
-
--- the operator has number 0
-abbrev pub is_operator : Entry → Bool
-is_operator e = e.member == 0
-
-abbrev pub message_of : Entry → Event
-message_of e = event.Message e.member e.time e.bytes
-
--- the event of an entry: a member's message, or what the operator's bytes say
-abbrev pub event_of : Entry → Event
-event_of e =
-    if is_operator e
-    then option_map_or (λ x. x) (operator_event e.time e.bytes) (message_of e)
-    else message_of e
-
--- the operator's bytes say nothing
-abbrev pub is_unknown : Entry → Bool
-is_unknown e = is_operator e && is_none (operator_event e.time e.bytes)
 
 -- the kind of fault that a refusal is
 abbrev pub kind_of : Option PrepareError → Option Kind

@@ -12,7 +12,8 @@ use Rattle.hx_market.specs.QuietChains.{Line, lines_of_all, strike_one}
 use Rattle.hx_market.specs.QuietChains.Line.{ToFeed, ToMember}
 use Rattle.hx_tape_lines.specs.Text.{Entry}
 use Rattle.hx_replay.specs.Output.{feed_line, reply_line}
-use Rattle.hx_replay.specs.Run.{start, event_of, output_all}
+use Rattle.hx_tape_lines.specs.Events.{event_of}
+use Rattle.hx_replay.specs.Run.{start, output_all}
 
 -- a line of output with its number: a message of the feed, or a reply to a member
 pub data Numbered : Type 0 where

@@ -1,9 +1,8 @@
 -- A tape without the messages of a member's quiet chains.
-use Rattle.std.specs.Prelude.{◌≡◌, ◌≢◌, ◌⊎◌, ℕ, ◌+◌, true, false, not, List, [], ◌∷◌, ◌++◌, map, length, Option}
+use Rattle.std.specs.Prelude.{◌≡◌, ℕ, ◌+◌, not, List, [], ◌++◌, map, length, Option}
 use Rattle.std.specs.List.{filter}
 use Rattle.std.specs.Io.KnownBytes.{Consumes, Appends, IsAtEnd}
 use Rattle.hx_members.specs.Setups.{Setup}
-use Rattle.hx_rules.specs.declared.event.Event.{Event}
 use Rattle.hx_market.specs.Steps.{run}
 use Rattle.hx_market.specs.QuietChains.{Choice, bears, is_quiet, quiet_of_one}
 use Rattle.hx_replay.specs.declared.fault.Kind.{Kind}
@@ -12,8 +11,9 @@ use Rattle.hx_replay.specs.declared.fault.TapeError.TheVariants as fault
 use Rattle.hx_replay.specs.declared.run.Counts.{Counts}
 use Rattle.hx_audit.specs.declared.auditor.Whose.{Whose}
 use Rattle.hx_audit.specs.Auditing.{choice_of}
-use Rattle.hx_tape_lines.specs.Text.{Entry, IsEntry, line}
-use Rattle.hx_replay.specs.Run.{start, event_of, is_unknown, tape, after_all, AreEvents, BeginsBadly, IsFront}
+use Rattle.hx_tape_lines.specs.Text.{Entry}
+use Rattle.hx_tape_lines.specs.Events.{event_of}
+use Rattle.hx_replay.specs.Run.{start, tape, after_all, AreEvents, BeginsBadly, IsFront}
 
 -- the lines whose event is no message that bears a chosen token
 abbrev pub without_chosen : Choice → List Entry → List Entry
@@ -34,26 +34,6 @@ struck setup m entries =
 unfoldable pub struck_all : Setup → List Entry → List Entry
 struck_all setup entries =
     without_chosen (is_quiet (run setup (map event_of entries))) entries
-
--- ---- the lines of a text
-
--- an entry that says something
-pub record IsKnown (e : Entry) : Type 0 where
-  pub entry : IsEntry e
-  pub known : is_unknown e ≡ false
-
--- the text is the line of this event
-pub record IsLineOf (text : List ℕ) (event : Event) : Type 0 where
-  pub entry : Entry
-  pub is_known : IsKnown entry
-  pub is_line : text ≡ line entry
-  pub event_is : event ≡ event_of entry
-
--- the text is the line of no event
-abbrev pub IsNoLine : List ℕ → Type 0
-IsNoLine text =
-    ((e : Entry) → IsEntry e → text ≢ line e)
-    ⊎ ((e : Entry) × IsEntry e × (text ≡ line e) × (is_unknown e ≡ true))
 
 -- ---- what is written
 

@@ -9,8 +9,9 @@ use Rattle.hx_replay.specs.declared.fault.TapeError.{TapeError}
 use Rattle.hx_replay.specs.declared.fault.TapeError.TheVariants as fault
 use Rattle.hx_members.specs.Setups.{Setup}
 use Rattle.hx_tape_lines.specs.Text.{Entry}
-use Rattle.hx_replay.specs.Run.{event_of, tape}
-use Rattle.hx_replay.specs.Struck.{IsKnown, FirstFault, StopsBefore, ReadsSome}
+use Rattle.hx_tape_lines.specs.Events.{event_of, IsKnown}
+use Rattle.hx_replay.specs.Run.{tape}
+use Rattle.hx_replay.specs.Struck.{FirstFault, StopsBefore, ReadsSome}
 
 -- what each of these events bears
 abbrev pub AreBearings : List Event → List Bearing → Type 0

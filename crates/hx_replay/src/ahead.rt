@@ -1,27 +1,14 @@
 //! Lines that are read before they are played.
-ghost use Rattle.std.specs.Prelude.{◌≡◌, ◌<◌, ◌↔◌, ◌++◌, ◌∷◌, [], IfOk, OnOk, OnErr, IfSome, IfNone, IsTrue, length, true, false};
-ghost use Rattle.hx_replay.specs.Struck.{IsLineOf, IsNoLine};
+ghost use Rattle.std.specs.Prelude.{◌≡◌, ◌<◌, ◌↔◌, ◌++◌, ◌∷◌, [], IfOk, OnOk, OnErr, IsTrue, length, true, false};
 ghost use Rattle.hx_replay.specs.Ahead.{TakesLines, IsAhead};
 
 use crate::pending::Pending;
-use crate::run::event_of;
 use hx_market::Event;
-use hx_tape_lines::line;
+use hx_tape_lines::read_event;
 use hx_text::split_once;
 use std::alloc::{AllocError, Global};
 use std::marker::Model;
 use std::mem::replace;
-
-/// The event of a line, where it is one, its bytes in the room of others.
-pub(crate) fn read_event(room: Vec<u8>, text: &[u8]) -> Result<Option<Event>, AllocError>
-    ensures some { IfOk result (λ o. IfSome o (IsLineOf text.now)) }
-    ensures none { IfOk result (λ o. IfNone o (IsNoLine text.now)) }
-{
-    let Some(fields) = line::read_in(room, text)? else {
-        return Ok(None);
-    };
-    Ok(event_of(fields))
-}
 
 /// The events of lines that are read and not yet played. Contracts see the list of them.
 #[derive(Drop)]

@@ -6,7 +6,6 @@ mod delivery;
 mod fault;
 pub mod laws;
 mod messages;
-mod operator;
 mod pending;
 mod pieces;
 mod player;
@@ -22,8 +21,7 @@ mod turn;
 mod turns;
 
 pub use fault::{Kind, TapeError};
-pub use hx_tape_lines::write_event;
-pub use operator::read_operator_line;
+pub use hx_tape_lines::{read_operator_line, write_event};
 pub use replaying::{replay, replay_on};
 pub use replaying_ahead::replay_ahead;
 pub use run::Counts;

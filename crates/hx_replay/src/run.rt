@@ -1,17 +1,17 @@
 //! A replay as it goes: its market, and what was counted.
-ghost use Rattle.std.specs.Prelude.{◌≡◌, ◌<◌, ◌^◌, ◌+◌, ◌++◌, [], ℕ, List, true, false, IfOk, IfErr, IfSome, IfNone, OnSome, OnOk, replicate};
+ghost use Rattle.std.specs.Prelude.{◌≡◌, ◌<◌, ◌^◌, ◌+◌, ◌++◌, [], ℕ, List, IfOk, IfErr, OnOk, replicate};
 ghost use Rattle.hx_replay.specs.declared.fault.TapeError.TheVariants as fault;
-ghost use Rattle.hx_replay.specs.Struck.{IsKnown};
-ghost use Rattle.hx_tape_lines.specs.Text.{Entry, entry_of, line};
-ghost use Rattle.hx_replay.specs.Run.{event_of, is_unknown, fault_of, counts_of, start, Plays, Faults, IsFew};
+ghost use Rattle.hx_tape_lines.specs.Events.{IsKnown, event_of};
+ghost use Rattle.hx_tape_lines.specs.Text.{Entry, line};
+ghost use Rattle.hx_replay.specs.Run.{fault_of, counts_of, start, Plays, Faults, IsFew};
 
 use crate::fault::{Kind, TapeError};
 use crate::messages::{Messages, ToldCounts};
 use crate::room::Room;
 use hx_levels::Book;
-use hx_market::{Bytes, Event, Market, PrepareError, decode_operator};
+use hx_market::{Event, Market, PrepareError};
 use hx_members::Setup;
-use hx_tape_lines::{Fields, line};
+use hx_tape_lines::{event_of, line};
 use hx_units::NoMemory;
 use std::alloc::{AllocError, Global};
 use std::marker::Model;
@@ -91,22 +91,6 @@ fn no_replies(alloc: Global) -> Result<Vec<u64>, AllocError>
     ensures { IfOk result (λ counts. counts.items ≡ replicate 4096 0) }
 {
     vec![in alloc; 0; 4096]
-}
-
-// The event of an entry: a member's message, or what the operator's bytes say, where they say something.
-pub fn event_of(fields: Fields) -> Option<Event>
-    ensures event { IfSome result (λ event. event ≡ event_of (entry_of fields)) }
-    ensures known { OnSome result (is_unknown (entry_of fields) ≡ false) }
-    ensures unknown { IfNone result (is_unknown (entry_of fields) ≡ true) }
-{
-    if fields.member == 0 {
-        return decode_operator(fields.time, &fields.bytes);
-    }
-    Some(Event::Message {
-        member: fields.member,
-        time: fields.time,
-        bytes: Bytes::of(fields.bytes),
-    })
 }
 
 // The fault of the line of this number, where the market refuses its event.

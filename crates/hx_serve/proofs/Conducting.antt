@@ -5,7 +5,7 @@ use Rattle.std.proofs.KnownBytes.{Consumes-nil, Consumes-trans, Consumes-kept}
 use Rattle.std.proofs.lemmas.List.{append-nil, map-append}
 use Rattle.std.proofs.lemmas.List.Concat.{flat_map-append}
 use Rattle.hx_rules.specs.declared.event.Event.{Event}
-use Rattle.hx_replay.specs.Operators.{IsOperatorLine}
+use Rattle.hx_tape_lines.specs.Operators.{IsOperatorLine}
 use Rattle.hx_serve.specs.Operator.{AreOperatorLines, text_of, SendsAll, Conducts, ConductsOn}
 
 pub are_more : (ls ms : List (List ℕ)) (es fs : List Event) → AreOperatorLines ls es → AreOperatorLines ms fs → AreOperatorLines (ls ++ ms) (es ++ fs)

@@ -2,7 +2,8 @@
 use Rattle.std.specs.Prelude.{ℕ, Bool, true, false, Option, Some, None}
 use Rattle.hx_sessions.specs.declared.ending.Fault.{Fault}
 use Rattle.hx_sessions.specs.declared.ending.Fault.TheVariants as fault
-use Rattle.hx_desk.specs.declared.fault.DeskError.{DeskError}
+use Rattle.hx_engine.specs.declared.answers.SubmitError.{SubmitError}
+use Rattle.hx_engine.specs.declared.answers.SubmitError.TheVariants.{Refused, Stopped}
 use Rattle.hx_desk.specs.declared.fault.DeskError.TheVariants as refused
 use Rattle.hx_replay.specs.declared.fault.Kind.TheVariants as kind
 use Rattle.hx_serve.specs.declared.fault.ServeError.{ServeError}
@@ -17,14 +18,16 @@ fault_number (fault.NotAuthorized reason) = 4
 fault_number fault.NoMemory = 5
 fault_number fault.Turns = 6
 fault_number (fault.Refused error) = 7
+fault_number fault.Stopped = 8
 
--- the fault of line n of the operator where the exchange refuses its event
-abbrev pub line_fault : ℕ → DeskError → ServeError
-line_fault n refused.NoMemory = failure.NoMemory
-line_fault n (refused.Full free needed) = failure.Full
-line_fault n (refused.Limit member) = failure.Line n kind.Limit
-line_fault n refused.NoMember = failure.Line n kind.Member
-line_fault n refused.BadTime = failure.Line n kind.Time
+-- the fault of line n of the operator where the exchange refuses its event, or its journal has failed
+abbrev pub line_fault : ℕ → SubmitError → ServeError
+line_fault n Stopped = failure.Journal
+line_fault n (Refused refused.NoMemory) = failure.NoMemory
+line_fault n (Refused (refused.Full free needed)) = failure.Full
+line_fault n (Refused (refused.Limit member)) = failure.Line n kind.Limit
+line_fault n (Refused refused.NoMember) = failure.Line n kind.Member
+line_fault n (Refused refused.BadTime) = failure.Line n kind.Time
 
 -- The fault of a day: that of the network, else want of memory, else that of the operator's input, else that of the
 -- output.

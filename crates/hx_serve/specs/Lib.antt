@@ -1,4 +1,5 @@
 pub mod Arguments
+pub mod Days
 pub mod Given
 pub mod Faults
 pub mod LastLine

@@ -4,7 +4,7 @@ use Rattle.std.specs.List.{flat_map}
 use Rattle.std.specs.Io.KnownBytes.{Consumes, IsAtEnd}
 use Rattle.hx_units.specs.Letters.{line_feed}
 use Rattle.hx_rules.specs.declared.event.Event.{Event}
-use Rattle.hx_replay.specs.Operators.{IsOperatorLine}
+use Rattle.hx_tape_lines.specs.Operators.{IsOperatorLine}
 
 -- each line is the operator's line of the event at its place
 abbrev pub AreOperatorLines : List (List ℕ) → List Event → Type 0

@@ -4,7 +4,7 @@ use crate::lobby::Lobby;
 use crate::notices::{Board, Left, Notice};
 use crate::sockets::{Connection, LOGIN};
 use arrayvec::ArrayVec;
-use hx_engine::{Exchange, Venue};
+use hx_engine::{Exchange, Journal, Venue};
 use std::alloc::{AllocError, Global};
 use std::io::{ErrorKind, Read};
 use std::net::{SocketAddr, TcpListener, TcpStream};
@@ -190,10 +190,10 @@ impl Door {
 
 /// Takes connections until code `C` is past, and gives those that have sent their login to places. One that has not
 /// within the limit is closed, and so are all that wait in the end. Where there is no memory to begin nobody is taken.
-pub fn keep_door<V: Venue, B: Board, T: Wait + Clock>(
+pub fn keep_door<V: Venue, J: Journal + Drop, B: Board, T: Wait + Clock>(
     rt: &T,
     alloc: Global,
-    exchange: &Exchange<V>,
+    exchange: &Exchange<V, J>,
     listener: TcpListener,
     lobby: &Lobby,
     limit: Duration,

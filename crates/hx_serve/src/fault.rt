@@ -30,6 +30,9 @@ pub enum ServeError {
     /// A socket failed.
     #[error("network failed")]
     Network,
+    /// The journal failed: nothing more is told.
+    #[error("journal failed")]
+    Journal,
     /// The log has too little room left for the feed of an operator's line.
     #[error("feed full")]
     Full,

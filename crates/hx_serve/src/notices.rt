@@ -92,6 +92,8 @@ pub enum Refusal {
     Full,
     /// A growth was refused.
     NoMemory,
+    /// The journal failed: nothing more is told.
+    Journal,
     /// The market refused it otherwise.
     Other,
 }
@@ -103,6 +105,7 @@ impl Display for Refusal {
             Refusal::Time => "bad time",
             Refusal::Full => "feed full",
             Refusal::NoMemory => "no memory",
+            Refusal::Journal => "journal failed",
             Refusal::Other => "refused",
         })
     }
@@ -290,6 +293,7 @@ pub fn fault_number(fault: &Fault) -> u8
         Fault::NoMemory => 5,
         Fault::Turns => 6,
         Fault::Refused(_) => 7,
+        Fault::Stopped => 8,
     }
 }
 

@@ -12,6 +12,7 @@ use crate::places::{Place, serve_places};
 use crate::publishing::Publishing;
 use crate::sockets::Datagrams;
 use hx_engine::{Exchange, Pass, Venue};
+use hx_journal::Unkept;
 use hx_sessions::Gate;
 use std::alloc::Global;
 use std::io::Read;
@@ -49,7 +50,7 @@ fn trade<
 >(
     rt: &T,
     alloc: Global,
-    exchange: &Exchange<V>,
+    exchange: &Exchange<V, Unkept>,
     hosting: &Hosting<'_, G, B>,
     lobby: &Lobby,
     staff: Staff<V, R>,
@@ -91,7 +92,7 @@ pub fn work_open<
 >(
     rt: &T,
     alloc: Global,
-    exchange: &Exchange<V>,
+    exchange: &Exchange<V, Unkept>,
     hosting: &Hosting<'_, G, B>,
     socket: &D,
     publishing: Publishing<'a, V>,

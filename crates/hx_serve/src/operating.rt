@@ -6,7 +6,7 @@ use crate::fault::ServeError;
 use crate::hosting::Hosting;
 use crate::notices::{Board, Notice, Refusal};
 use crate::operator::LONGEST;
-use hx_engine::{DeskError, Exchange, Pass, Venue};
+use hx_engine::{DeskError, Exchange, Journal, Pass, SubmitError, Venue};
 use hx_market::Event;
 use hx_replay::read_operator_line;
 use hx_text::split_once;
@@ -36,7 +36,10 @@ struct Conductor<V: Venue> {
 }
 
 // Why a line is refused.
-fn refusal_of(error: &DeskError) -> Refusal {
+fn refusal_of(error: SubmitError) -> Refusal {
+    let SubmitError::Refused(error) = error else {
+        return Refusal::Journal;
+    };
     match error {
         DeskError::NoMemory => Refusal::NoMemory,
         DeskError::Full { .. } => Refusal::Full,
@@ -47,11 +50,11 @@ fn refusal_of(error: &DeskError) -> Refusal {
 
 impl<V: Venue> Conductor<V> {
     // Sends the event of a line, or answers why not.
-    fn send_line<T: Wait>(
+    fn send_line<J: Journal + Drop, T: Wait>(
         &mut self,
         rt: &T,
         alloc: Global,
-        exchange: &Exchange<V>,
+        exchange: &Exchange<V, J>,
         text: &[u8],
     ) -> Result<(), Refusal> {
         if self.overlong {
@@ -65,16 +68,16 @@ impl<V: Venue> Conductor<V> {
         };
         match exchange.submit(rt, &mut self.pass, &event) {
             Ok(_) => Ok(()),
-            Err(error) => Err(refusal_of(&error)),
+            Err(error) => Err(refusal_of(error)),
         }
     }
 
     // Takes the next line, and tells where it was refused.
-    fn take_line<B: Board, T: Wait>(
+    fn take_line<J: Journal + Drop, B: Board, T: Wait>(
         &mut self,
         rt: &T,
         alloc: Global,
-        exchange: &Exchange<V>,
+        exchange: &Exchange<V, J>,
         board: &B,
         text: &[u8],
     ) {
@@ -90,11 +93,11 @@ impl<V: Venue> Conductor<V> {
 
     // Takes the lines that are whole with the next piece of the input. Of a line that is too long the rest is awaited, and
     // thrown away.
-    fn take_piece<B: Board, T: Wait>(
+    fn take_piece<J: Journal + Drop, B: Board, T: Wait>(
         &mut self,
         rt: &T,
         alloc: Global,
-        exchange: &Exchange<V>,
+        exchange: &Exchange<V, J>,
         board: &B,
         piece: &[u8],
     ) -> Result<(), ServeError> {
@@ -117,11 +120,11 @@ impl<V: Venue> Conductor<V> {
     }
 
     // Reads the input to its end, or to a fault of it, in at most so many reads.
-    fn read_all<B: Board, R: Read, T: Wait>(
+    fn read_all<J: Journal + Drop, B: Board, R: Read, T: Wait>(
         &mut self,
         rt: &T,
         alloc: Global,
-        exchange: &Exchange<V>,
+        exchange: &Exchange<V, J>,
         hosting: (&B, u64),
         input: &mut R,
     ) -> Result<(), ServeError> {
@@ -144,7 +147,12 @@ impl<V: Venue> Conductor<V> {
     }
 
     // Sends all codes of the hours, of which those that are past do nothing.
-    fn send_hours<T: Wait>(&mut self, rt: &T, exchange: &Exchange<V>, time: u64) {
+    fn send_hours<J: Journal + Drop, T: Wait>(
+        &mut self,
+        rt: &T,
+        exchange: &Exchange<V, J>,
+        time: u64,
+    ) {
         for code in HOURS {
             if !exchange.ended(rt) {
                 let _ = exchange.submit(rt, &mut self.pass, &Event::Hours { time, code });
@@ -156,10 +164,10 @@ impl<V: Venue> Conductor<V> {
 /// Reads the operator's input, and sends the event of each line by his pass; one that is bad or refused is told of, and
 /// the next one is read. Where the input ends, or fails, before code `C` is past, the codes that are left are sent: so
 /// the day ends. Answers the pass, and what was wrong with the input itself.
-pub fn conduct<V: Venue, G, B: Board, R: Read, T: Wait + Clock>(
+pub fn conduct<V: Venue, J: Journal + Drop, G, B: Board, R: Read, T: Wait + Clock>(
     rt: &T,
     alloc: Global,
-    exchange: &Exchange<V>,
+    exchange: &Exchange<V, J>,
     hosting: &Hosting<'_, G, B>,
     open: OpenArgs,
     pass: Pass<V>,

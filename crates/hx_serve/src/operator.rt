@@ -1,12 +1,12 @@
 //! The operator's lines.
 ghost use Rattle.std.specs.Prelude.{List, ℕ, ◌≡◌, ◌++◌, ◌∷◌, [], IfOk, OnOk, OnErr, IfNone, OnSome};
 ghost use Rattle.hx_rules.specs.declared.event.Event.{Event};
-ghost use Rattle.hx_replay.specs.Operators.{IsOperatorLine};
+ghost use Rattle.hx_tape_lines.specs.Operators.{IsOperatorLine};
 ghost use Rattle.hx_serve.specs.Faults.{line_fault};
 ghost use Rattle.hx_serve.specs.Operator.{SendsAll, Conducts, ConductsOn, BreaksOff, ConductsAll, ConductsSome};
 
 use crate::fault::ServeError;
-use hx_engine::{DeskError, Exchange, Pass, Venue};
+use hx_engine::{DeskError, Exchange, Journal, Pass, SubmitError, Venue};
 use hx_replay::{Kind, read_operator_line};
 use hx_text::split_once;
 use std::alloc::Global;
@@ -17,15 +17,16 @@ use std::sync::Wait;
 pub(crate) const LONGEST: usize = 2066;
 
 // The fault of a line whose event the exchange refused.
-fn line_fault(line: u64, error: DeskError) -> ServeError
+fn line_fault(line: u64, error: SubmitError) -> ServeError
     ensures { result ≡ line_fault line error }
 {
     let kind = match error {
-        DeskError::NoMemory => return ServeError::NoMemory,
-        DeskError::Full { .. } => return ServeError::Full,
-        DeskError::Limit { .. } => Kind::Limit,
-        DeskError::NoMember => Kind::Member,
-        DeskError::BadTime => Kind::Time,
+        SubmitError::Stopped => return ServeError::Journal,
+        SubmitError::Refused(DeskError::NoMemory) => return ServeError::NoMemory,
+        SubmitError::Refused(DeskError::Full { .. }) => return ServeError::Full,
+        SubmitError::Refused(DeskError::Limit { .. }) => Kind::Limit,
+        SubmitError::Refused(DeskError::NoMember) => Kind::Member,
+        SubmitError::Refused(DeskError::BadTime) => Kind::Time,
     };
     ServeError::Line { line, kind }
 }
@@ -59,11 +60,11 @@ impl<V: Venue> Operator<V> {
     }
 
     // Sends the event of the next line.
-    fn take_line<T: Wait>(
+    fn take_line<J: Journal + Drop, T: Wait>(
         &mut self,
         rt: &T,
         alloc: Global,
-        exchange: &Exchange<V>,
+        exchange: &Exchange<V, J>,
         text: &[u8],
     ) -> Result<(), ServeError>
         ensures pending { self.new.pending.items ≡ self.old.pending.items }
@@ -85,11 +86,11 @@ impl<V: Venue> Operator<V> {
     }
 
     // Sends the events of the lines that are whole with the next piece of the input.
-    fn take_piece<T: Wait>(
+    fn take_piece<J: Journal + Drop, T: Wait>(
         &mut self,
         rt: &T,
         alloc: Global,
-        exchange: &Exchange<V>,
+        exchange: &Exchange<V, J>,
         piece: &[u8],
     ) -> Result<(), ServeError>
         ensures ok { OnOk result (Conducts (self.old.pending.items ++ piece.now)
@@ -122,11 +123,11 @@ impl<V: Venue> Operator<V> {
     }
 
     // Reads once, and sends the events of the lines that are whole then. Answers whether the input goes on.
-    fn read_once<T: Wait, R: Read>(
+    fn read_once<J: Journal + Drop, T: Wait, R: Read>(
         &mut self,
         rt: &T,
         alloc: Global,
-        exchange: &Exchange<V>,
+        exchange: &Exchange<V, J>,
         reader: &mut R,
     ) -> Result<bool, ServeError>
         ensures ok { IfOk result (λ goes_on.
@@ -160,11 +161,11 @@ impl<V: Venue> Operator<V> {
     }
 
     // Reads the input to its end, or to a fault, in at most so many reads.
-    fn read_all<T: Wait, R: Read>(
+    fn read_all<J: Journal + Drop, T: Wait, R: Read>(
         &mut self,
         rt: &T,
         alloc: Global,
-        exchange: &Exchange<V>,
+        exchange: &Exchange<V, J>,
         reader: &mut R,
         turns: u64,
     ) -> Result<(), ServeError>
@@ -187,10 +188,10 @@ impl<V: Venue> Operator<V> {
 
 /// Reads the operator's input, and sends the event of each line by his pass, up to the end of the input or the first
 /// line that is bad or refused. Answers the pass, and the fault.
-pub fn operate<V: Venue, T: Wait, R: Read>(
+pub fn operate<V: Venue, J: Journal + Drop, T: Wait, R: Read>(
     rt: &T,
     alloc: Global,
-    exchange: &Exchange<V>,
+    exchange: &Exchange<V, J>,
     pass: Pass<V>,
     reader: &mut R,
     turns: u64,

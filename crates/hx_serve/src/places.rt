@@ -7,7 +7,7 @@ use crate::lobby::Lobby;
 use crate::notices::{Board, Notice, notice_of_end};
 use crate::sockets::Connection;
 use hx_blog::{Log, Reader};
-use hx_engine::{Entry, Exchange, Pass, Venue};
+use hx_engine::{Entry, Exchange, Journal, Pass, Venue};
 use hx_sessions::{Gate, Part, Session};
 use hx_units::MemberNo;
 use std::alloc::{AllocError, Global};
@@ -81,11 +81,16 @@ pub fn make_places<V: Venue>(
 
 impl<V: Venue + Send + Sync> Place<V> {
     // Serves one session. The place is free again when it has ended, however it did.
-    fn serve<G: Gate + Sync, B: Board + Sync, T: Threads + Wait + Clock + Sync>(
+    fn serve<
+        J: Journal + Drop + Send,
+        G: Gate + Sync,
+        B: Board + Sync,
+        T: Threads + Wait + Clock + Sync,
+    >(
         self,
         rt: &T,
         alloc: Global,
-        exchange: &Exchange<V>,
+        exchange: &Exchange<V, J>,
         hosting: &Hosting<'_, G, B>,
         connection: Connection,
     ) -> Place<V> {
@@ -120,11 +125,16 @@ impl<V: Venue + Send + Sync> Place<V> {
     }
 
     // Serves the connections of the lobby, one after another, until it is closed.
-    fn serve_all<G: Gate + Sync, B: Board + Sync, T: Threads + Wait + Clock + Sync>(
+    fn serve_all<
+        J: Journal + Drop + Send,
+        G: Gate + Sync,
+        B: Board + Sync,
+        T: Threads + Wait + Clock + Sync,
+    >(
         self,
         rt: &T,
         alloc: Global,
-        exchange: &Exchange<V>,
+        exchange: &Exchange<V, J>,
         hosting: &Hosting<'_, G, B>,
         lobby: &Lobby,
     ) -> Place<V> {
@@ -142,13 +152,14 @@ impl<V: Venue + Send + Sync> Place<V> {
 /// Serves the connections of the lobby at all places at once, until it is closed, and gives the passes back.
 pub fn serve_places<
     V: Venue + Send + Sync,
+    J: Journal + Drop + Send,
     G: Gate + Sync,
     B: Board + Sync,
     T: Threads + Wait + Clock + Sync,
 >(
     rt: &T,
     alloc: Global,
-    exchange: &Exchange<V>,
+    exchange: &Exchange<V, J>,
     hosting: &Hosting<'_, G, B>,
     lobby: &Lobby,
     places: Vec<Place<V>>,

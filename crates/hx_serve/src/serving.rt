@@ -1,5 +1,9 @@
 //! A day, from its first connection to its last line.
-ghost use Rattle.std.specs.Prelude.{◌≡◌, ◌+◌, []};
+ghost use Rattle.std.specs.Prelude.{◌≡◌, ◌+◌, [], length, None, IfOk};
+ghost use Rattle.std.specs.Io.KnownBytes.{Appends};
+ghost use Rattle.hx_engine.specs.Opening.{IsNewLog};
+ghost use Rattle.hx_serve.specs.Days.{IsServed};
+ghost use Rattle.hx_serve.specs.LastLine.{last_line};
 
 use crate::args::ServeArgs;
 use crate::clock::DayClock;
@@ -13,11 +17,12 @@ use crate::places::make_places;
 use crate::publishing::Publishing;
 use crate::sockets::{Datagrams, Doors, take};
 use crate::workers::{Writers, work};
-use hx_blog::{Log, Reader, Writer};
-use hx_engine::{Entry, Exchange, Finished, Pass, Venue};
+use hx_blog::{Log, Reader};
+use hx_engine::{Entry, Exchange, FinishError, Finished, Logs, Pass, Venue};
+use hx_journal::Unkept;
 use hx_members::{Seed, Setup};
 use hx_sessions::Gate;
-use log::Log as Logs;
+use log::Log as Logger;
 use std::alloc::Global;
 use std::io::{Read, Write};
 use std::marker::Brand;
@@ -61,12 +66,12 @@ struct Crew<V: Venue> {
     ghost belongs: { reader.log ≡ V.log },
 }
 
-// What an exchange is made of: a copy of the setup, the ends of its log, its ledger, and the seed of its tokens.
+// What an exchange is made of: a copy of the setup, its logs and a reader of the feed's, its ledger, and the seed of its
+// tokens.
 #[derive(Drop)]
 struct Founding {
     own: Setup,
-    log: Log<Entry>,
-    pen: Writer<Entry>,
+    logs: Logs,
     reader: Reader<Entry>,
     blank: Blank,
     seed: Seed,
@@ -91,12 +96,12 @@ fn attend<
     G: Gate + Sync,
     B: Board + Sync,
     D: Datagrams + Sync + Drop,
-    T: Threads + Wait + Clock + Logs + Sync,
+    T: Threads + Wait + Clock + Logger + Sync,
     R: Read + Drop,
 >(
     rt: &T,
     alloc: Global,
-    exchange: &Exchange<V>,
+    exchange: &Exchange<V, Unkept>,
     hosting: &Hosting<'_, G, B>,
     doors: Doors<D>,
     crew: Crew<V>,
@@ -140,12 +145,12 @@ fn attend_open<
     G: Gate + Sync,
     B: Board + Sync,
     D: Datagrams + Sync + Drop,
-    T: Threads + Wait + Clock + Logs + Sync,
+    T: Threads + Wait + Clock + Logger + Sync,
     R: Read + Send + Drop,
 >(
     rt: &T,
     alloc: Global,
-    exchange: &Exchange<V>,
+    exchange: &Exchange<V, Unkept>,
     hosting: &Hosting<'_, G, B>,
     doors: Doors<D>,
     crew: Crew<V>,
@@ -198,20 +203,27 @@ fn attend_open<
 // Ends the exchange, and writes the last line.
 fn conclude<V: Venue, W: Write>(
     alloc: Global,
-    exchange: Exchange<V>,
+    exchange: Exchange<V, Unkept>,
     outcome: Outcome<V>,
     output: &mut W,
-) -> Result<Day, ServeError> {
+) -> Result<Day, ServeError>
+    ensures served { IfOk result (λ day. IsServed V.setup day.history.items day.feed) }
+    ensures told { IfOk result (λ day. day.fault ≡ None
+        → Appends (W.contents output.old) (W.contents output.new)
+        (last_line (length day.history.items) day.feed)) }
+{
     let Outcome {
         passes,
         network,
         memory,
         operated,
     } = outcome;
-    let Ok(finished) = exchange.finish(passes) else {
-        return Err(ServeError::NoMemory);
+    let finished = match exchange.finish(passes) {
+        Ok(finished) => finished,
+        Err(FinishError::Stopped { .. }) => return Err(ServeError::Journal),
+        Err(FinishError::Missing { .. }) => return Err(ServeError::NoMemory),
     };
-    let Finished { history, feed } = finished;
+    let Finished { history, feed, .. } = finished;
     let written = write_last_line(alloc, output, history.len() as u64, feed).err();
     Ok(Day {
         history,
@@ -226,7 +238,7 @@ fn run<
     G: Gate + Sync,
     B: Board + Sync,
     D: Datagrams + Sync + Drop,
-    T: Threads + Wait + Clock + Logs + Sync,
+    T: Threads + Wait + Clock + Logger + Sync,
     R: Read + Send + Drop,
     W: Write,
 >(
@@ -238,23 +250,31 @@ fn run<
     input: R,
     output: &mut W,
 ) -> Result<Day, ServeError>
-    requires log { founding.log ≡ V.log }
+    requires feed { IsNewLog V.log founding.logs.feed }
+    requires admitted { IsNewLog V.admitted founding.logs.admitted }
+    requires kept { IsNewLog V.kept founding.logs.kept }
     requires of_setup { founding.own ≡ V.setup }
-    requires pen { founding.pen ≡ record { log = V.log; published = []; staged = [] } }
+    requires before { V.before ≡ [] }
     requires reader { founding.reader.log ≡ V.log }
     requires blank { (founding.blank.name ≡ V.name) × (founding.blank.parts ≡ V.parts) }
     requires passes { hosting.now.args.now.sessions + 1 ≡ V.parts }
+    ensures served { IfOk result (λ day. IsServed V.setup day.history.items day.feed) }
+    ensures told { IfOk result (λ day. day.fault ≡ None
+        → Appends (W.contents output.old) (W.contents output.new)
+        (last_line (length day.history.items) day.feed)) }
 {
     let Founding {
         own,
-        log,
-        pen,
+        logs,
         reader,
         blank,
         seed,
     } = founding;
     let count = hosting.args.sessions + 1;
-    let (exchange, mut passes) = Exchange::<V>::seeded(alloc, own, log, pen, blank, count, seed)?;
+    let journal = Unkept::new();
+    let (exchange, mut passes) = Exchange::<V, Unkept>::seeded(
+        alloc, own, logs, journal, blank, count, seed,
+    )?;
     let Some(own) = passes.pop() else {
         return Err(ServeError::NoMemory);
     };
@@ -268,12 +288,13 @@ fn run<
 }
 
 /// Serves a day through these doors, and answers what it leaves; or why its sessions never began. Its table of tokens has
-/// this seed. The gate is called round each submit and at each login. The last line goes to the output.
+/// this seed. The gate is called round each submit and at each login. The last line goes to the output: where the day had
+/// no fault it is the one of its history and feed.
 pub fn serve_day<
     G: Gate + Sync,
     B: Board + Sync,
     D: Datagrams + Sync + Drop,
-    T: Threads + Wait + Clock + Logs + Sync,
+    T: Threads + Wait + Clock + Logger + Sync,
     R: Read + Send + Drop,
     W: Write,
 >(
@@ -284,14 +305,24 @@ pub fn serve_day<
     seed: Seed,
     input: R,
     output: &mut W,
-) -> Result<Day, ServeError> {
+) -> Result<Day, ServeError>
+    ensures served { IfOk result (λ day. IsServed hosting.now.setup.now day.history.items day.feed) }
+    ensures told { IfOk result (λ day. day.fault ≡ None
+        → Appends (W.contents output.old) (W.contents output.new)
+        (last_line (length day.history.items) day.feed)) }
+{
     let own = hosting.setup.copy(alloc)?;
     let (log, pen, reader) = Log::<Entry>::new(alloc, hosting.args.capacity)?;
+    let (admitted, register, _) = Log::<Entry>::new(alloc, 1)?;
+    let (kept, keeper, _) = Log::<Entry>::new(alloc, 1)?;
     let blank = Blank::new(u64::from(hosting.args.sessions) + 1);
     let founding = Founding {
         own,
-        log,
-        pen,
+        logs: Logs {
+            feed: (log, pen),
+            admitted: (admitted, register),
+            kept: (kept, keeper),
+        },
         reader,
         blank,
         seed,
@@ -303,7 +334,7 @@ pub fn serve_day<
 /// to requests by UDP, and the operator's lines from the input. Its table of tokens has this seed. When all have ended,
 /// it writes the last line to the output.
 pub fn serve<
-    T: Net<Listener = TcpListener, Stream = TcpStream> + Threads + Wait + Clock + Logs + Sync,
+    T: Net<Listener = TcpListener, Stream = TcpStream> + Threads + Wait + Clock + Logger + Sync,
     R: Read + Send + Drop,
     W: Write,
 >(

@@ -7,6 +7,7 @@ use crate::operator::operate;
 use crate::publishing::Publishing;
 use crate::sockets::Datagrams;
 use hx_engine::{Exchange, Pass, Venue};
+use hx_journal::Unkept;
 use hx_sessions::{Clock, Gate, serve_all};
 use std::alloc::Global;
 use std::io::Read;
@@ -40,7 +41,7 @@ fn trade<
 >(
     rt: &T,
     alloc: Global,
-    exchange: &Exchange<V>,
+    exchange: &Exchange<V, Unkept>,
     hosting: &Hosting<'_, G, B>,
     writers: Writers<V, C, R>,
 ) -> Traded<V, C> {
@@ -70,7 +71,7 @@ pub fn work<
 >(
     rt: &T,
     alloc: Global,
-    exchange: &Exchange<V>,
+    exchange: &Exchange<V, Unkept>,
     hosting: &Hosting<'_, G, B>,
     socket: &D,
     publishing: Publishing<'a, V>,

@@ -11,7 +11,7 @@ use Rattle.hx_desk.specs.declared.entry.Entry.{Entry}
 use Rattle.hx_desk.specs.declared.entry.Done.{Done}
 use Rattle.hx_desk.specs.Entries.{entry_of, feed_spelled, ledger_from, ledger}
 use Rattle.hx_engine.specs.Passes.{PassState}
-use Rattle.hx_engine.specs.Exchanges.{Sends}
+use Rattle.hx_engine.specs.Exchanges.{Sends, Stays}
 use Rattle.hx_sessions.specs.Asked.{CarriesOn}
 
 -- the ledger of a longer history begins with that of a shorter
@@ -37,6 +37,10 @@ carries_more a b c p q = record { number = q.number ∙ p.number; known = prefix
 
 pub carries_sent : (setup : Setup) (old new : PassState) (event : Event) (done : Done) → Sends setup old new event done → CarriesOn old new
 carries_sent setup old new event done s =
-    let more : IsPrefix old.known (ledger setup (s.before ++ entry_of old.number event ∷ [])) =
-    prefix_trans old.known (ledger setup s.before) (ledger setup (s.before ++ entry_of old.number event ∷ [])) s.knew (ledger_begins setup s.before (entry_of old.number event ∷ [])) in
+    let others = entry_of old.number event ∷ s.after in
+    let more : IsPrefix old.known (ledger setup (s.before ++ others)) =
+    prefix_trans old.known (ledger setup s.before) (ledger setup (s.before ++ others)) s.knew (ledger_begins setup s.before others) in
     record { number = s.number; known = subst (IsPrefix old.known) (sym s.knows) more }
+
+pub carries_stays : (old new : PassState) → Stays old new → CarriesOn old new
+carries_stays old new s = record { number = s.number; known = subst (IsPrefix old.known) (sym s.known) (prefix_self old.known) }

@@ -42,3 +42,11 @@ served_all {S = S} {E = E} side out make waiting served setup own parts olds new
 pub all_written : {S : Type 0} (n : ℕ) (news items : List S) → length news ≡ length items → n ≡ length news → take n (news ++ drop (length news) items) ≡ news
 all_written n news items len is =
     ap (λ l. take n (news ++ l)) (drop_all (length news) items (omega (arith, len))) ∙ ap (take n) (append-nil news) ∙ take_all n news (omega (arith, is))
+
+-- what a call that was made with what stands in a slot, and left what stands there then, says of the slot
+pub served_there : {S P E : Type 0} (side : P → Side) (out : E → Side × Result Ended Fault) (waiting : S → Option P) (served : S → Option E) (setup own : Setup) {given left old new : S} → given ≡ old → left ≡ new
+    → ServesWaiting setup own (option_map side (waiting given)) (option_map out (served left))
+    → ServesWaiting setup own (option_map side (waiting old)) (option_map out (served new))
+served_there {S = S} side out waiting served setup own {given} {left} {old} {new} same is s =
+    subst (λ (y : S). ServesWaiting setup own (option_map side (waiting old)) (option_map out (served y))) is
+    (subst (λ (x : S). ServesWaiting setup own (option_map side (waiting x)) (option_map out (served left))) same s)

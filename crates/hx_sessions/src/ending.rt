@@ -32,6 +32,8 @@ pub enum Fault {
     Turns,
     /// The exchange refused a message.
     Refused(DeskError),
+    /// The exchange's journal failed: nothing more is told.
+    Stopped,
 }
 
 /// Why a worker stopped.

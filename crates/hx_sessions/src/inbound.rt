@@ -8,7 +8,7 @@ ghost use Rattle.hx_sessions.specs.declared.ending.Stop.TheVariants as stops;
 
 use crate::ending::{Ended, Fault, Stop};
 use crate::ports::{Clock, Gate};
-use hx_engine::{DeskError, Exchange, Pass, Venue};
+use hx_engine::{DeskError, Exchange, Journal, Pass, SubmitError, Venue};
 use hx_market::{Bytes, Event};
 use hx_session_core::{Action, Intake};
 use hx_soup::{Framer, FramerError, SoupPacket};
@@ -20,8 +20,8 @@ use std::sync::atomic::{AtomicBool, Ordering};
 
 /// A member who is logged in: the exchange that his messages go to, and who is called round each of them.
 #[derive(Drop)]
-pub struct Trader<'a, V: Venue, G> {
-    pub exchange: &'a Exchange<V>,
+pub struct Trader<'a, V: Venue, J: Journal + Drop, G> {
+    pub exchange: &'a Exchange<V, J>,
     pub gate: &'a G,
     pub member: MemberNo,
 }
@@ -41,11 +41,20 @@ pub struct Inbox<V: Venue, R, C> {
     pub sender: Sender<V, C>,
 }
 
+// The fault of a session whose message the exchange did not record.
+fn fault_of(error: SubmitError) -> Fault {
+    match error {
+        SubmitError::Refused(DeskError::NoMemory) => Fault::NoMemory,
+        SubmitError::Refused(error) => Fault::Refused(error),
+        SubmitError::Stopped => Fault::Stopped,
+    }
+}
+
 // Submits one message of the member.
-fn submit<V: Venue, C: Clock, G: Gate, T: Wait>(
+fn submit<V: Venue, J: Journal + Drop, C: Clock, G: Gate, T: Wait>(
     rt: &T,
     alloc: Global,
-    trader: &Trader<'_, V, G>,
+    trader: &Trader<'_, V, J, G>,
     sender: &mut Sender<V, C>,
     text: &[u8],
 ) -> Result<(), Fault>
@@ -68,16 +77,15 @@ fn submit<V: Venue, C: Clock, G: Gate, T: Wait>(
     trader.gate.after(trader.member, sender.number);
     match done {
         Ok(_) => Ok(()),
-        Err(DeskError::NoMemory) => Err(Fault::NoMemory),
-        Err(error) => Err(Fault::Refused(error)),
+        Err(error) => Err(fault_of(error)),
     }
 }
 
 // Acts on packets behind the login, up to a logout or a fault.
-fn act<V: Venue, C: Clock, G: Gate, T: Wait>(
+fn act<V: Venue, J: Journal + Drop, C: Clock, G: Gate, T: Wait>(
     rt: &T,
     alloc: Global,
-    trader: &Trader<'_, V, G>,
+    trader: &Trader<'_, V, J, G>,
     sender: &mut Sender<V, C>,
     packets: &[SoupPacket],
 ) -> Result<(), Stop>
@@ -104,10 +112,10 @@ fn act<V: Venue, C: Clock, G: Gate, T: Wait>(
 }
 
 // Acts on the packets before a fault of the stream, and says why the worker stops.
-fn act_last<V: Venue, C: Clock, G: Gate, T: Wait>(
+fn act_last<V: Venue, J: Journal + Drop, C: Clock, G: Gate, T: Wait>(
     rt: &T,
     alloc: Global,
-    trader: &Trader<'_, V, G>,
+    trader: &Trader<'_, V, J, G>,
     sender: &mut Sender<V, C>,
     packets: &[SoupPacket],
 ) -> Stop
@@ -123,10 +131,10 @@ fn act_last<V: Venue, C: Clock, G: Gate, T: Wait>(
 }
 
 // Takes a piece of the stream in, and acts on the packets that are whole with it.
-fn take<V: Venue, C: Clock, G: Gate, T: Wait>(
+fn take<V: Venue, J: Journal + Drop, C: Clock, G: Gate, T: Wait>(
     rt: &T,
     alloc: Global,
-    trader: &Trader<'_, V, G>,
+    trader: &Trader<'_, V, J, G>,
     sender: &mut Sender<V, C>,
     framer: &mut Framer,
     piece: &[u8],
@@ -160,10 +168,10 @@ pub fn is_passing(error: &Error) -> bool {
 
 /// Takes the packets behind the login in and acts on them, until the client logs out, the input ends, the other
 /// worker has ended, or a fault.
-pub fn receive<V: Venue, R: Read, C: Clock, G: Gate, T: Wait>(
+pub fn receive<V: Venue, J: Journal + Drop, R: Read, C: Clock, G: Gate, T: Wait>(
     rt: &T,
     alloc: Global,
-    trader: &Trader<'_, V, G>,
+    trader: &Trader<'_, V, J, G>,
     mut inbox: Inbox<V, R, C>,
     told: &AtomicBool,
     turns: u64,

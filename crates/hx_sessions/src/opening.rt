@@ -11,7 +11,7 @@ use crate::ending::{Ended, Fault, Stop};
 use crate::inbound::is_passing;
 use crate::writing::{Broken, write_whole};
 use hx_blog::Reader;
-use hx_engine::{Entry, Exchange, Venue};
+use hx_engine::{Entry, Exchange, Journal, Venue};
 use hx_members::Setup;
 use hx_session_core::{Action, Intake, Start, start};
 use hx_soup::{Framer, FramerError, LoginRequest, accepted, rejected};
@@ -63,10 +63,10 @@ fn read_more<R: Read>(
 
 /// Reads the first packet, which must be a login, and no byte behind it. Answers the reads that are left. Behind each
 /// read that leaves less than a login it looks whether the day is over, and stops there: who is silent keeps no day.
-pub fn read_login<V: Venue, R: Read, T: Wait>(
+pub fn read_login<V: Venue, J: Journal + Drop, R: Read, T: Wait>(
     rt: &T,
     alloc: Global,
-    exchange: &Exchange<V>,
+    exchange: &Exchange<V, J>,
     input: &mut R,
     reader: &mut Reader<Entry>,
     turns: u64,
@@ -101,9 +101,9 @@ pub fn read_login<V: Venue, R: Read, T: Wait>(
 }
 
 /// Where the session of a login begins, or the letter of its rejection. The reader knows the replies that are there.
-pub fn open<V: Venue, T: Wait>(
+pub fn open<V: Venue, J: Journal + Drop, T: Wait>(
     rt: &T,
-    exchange: &Exchange<V>,
+    exchange: &Exchange<V, J>,
     setup: &Setup,
     reader: &mut Reader<Entry>,
     login: &LoginRequest,
@@ -131,10 +131,10 @@ pub struct Line<R, W> {
 
 /// Logs a client in, and answers him. Answers where his session begins and the reads that are left, or how it ends
 /// here.
-pub fn admit<V: Venue, R: Read, W: Write, T: Wait>(
+pub fn admit<V: Venue, J: Journal + Drop, R: Read, W: Write, T: Wait>(
     rt: &T,
     alloc: Global,
-    exchange: &Exchange<V>,
+    exchange: &Exchange<V, J>,
     setup: &Setup,
     line: &mut Line<R, W>,
     reader: &mut Reader<Entry>,

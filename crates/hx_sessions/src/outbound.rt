@@ -11,7 +11,7 @@ use crate::ports::Clock;
 use crate::writing::{Broken, write_whole};
 use arrayvec::ArrayVec;
 use hx_blog::{Reader, Receipt};
-use hx_engine::{Entry, Exchange, Venue};
+use hx_engine::{Entry, Exchange, Journal, Venue};
 use hx_session_core::{Delivery, Turn};
 use hx_units::MemberNo;
 use std::io::Write;
@@ -69,10 +69,10 @@ fn send<W: Write>(
 impl<W: Write, C: Clock> Outbox<W, C> {
     // Sends a page of the replies from the next one on, or else what a turn without replies gives. Answers whether
     // replies went out: more may be left then.
-    fn round<V: Venue, T: Wait>(
+    fn round<V: Venue, J: Journal + Drop, T: Wait>(
         &mut self,
         rt: &T,
-        exchange: &Exchange<V>,
+        exchange: &Exchange<V, J>,
         member: MemberNo,
         ended: bool,
         told: &AtomicBool,
@@ -134,9 +134,9 @@ impl<W: Write, C: Clock> Outbox<W, C> {
 }
 
 /// Sends the replies to a member until the other worker has ended, the day has, or the output fails.
-pub fn deliver<V: Venue, W: Write, C: Clock, T: Wait + Timer>(
+pub fn deliver<V: Venue, J: Journal + Drop, W: Write, C: Clock, T: Wait + Timer>(
     rt: &T,
-    exchange: &Exchange<V>,
+    exchange: &Exchange<V, J>,
     member: MemberNo,
     mut outbox: Outbox<W, C>,
     told: &AtomicBool,
@@ -169,9 +169,9 @@ pub fn deliver<V: Venue, W: Write, C: Clock, T: Wait + Timer>(
 }
 
 /// Sends the replies so far after a logout: all that the receipt knows of are among them.
-pub fn finish<V: Venue, W: Write, C: Clock, T: Wait>(
+pub fn finish<V: Venue, J: Journal + Drop, W: Write, C: Clock, T: Wait>(
     rt: &T,
-    exchange: &Exchange<V>,
+    exchange: &Exchange<V, J>,
     member: MemberNo,
     mut outbox: Outbox<W, C>,
     receipt: Receipt<Entry>,

@@ -10,7 +10,7 @@ use crate::ending::{Fault, Stop};
 use crate::inbound::{Inbox, Trader, receive};
 use crate::outbound::{Outbox, deliver};
 use crate::ports::{Clock, Gate};
-use hx_engine::Venue;
+use hx_engine::{Journal, Venue};
 use hx_units::MemberNo;
 use std::alloc::Global;
 use std::io::{Read, Write};
@@ -59,6 +59,7 @@ fn not_begun<V: Venue, R: Read, C>(
 /// taken in.
 pub fn work<
     V: Venue + Send + Sync,
+    J: Journal + Drop + Send,
     R: Read + Send + Drop,
     W: Write + Send + Drop,
     C: Clock + Send + Drop,
@@ -67,7 +68,7 @@ pub fn work<
 >(
     rt: &T,
     alloc: Global,
-    trader: &Trader<'_, V, G>,
+    trader: &Trader<'_, V, J, G>,
     inbox: Inbox<V, R, C>,
     outbox: Outbox<W, C>,
     reads: u64,

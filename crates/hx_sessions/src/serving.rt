@@ -1,13 +1,14 @@
 //! Many sessions at once.
 ghost use Rattle.std.specs.Prelude.{ℕ, ◌≡◌, ◌<◌, ◌≤◌, ◌+◌, ◌++◌, [], Some, None, IfOk, IfErr, filter_map, option_map, length, map, slice_index_or, vec_capacity, vec_len};
 ghost use Rattle.std.specs.List.{cons_option};
+ghost use Rattle.std.specs.Thread.{IsSend, IsSync};
 ghost use Rattle.hx_sessions.specs.Served.{ServesWaiting, ServesAll};
 
 use crate::ending::{Ended, Fault};
 use crate::part::Part;
 use crate::ports::{Clock, Gate};
 use crate::session::Session;
-use hx_engine::{Exchange, Venue};
+use hx_engine::{Exchange, Journal, Venue};
 use hx_members::Setup;
 use std::alloc::Global;
 use std::io::{Read, Write};
@@ -28,6 +29,7 @@ struct Slot<V: Venue, R, W, C> {
 // Serves the part that waits in a slot.
 fn serve<
     V: Venue + Send + Sync,
+    J: Journal + Drop + Send,
     R: Read + Send + Drop,
     W: Write + Send + Drop,
     C: Clock + Send + Drop,
@@ -36,7 +38,7 @@ fn serve<
 >(
     rt: &T,
     alloc: Global,
-    exchange: &Exchange<V>,
+    exchange: &Exchange<V, J>,
     setup: &Setup,
     gate: &G,
     turns: u64,
@@ -67,6 +69,7 @@ fn serve<
 // Serves the parts that wait in all slots at once.
 fn serve_slots<
     V: Venue + Send + Sync,
+    J: Journal + Drop + Send,
     R: Read + Send + Drop,
     W: Write + Send + Drop,
     C: Clock + Send + Drop,
@@ -75,7 +78,7 @@ fn serve_slots<
 >(
     rt: &T,
     alloc: Global,
-    exchange: &Exchange<V>,
+    exchange: &Exchange<V, J>,
     setup: &Setup,
     gate: &G,
     turns: u64,
@@ -101,12 +104,27 @@ fn serve_slots<
         )) (slice_index_or slots.new i d).served) }
 {
     let count = slots.len();
-    for_each_mut(
-        rt,
-        slots,
-        count,
-        &|_, slot| serve(rt, alloc, exchange, setup, gate, turns, slot),
-    );
+    let each = |_place: usize, slot: &mut Slot<V, R, W, C>|
+        requires { IsSend V.row × IsSend J.row × IsSend R.row × IsSend W.row × IsSend C.row
+            × IsSync V.row × IsSync G.row × IsSync T.row }
+        ensures { ServesWaiting V.setup setup.entry.now
+            (option_map (λ p. record {
+              input = R.remaining p.input;
+              output = W.contents p.output;
+              pass = p.pass;
+              reader = p.reader;
+            }) slot.entry.now.waiting)
+            (option_map (λ s. (
+              record {
+                input = R.remaining s.0.input;
+                output = W.contents s.0.output;
+                pass = s.0.pass;
+                reader = s.0.reader;
+              },
+              s.1,
+            )) slot.exit.now.served) }
+    { serve(rt, alloc, exchange, setup, gate, turns, slot) };
+    for_each_mut(rt, slots, count, &each);
 }
 
 // Puts each part into a slot of its own.
@@ -160,6 +178,7 @@ fn take_all<V: Venue, R: Drop, W: Drop, C: Drop>(
 /// nothing has run, and the parts come back.
 pub fn serve_all<
     V: Venue + Send + Sync,
+    J: Journal + Drop + Send,
     R: Read + Send + Drop,
     W: Write + Send + Drop,
     C: Clock + Send + Drop,
@@ -168,7 +187,7 @@ pub fn serve_all<
 >(
     rt: &T,
     alloc: Global,
-    exchange: &Exchange<V>,
+    exchange: &Exchange<V, J>,
     setup: &Setup,
     parts: Vec<Part<V, R, W, C>>,
     gate: &G,

@@ -15,7 +15,7 @@ use crate::pair::work;
 use crate::part::Part;
 use crate::ports::{Clock, Gate};
 use hx_blog::Reader;
-use hx_engine::{Entry, Exchange, Pass, Venue};
+use hx_engine::{Entry, Exchange, Journal, Pass, Venue};
 use hx_members::Setup;
 use hx_session_core::Delivery;
 use hx_units::MemberNo;
@@ -52,6 +52,7 @@ impl Session {
     /// Runs a session: the login, then one worker for each direction at once. The part always comes back.
     pub fn run<
         V: Venue + Send + Sync,
+        J: Journal + Drop + Send,
         R: Read + Send + Drop,
         W: Write + Send + Drop,
         C: Clock + Send + Drop,
@@ -60,7 +61,7 @@ impl Session {
     >(
         rt: &T,
         alloc: Global,
-        exchange: &Exchange<V>,
+        exchange: &Exchange<V, J>,
         setup: &Setup,
         part: Part<V, R, W, C>,
         gate: &G,
@@ -148,6 +149,7 @@ impl Session {
 // A session behind its login: both workers at once, and after a logout the replies so far.
 fn converse<
     V: Venue + Send + Sync,
+    J: Journal + Drop + Send,
     R: Read + Send + Drop,
     W: Write + Send + Drop,
     C: Clock + Send + Drop,
@@ -156,7 +158,7 @@ fn converse<
 >(
     rt: &T,
     alloc: Global,
-    trader: &Trader<'_, V, G>,
+    trader: &Trader<'_, V, J, G>,
     inbox: Inbox<V, R, C>,
     outbox: Outbox<W, C>,
     reads: u64,

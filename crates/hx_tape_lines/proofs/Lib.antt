@@ -7,3 +7,8 @@ pub mod Eights
 pub mod Lines
 pub mod DigitCounts
 pub mod Growing
+pub mod Plain
+pub mod OneLine
+pub mod Operators
+pub mod Sent
+pub mod Back

@@ -47,6 +47,9 @@ are_codes-at (suc n) k h lt =
 digit_code : (d : ℕ) → d < 16 → slice_index lower_digits d ≡ code_of d
 digit_code d lt = are_codes-at 16 d refl lt
 
+pub digit_is : (d : ℕ) → d < 16 → slice_index lower_digits d ≡ cond (ltb d 10) (48 + d) (87 + d)
+digit_is d lt = digit_code d lt
+
 -- a digit has its value
 value_of_digit : (d : ℕ) → d < 16 → value_of (slice_index lower_digits d) ≡ d
 value_of_digit d lt = ap value_of (digit_code d lt) ∙ go (ltb d 10) refl

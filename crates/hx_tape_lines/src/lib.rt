@@ -3,11 +3,16 @@
 
 mod decimal;
 mod hexadecimal;
+pub mod laws;
 pub mod line;
+mod operator;
+mod reading;
 mod spelling;
 mod vectors;
 
 pub use decimal::digit_count;
 pub use hexadecimal::write_bytes;
 pub use line::Fields;
-pub use spelling::write_event;
+pub use operator::read_operator_line;
+pub use reading::{event_of, read_event};
+pub use spelling::{write_event, write_record};

@@ -1,7 +1,7 @@
 //! The lines of events.
-ghost use Rattle.std.specs.Prelude.{◌≡◌, ◌++◌, ◌∷◌, [], OnOk, OnErr};
+ghost use Rattle.std.specs.Prelude.{◌≡◌, ◌++◌, ◌∷◌, [], true, OnOk, OnErr};
 ghost use Rattle.hx_rules.specs.OperatorMessages.{halt_bytes, break_bytes};
-ghost use Rattle.hx_tape_lines.specs.Text.{line, entry_of_event, HasGrown};
+ghost use Rattle.hx_tape_lines.specs.Text.{line, entry_of_event, is_held, record_of, HasGrown};
 
 use crate::decimal::write_number;
 use arrayvec::ArrayVec;
@@ -10,7 +10,12 @@ use hx_units::Symbol;
 use hx_units::fields::{put, u64_bytes};
 use std::alloc::{AllocError, Global};
 
-// Appends a line of a member, or of the operator, or a beginning of it.
+// The numbers of a line are such as its fields hold. It does nothing.
+fn holds(_time: u64, _member: u16, _bytes: &[u8])
+    ensures { is_held (record { time = _time; member = _member; bytes = _bytes.now }) ≡ true }
+{}
+
+// Appends a line of a member, or of the operator, without its line feed, or a beginning of it.
 fn write_line(
     alloc: Global,
     text: &mut Vec<u8>,
@@ -18,19 +23,19 @@ fn write_line(
     member: u16,
     bytes: &[u8],
 ) -> Result<(), AllocError>
-    ensures ok { OnOk result (
-        text.new.items ≡ text.old.items
-        ++ (line (record { time = time; member = member; bytes = bytes.now }) ++ 10 ∷ [])) }
+    ensures ok { OnOk result (text.new.items ≡ text.old.items
+        ++ line (record { time = time; member = member; bytes = bytes.now })) }
     ensures err { OnErr result (HasGrown text.old.items text.new.items
-        (line (record { time = time; member = member; bytes = bytes.now }) ++ 10 ∷ [])) }
+        (line (record { time = time; member = member; bytes = bytes.now }))) }
+    ensures held { is_held (record { time = time; member = member; bytes = bytes.now }) ≡ true }
 {
+    holds(time, member, bytes);
     write_number(text, time)?;
     text.push(b' ')?;
     write_number(text, u64::from(member))?;
     text.push(b' ')?;
     let digits = hex::encode(alloc, bytes)?;
     text.extend_from_slice(digits.as_bytes())?;
-    text.push(b'\n')?;
     Ok(())
 }
 
@@ -56,13 +61,12 @@ fn break_bytes(number: u64) -> ArrayVec<u8, 9>
     bytes
 }
 
-/// Appends the line of an event, with its line feed. It takes memory: where a growth was refused, a beginning of the line
-/// stands behind what stood there before.
-pub fn write_event(alloc: Global, text: &mut Vec<u8>, event: &Event) -> Result<(), AllocError>
-    ensures ok { OnOk result (
-        text.new.items ≡ text.old.items ++ (line (entry_of_event event.now) ++ 10 ∷ [])) }
+// Appends the line of an event, without its line feed, or a beginning of it.
+fn spell(alloc: Global, text: &mut Vec<u8>, event: &Event) -> Result<(), AllocError>
+    ensures ok { OnOk result (text.new.items ≡ text.old.items ++ line (entry_of_event event.now)) }
     ensures err { OnErr result (HasGrown text.old.items text.new.items
-        (line (entry_of_event event.now) ++ 10 ∷ [])) }
+        (line (entry_of_event event.now))) }
+    ensures held { is_held (entry_of_event event.now) ≡ true }
 {
     match event {
         Event::Message {
@@ -85,4 +89,27 @@ pub fn write_event(alloc: Global, text: &mut Vec<u8>, event: &Event) -> Result<(
             write_line(alloc, text, *time, 0, break_bytes(*number).as_slice())
         }
     }
+}
+
+/// Appends the record of an event: its line, without the line feed. It takes memory: where a growth was refused, a
+/// beginning of the record stands behind what stood there before.
+pub fn write_record(alloc: Global, text: &mut Vec<u8>, event: &Event) -> Result<(), AllocError>
+    ensures ok { OnOk result (text.new.items ≡ text.old.items ++ record_of event.now) }
+    ensures err { OnErr result (HasGrown text.old.items text.new.items (record_of event.now)) }
+{
+    spell(alloc, text, event)
+}
+
+/// Appends the line of an event, with its line feed. It takes memory: where a growth was refused, a beginning of the line
+/// stands behind what stood there before.
+#[tactic(auto, using(crate::proofs::Growing::begins_line, crate::proofs::Growing::lacks_feed, crate::proofs::Growing::whole_line))]
+pub fn write_event(alloc: Global, text: &mut Vec<u8>, event: &Event) -> Result<(), AllocError>
+    ensures ok { OnOk result (
+        text.new.items ≡ text.old.items ++ (line (entry_of_event event.now) ++ 10 ∷ [])) }
+    ensures err { OnErr result (HasGrown text.old.items text.new.items
+        (line (entry_of_event event.now) ++ 10 ∷ [])) }
+{
+    spell(alloc, text, event)?;
+    text.push(b'\n')?;
+    Ok(())
 }

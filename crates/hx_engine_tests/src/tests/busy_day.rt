@@ -1,11 +1,15 @@
 //! Ten thousand events by four threads, each with a reader that follows the feed meanwhile.
 ghost use Rattle.std.specs.Prelude.{◌≡◌, []};
+ghost use Rattle.hx_engine.specs.Opening.{IsNewLog};
+ghost use Rattle.hx_rules.specs.declared.event.Event.{Event};
 
 use super::exchanges::ends;
+use super::memory::Memory;
+use super::scenario::logs_of;
 use super::sending::{BUY, Order, SELL, enter_as};
 use arrayvec::ArrayVec;
-use hx_blog::{Log, Reader, Writer};
-use hx_engine::{Entry, Exchange, Pass, Venue};
+use hx_blog::{Log, Reader};
+use hx_engine::{Entry, Exchange, Logs, Pass, Venue};
 use hx_members::Setup;
 use hx_units::{NoMemory, Token};
 use std::alloc::Global;
@@ -80,7 +84,7 @@ impl<V: Venue> Worker<V> {
         &mut self,
         rt: &R,
         alloc: Global,
-        exchange: &Exchange<V>,
+        exchange: &Exchange<V, Memory>,
         number: u32,
     ) -> Result<(), NoMemory> {
         let order = nth_order(self.member, number);
@@ -95,7 +99,7 @@ impl<V: Venue> Worker<V> {
     }
 
     // Sends all his orders, and counts them.
-    fn work<R: Wait>(&mut self, rt: &R, alloc: Global, exchange: &Exchange<V>) {
+    fn work<R: Wait>(&mut self, rt: &R, alloc: Global, exchange: &Exchange<V, Memory>) {
         for number in 0..EACH {
             if self.step(rt, alloc, exchange, number).is_err() {
                 return;
@@ -112,7 +116,7 @@ fn hire<V: Venue>(
     passes: Vec<Pass<V>>,
     reader: &mut Reader<Entry>,
 ) -> Result<Vec<Worker<V>>, NoMemory>
-    requires { (log.now ≡ V.log) × (reader.old.log ≡ V.log) }
+    requires reader { (log.now ≡ V.log) × (reader.old.log ≡ V.log) }
     ensures { reader.new.log ≡ V.log }
 {
     let mut workers = Vec::new(alloc);
@@ -156,18 +160,26 @@ fn busy_day<V: Venue + Send + Sync, R: Threads + Wait + Abort + Sync>(
     rt: &R,
     alloc: Global,
     setup: Setup,
-    log: Log<Entry>,
-    writer: Writer<Entry>,
+    logs: Logs,
     blank: Blank,
     mut reader: Reader<Entry>,
 ) -> Result<(), Fail>
-    requires log { log ≡ V.log }
+    requires feed { IsNewLog V.log logs.feed }
+    requires admitted { IsNewLog V.admitted logs.admitted }
+    requires kept { IsNewLog V.kept logs.kept }
     requires of_setup { setup ≡ V.setup }
-    requires writer { writer ≡ record { log = V.log; published = []; staged = [] } }
+    requires before { V.before ≡ [] }
     requires reader { reader.log ≡ V.log }
     requires blank { (blank.name ≡ V.name) × (blank.parts ≡ V.parts) × (V.parts ≡ 4) }
 {
-    let (exchange, passes) = Exchange::<V>::new(alloc, setup, log, writer, blank, 4)?;
+    let (exchange, passes) = Exchange::<V, Memory>::new(
+        alloc,
+        setup,
+        logs,
+        Memory::new(alloc, 0),
+        blank,
+        4,
+    )?;
     let mut workers = hire(alloc, exchange.feed_log(), passes, &mut reader)?;
     let shared = &exchange;
     thread::for_each_mut(
@@ -195,5 +207,6 @@ fn four_threads_send_ten_thousand_events(rt: HostRuntime) -> Result<(), Fail> {
     let alloc = rt.alloc();
     let setup = Setup::read(alloc, FOUR_MEMBERS)?;
     let (log, writer, reader) = Log::<Entry>::new(alloc, 50_000)?;
-    busy_day::<Brand, _>(&rt, alloc, setup, log, writer, Blank::new(4), reader)
+    let logs = logs_of(alloc, log, writer)?;
+    busy_day::<Brand, _>(&rt, alloc, setup, logs, Blank::new(4), reader)
 }

@@ -19,7 +19,7 @@ fn opened(
     capacity: u64,
 ) -> Result<(Log<Entry>, Desk, Reader<Entry>), Fail>
     requires { (1 ≤ capacity) × (capacity ≤ 1000000) }
-    ensures desk { IfOk result (λ r. r.1.log ≡ r.0) }
+    ensures desk { IfOk result (λ r. (r.1.log ≡ r.0) × (r.1.sealed ≡ r.1.told)) }
     ensures reader { IfOk result (λ r. r.2.log ≡ r.0) }
 {
     let (log, writer, reader) = Log::<Entry>::new(alloc, capacity)?;
@@ -41,21 +41,32 @@ fn full(free: u64, needed: u64) -> Answer {
     Err(DeskError::Full { free, needed })
 }
 
+// Admits an event for the first pass, and tells it.
+fn submit(desk: &mut Desk, log: &Log<Entry>, event: &Event) -> Answer
+    requires { (desk.old.log ≡ log.now) × (desk.old.sealed ≡ desk.old.told) }
+    ensures { (desk.new.log ≡ desk.old.log) × (desk.new.sealed ≡ desk.new.told) }
+{
+    let done = desk.admit(log, 1, event)?;
+    desk.seal();
+    desk.release(log);
+    Ok(done)
+}
+
 // The event is submitted, and answered so.
 fn expect<R: Abort>(rt: &R, desk: &mut Desk, log: &Log<Entry>, event: &Event, want: Answer)
-    requires { desk.old.log ≡ log.now }
-    ensures { desk.new.log ≡ desk.old.log }
+    requires { (desk.old.log ≡ log.now) × (desk.old.sealed ≡ desk.old.told) }
+    ensures { (desk.new.log ≡ desk.old.log) × (desk.new.sealed ≡ desk.new.told) }
 {
-    assert!(rt; desk.submit(log, 1, event) == want);
+    assert!(rt; submit(desk, log, event) == want);
 }
 
 // The event is submitted, and again where there was no memory for it: nothing of the first time is left.
 fn submit_again(desk: &mut Desk, log: &Log<Entry>, event: &Event) -> Answer
-    requires { desk.old.log ≡ log.now }
-    ensures { desk.new.log ≡ desk.old.log }
+    requires { (desk.old.log ≡ log.now) × (desk.old.sealed ≡ desk.old.told) }
+    ensures { (desk.new.log ≡ desk.old.log) × (desk.new.sealed ≡ desk.new.told) }
 {
-    match desk.submit(log, 1, event) {
-        Err(DeskError::NoMemory) => desk.submit(log, 1, event),
+    match submit(desk, log, event) {
+        Err(DeskError::NoMemory) => submit(desk, log, event),
         answer => answer,
     }
 }
@@ -68,8 +79,8 @@ fn play<R: Abort>(
     log: &Log<Entry>,
     orders: &[(Order, Answer)],
 ) -> Result<(), Fail>
-    requires { desk.old.log ≡ log.now }
-    ensures { desk.new.log ≡ desk.old.log }
+    requires { (desk.old.log ≡ log.now) × (desk.old.sealed ≡ desk.old.told) }
+    ensures { (desk.new.log ≡ desk.old.log) × (desk.new.sealed ≡ desk.new.told) }
 {
     for (order, want) in orders {
         let event = enter(alloc, order)?;
@@ -224,8 +235,8 @@ fn limits_times_and_strangers(rt: HostRuntime) -> Result<(), Fail> {
 }
 
 fn refused<R: Abort>(rt: &R, alloc: Global, desk: &mut Desk, log: &Log<Entry>) -> Result<(), Fail>
-    requires { desk.old.log ≡ log.now }
-    ensures { desk.new.log ≡ desk.old.log }
+    requires { (desk.old.log ≡ log.now) × (desk.old.sealed ≡ desk.old.told) }
+    ensures { (desk.new.log ≡ desk.old.log) × (desk.new.sealed ≡ desk.new.told) }
 {
     let cancel = message(alloc, 1, 30, b"XT1            \0\0\0\0")?;
     expect(rt, desk, log, &cancel, Err(DeskError::Limit { member: 1 }));

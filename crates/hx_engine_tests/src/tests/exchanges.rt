@@ -1,6 +1,8 @@
 //! One thread at an exchange: fresh replies, the hours of a day, and a pass that is missing at the end.
-ghost use Rattle.std.specs.Prelude.{◌≡◌};
+ghost use Rattle.std.specs.Prelude.{◌≡◌, []};
+ghost use Rattle.hx_rules.specs.declared.event.Event.{Event};
 
+use super::memory::Memory;
 use super::scenario::{Scenario, play};
 use super::sending::{BUY, Order, SELL, enter};
 use super::shorthand::{Reply, private, read_reply};
@@ -20,7 +22,7 @@ use std::time::Clock;
 fn send<V: Venue, R: Wait + Abort>(
     rt: &R,
     alloc: Global,
-    exchange: &Exchange<V>,
+    exchange: &Exchange<V, Memory>,
     pass: &mut Pass<V>,
     order: &Order,
 ) -> Result<(), Fail> {
@@ -32,7 +34,7 @@ fn send<V: Venue, R: Wait + Abort>(
 // A reader that learnt nothing gets these replies to a member, from this number on.
 fn expect_replies<V: Venue, R: Wait + Abort>(
     rt: &R,
-    exchange: &Exchange<V>,
+    exchange: &Exchange<V, Memory>,
     reader: &mut Reader<Entry>,
     member: u16,
     from: u64,
@@ -58,7 +60,7 @@ impl Scenario for DisplayBeatsTime {
     fn play<V: Venue + Send + Sync, R: Threads + Wait + Clock + Abort + Sync>(
         rt: &R,
         alloc: Global,
-        exchange: Exchange<V>,
+        exchange: Exchange<V, Memory>,
         mut passes: Vec<Pass<V>>,
         mut reader: Reader<Entry>,
     ) -> Result<(), Fail> {
@@ -108,7 +110,7 @@ impl Scenario for OnePassMissing {
     fn play<V: Venue + Send + Sync, R: Threads + Wait + Clock + Abort + Sync>(
         rt: &R,
         alloc: Global,
-        exchange: Exchange<V>,
+        exchange: Exchange<V, Memory>,
         mut passes: Vec<Pass<V>>,
         _reader: Reader<Entry>,
     ) -> Result<(), Fail> {
@@ -138,7 +140,7 @@ impl Scenario for OnePassMissing {
 /// The exchange ends with so many entries, and so many messages of the feed.
 pub fn ends<V: Venue, R: Abort>(
     rt: &R,
-    exchange: Exchange<V>,
+    exchange: Exchange<V, Memory>,
     passes: Vec<Pass<V>>,
     entries: usize,
     messages: u64,
@@ -209,7 +211,7 @@ impl Scenario for HoursOfADay {
     fn play<V: Venue + Send + Sync, R: Threads + Wait + Clock + Abort + Sync>(
         rt: &R,
         alloc: Global,
-        exchange: Exchange<V>,
+        exchange: Exchange<V, Memory>,
         mut passes: Vec<Pass<V>>,
         mut reader: Reader<Entry>,
     ) -> Result<(), Fail> {

@@ -1,10 +1,13 @@
 //! Events that an exchange refuses: the pass is as before, and sends others then.
+ghost use Rattle.std.specs.Prelude.{◌≡◌, []};
+ghost use Rattle.hx_rules.specs.declared.event.Event.{Event};
 
 use super::exchanges::ends;
+use super::memory::Memory;
 use super::scenario::{Scenario, play};
 use super::sending::{BUY, Order, enter};
 use hx_blog::Reader;
-use hx_engine::{DeskError, Done, Entry, Exchange, Pass, Venue};
+use hx_engine::{DeskError, Done, Entry, Exchange, Pass, SubmitError, Venue};
 use hx_market::Event;
 use hx_members::Setup;
 use std::alloc::Global;
@@ -22,11 +25,11 @@ const FEW: &[u8] =
 fn submit<V: Venue, R: Wait>(
     rt: &R,
     alloc: Global,
-    exchange: &Exchange<V>,
+    exchange: &Exchange<V, Memory>,
     pass: &mut Pass<V>,
     member: u16,
     token: [u8; 2],
-) -> Result<Result<Done, DeskError>, Fail> {
+) -> Result<Result<Done, SubmitError>, Fail> {
     let order = Order {
         member,
         token,
@@ -51,7 +54,7 @@ impl Scenario for BeyondTheLimit {
     fn play<V: Venue + Send + Sync, R: Threads + Wait + Clock + Abort + Sync>(
         rt: &R,
         alloc: Global,
-        exchange: Exchange<V>,
+        exchange: Exchange<V, Memory>,
         mut passes: Vec<Pass<V>>,
         _reader: Reader<Entry>,
     ) -> Result<(), Fail> {
@@ -59,7 +62,7 @@ impl Scenario for BeyondTheLimit {
         assert!(rt; submit(rt, alloc, &exchange, &mut pass, 1, *b"T1")?.is_ok());
         assert!(rt; submit(rt, alloc, &exchange, &mut pass, 1, *b"T2")?.is_ok());
         let refused = submit(rt, alloc, &exchange, &mut pass, 1, *b"T3")?;
-        assert!(rt; refused == Err(DeskError::Limit { member: 1 }));
+        assert!(rt; refused == Err(SubmitError::Refused(DeskError::Limit { member: 1 })));
         expect_sent(rt, &pass, &[1, 2]);
         assert!(rt; submit(rt, alloc, &exchange, &mut pass, 2, *b"T4")?.is_ok());
         expect_sent(rt, &pass, &[1, 2, 3]);
@@ -81,7 +84,7 @@ impl Scenario for LacksMemory {
     fn play<V: Venue + Send + Sync, R: Threads + Wait + Clock + Abort + Sync>(
         rt: &R,
         alloc: Global,
-        exchange: Exchange<V>,
+        exchange: Exchange<V, Memory>,
         mut passes: Vec<Pass<V>>,
         _reader: Reader<Entry>,
     ) -> Result<(), Fail> {
@@ -89,7 +92,7 @@ impl Scenario for LacksMemory {
         let places = [1, 2, 3];
         for (before, token) in [*b"T1", *b"T2", *b"T3"].into_iter().enumerate() {
             let mut done = submit(rt, alloc, &exchange, &mut pass, 1, token)?;
-            if done == Err(DeskError::NoMemory) {
+            if done == Err(SubmitError::Refused(DeskError::NoMemory)) {
                 expect_sent(rt, &pass, places.get(..before).ok_or("a front")?);
                 done = submit(rt, alloc, &exchange, &mut pass, 1, token)?;
             }

@@ -1,11 +1,15 @@
 //! Two members at one exchange at once, and one who waits for what the other's order brings him.
 ghost use Rattle.std.specs.Prelude.{◌≡◌, []};
+ghost use Rattle.hx_engine.specs.Opening.{IsNewLog};
+ghost use Rattle.hx_rules.specs.declared.event.Event.{Event};
 
 use super::exchanges::ends;
+use super::memory::Memory;
+use super::scenario::logs_of;
 use super::sending::{BUY, Order, SELL, enter};
 use super::shorthand::{Message, Reply, private, read_message, read_reply};
-use hx_blog::{Log, Reader, Writer};
-use hx_engine::{Entry, Exchange, News, Pass, Venue};
+use hx_blog::{Log, Reader};
+use hx_engine::{Entry, Exchange, Logs, News, Pass, Venue};
 use hx_market::Event;
 use hx_members::Setup;
 use hx_units::MemberNo;
@@ -45,7 +49,7 @@ impl<V: Venue> Client<V> {
         &mut self,
         rt: &R,
         alloc: Global,
-        exchange: &Exchange<V>,
+        exchange: &Exchange<V, Memory>,
         order: &Order,
     ) -> Option<Outcome> {
         let event = enter(alloc, order).ok()?;
@@ -66,7 +70,7 @@ impl<V: Venue> Client<V> {
     fn wait<R: Wait + Clock>(
         &mut self,
         rt: &R,
-        exchange: &Exchange<V>,
+        exchange: &Exchange<V, Memory>,
         member: MemberNo,
         limit: Duration,
     ) -> News {
@@ -74,18 +78,24 @@ impl<V: Venue> Client<V> {
     }
 
     // Whether an event is recorded.
-    fn send<R: Wait>(&mut self, rt: &R, exchange: &Exchange<V>, event: &Event) -> bool {
+    fn send<R: Wait>(
+        &mut self,
+        rt: &R,
+        alloc: Global,
+        exchange: &Exchange<V, Memory>,
+        event: &Event,
+    ) -> bool {
         exchange.submit(rt, &mut self.pass, event).is_ok()
     }
 }
 
 // The two clients of an exchange with two passes.
 fn clients<V: Venue>(
-    exchange: &Exchange<V>,
+    exchange: &Exchange<V, Memory>,
     mut passes: Vec<Pass<V>>,
     mut reader: Reader<Entry>,
 ) -> Option<(Client<V>, Client<V>)>
-    requires { reader.log ≡ V.log }
+    requires reader { reader.log ≡ V.log }
 {
     let other = reader.split(exchange.feed_log());
     let second = Client {
@@ -155,18 +165,26 @@ fn two_at_once<V: Venue + Send + Sync, R: Threads + Wait + Abort + Sync>(
     rt: &R,
     alloc: Global,
     setup: Setup,
-    log: Log<Entry>,
-    writer: Writer<Entry>,
+    logs: Logs,
     blank: Blank,
     reader: Reader<Entry>,
 ) -> Result<(), Fail>
-    requires log { log ≡ V.log }
+    requires feed { IsNewLog V.log logs.feed }
+    requires admitted { IsNewLog V.admitted logs.admitted }
+    requires kept { IsNewLog V.kept logs.kept }
     requires of_setup { setup ≡ V.setup }
-    requires writer { writer ≡ record { log = V.log; published = []; staged = [] } }
+    requires before { V.before ≡ [] }
     requires reader { reader.log ≡ V.log }
     requires blank { (blank.name ≡ V.name) × (blank.parts ≡ V.parts) × (V.parts ≡ 2) }
 {
-    let (exchange, passes) = Exchange::<V>::new(alloc, setup, log, writer, blank, 2)?;
+    let (exchange, passes) = Exchange::<V, Memory>::new(
+        alloc,
+        setup,
+        logs,
+        Memory::new(alloc, 10_000),
+        blank,
+        2,
+    )?;
     let (mut first, mut second) = clients(&exchange, passes, reader).ok_or("two passes")?;
     let shared = &exchange;
     let (one, two) = thread::join(
@@ -181,7 +199,7 @@ fn two_at_once<V: Venue + Send + Sync, R: Threads + Wait + Abort + Sync>(
 fn both_know_all<V: Venue, R: Abort>(
     rt: &R,
     alloc: Global,
-    exchange: Exchange<V>,
+    exchange: Exchange<V, Memory>,
     (mut first, one): (Client<V>, Option<Outcome>),
     (mut second, two): (Client<V>, Option<Outcome>),
 ) -> Result<(), Fail> {
@@ -201,7 +219,8 @@ fn two_sessions_at_once(rt: HostRuntime) -> Result<(), Fail> {
     let alloc = rt.alloc();
     let setup = Setup::standard(alloc)?;
     let (log, writer, reader) = Log::<Entry>::new(alloc, 100)?;
-    two_at_once::<Brand, _>(&rt, alloc, setup, log, writer, Blank::new(2), reader)
+    let logs = logs_of(alloc, log, writer)?;
+    two_at_once::<Brand, _>(&rt, alloc, setup, logs, Blank::new(2), reader)
 }
 
 // The first member waits for the execution of his order, which another thread's order brings; and then in vain.
@@ -209,29 +228,37 @@ fn wait_for_an_execution<V: Venue + Send + Sync, R: Threads + Wait + Clock + Abo
     rt: &R,
     alloc: Global,
     setup: Setup,
-    log: Log<Entry>,
-    writer: Writer<Entry>,
+    logs: Logs,
     blank: Blank,
     reader: Reader<Entry>,
 ) -> Result<(), Fail>
-    requires log { log ≡ V.log }
+    requires feed { IsNewLog V.log logs.feed }
+    requires admitted { IsNewLog V.admitted logs.admitted }
+    requires kept { IsNewLog V.kept logs.kept }
     requires of_setup { setup ≡ V.setup }
-    requires writer { writer ≡ record { log = V.log; published = []; staged = [] } }
+    requires before { V.before ≡ [] }
     requires reader { reader.log ≡ V.log }
     requires blank { (blank.name ≡ V.name) × (blank.parts ≡ V.parts) × (V.parts ≡ 2) }
 {
-    let (exchange, passes) = Exchange::<V>::new(alloc, setup, log, writer, blank, 2)?;
+    let (exchange, passes) = Exchange::<V, Memory>::new(
+        alloc,
+        setup,
+        logs,
+        Memory::new(alloc, 10_000),
+        blank,
+        2,
+    )?;
     let (mut first, mut second) = clients(&exchange, passes, reader).ok_or("two passes")?;
     let buy = enter(alloc, &shown())?;
     let sell = enter(alloc, &sale())?;
     let member = MemberNo::of(1).ok_or("a member")?;
-    assert!(rt; first.send(rt, &exchange, &buy));
+    assert!(rt; first.send(rt, alloc, &exchange, &buy));
     let long = Duration::from_secs(60);
     let shared = &exchange;
     let (news, sent) = thread::join(
         rt,
         || first.wait(rt, shared, member, long),
-        || second.send(rt, shared, &sell),
+        || second.send(rt, alloc, shared, &sell),
     );
     assert!(rt; sent);
     expect_traded(rt, &exchange, &mut first, member, news)
@@ -248,7 +275,7 @@ fn sale() -> Order {
 // The order was accepted and executed, and nothing more comes.
 fn expect_traded<V: Venue, R: Wait + Clock + Abort>(
     rt: &R,
-    exchange: &Exchange<V>,
+    exchange: &Exchange<V, Memory>,
     client: &mut Client<V>,
     member: MemberNo,
     news: News,
@@ -272,5 +299,6 @@ fn a_member_waits_for_news(rt: HostRuntime) -> Result<(), Fail> {
     let alloc = rt.alloc();
     let setup = Setup::standard(alloc)?;
     let (log, writer, reader) = Log::<Entry>::new(alloc, 100)?;
-    wait_for_an_execution::<Brand, _>(&rt, alloc, setup, log, writer, Blank::new(2), reader)
+    let logs = logs_of(alloc, log, writer)?;
+    wait_for_an_execution::<Brand, _>(&rt, alloc, setup, logs, Blank::new(2), reader)
 }

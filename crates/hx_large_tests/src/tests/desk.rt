@@ -4,7 +4,7 @@ ghost use Rattle.std.specs.Prelude.{◌≡◌};
 use super::day::{SETUP, day};
 use super::packets::SESSION;
 use hx_blog::{Log, Reader};
-use hx_desk::{Desk, Entry};
+use hx_desk::{Desk, DeskError, Done, Entry};
 use hx_market::Event;
 use hx_mold::{MoldPacket, decode_packet};
 use hx_retransmit::{LogMessages, Publisher};
@@ -16,13 +16,27 @@ use std::alloc::Global;
 use std::process::Abort;
 use std::test::Fail;
 
+// Records an event, and tells it at once.
+fn record(desk: &mut Desk, log: &Log<Entry>, event: &Event) -> Result<Done, DeskError>
+    requires log { desk.old.log ≡ log.now }
+    requires still { desk.old.sealed ≡ desk.old.told }
+    ensures log { desk.new.log ≡ desk.old.log }
+    ensures still { desk.new.sealed ≡ desk.new.told }
+{
+    let done = desk.admit(log, 1, event)?;
+    desk.seal();
+    desk.release(log);
+    Ok(done)
+}
+
 // All events are recorded.
 fn submit_all<R: Abort>(rt: &R, desk: &mut Desk, log: &Log<Entry>, events: &[Event])
-    requires { desk.old.log ≡ log.now }
+    requires log { desk.old.log ≡ log.now }
+    requires still { desk.old.sealed ≡ desk.old.told }
     ensures { desk.new.log ≡ desk.old.log }
 {
     for event in events {
-        assert!(rt; desk.submit(log, 1, event).is_ok());
+        assert!(rt; record(desk, log, event).is_ok());
     }
     assert_eq!(rt; desk.history_len(), events.len() as u64);
 }

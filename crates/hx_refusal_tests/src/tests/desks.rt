@@ -15,24 +15,40 @@ use std::alloc::Global;
 use std::process::Abort;
 use std::test::*;
 
-// The event is submitted, and again where there was no memory for it.
-fn submit_again(desk: &mut Desk, log: &Log<Entry>, event: &Event) -> Result<Done, DeskError>
-    requires { desk.old.log ≡ log.now }
-    ensures { desk.new.log ≡ desk.old.log }
+// Records an event, and tells it at once.
+fn record(desk: &mut Desk, log: &Log<Entry>, event: &Event) -> Result<Done, DeskError>
+    requires log { desk.old.log ≡ log.now }
+    requires still { desk.old.sealed ≡ desk.old.told }
+    ensures log { desk.new.log ≡ desk.old.log }
+    ensures still { desk.new.sealed ≡ desk.new.told }
 {
-    match desk.submit(log, 1, event) {
-        Err(DeskError::NoMemory) => desk.submit(log, 1, event),
+    let done = desk.admit(log, 1, event)?;
+    desk.seal();
+    desk.release(log);
+    Ok(done)
+}
+
+// The event is recorded, at the second time where there was no memory for it.
+fn record_again(desk: &mut Desk, log: &Log<Entry>, event: &Event) -> Result<Done, DeskError>
+    requires log { desk.old.log ≡ log.now }
+    requires still { desk.old.sealed ≡ desk.old.told }
+    ensures log { desk.new.log ≡ desk.old.log }
+    ensures still { desk.new.sealed ≡ desk.new.told }
+{
+    match record(desk, log, event) {
+        Err(DeskError::NoMemory) => record(desk, log, event),
         answer => answer,
     }
 }
 
 // All events are recorded, each in its place.
 fn submit_all<R: Abort>(rt: &R, desk: &mut Desk, log: &Log<Entry>, events: &[Event])
-    requires { desk.old.log ≡ log.now }
+    requires log { desk.old.log ≡ log.now }
+    requires still { desk.old.sealed ≡ desk.old.told }
     ensures { desk.new.log ≡ desk.old.log }
 {
     for event in events {
-        assert!(rt; submit_again(desk, log, event).is_ok());
+        assert!(rt; record_again(desk, log, event).is_ok());
     }
     assert_eq!(rt; desk.history_len(), events.len() as u64);
 }

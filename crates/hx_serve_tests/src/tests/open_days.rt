@@ -183,7 +183,7 @@ fn the_day_ends_beside_silent_connections(rt: HostRuntime) -> Result<(), Fail> {
         || serve_open(&rt, alloc, &args, open, &board, input, &mut output),
         || {
             let mut silent = Client::connect(&rt, ports.0)?;
-            thread::sleep(&rt, Duration::from_millis(100));
+            thread::sleep(&rt, Duration::from_secs(1));
             let_go.store(1, Ordering::SeqCst);
             assert!(rt; silent.receive(alloc)?.is_none());
             Ok::<(), Fail>(())

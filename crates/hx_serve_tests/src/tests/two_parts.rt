@@ -1,11 +1,13 @@
 //! Two sessions at once over loopback, each with a pass and a reader of its own, and the readers behind them.
 ghost use Rattle.std.specs.Prelude.{◌≡◌, []};
+ghost use Rattle.hx_engine.specs.Opening.{IsNewLog};
 
 use super::client::{ALPHA, BOUGHT, BRAVO, BUY, Client, HID, HIDDEN};
 use super::days::send_order;
 use super::vendor::ADDED;
-use hx_blog::{Log, Reader, Writer};
-use hx_engine::{Entry, Exchange, Pass, Venue};
+use hx_blog::{Log, Reader};
+use hx_engine::{Entry, Exchange, Logs, Pass, Venue};
+use hx_journal::Unkept;
 use hx_members::Setup;
 use hx_serve::Silent;
 use hx_sessions::{Clock as Day, Ended, Part, serve_all};
@@ -36,8 +38,7 @@ type OverTcp<V> = Part<V, TcpStream, TcpStream, Standing>;
 #[derive(Drop)]
 struct Founding {
     own: Setup,
-    log: Log<Entry>,
-    pen: Writer<Entry>,
+    logs: Logs,
     reader: Reader<Entry>,
     blank: Blank,
 }
@@ -73,7 +74,7 @@ fn connected<V: Venue>(listener: &TcpListener, seat: Seat<V>) -> Option<OverTcp<
 fn serve_two<V: Venue + Send + Sync, R: Threads + Wait + Clock + Abort + Sync>(
     rt: &R,
     alloc: Global,
-    exchange: &Exchange<V>,
+    exchange: &Exchange<V, Unkept>,
     listener: &TcpListener,
     seats: (Seat<V>, Seat<V>),
 ) -> Option<(Seat<V>, Seat<V>)> {
@@ -128,7 +129,7 @@ fn play_two<
 >(
     rt: &R,
     alloc: Global,
-    exchange: &Exchange<V>,
+    exchange: &Exchange<V, Unkept>,
     seats: (Seat<V>, Seat<V>),
 ) -> Result<(Seat<V>, Seat<V>), Fail> {
     let listener = TcpListener::bind(rt, (Ipv4Addr::new(127, 0, 0, 1), 0))?;
@@ -163,7 +164,7 @@ impl<V: Venue> Seat<V> {
     fn reads_all<R: Wait + Abort>(
         &mut self,
         rt: &R,
-        exchange: &Exchange<V>,
+        exchange: &Exchange<V, Unkept>,
         other: &mut Pass<V>,
     ) -> Result<(), Fail> {
         let log = exchange.feed_log();
@@ -184,21 +185,23 @@ fn play_day<
     V: Venue + Send + Sync,
     R: Net<Listener = TcpListener, Stream = TcpStream> + Threads + Wait + Clock + Abort + Sync,
 >(rt: &R, alloc: Global, founding: Founding) -> Result<(), Fail>
-    requires log { founding.log ≡ V.log }
+    requires feed { IsNewLog V.log founding.logs.feed }
+    requires admitted { IsNewLog V.admitted founding.logs.admitted }
+    requires kept { IsNewLog V.kept founding.logs.kept }
     requires of_setup { founding.own ≡ V.setup }
-    requires pen { founding.pen ≡ record { log = V.log; published = []; staged = [] } }
+    requires before { V.before ≡ [] }
     requires reader { founding.reader.log ≡ V.log }
     requires blank { (founding.blank.name ≡ V.name) × (founding.blank.parts ≡ V.parts)
         × (V.parts ≡ 2) }
 {
     let Founding {
         own,
-        log,
-        pen,
+        logs,
         mut reader,
         blank,
     } = founding;
-    let (exchange, mut passes) = Exchange::<V>::new(alloc, own, log, pen, blank, 2)?;
+    let journal = Unkept::new();
+    let (exchange, mut passes) = Exchange::<V, Unkept>::new(alloc, own, logs, journal, blank, 2)?;
     let other = reader.split(exchange.feed_log());
     let second = Seat {
         pass: passes.pop().ok_or("a pass")?,
@@ -223,10 +226,15 @@ fn play_day<
 fn two_parts_at_once(rt: HostRuntime) -> Result<(), Fail> {
     let alloc = rt.alloc();
     let (log, pen, reader) = Log::<Entry>::new(alloc, 100)?;
+    let (admitted, register, _) = Log::<Entry>::new(alloc, 1)?;
+    let (kept, keeper, _) = Log::<Entry>::new(alloc, 1)?;
     let founding = Founding {
         own: Setup::standard(alloc)?,
-        log,
-        pen,
+        logs: Logs {
+            feed: (log, pen),
+            admitted: (admitted, register),
+            kept: (kept, keeper),
+        },
         reader,
         blank: Blank::new(2),
     };

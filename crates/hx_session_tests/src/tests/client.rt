@@ -24,6 +24,7 @@ pub enum End {
     NoMemory,
     Turns,
     Refused,
+    Stopped,
 }
 
 fn end_of(outcome: &Result<Ended, Fault>) -> End {
@@ -38,6 +39,7 @@ fn end_of(outcome: &Result<Ended, Fault>) -> End {
         Err(Fault::NoMemory) => End::NoMemory,
         Err(Fault::Turns) => End::Turns,
         Err(Fault::Refused(_)) => End::Refused,
+        Err(Fault::Stopped) => End::Stopped,
     }
 }
 

@@ -1,11 +1,13 @@
 //! An exchange for a test, and sessions at it.
 ghost use Rattle.std.specs.Prelude.{◌≡◌, ◌≤◌, []};
+ghost use Rattle.hx_engine.specs.Opening.{IsNewLog};
 
 use super::client::{Client, Want};
 use super::overlap::Meeting;
 use super::packets::{Order, enter};
-use hx_blog::{Log, Reader, Writer};
-use hx_engine::{Entry, Exchange, FinishError, Pass, Venue};
+use hx_blog::{Log, Reader};
+use hx_engine::{Entry, Exchange, FinishError, Logs, Pass, Venue};
+use hx_journal::Unkept;
 use hx_market::{Bytes, Event};
 use hx_members::Setup;
 use hx_sessions::{Clock, Part, serve_all};
@@ -75,7 +77,7 @@ type OwnPart<'a, V> = Part<V, Input<'a>, Output<'a>, Still>;
 struct Stage<V: Venue> {
     alloc: Global,
     setup: Setup,
-    exchange: Exchange<V>,
+    exchange: Exchange<V, Unkept>,
     passes: Vec<Pass<V>>,
     reader: Reader<Entry>,
     ghost belongs: { reader.log ≡ V.log },
@@ -202,11 +204,10 @@ fn serve<V: Venue + Send + Sync, R: Threads + Wait + Timer + Abort + Sync>(
     Ok(())
 }
 
-// The ends of a new exchange's log, and its ledger.
+// The logs of a new exchange, with a reader of the feed's, and its ledger.
 #[derive(Drop)]
 struct Ends {
-    log: Log<Entry>,
-    writer: Writer<Entry>,
+    logs: Logs,
     reader: Reader<Entry>,
     blank: Blank,
 }
@@ -218,20 +219,22 @@ fn play_at<V: Venue + Send + Sync, R: Threads + Wait + Timer + Abort + Sync>(
     ends: Ends,
     day: Day,
 ) -> Result<(), Fail>
-    requires log { ends.log ≡ V.log }
+    requires feed { IsNewLog V.log ends.logs.feed }
+    requires admitted { IsNewLog V.admitted ends.logs.admitted }
+    requires kept { IsNewLog V.kept ends.logs.kept }
     requires of_setup { setup ≡ V.setup }
-    requires writer { ends.writer ≡ record { log = V.log; published = []; staged = [] } }
+    requires before { V.before ≡ [] }
     requires reader { ends.reader.log ≡ V.log }
     requires blank { (ends.blank.name ≡ V.name) × (ends.blank.parts ≡ V.parts) × (V.parts ≡ 3) }
 {
     let Ends {
-        log,
-        writer,
+        logs,
         reader,
         blank,
     } = ends;
     let own = setup.copy(alloc)?;
-    let (exchange, passes) = Exchange::<V>::new(alloc, setup, log, writer, blank, 3)?;
+    let journal = Unkept::new();
+    let (exchange, passes) = Exchange::<V, Unkept>::new(alloc, setup, logs, journal, blank, 3)?;
     let mut stage = Stage {
         alloc,
         setup: own,
@@ -260,9 +263,14 @@ pub fn play_by<R: Threads + Wait + Timer + Abort + Sync>(
     day: Day,
 ) -> Result<(), Fail> {
     let (log, writer, reader) = Log::<Entry>::new(alloc, 5000)?;
+    let (admitted, register, _) = Log::<Entry>::new(alloc, 1)?;
+    let (kept, keeper, _) = Log::<Entry>::new(alloc, 1)?;
     let ends = Ends {
-        log,
-        writer,
+        logs: Logs {
+            feed: (log, writer),
+            admitted: (admitted, register),
+            kept: (kept, keeper),
+        },
         reader,
         blank: Blank::new(3),
     };

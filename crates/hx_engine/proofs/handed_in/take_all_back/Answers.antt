@@ -2,9 +2,12 @@ use Rattle.std.proofs.Common.{◌≡◌, ◌∙◌, ◌++◌, ◌∷◌, [], Lis
 use Rattle.std.specs.List.{AllByRecursion}
 use Rattle.hx_desk.specs.Desks.{DeskState}
 use Rattle.hx_engine.specs.Passes.{PassState}
-use Rattle.hx_engine.specs.Finish.{sent_by_all, IsReturned}
-use Rattle.hx_engine.proofs.AllBack.{sent_more, all_more}
+use Rattle.hx_engine.specs.Finish.{is_any_waiting, sent_by_all, IsReturned}
+use Rattle.hx_engine.proofs.AllBack.{sent_more, all_more, none_waiting}
 use Rattle.hx_engine.proofs.handed_in.take_all_back.Goals as goal
+
+pub take_back-requires-clause-live : goal.take_back-requires-clause-live
+take_back-requires-clause-live g c = (none_waiting c.pop.new.self.items c.in-Some.pass (sym (ap is_any_waiting c.in-Some.ensures.items) ∙ c.loop-pass.invariant.live)).1
 
 pub loop-pass-preserved : goal.loop-pass-preserved
 loop-pass-preserved g c =
@@ -13,7 +16,9 @@ loop-pass-preserved g c =
     let pass : PassState = c.in-Some.pass in
     let rest : List PassState = c.pop.new.self.items in
     let items : c.loop-pass.passes.items ≡ rest ++ pass ∷ [] = c.in-Some.ensures.items in
+    let live = none_waiting rest pass (sym (ap is_any_waiting items) ∙ inv.live) in
     record {
+      live = live.0;
       same = take.same ∙ inv.same;
       parts = omega (arith, take.parts, inv.parts, ap (λ (l : List PassState). length l) items, length-append rest (pass ∷ []));
       amount = omega (arith, take.amount, inv.amount, ap sent_by_all items, sent_more rest pass);

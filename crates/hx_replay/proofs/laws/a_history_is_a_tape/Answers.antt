@@ -3,8 +3,7 @@ use Rattle.std.specs.List.{AllByRecursion}
 use Rattle.hx_members.specs.Setups.{Setup}
 use Rattle.hx_audit.specs.Recording.{AreRecorded}
 use Rattle.hx_tape_lines.specs.Text.{Entry}
-use Rattle.hx_replay.specs.Run.{event_of}
-use Rattle.hx_replay.specs.Struck.{IsKnown}
+use Rattle.hx_tape_lines.specs.Events.{event_of, IsKnown}
 use Rattle.hx_replay.specs.Histories.{IsReplayed}
 use Rattle.hx_replay.proofs.NoTrace.{texts_are}
 use Rattle.hx_replay.proofs.Strikes.{entries_back, recorded}

@@ -1,7 +1,7 @@
 use Rattle.std.proofs.Common.{List, ◌+◌, length, subst, ap, sym, ◌∙◌}
 use Rattle.hx_audit.specs.declared.bearing.Bearing.{Bearing}
 use Rattle.hx_replay.specs.declared.fault.TapeError.{TapeError}
-use Rattle.hx_replay.specs.Struck.{IsLineOf, IsNoLine}
+use Rattle.hx_tape_lines.specs.Events.{IsLineOf, IsNoLine}
 use Rattle.hx_replay.specs.Taking.{Takes, IsFaultOf}
 use Rattle.hx_tape_lines.proofs.Lines.{some_of, none_of}
 use Rattle.hx_replay.proofs.Taken.{takes_more, no_event, refused_line}

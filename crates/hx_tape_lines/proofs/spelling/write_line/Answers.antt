@@ -1,7 +1,7 @@
 use Rattle.std.specs.Fmt.{decimal}
 use Rattle.std.proofs.Common.{ℕ, List, ◌++◌, ap, ◌∙◌}
 use Rattle.std.proofs.lemmas.Result.{err_from_is_err_and}
-use Rattle.hx_tape_lines.proofs.Growing.{wrote_none, wrote_part, has_grown, wrote_time, wrote_space, wrote_member, wrote_second_space}
+use Rattle.hx_tape_lines.proofs.Growing.{wrote_none, has_grown, wrote_time, wrote_space, wrote_member, wrote_second_space}
 use Rattle.hx_tape_lines.proofs.spelling.write_line.Goals as goal
 
 pub returns-in_err-write_number-clause-err : goal.returns-in_err-write_number-clause-err
@@ -41,13 +41,3 @@ returns-in_err-extend_from_slice-clause-err c =
     let member = c.in_ok-write_number-2.ensures.ok ∙ ap (λ (n : ℕ). c.push.new.self.items ++ decimal n) c.from.ensures in
     let third = wrote_member _ _ _ _ _ _ _ second member in
     rw p.1 (has_grown _ _ _ _ _ (wrote_second_space _ _ _ _ _ _ third (c.in_err-extend_from_slice.ensures.items ∙ c.in_ok-push-2.ensures.items)))
-
-pub returns-in_err-push-3-clause-err : goal.returns-in_err-push-3-clause-err
-returns-in_err-push-3-clause-err c =
-    let p = err_from_is_err_and c.from_residual-in_err-push-3.result c.from_residual-in_err-push-3.ensures.1 in
-    let second = wrote_space _ _ _ _ _ c.in_ok-write_number.ensures.ok c.in_ok-push.ensures.items in
-    let member = c.in_ok-write_number-2.ensures.ok ∙ ap (λ (n : ℕ). c.push.new.self.items ++ decimal n) c.from.ensures in
-    let third = wrote_member _ _ _ _ _ _ _ second member in
-    let fourth = wrote_second_space _ _ _ _ _ _ third c.in_ok-push-2.ensures.items in
-    let digits = ap (λ (l : List ℕ). c.push-2.new.self.items ++ l) (c.as_bytes.ensures.value ∙ c.in_ok-digits.ensures) in
-    rw p.1 (has_grown _ _ _ _ _ (wrote_part _ _ _ _ _ _ _ fourth (c.in_err-push-3.ensures.items ∙ c.in_ok-extend_from_slice.ensures.items ∙ digits)))

@@ -1,4 +1,4 @@
-use Rattle.std.proofs.Common.{◌≡◌, ◌∙◌, ap, sym}
+use Rattle.std.proofs.Common.{◌≡◌, ◌∙◌, take, ap, sym}
 use Rattle.hx_desk.specs.Desks.{DeskState}
 use Rattle.hx_engine.proofs.PassLaws.{still_sent, audited}
 use Rattle.hx_engine.proofs.exchange.Exchange.audit.Goals as goal
@@ -12,7 +12,9 @@ invariant_of-pass g c =
       ap (λ t. t.log) r.receipt ∙ (ap (λ (d : DeskState). d.log) c.inform.ensures.same ∙ c.deref_mut-held.result.now.named),
       i.3,
       i.4,
-      still_sent c.pass.inside.number c.pass.inside.sent.items c.pass.inside.knows.known c.inform.new.self.published c.renew.new.receipt.known r.begins (ap (λ t. t.known) r.receipt) i.5,
+      i.5,
+      still_sent c.pass.inside.number (take c.pass.inside.told c.pass.inside.sent.items) c.pass.inside.knows.known c.inform.new.self.published c.renew.new.receipt.known r.begins (ap (λ t. t.known) r.receipt) i.6,
+      i.7,
     )
 
 pub invariant_of-pass-2 : goal.invariant_of-pass-2
@@ -24,7 +26,9 @@ invariant_of-pass-2 g c =
       ap (λ t. t.log) r.receipt ∙ (ap (λ (d : DeskState). d.log) c.inform.ensures.same ∙ c.deref_mut-held.result.now.named),
       i.3,
       i.4,
-      still_sent c.pass.inside.number c.pass.inside.sent.items c.pass.inside.knows.known c.inform.new.self.published c.renew.new.receipt.known r.begins (ap (λ t. t.known) r.receipt) i.5,
+      i.5,
+      still_sent c.pass.inside.number (take c.pass.inside.told c.pass.inside.sent.items) c.pass.inside.knows.known c.inform.new.self.published c.renew.new.receipt.known r.begins (ap (λ t. t.known) r.receipt) i.6,
+      i.7,
     )
 
 pub returns-clause-ok : goal.returns-clause-ok
@@ -38,4 +42,4 @@ returns-clause-ok g c =
     c.in_ok-history.ensures
     (c.inform.ensures.known ∙ ap (λ (d : DeskState). d.published) (sym same))
     (ap (λ t. t.known) r.receipt ∙ ap (λ (d : DeskState). d.published) (sym r.same))
-    (still_sent c.pass.inside.number c.pass.inside.sent.items c.pass.inside.knows.known c.inform.new.self.published c.renew.new.receipt.known r.begins (ap (λ t. t.known) r.receipt) i.5)
+    (still_sent c.pass.inside.number (take c.pass.inside.told c.pass.inside.sent.items) c.pass.inside.knows.known c.inform.new.self.published c.renew.new.receipt.known r.begins (ap (λ t. t.known) r.receipt) i.6)

@@ -1,6 +1,6 @@
 use Rattle.std.proofs.Common.{List, ◌++◌, ◌∷◌, [], ap, ◌∙◌}
 use Rattle.hx_rules.specs.declared.event.Event.{Event}
-use Rattle.hx_replay.specs.Struck.{IsLineOf}
+use Rattle.hx_tape_lines.specs.Events.{IsLineOf}
 use Rattle.hx_tape_lines.proofs.Lines.{some_of}
 use Rattle.hx_replay.proofs.Reading.{takes_none, takes_more}
 use Rattle.hx_replay.proofs.ahead.Ahead.take_lines.Goals as goal

@@ -2,7 +2,7 @@ use Rattle.std.proofs.Common.{◌≡◌, ◌+◌, ◌++◌, ◌∙◌, ℕ, List
 use Rattle.std.proofs.lemmas.Result.{err_from_is_err_and}
 use Rattle.hx_tape_lines.specs.Text.{entry_of, IsEntry, line}
 use Rattle.hx_replay.specs.Run.{Progress, Plays}
-use Rattle.hx_replay.specs.Struck.{IsKnown}
+use Rattle.hx_tape_lines.specs.Events.{IsKnown}
 use Rattle.hx_tape_lines.proofs.Lines.{some_of}
 use Rattle.hx_replay.proofs.Playing.{unknown_is_bad}
 use Rattle.hx_replay.proofs.run.Run.play.Goals as goal

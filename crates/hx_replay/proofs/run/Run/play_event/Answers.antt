@@ -4,8 +4,8 @@ use Rattle.std.proofs.lemmas.List.{with_items_is}
 use Rattle.hx_market.specs.Refusals.{refusal, or_no_memory}
 use Rattle.hx_market.specs.Steps.{step}
 use Rattle.hx_tape_lines.specs.Text.{Entry, line}
-use Rattle.hx_replay.specs.Run.{Progress, event_of, fault_of}
-use Rattle.hx_replay.specs.Struck.{IsKnown}
+use Rattle.hx_tape_lines.specs.Events.{event_of, IsKnown}
+use Rattle.hx_replay.specs.Run.{Progress, fault_of}
 use Rattle.hx_replay.specs.Output.{feed_lines, reply_lines}
 use Rattle.hx_replay.proofs.Few.{counts-length}
 use Rattle.hx_replay.proofs.Playing.{refused_line, plays_event}

@@ -1,0 +1,12 @@
+use Rattle.std.proofs.Common.{◌≡◌, length, take}
+use Rattle.hx_desk.specs.Entries.{restored}
+use Rattle.hx_desk.proofs.desk.Desk.resume.Given as goal
+
+abbrev pub invariant-loop-event : goal.invariant-loop-event
+invariant-loop-event l = record {
+  log : l.desk.log ≡ l.log;
+  setup : l.desk.setup ≡ l.fn.setup;
+  history : l.desk.history ≡ restored (take l.event-index l.events);
+  told : l.desk.told ≡ length l.desk.history;
+  kept : l.desk.kept ≡ 0;
+}

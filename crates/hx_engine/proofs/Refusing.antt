@@ -1,0 +1,208 @@
+-- Events one after another, up to the first that is refused.
+use Rattle.std.proofs.Common.{◌≡◌, ℕ, zero, suc, ◌+◌, ◌<◌, ◌≤◌, Bool, true, false, List, [], ◌∷◌, ◌++◌, length, map, take, drop, set, get_or, refl, ap, sym, ◌∙◌, subst, arith, append_assoc, length-append}
+use Rattle.std.specs.Prelude.{◌↔◌, Option, Some, None, Result, Ok, Err, slice_get}
+use Rattle.std.specs.List.{AllByRecursion}
+use Rattle.std.proofs.lemmas.List.{map-append, take_more}
+use Rattle.hx_members.specs.Setups.{Setup}
+use Rattle.hx_rules.specs.declared.event.Event.{Event}
+use Rattle.hx_market.specs.Refusals.{is_from_stranger}
+use Rattle.hx_desk.specs.declared.entry.Entry.{Entry}
+use Rattle.hx_desk.specs.declared.entry.Done.{Done}
+use Rattle.hx_desk.specs.declared.fault.DeskError.TheVariants as fault
+use Rattle.hx_desk.specs.Entries.{entry_of}
+use Rattle.hx_engine.specs.declared.answers.SubmitError.{SubmitError}
+use Rattle.hx_engine.specs.declared.answers.SubmitError.TheVariants.{Refused, Stopped}
+use Rattle.std.specs.Global.{Vec}
+use Rattle.hx_engine.specs.Journals.{record_texts}
+use Rattle.hx_engine.specs.Passes.{Sent, sent_by, placed}
+use Rattle.hx_engine.specs.Exchanges.{DoneAt, LastDone, IsInOrder, IsRefusedOutright, AreAdmittedUpTo, is_bad_time}
+
+snoc_same : {A : Type 0} (xs ys : List A) (x y : A) → xs ++ x ∷ [] ≡ ys ++ y ∷ [] → (xs ≡ ys) × (x ≡ y)
+snoc_same [] [] x y p = (refl, ap (λ (l : List _). get_or l 0 x) p)
+snoc_same [] (b ∷ ys) x y p = absurd (omega (arith, ap (λ (l : List _). length l) p, length-append ys (y ∷ [])))
+snoc_same (a ∷ xs) [] x y p = absurd (omega (arith, ap (λ (l : List _). length l) p, length-append xs (x ∷ [])))
+snoc_same (a ∷ xs) (b ∷ ys) x y p =
+    let rest = snoc_same xs ys x y (ap (λ (l : List _). drop 1 l) p) in
+    let first : a ≡ b = ap (λ (l : List _). get_or l 0 x) p in
+    ((λ i. first i ∷ rest.0 i), rest.1)
+
+-- no event is the last of none
+pub none_last : (setup : Setup) (number : ℕ) (before : List Entry) (done : Done) → LastDone setup number before [] done
+none_last setup number before done earlier event p = absurd (omega (arith, ap (λ (l : List Event). length l) p, length-append earlier (event ∷ [])))
+
+pub one_last : (setup : Setup) (number : ℕ) (before now : List Entry) (events : List Event) (i : ℕ) (event : Event) (done : Done) → i < length events → event ≡ get_or events i event
+    → now ≡ before ++ sent_by number (take i events) → DoneAt setup now event done → LastDone setup number before (take (i + 1) events) done
+one_last setup number before now events i event done l is history at earlier other p =
+    let q = snoc_same (take i events) earlier (get_or events i event) other (sym (take_more events i event l) ∙ p) in
+    subst (λ (e : Event). DoneAt setup (before ++ sent_by number earlier) e done) (is ∙ q.1)
+    (subst (λ (h : List Entry). DoneAt setup h event done) (history ∙ ap (λ (es : List Event). before ++ sent_by number es) q.0) at)
+
+pub one_history : (number : ℕ) (before now new : List Entry) (events : List Event) (i : ℕ) (event : Event) → i < length events → event ≡ get_or events i event
+    → now ≡ before ++ sent_by number (take i events) → new ≡ now ++ entry_of number event ∷ [] → new ≡ before ++ sent_by number (take (i + 1) events)
+one_history number before now new events i event l is history more =
+    more ∙ ap (λ (h : List Entry). h ++ entry_of number event ∷ []) history
+    ∙ append_assoc before (sent_by number (take i events)) (entry_of number event ∷ [])
+    ∙ ap (λ (h : List Entry). before ++ h)
+    (ap (λ (e : Event). sent_by number (take i events) ++ entry_of number e ∷ []) is
+    ∙ sym (map-append (entry_of number) (take i events) (get_or events i event ∷ []))
+    ∙ ap (sent_by number) (sym (take_more events i event l)))
+
+-- Who is refused.
+
+pub in_order : (setup : Setup) (event : Event) (done : Done) → IsRefusedOutright setup event (Ok done) → IsInOrder setup event
+in_order setup event done r = (time, member (is_from_stranger setup event) refl)
+  where
+    here : (b : Bool) → is_bad_time event ≡ b → is_bad_time event ≡ false
+    here true e = absurd (let z : ◌≡◌ {A = Result Done SubmitError} (Ok done) (Err (Refused fault.BadTime)) = r.bad_time.1 e in cc)
+    here false e = e
+
+    time : is_bad_time event ≡ false
+    time = here (is_bad_time event) refl
+
+    member : (b : Bool) → is_from_stranger setup event ≡ b → is_from_stranger setup event ≡ false
+    member true e = absurd (let z : ◌≡◌ {A = Result Done SubmitError} (Ok done) (Err (Refused fault.NoMember)) = r.no_member.1 (time, e) in cc)
+    member false e = e
+
+no_true : (b : Bool) → b ≡ false → b ≡ true → ⊥
+no_true b f t = let z : true ≡ false = sym t ∙ f in absurd (let y : true ≡ false = z in cc)
+
+pub recorded : (setup : Setup) (event : Event) (done : Done) → IsInOrder setup event → IsRefusedOutright setup event (Ok done)
+recorded setup event done r = record {
+  bad_time = ((λ e. absurd (let z : ◌≡◌ {A = Result Done SubmitError} (Ok done) (Err (Refused fault.BadTime)) = e in cc)), (λ b. absurd (no_true (is_bad_time event) r.0 b)));
+  no_member = ((λ e. absurd (let z : ◌≡◌ {A = Result Done SubmitError} (Ok done) (Err (Refused fault.NoMember)) = e in cc)), (λ b. absurd (no_true (is_from_stranger setup event) r.1 b.1)));
+}
+
+stopped : (setup : Setup) (event : Event) → IsInOrder setup event → IsRefusedOutright setup event (Err Stopped)
+stopped setup event r = record {
+  bad_time = ((λ e. absurd (let z : ◌≡◌ {A = Result Done SubmitError} (Err Stopped) (Err (Refused fault.BadTime)) = e in cc)), (λ b. absurd (no_true (is_bad_time event) r.0 b)));
+  no_member = ((λ e. absurd (let z : ◌≡◌ {A = Result Done SubmitError} (Err Stopped) (Err (Refused fault.NoMember)) = e in cc)), (λ b. absurd (no_true (is_from_stranger setup event) r.1 b.1)));
+}
+
+next_in_order : (setup : Setup) (events : List Event) (i : ℕ) (event : Event) → i < length events → event ≡ get_or events i event → AllByRecursion (IsInOrder setup) (take i events) → IsInOrder setup event
+    → AllByRecursion (IsInOrder setup) (take (suc i) events)
+next_in_order setup [] i event l is all one = absurd (omega arith)
+next_in_order setup (e ∷ events) zero event l is all one = (subst (IsInOrder setup) is one, tt)
+next_in_order setup (e ∷ events) (suc i) event l is all one = (all.0, next_in_order setup events i event (omega arith) is all.1 one)
+
+pub all_one_more : (setup : Setup) (events : List Event) (i : ℕ) (event : Event) → i < length events → event ≡ get_or events i event → AllByRecursion (IsInOrder setup) (take i events) → IsInOrder setup event
+    → AllByRecursion (IsInOrder setup) (take (i + 1) events)
+all_one_more setup events i event l is all one =
+    subst (λ n. AllByRecursion (IsInOrder setup) (take n events)) (let e : suc i ≡ i + 1 = omega arith in e) (next_in_order setup events i event l is all one)
+
+-- a record of one of the lists, and those behind it
+
+pub text_at : (texts : List (Vec ℕ)) (line : Event → List ℕ) (events : List Event) (i : ℕ) (text : Vec ℕ) (event : Event) → i < length texts → i < length events → text ≡ get_or texts i text → event ≡ get_or events i event
+    → drop i (record_texts texts) ≡ drop i (map line events) → text.items ≡ line event
+text_at [] line events i text event l m is same rest = absurd (omega arith)
+text_at (t ∷ texts) line [] i text event l m is same rest = absurd (omega arith)
+text_at (t ∷ texts) line (e ∷ events) zero text event l m is same rest =
+    ap (λ (v : Vec ℕ). v.items) is ∙ ap (λ (k : List (List ℕ)). get_or k 0 []) rest ∙ ap line (sym same)
+text_at (t ∷ texts) line (e ∷ events) (suc i) text event l m is same rest = text_at texts line events i text event (omega arith) (omega arith) is same rest
+
+pub texts_behind : (texts : List (Vec ℕ)) (lines : List (List ℕ)) (i : ℕ) (text : Vec ℕ) → drop i (record_texts texts) ≡ drop i lines → drop (i + 1) (record_texts (set texts i text)) ≡ drop (i + 1) lines
+texts_behind texts lines i text rest = let e : suc i ≡ i + 1 = omega arith in subst (λ n. drop n (record_texts (set texts i text)) ≡ drop n lines) e (next texts lines i rest)
+  where
+    one : (texts : List (Vec ℕ)) (lines : List (List ℕ)) (i : ℕ) → drop i (record_texts texts) ≡ drop i lines → drop (suc i) (record_texts texts) ≡ drop (suc i) lines
+    one texts lines i rest = sym (behind i (record_texts texts)) ∙ ap (λ (l : List (List ℕ)). drop 1 l) rest ∙ behind i lines
+      where
+        behind : (i : ℕ) (xs : List (List ℕ)) → drop 1 (drop i xs) ≡ drop (suc i) xs
+        behind zero xs = refl
+        behind (suc i) [] = refl
+        behind (suc i) (x ∷ xs) = behind i xs
+
+    past : (texts : List (Vec ℕ)) (i : ℕ) → drop (suc i) (record_texts (set texts i text)) ≡ drop (suc i) (record_texts texts)
+    past [] i = refl
+    past (t ∷ texts) zero = refl
+    past (t ∷ texts) (suc i) = past texts i
+
+    next : (texts : List (Vec ℕ)) (lines : List (List ℕ)) (i : ℕ) → drop i (record_texts texts) ≡ drop i lines → drop (suc i) (record_texts (set texts i text)) ≡ drop (suc i) lines
+    next texts lines i rest = past texts i ∙ one texts lines i rest
+
+-- an event more behind its place
+pub one_placed : (behind : ℕ) (events : List Event) (i : ℕ) (event : Event) → i < length events → event ≡ get_or events i event → placed behind (take (i + 1) events) ≡ placed behind (take i events) ++ (behind + i + 1, event) ∷ []
+one_placed behind events i event l is = ap (λ n. placed behind (take n events)) (let e : i + 1 ≡ suc i = omega arith in e) ∙ next behind events i l is
+  where
+    next : (behind : ℕ) (events : List Event) (i : ℕ) → i < length events → event ≡ get_or events i event → placed behind (take (suc i) events) ≡ placed behind (take i events) ++ (behind + i + 1, event) ∷ []
+    next behind [] i l is = absurd (omega arith)
+    next behind (e ∷ events) zero l is = (λ k. (same k, sym is k) ∷ [])
+      where
+        same : behind + 1 ≡ behind + 0 + 1
+        same = omega arith
+    next behind (e ∷ events) (suc i) l is =
+        ap (λ (l : List Sent). (behind + 1, e) ∷ l)
+        (next (behind + 1) events i (omega arith) is ∙ ap (λ k. placed (behind + 1) (take i events) ++ (k, event) ∷ []) (let z : behind + 1 + i + 1 ≡ behind + suc i + 1 = omega arith in z))
+
+pub event_at : (now was : List Event) (i : ℕ) (event : Event) → i < length now → i < length was → event ≡ get_or now i event → drop i now ≡ drop i was → event ≡ get_or was i event
+event_at [] was i event l m is rest = absurd (omega arith)
+event_at (x ∷ now) [] i event l m is rest = absurd (omega arith)
+event_at (x ∷ now) (y ∷ was) zero event l m is rest = is ∙ ap (λ (l : List Event). get_or l 0 event) rest
+event_at (x ∷ now) (y ∷ was) (suc i) event l m is rest = event_at now was i event (omega arith) (omega arith) is rest
+
+pub events_behind : (now was : List Event) (i : ℕ) (event : Event) → drop i now ≡ drop i was → drop (i + 1) (set now i event) ≡ drop (i + 1) was
+events_behind now was i event rest = let e : suc i ≡ i + 1 = omega arith in subst (λ n. drop n (set now i event) ≡ drop n was) e (past now i ∙ sym (behind i now) ∙ ap (λ (l : List Event). drop 1 l) rest ∙ behind i was)
+  where
+    behind : (i : ℕ) (xs : List Event) → drop 1 (drop i xs) ≡ drop (suc i) xs
+    behind zero xs = refl
+    behind (suc i) [] = refl
+    behind (suc i) (x ∷ xs) = behind i xs
+
+    past : (xs : List Event) (i : ℕ) → drop (suc i) (set xs i event) ≡ drop (suc i) xs
+    past [] i = refl
+    past (x ∷ xs) zero = refl
+    past (x ∷ xs) (suc i) = past xs i
+
+got : (events : List Event) (i : ℕ) (event other : Event) → slice_get events i ≡ Some other → event ≡ get_or events i event → event ≡ other
+got [] i event other g is = absurd (let z : ◌≡◌ {A = Option Event} None (Some other) = g in cc)
+got (e ∷ events) zero event other g is = is ∙ (let z : Some e ≡ Some other = g in cc)
+got (e ∷ events) (suc i) event other g is = got events i event other g is
+
+-- the one behind so many is refused
+pub refused_at : (setup : Setup) (events : List Event) (i : ℕ) (event : Event) (error : SubmitError) → i < length events → event ≡ get_or events i event → AllByRecursion (IsInOrder setup) (take i events)
+    → IsRefusedOutright setup event (Err error) → AreAdmittedUpTo setup events i (Some error)
+refused_at setup events i event error l is all r = (l, all, λ other g. subst (λ (e : Event). IsRefusedOutright setup e (Err error)) (got events i event other g is) r)
+
+-- none is told
+pub none_told : (setup : Setup) (events : List Event) (count : ℕ) (refused : Option SubmitError) → 0 < count → AreAdmittedUpTo setup events count refused → AreAdmittedUpTo setup events 0 (Some Stopped)
+none_told setup [] count None l h = absurd (omega (arith, h.0))
+none_told setup [] count (Some e) l h = absurd (omega (arith, h.0))
+none_told setup (x ∷ events) zero None l h = absurd (omega arith)
+none_told setup (x ∷ events) zero (Some e) l h = absurd (omega arith)
+none_told setup (x ∷ events) (suc n) None l h = (omega arith, tt, λ other g. subst (λ (y : Event). IsRefusedOutright setup y (Err Stopped)) (let z : Some x ≡ Some other = g in cc) (stopped setup x h.1.0))
+none_told setup (x ∷ events) (suc n) (Some e) l h = (omega arith, tt, λ other g. subst (λ (y : Event). IsRefusedOutright setup y (Err Stopped)) (let z : Some x ≡ Some other = g in cc) (stopped setup x h.1.0))
+
+-- An answer that is the same for a bad time and for a stranger.
+
+pub still_outright : (setup : Setup) (event : Event) (error answer : SubmitError) → ((answer ≡ Refused fault.BadTime) ↔ (error ≡ Refused fault.BadTime)) → ((answer ≡ Refused fault.NoMember) ↔ (error ≡ Refused fault.NoMember))
+    → IsRefusedOutright setup event (Err error) → IsRefusedOutright setup event (Err answer)
+still_outright setup event error answer bad none r = record {
+  bad_time = (
+    (λ e. r.bad_time.0 (err error (Refused fault.BadTime) (bad.0 (out answer (Refused fault.BadTime) e)))),
+    (λ b. err answer (Refused fault.BadTime) (bad.1 (out error (Refused fault.BadTime) (r.bad_time.1 b)))),
+  );
+  no_member = (
+    (λ e. r.no_member.0 (err error (Refused fault.NoMember) (none.0 (out answer (Refused fault.NoMember) e)))),
+    (λ b. err answer (Refused fault.NoMember) (none.1 (out error (Refused fault.NoMember) (r.no_member.1 b)))),
+  );
+}
+  where
+    err : (a b : SubmitError) → a ≡ b → ◌≡◌ {A = Result Done SubmitError} (Err a) (Err b)
+    err a b e = cc
+
+    out : (a b : SubmitError) → ◌≡◌ {A = Result Done SubmitError} (Err a) (Err b) → a ≡ b
+    out a b e = cc
+
+pub answered : (setup : Setup) (events : List Event) (count : ℕ) (refused : Option SubmitError) (error answer : SubmitError) → count ≡ 0 → refused ≡ Some error
+    → ((answer ≡ Refused fault.BadTime) ↔ (error ≡ Refused fault.BadTime)) → ((answer ≡ Refused fault.NoMember) ↔ (error ≡ Refused fault.NoMember))
+    → AreAdmittedUpTo setup events count refused → AreAdmittedUpTo setup events 0 (Some answer)
+answered setup events count refused error answer none is bad stranger h =
+    let all : AreAdmittedUpTo setup events 0 (Some error) = subst (λ (n : ℕ). AreAdmittedUpTo setup events n (Some error)) none (subst (λ (o : Option SubmitError). AreAdmittedUpTo setup events count o) is h) in
+    (all.0, all.1, λ event g. still_outright setup event error answer bad stranger (all.2 event g))
+
+-- the one of one
+pub refused_one : (setup : Setup) (event : Event) (n : ℕ) (error : SubmitError) → AreAdmittedUpTo setup (event ∷ []) n (Some error) → (n ≡ 0) × IsRefusedOutright setup event (Err error)
+refused_one setup event zero error h = (refl, h.2 event refl)
+refused_one setup event (suc n) error h = absurd (omega (arith, h.0))
+
+pub at_most : (setup : Setup) (events : List Event) (count : ℕ) (refused : Option SubmitError) → AreAdmittedUpTo setup events count refused → count ≤ length events
+at_most setup events count None h = omega (arith, h.0)
+at_most setup events count (Some e) h = omega (arith, h.0)

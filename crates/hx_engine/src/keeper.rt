@@ -1,0 +1,165 @@
+//! The journal, beside what is known of it.
+ghost use mathlib.Core.List.{IsPrefix};
+ghost use Rattle.std.specs.Prelude.{◌≡◌, List, ℕ, ◌++◌, [], true, OnOk, IfOk, IfErr};
+ghost use Rattle.hx_tape_lines.specs.Text.{record_of};
+ghost use Rattle.std.specs.List.{AllByRecursion};
+ghost use Rattle.hx_journal.specs.Crashes.{Leaves};
+ghost use Rattle.hx_journal.specs.Records.{IsRecord};
+ghost use Rattle.hx_desk.specs.Entries.{restored};
+ghost use Rattle.hx_desk.specs.Known.{history_of};
+ghost use Rattle.hx_engine.specs.Journals.{unspoken, lines, record_texts};
+
+use crate::venue::Venue;
+use hx_blog::{Log, NamesEntries, Receipt, Writer};
+use hx_desk::Entry;
+use hx_journal::{Journal, JournalError};
+use hx_market::Event;
+use std::marker::{Brand, PhantomData};
+
+/// The journal of a venue, with the writer of the log of what is kept: each crash leaves the records of exactly what is
+/// published there.
+#[derive(Drop)]
+pub struct Keeper<V: Venue, J: Journal> {
+    pub(crate) journal: J,
+    pub(crate) writer: Writer<Entry>,
+    pub(crate) of: PhantomData<V>,
+    pub ghost named: { writer.log ≡ V.kept },
+    pub ghost unstaged: { writer.staged ≡ [] },
+    pub ghost silent: { writer.published ≡ unspoken (history_of writer.published) },
+    pub ghost recorded: { J.appended journal ≡ lines record_of (history_of writer.published) },
+    pub ghost safe: { J.kept journal ≡ J.appended journal },
+    pub ghost opened: { J.is_open journal ≡ true },
+}
+
+/// Writes down the entries that were kept before, which have no messages in this log.
+pub(crate) fn write_before<N: NamesEntries<Entry>>(
+    writer: &mut Writer<Entry>,
+    log: &Log<Entry>,
+    events: &[Event],
+)
+    requires log { writer.old.log ≡ log.now }
+    requires empty { (writer.old.published ≡ []) × (writer.old.staged ≡ []) }
+    requires entries { N.entries ≡ unspoken (restored events.now) }
+    requires left { N.left ≡ [] }
+    ensures { writer.new ≡ record {
+      log = writer.old.log;
+      published = unspoken (restored events.now);
+      staged = [];
+    } }
+{
+    writer.publish_first::<N>(log, 0);
+}
+
+// Appends records, and sees that they are kept.
+fn write_down<J: Journal>(journal: &mut J, records: &[Vec<u8>]) -> Result<(), JournalError>
+    requires opened { J.is_open journal.old ≡ true }
+    requires records { AllByRecursion IsRecord (record_texts records.now) }
+    ensures appended { OnOk result (J.appended journal.new
+        ≡ J.appended journal.old ++ record_texts records.now) }
+    ensures kept { OnOk result (J.kept journal.new ≡ J.appended journal.new) }
+    ensures opened { OnOk result (J.is_open journal.new ≡ true) }
+    ensures any_moment { Leaves (J.moment journal.old) (J.moment journal.new)
+        (J.left_since journal.old) (J.left_since journal.new) (J.kept journal.old)
+        (J.appended journal.old ++ record_texts records.now) }
+{
+    for record in records {
+        journal.append(record)?;
+    }
+    journal.sync()
+}
+
+impl<V: Venue, J: Journal + Drop> Keeper<V, J> {
+    /// The keeper of a journal that keeps the records of these events, and of no others.
+    pub(crate) fn open(
+        log: &Log<Entry>,
+        writer: Writer<Entry>,
+        journal: J,
+        events: &[Event],
+    ) -> Keeper<V, J>
+        requires log { log.now ≡ V.kept }
+        requires writer { writer ≡ record { log = V.kept; published = []; staged = [] } }
+        requires journal { J.appended journal ≡ lines record_of (restored events.now) }
+        requires safe { (J.kept journal ≡ J.appended journal) × (J.is_open journal ≡ true) }
+        ensures { result.writer.published ≡ unspoken (restored events.now) }
+    {
+        let mut writer = writer;
+        write_before::<Brand>(&mut writer, log, events);
+        Keeper {
+            journal,
+            writer,
+            of: PhantomData,
+        }
+    }
+
+    /// Keeps the records of the entries that `N` names. At any moment of the call a crash leaves all that was kept
+    /// before, and nothing but a beginning of that and these. Where the journal fails it is given back, with its error.
+    pub fn keep<N: NamesEntries<Entry>>(
+        self,
+        log: &Log<Entry>,
+        records: &[Vec<u8>],
+    ) -> Result<Keeper<V, J>, (J, JournalError)>
+        requires log { log.now ≡ V.kept }
+        requires silent { N.entries ≡ unspoken (history_of N.entries) }
+        requires left { N.left ≡ [] }
+        requires records { record_texts records.now ≡ lines record_of (history_of N.entries) }
+        ensures kept { IfOk result (λ k.
+            k.writer.published ≡ self.writer.published ++ N.entries) }
+        ensures any_moment { IfOk result (λ k. Leaves (J.moment self.journal)
+            (J.moment k.journal) (J.left_since self.journal) (J.left_since k.journal)
+            (J.kept self.journal) (J.appended self.journal ++ lines record_of (history_of N.entries))) }
+        ensures failing { IfErr result (λ e. Leaves (J.moment self.journal)
+            (J.moment e.0) (J.left_since self.journal) (J.left_since e.0)
+            (J.kept self.journal) (J.appended self.journal ++ lines record_of (history_of N.entries))) }
+    {
+        let Keeper {
+            mut journal,
+            mut writer,
+            of,
+        } = self;
+        if let Err(error) = write_down(&mut journal, records) {
+            return Err((journal, error));
+        }
+        writer.publish_first::<N>(log, 0);
+        Ok(Keeper {
+            journal,
+            writer,
+            of,
+        })
+    }
+
+    /// A receipt for all that is kept.
+    pub fn receipt(&mut self, log: &Log<Entry>) -> Receipt<Entry>
+        requires log { log.now ≡ V.kept }
+        ensures published { self.new.writer.published ≡ self.old.writer.published }
+        ensures journal { self.new.journal ≡ self.old.journal }
+        ensures receipt { result ≡ record { log = V.kept; known = self.old.writer.published } }
+    {
+        self.writer.receipt(log)
+    }
+
+    /// The receipt knows from now on all that is kept.
+    pub fn renew(&mut self, log: &Log<Entry>, receipt: &mut Receipt<Entry>)
+        requires log { log.now ≡ V.kept }
+        requires receipt { receipt.old.log ≡ V.kept }
+        ensures published { self.new.writer.published ≡ self.old.writer.published }
+        ensures receipt { receipt.new
+            ≡ record { log = V.kept; known = self.old.writer.published } }
+    {
+        receipt.catch_up(log, &mut self.writer);
+    }
+
+    /// Whatever a crash leaves of the journal now, it begins with the records of all that the receipt knows, for whoever
+    /// knows it.
+    pub fn covers(&mut self, log: &Log<Entry>, receipt: Receipt<Entry>)
+        requires log { log.now ≡ V.kept }
+        requires receipt { receipt.log ≡ V.kept }
+        ensures published { self.new.writer.published ≡ self.old.writer.published }
+        ensures journal { self.new.journal ≡ self.old.journal }
+        ensures covered { (c : List (List ℕ))
+            → J.left_since self.new.journal (J.moment self.new.journal) c
+            → IsPrefix (lines record_of (history_of receipt.known)) c }
+    {
+        self.writer.confirm(log, receipt);
+        self.journal.stands();
+    }
+}

@@ -1,0 +1,160 @@
+//! How an exchange is opened.
+ghost use Rattle.std.specs.Prelude.{◌≡◌, ◌≤◌, [], true, IfOk};
+ghost use Rattle.hx_tape_lines.specs.Text.{record_of};
+ghost use Rattle.hx_desk.specs.Entries.{restored};
+ghost use Rattle.hx_engine.specs.Journals.{lines};
+ghost use Rattle.hx_engine.specs.Opening.{IsNewLog};
+ghost use Rattle.hx_engine.specs.Passes.{new_passes};
+
+use crate::exchange::Exchange;
+use crate::held::Held;
+use crate::keeper::{Keeper, write_before};
+use crate::pass::{Pass, make_passes};
+use crate::pass_count::PassCount;
+use crate::venue::Venue;
+use hx_blog::{Log, Writer};
+use hx_desk::{Desk, DeskError, Entry};
+use hx_journal::Journal;
+use hx_market::Event;
+use hx_members::{Seed, Setup};
+use hx_units::NoMemory;
+use std::alloc::Global;
+use std::marker::Brand;
+use std::sync::ledger::Blank;
+use std::sync::{Condvar, Mutex};
+
+/// The logs of an exchange, each with its writer, which has written nothing.
+#[derive(Drop)]
+pub struct Logs {
+    /// The log of the feed, with a slot for each message of the day.
+    pub feed: (Log<Entry>, Writer<Entry>),
+    /// The log of the events that are admitted. It has no messages: one slot is enough.
+    pub admitted: (Log<Entry>, Writer<Entry>),
+    /// The log of the events that the journal keeps. It has no messages: one slot is enough.
+    pub kept: (Log<Entry>, Writer<Entry>),
+}
+
+/// What an exchange goes on from.
+#[derive(Drop)]
+pub struct Recovered<J: Journal> {
+    /// The journal, which keeps the records of these events and no others.
+    pub journal: J,
+    /// The events, in their order.
+    pub events: Vec<Event>,
+}
+
+impl<V: Venue, J: Journal + Drop> Exchange<V, J> {
+    /// An exchange over new logs and an empty journal, with so many passes, 1 to 64, and the fixed seed. What it was
+    /// given is gone after `NoMemory`.
+    pub fn new(
+        alloc: Global,
+        setup: Setup,
+        logs: Logs,
+        journal: J,
+        blank: Blank,
+        passes: u16,
+    ) -> Result<(Exchange<V, J>, Vec<Pass<V>>), NoMemory>
+        requires feed { IsNewLog V.log logs.feed }
+        requires admitted { IsNewLog V.admitted logs.admitted }
+        requires kept { IsNewLog V.kept logs.kept }
+        requires of_setup { setup ≡ V.setup }
+        requires before { V.before ≡ [] }
+        requires journal { J.appended journal ≡ [] }
+        requires safe { (J.kept journal ≡ J.appended journal) × (J.is_open journal ≡ true) }
+        requires blank { (blank.name ≡ V.name) × (blank.parts ≡ V.parts) }
+        requires passes { (1 ≤ passes) × (passes ≤ 64) × (passes ≡ V.parts) }
+        ensures { IfOk result (λ made. made.1.items ≡ new_passes passes) }
+    {
+        Exchange::seeded(alloc, setup, logs, journal, blank, passes, Seed::Fixed)
+    }
+
+    /// An exchange over new logs and an empty journal, with so many passes, 1 to 64, whose table of tokens has this
+    /// seed: members choose their tokens, so where strangers trade it should be drawn. What it was given is gone after
+    /// `NoMemory`.
+    pub fn seeded(
+        alloc: Global,
+        setup: Setup,
+        logs: Logs,
+        journal: J,
+        blank: Blank,
+        passes: u16,
+        seed: Seed,
+    ) -> Result<(Exchange<V, J>, Vec<Pass<V>>), NoMemory>
+        requires feed { IsNewLog V.log logs.feed }
+        requires admitted { IsNewLog V.admitted logs.admitted }
+        requires kept { IsNewLog V.kept logs.kept }
+        requires of_setup { setup ≡ V.setup }
+        requires before { V.before ≡ [] }
+        requires journal { J.appended journal ≡ [] }
+        requires safe { (J.kept journal ≡ J.appended journal) × (J.is_open journal ≡ true) }
+        requires blank { (blank.name ≡ V.name) × (blank.parts ≡ V.parts) }
+        requires passes { (1 ≤ passes) × (passes ≤ 64) × (passes ≡ V.parts) }
+        ensures { IfOk result (λ made. made.1.items ≡ new_passes passes) }
+    {
+        let recovered = Recovered {
+            journal,
+            events: Vec::new(alloc),
+        };
+        match Exchange::resume(alloc, setup, logs, recovered, blank, passes, seed) {
+            Ok(made) => Ok(made),
+            Err(_) => Err(NoMemory),
+        }
+    }
+
+    /// An exchange that goes on from events that its journal keeps: they are told again, over new logs, and its passes,
+    /// 1 to 64, sent none of them. Its table of tokens has this seed. An error says why an event is not recorded again:
+    /// the log of the feed has no room for it, or there is no memory, or it is of another setup. What it was given is
+    /// gone then.
+    pub fn resume(
+        alloc: Global,
+        setup: Setup,
+        logs: Logs,
+        recovered: Recovered<J>,
+        blank: Blank,
+        passes: u16,
+        seed: Seed,
+    ) -> Result<(Exchange<V, J>, Vec<Pass<V>>), DeskError>
+        requires feed { IsNewLog V.log logs.feed }
+        requires admitted { IsNewLog V.admitted logs.admitted }
+        requires kept { IsNewLog V.kept logs.kept }
+        requires of_setup { setup ≡ V.setup }
+        requires before { recovered.events.items ≡ V.before }
+        requires journal { J.appended recovered.journal ≡ lines record_of (restored V.before) }
+        requires safe { (J.kept recovered.journal ≡ J.appended recovered.journal)
+            × (J.is_open recovered.journal ≡ true) }
+        requires blank { (blank.name ≡ V.name) × (blank.parts ≡ V.parts) }
+        requires passes { (1 ≤ passes) × (passes ≤ 64) × (passes ≡ V.parts) }
+        ensures { IfOk result (λ made. made.1.items ≡ new_passes passes) }
+    {
+        let Logs {
+            feed: (log, mut writer),
+            admitted: (admitted, mut register),
+            kept: (kept, pen),
+        } = logs;
+        let Recovered { journal, events } = recovered;
+        let (book, mut spare) = blank.open::<V>();
+        let made = make_passes(
+            alloc,
+            &log,
+            &admitted,
+            &mut writer,
+            &mut register,
+            &mut spare,
+            passes,
+        )?;
+        let desk = Desk::resume(alloc, setup, writer, seed, &log, &events)?;
+        write_before::<Brand>(&mut register, &admitted, &events);
+        let mut keeper = Keeper::open(&kept, pen, journal, &events);
+        let receipt = keeper.receipt(&kept);
+        let exchange = Exchange {
+            log,
+            admitted,
+            kept,
+            desk: Mutex::new(Held::open(alloc, desk, book, spare, register, receipt, keeper)),
+            recorded: Condvar::new(),
+            passes: PassCount::of(passes),
+            alloc,
+        };
+        Ok((exchange, made))
+    }
+}

@@ -1,0 +1,339 @@
+//! How events are recorded: they are admitted under the lock, and told once they are kept.
+ghost use Rattle.std.specs.Prelude.{◌≡◌, ◌≢◌, ◌⊎◌, ◌↔◌, ◌+◌, ◌-◌, ◌<◌, ◌≤◌, [], ◌∷◌, ◌++◌, length, map, take, Some, Err, IfOk, IfErr, OnOk, OnErr, MatchBool};
+ghost use Rattle.hx_tape_lines.specs.Text.{record_of};
+ghost use Rattle.std.specs.Vec.{vec_len, vec_capacity};
+ghost use Rattle.std.specs.Bool.{OnTrue};
+ghost use Rattle.std.specs.List.{AllByRecursion};
+ghost use Rattle.hx_desk.specs.declared.fault.DeskError.TheVariants.{BadTime, NoMember};
+ghost use Rattle.hx_engine.specs.declared.answers.SubmitError.TheVariants.{Refused, Stopped};
+ghost use Rattle.hx_engine.specs.Journals.{record_texts};
+ghost use Rattle.hx_engine.specs.Passes.{placed};
+ghost use Rattle.hx_engine.specs.Exchanges.{Sends, SendsAll, SendsFirst, Enters, Settles, Stays, IsInOrder, AreAdmittedUpTo, IsRefusedOutright};
+
+use crate::answers::SubmitError;
+use crate::exchange::Exchange;
+use crate::flight::Flight;
+use crate::held::Entered;
+use crate::pass::Pass;
+use crate::venue::Venue;
+use hx_blog::Receipt;
+use hx_desk::{DeskError, Done, Entry};
+use hx_journal::Journal;
+use hx_market::Event;
+use hx_tape_lines::write_record;
+use hx_units::NoMemory;
+use std::alloc::Global;
+use std::mem::replace;
+use std::sync::Wait;
+use std::sync::ledger::Share;
+
+// Whether a refusal rests on events that were recorded: that of a member's limit, and that of a full log.
+fn rests_on_others(error: SubmitError) -> bool
+    ensures bad_time { OnTrue result (error ≢ Refused BadTime) }
+    ensures no_member { OnTrue result (error ≢ Refused NoMember) }
+{
+    matches!(
+        error,
+        SubmitError::Refused(DeskError::Limit { .. } | DeskError::Full { .. })
+    )
+}
+
+// A list of one.
+fn one<T: Drop>(alloc: Global, item: T) -> Result<Vec<T>, NoMemory>
+    ensures { IfOk result (λ list. list.items ≡ item ∷ []) }
+{
+    let mut list = Vec::with_capacity(alloc, 1)?;
+    list.push_reserved(item);
+    Ok(list)
+}
+
+// The records of events.
+fn spell_all(alloc: Global, events: &[Event]) -> Result<Vec<Vec<u8>>, NoMemory>
+    ensures { IfOk result (λ written. record_texts written.items ≡ map record_of events.now) }
+{
+    let mut written = Vec::with_capacity(alloc, events.len())?;
+    for event in events {
+        let mut record = Vec::new(alloc);
+        write_record(alloc, &mut record, event)?;
+        written.push(record)?;
+    }
+    Ok(written)
+}
+
+// Adds events that were admitted at consecutive places, up to this one.
+fn add_all(sent: &mut Vec<(u64, Event)>, events: Vec<Event>, last: u64)
+    requires room { vec_len sent.old + length events.items ≤ vec_capacity sent.old }
+    requires last { length events.items ≤ last }
+    ensures { sent.new.items ≡ sent.old.items ++ placed (last - length events.items) events.items }
+{
+    let mut events = events;
+    let behind = last - events.len() as u64;
+    for i in 0..events.len() {
+        let event = replace(&mut events[i], Event::Tick { time: 0 });
+        sent.push_reserved((behind + i as u64 + 1, event));
+    }
+}
+
+impl<V: Venue, J: Journal + Drop> Exchange<V, J> {
+    /// Records an event for a pass, and waits until it is kept and told: one of the threads that wait writes the records
+    /// of all of them, without the lock. If it is refused, the pass is as before.
+    pub fn submit(
+        &self,
+        rt: &impl Wait,
+        pass: &mut Pass<V>,
+        event: &Event,
+    ) -> Result<Done, SubmitError>
+        ensures ok { IfOk result (Sends V.setup pass.old pass.new event.now) }
+        ensures err { OnErr result (Stays pass.old pass.new) }
+        ensures waits { IfErr result (λ e.
+            (pass.new.waiting ≡ pass.old.waiting) ⊎ (e ≡ Stopped)) }
+        ensures outright { IsRefusedOutright V.setup event.now result }
+    {
+        let Ok(copy) = event.copy(self.alloc) else {
+            return Err(self.refuse(rt, &mut pass.knows, &mut pass.entered, event, false));
+        };
+        let Ok(events) = one(self.alloc, copy) else {
+            return Err(self.refuse(rt, &mut pass.knows, &mut pass.entered, event, false));
+        };
+        match self.submit_all(rt, pass, events) {
+            Ok(done) => Ok(done),
+            Err((error, _)) => Err(error),
+        }
+    }
+
+    /// Records events for a pass, one after another, and waits until they are kept and told: as that many calls of
+    /// `submit`, up to the first that is refused, but with one wait for all. Their records are spelled before the lock.
+    /// An error says why the next one is refused, and how many are recorded before it. Where the journal fails no event is
+    /// told, and they wait for good: such a pass submits nothing more.
+    pub fn submit_all(
+        &self,
+        rt: &impl Wait,
+        pass: &mut Pass<V>,
+        events: Vec<Event>,
+    ) -> Result<Done, (SubmitError, usize)>
+        requires { 0 < length events.items }
+        ensures ok { IfOk result (SendsAll V.setup pass.old pass.new events.items) }
+        ensures in_order { OnOk result (AllByRecursion (IsInOrder V.setup) events.items) }
+        ensures err { IfErr result (λ e. SendsFirst V.setup pass.old pass.new events.items e.1) }
+        ensures waits { IfErr result (λ e.
+            (pass.new.waiting ≡ pass.old.waiting) ⊎ (e ≡ (Stopped, 0))) }
+        ensures outright { IfErr result (λ e.
+            AreAdmittedUpTo V.setup events.items e.1 (Some e.0)) }
+    {
+        let waits = pass.told < pass.sent.len();
+        let room = pass.sent.reserve(events.len());
+        let Ok(written) = spell_all(self.alloc, &events) else {
+            let error = self.refuse(rt, &mut pass.knows, &mut pass.entered, &events[0], waits);
+            return Err((error, 0));
+        };
+        if waits || room.is_err() {
+            let error = self.refuse(rt, &mut pass.knows, &mut pass.entered, &events[0], waits);
+            return Err((error, 0));
+        }
+        let Entered {
+            count,
+            last,
+            refused,
+        } = self.enter(
+            rt,
+            pass.number,
+            &mut pass.knows,
+            &mut pass.entered,
+            &mut pass.share,
+            &events,
+            written,
+        );
+        if count == 0 {
+            return match refused {
+                Some(error) => {
+                    Err((
+                        self.answer(rt, &mut pass.knows, &mut pass.entered, error),
+                        0,
+                    ))
+                }
+                None => Ok(last),
+            };
+        }
+        let mut events = events;
+        events.truncate(count);
+        add_all(&mut pass.sent, events, last.place);
+        if !self.await_told(rt, &mut pass.knows, &mut pass.entered, last.place) {
+            return Err((SubmitError::Stopped, 0));
+        }
+        pass.told = pass.sent.len();
+        match refused {
+            Some(error) => Err((error, count)),
+            None => Ok(last),
+        }
+    }
+
+    // Answers a refusal. One that rests on what others sent, or on earlier events of the pass, is answered once all of
+    // these are told: before, a crash might leave less of them.
+    fn answer(
+        &self,
+        rt: &impl Wait,
+        knows: &mut Receipt<Entry>,
+        entered: &mut Receipt<Entry>,
+        error: SubmitError,
+    ) -> SubmitError
+        requires knows { knows.old.log ≡ V.log }
+        requires entered { entered.old.log ≡ V.admitted }
+        ensures bad_time { (result ≡ Refused BadTime) ↔ (error ≡ Refused BadTime) }
+        ensures no_member { (result ≡ Refused NoMember) ↔ (error ≡ Refused NoMember) }
+        ensures same { (knows.new ≡ knows.old) × (entered.new ≡ entered.old) }
+    {
+        if !rests_on_others(error) {
+            return error;
+        }
+        let place = self.history_len(rt);
+        let mut known = knows.again(&self.log);
+        let mut mine = entered.again(&self.admitted);
+        if self.await_told(rt, &mut known, &mut mine, place) {
+            return error;
+        }
+        SubmitError::Stopped
+    }
+
+    // How many entries were admitted.
+    fn history_len(&self, rt: &impl Wait) -> u64 {
+        self.desk.lock(rt).desk.history_len()
+    }
+
+    // Why the event is refused where there is no memory for it, or where the pass has stopped.
+    fn refuse(
+        &self,
+        rt: &impl Wait,
+        knows: &mut Receipt<Entry>,
+        entered: &mut Receipt<Entry>,
+        event: &Event,
+        stopped: bool,
+    ) -> SubmitError
+        requires knows { knows.old.log ≡ V.log }
+        requires entered { entered.old.log ≡ V.admitted }
+        ensures outright { IsRefusedOutright V.setup event.now (Err result) }
+        ensures same { (knows.new ≡ knows.old) × (entered.new ≡ entered.old) }
+    {
+        let error = self.look(rt, event, stopped);
+        self.answer(rt, knows, entered, error)
+    }
+
+    // What the desk says now of an event for which there is no memory, or of one of a pass that has stopped.
+    fn look(&self, rt: &impl Wait, event: &Event, stopped: bool) -> SubmitError
+        ensures { IsRefusedOutright V.setup event.now (Err result) }
+    {
+        let mut held = self.desk.lock(rt);
+        let held = &mut *held;
+        held.refuse(event, stopped)
+    }
+
+    // Admits events, up to the first that is refused.
+    fn enter(
+        &self,
+        rt: &impl Wait,
+        number: u16,
+        knows: &mut Receipt<Entry>,
+        entered: &mut Receipt<Entry>,
+        share: &mut Share<V>,
+        events: &[Event],
+        written: Vec<Vec<u8>>,
+    ) -> Entered
+        requires some { 0 < length events.now }
+        requires knows { knows.old.log ≡ V.log }
+        requires entered { entered.old.log ≡ V.admitted }
+        requires share { 0 < share.old.parts }
+        requires written { record_texts written.items ≡ map record_of events.now }
+        ensures entered { 0 < result.count → Enters V.setup number (take result.count events.now)
+            knows.old.known entered.new.known result.last }
+        ensures knows { knows.new ≡ knows.old }
+        ensures log { entered.new.log ≡ V.admitted }
+        ensures counted { share.new.amount ≡ share.old.amount + result.count }
+        ensures parts { share.new.parts ≡ share.old.parts }
+        ensures outright { AreAdmittedUpTo V.setup events.now result.count result.refused }
+    {
+        let mut held = self.desk.lock(rt);
+        let held = &mut *held;
+        if held.failed.is_some() {
+            return Entered::none(held.refuse(&events[0], true));
+        }
+        let known = knows.again(&self.log);
+        held.desk.confirm(&self.log, known);
+        held.desk.stands();
+        let admitted = held.enter_all(&self.log, &self.admitted, number, share, events, written);
+        held.note(&self.admitted, entered);
+        admitted
+    }
+
+    // Waits until the entry at a place is told, and leads where nobody does; false where the journal has failed.
+    fn await_told(
+        &self,
+        rt: &impl Wait,
+        knows: &mut Receipt<Entry>,
+        entered: &mut Receipt<Entry>,
+        place: u64,
+    ) -> bool
+        requires knows { knows.old.log ≡ V.log }
+        requires entered { entered.old.log ≡ V.admitted }
+        ensures told { MatchBool result
+            (Settles V.setup place entered.old.known knows.old.known knows.new.known)
+            (knows.new.known ≡ knows.old.known) }
+        ensures logs { (knows.new.log ≡ V.log) × (entered.new.log ≡ V.admitted) }
+    {
+        for _ in rt.forever() {
+            match self.turn(rt, knows, entered, place) {
+                Ok(told) => return told,
+                Err(flight) => self.lead(rt, flight),
+            }
+        }
+        unreachable!()
+    }
+
+    // What a thread does next whose entry stands at this place: it is told, or the journal has failed; or the thread
+    // leads, with this batch.
+    fn turn(
+        &self,
+        rt: &impl Wait,
+        knows: &mut Receipt<Entry>,
+        entered: &mut Receipt<Entry>,
+        place: u64,
+    ) -> Result<bool, Flight<V, J>>
+        requires knows { knows.old.log ≡ V.log }
+        requires entered { entered.old.log ≡ V.admitted }
+        ensures told { IfOk result (λ told. MatchBool told
+            (Settles V.setup place entered.old.known knows.old.known knows.new.known)
+            (knows.new ≡ knows.old)) }
+        ensures leads { OnErr result (knows.new ≡ knows.old) }
+        ensures log { knows.new.log ≡ V.log }
+        ensures entered { entered.new ≡ entered.old }
+    {
+        let mut held = self.recorded.wait_while(rt, self.desk.lock(rt), |held| {
+            held.desk.told_len() < place && held.failed.is_none() && held.keeper.is_none()
+        });
+        let held = &mut *held;
+        if held.desk.told_len() < place {
+            return match held.begin(&self.admitted) {
+                Some(flight) => Err(flight),
+                None => Ok(false),
+            };
+        }
+        let mine = entered.again(&self.admitted);
+        held.recall(&self.admitted, mine);
+        held.desk.stands();
+        held.desk.renew(&self.log, knows);
+        Ok(true)
+    }
+
+    // Keeps a batch without the lock, then tells it under the lock, and wakes who waits.
+    fn lead(&self, rt: &impl Wait, flight: Flight<V, J>) {
+        match flight.fly(&self.kept) {
+            Ok(landed) => {
+                let mut held = self.desk.lock(rt);
+                held.land(&self.log, &self.admitted, &self.kept, landed);
+            }
+            Err((_journal, error)) => {
+                let mut held = self.desk.lock(rt);
+                held.failed = Some(error);
+            }
+        }
+        self.recorded.notify_all();
+    }
+}
