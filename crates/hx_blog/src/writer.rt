@@ -126,8 +126,8 @@ impl<E> Writer<E> {
         self.publish_first::<N>(log, count);
     }
 
-    /// Publishes so many of the staged messages, the first ones, as those of the entries that `N` names, each of which
-    /// may have some or none: one store of the count, also where it stays. The others stay staged.
+    /// Publishes the first `count` staged messages, as those of the entries that `N` names, each of which may have some
+    /// or none: one store of the count, also where it stays. The others stay staged.
     pub fn publish_first<N: NamesEntries<E>>(&mut self, log: &Log<E>, count: u64)
         requires log { self.old.log ≡ log.now }
         requires count { count ≡ length (feed N.entries) }

@@ -360,7 +360,7 @@ impl Desk {
         self.rows.page(member, from, most)
     }
 
-    /// Whether hours code `C`, the last of the day, is past in what is told.
+    /// Whether hours code `C`, the last of the day, is among the entries released so far.
     pub fn ended(&self) -> bool
         ensures { result ≡ is_over (told_market self.now) }
     {
