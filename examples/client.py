@@ -11,7 +11,8 @@ Another one runs this client, which plays both members and a vendor who listens 
 
 It logs in (SoupBinTCP 3.00), enters a hidden and a displayed order (OUCH 4.2), sells into both, and prints every reply
 and every message of the feed (TotalView-ITCH 5.0 in MoldUDP64 1.00 packets) in words. The vendor throws one packet away
-and asks for its messages again. With --pcap it writes all that went over the wires as a capture that Wireshark opens,
+and asks for its messages again. With --again it sends no order: both members ask for all their replies, and the vendor for
+all messages of the feed, as after a server with a journal was killed and started again. With --pcap it writes all that went over the wires as a capture that Wireshark opens,
 with --lines the feed as the lines that a replay of the day's history writes.
 """
 import argparse
@@ -200,6 +201,13 @@ class Member:
                 print(f"{self.user}: {reply_in_words(payload)}")
                 count -= 1
 
+    def all_replies(self):
+        """Prints the replies up to the first heartbeat."""
+        kind, payload = self.receive_packet()
+        while kind == b"S":
+            print(f"{self.user}: {reply_in_words(payload)}")
+            kind, payload = self.receive_packet()
+
     def log_out(self):
         self.send(b"O")
         while self.receive():
@@ -212,9 +220,9 @@ class Member:
 class Vendor(threading.Thread):
     """Listens to the feed (MoldUDP64 1.00), and asks for what it misses."""
 
-    def __init__(self, feed, requests, capture, lose, lines):
+    def __init__(self, feed, requests, capture, lose, lines, again):
         super().__init__(daemon=True)
-        self.lines = lines
+        self.lines, self.again = lines, again
         self.feed, self.requests, self.capture, self.lose = feed, requests, capture, lose
         self.socket = socket.socket(socket.AF_INET, socket.SOCK_DGRAM)
         self.socket.bind((HOST, feed))
@@ -270,6 +278,8 @@ class Vendor(threading.Thread):
                 self.ended.set()
             else:
                 self.take(sequence, packet, "")
+                if self.again and count == 0:
+                    self.ended.set()
 
 
 def main():
@@ -278,15 +288,29 @@ def main():
         reader.add_argument(f"--{name}", type=int, required=True)
     reader.add_argument("--pcap", help="the file of a capture")
     reader.add_argument("--lines", help="the file of the feed's messages, as `hx_tape replay` writes them")
+    reader.add_argument("--again", action="store_true", help="only ask for what was told before")
     words = reader.parse_args()
     capture = Capture(words.pcap)
     lines = []
-    vendor = Vendor(words.feed, words.requests, capture, lose=True, lines=lines)
+    vendor = Vendor(words.feed, words.requests, capture, lose=not words.again, lines=lines, again=words.again)
     vendor.start()
     alpha = Member(words.port, "ALPHA", "PWALPHA", capture)
     bravo = Member(words.port, "BRAVO", "PWBRAVO", capture)
     for member in (alpha, bravo):
         member.log_in()
+        if words.again:
+            member.all_replies()
+            member.log_out()
+    if not words.again:
+        trade(alpha, bravo)
+    vendor.ended.wait()
+    if words.lines:
+        with open(words.lines, "w", encoding="ascii") as file:
+            file.writelines(f"{line}\n" for line in lines)
+
+
+def trade(alpha, bravo):
+    """A hidden and a displayed order, into which the other member sells."""
     alpha.send(b"U", enter_order("HIDDEN", "B", 100, "ABCD", 100000, "N"))
     alpha.send(b"U", enter_order("SHOWN", "B", 100, "ABCD", 100000, "Y"))
     alpha.replies(2)
@@ -296,10 +320,6 @@ def main():
     alpha.log_out()
     bravo.log_out()
     print("both have logged out; the day ends once the operator's input has ended")
-    vendor.ended.wait()
-    if words.lines:
-        with open(words.lines, "w", encoding="ascii") as file:
-            file.writelines(f"{line}\n" for line in lines)
 
 
 if __name__ == "__main__":

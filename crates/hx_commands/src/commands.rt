@@ -1,7 +1,11 @@
 //! The commands, each with its options.
 
+use crate::journal::journal_command;
 use clap::{Arg, ArgAction, ArgGroup, Command, value_parser};
 use std::alloc::{AllocError, Global};
+
+// The program's name.
+const PROGRAM: &str = "hx_tape";
 
 // The file of the setup.
 fn setup_file<'a>(alloc: Global) -> Arg<'a> {
@@ -102,6 +106,29 @@ fn open_day<'a>(alloc: Global, command: Command<'a>) -> Result<Command<'a>, Allo
         .arg(json)
 }
 
+// What a day that a journal keeps has besides.
+fn kept_day<'a>(alloc: Global, command: Command<'a>) -> Result<Command<'a>, AllocError> {
+    let journal = Arg::new(alloc, "journal")
+        .long("journal")
+        .value_name("FILE")
+        .help(
+            "The file that keeps the day: nobody is told what is not in it, and it is gone on with",
+        );
+    let sync = Arg::new(alloc, "sync")
+        .long("sync")
+        .value_name("WHEN")
+        .default_value("group")
+        .value_parser(["group", "never"].as_slice())
+        .help(
+            "When the journal is brought to the disk: each group of events, or as the system likes",
+        );
+    let day = Arg::new(alloc, "day")
+        .long("day")
+        .value_name("YYYYMMDD")
+        .help("The day of the journal and of an open day's times, in place of today, UTC");
+    command.arg(journal)?.arg(sync)?.arg(day)
+}
+
 fn serve_command<'a>(alloc: Global) -> Result<Command<'a>, AllocError> {
     let sessions = Arg::new(alloc, "sessions")
         .long("sessions")
@@ -144,7 +171,7 @@ fn serve_command<'a>(alloc: Global) -> Result<Command<'a>, AllocError> {
         .arg(turns)?
         .arg(history)?
         .arg(answers)?;
-    open_day(alloc, command)
+    kept_day(alloc, open_day(alloc, command)?)
 }
 
 fn watch_command<'a>(alloc: Global) -> Result<Command<'a>, AllocError> {
@@ -159,13 +186,25 @@ fn watch_command<'a>(alloc: Global) -> Result<Command<'a>, AllocError> {
         .arg(stock)
 }
 
-/// The program's command line.
-pub fn command<'a>(alloc: Global) -> Result<Command<'a>, AllocError> {
-    Command::new(alloc, "hx_tape")
+// The program, with its commands over tapes.
+fn tapes<'a>(alloc: Global) -> Result<Command<'a>, AllocError> {
+    Command::new(alloc, PROGRAM)
         .subcommand_required(true)
         .subcommand(replay_command(alloc)?)?
         .subcommand(strike_command(alloc)?)?
-        .subcommand(show_command(alloc)?)?
+        .subcommand(show_command(alloc)?)
+}
+
+/// The command line of the commands over tapes alone: replay, strike and show. Its texts name the
+/// program `hx_tape`, whatever its file is called.
+pub fn tape_command<'a>(alloc: Global) -> Result<Command<'a>, AllocError> {
+    tapes(alloc)?.bin_name(PROGRAM)
+}
+
+/// The program's whole command line: the commands over tapes, serve and watch.
+pub fn command<'a>(alloc: Global) -> Result<Command<'a>, AllocError> {
+    tapes(alloc)?
         .subcommand(serve_command(alloc)?)?
-        .subcommand(watch_command(alloc)?)
+        .subcommand(watch_command(alloc)?)?
+        .subcommand(journal_command(alloc)?)
 }

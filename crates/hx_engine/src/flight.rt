@@ -31,11 +31,14 @@ pub struct Flight<V: Venue, J: Journal> {
 #[derive(Drop)]
 pub struct Landed<V: Venue, J: Journal> {
     pub(crate) keeper: Keeper<V, J>,
+    // Room for the records of the next one.
+    pub(crate) room: Vec<Vec<u8>>,
     pub(crate) knows: Receipt<Entry>,
     pub(crate) end: u64,
     pub ghost named: { knows.log ≡ V.admitted },
     pub ghost ends: { end ≡ length knows.known },
     pub ghost all: { keeper.writer.published ≡ knows.known },
+    pub ghost bare: { room.items ≡ [] },
 }
 
 impl<V: Venue, J: Journal + Drop> Flight<V, J> {
@@ -50,7 +53,14 @@ impl<V: Venue, J: Journal + Drop> Flight<V, J> {
             end,
         } = self;
         let keeper = keep_all::<V, J, Brand>(keeper, kept, &records, &knows)?;
-        Ok(Landed { keeper, knows, end })
+        let mut room = records;
+        room.clear();
+        Ok(Landed {
+            keeper,
+            room,
+            knows,
+            end,
+        })
     }
 }
 

@@ -1,5 +1,5 @@
 //! What lies under the lock.
-ghost use Rattle.std.specs.Prelude.{◌≡◌, ◌+◌, ◌<◌, [], ◌∷◌, ◌++◌, length, map, take, drop, Some, Err, IfOk, IfErr, IfSome, OnOk, OnErr};
+ghost use Rattle.std.specs.Prelude.{◌≡◌, ◌+◌, ◌<◌, [], ◌∷◌, ◌++◌, length, map, take, drop, Some, None, Err, IfOk, IfErr, IfSome, OnOk, OnErr, MatchBool};
 ghost use Rattle.hx_tape_lines.specs.Text.{record_of};
 ghost use mathlib.Core.List.{IsPrefix};
 ghost use Rattle.hx_desk.specs.Entries.{entry_of, restored};
@@ -7,7 +7,7 @@ ghost use Rattle.std.proofs.Props.{props};
 ghost use Rattle.hx_desk.specs.Desks.{Grows, Faults, IsResumed};
 ghost use Rattle.hx_engine.specs.Journals.{unspoken, lines, record_texts};
 ghost use Rattle.hx_engine.specs.Passes.{sent_by};
-ghost use Rattle.hx_engine.specs.Exchanges.{DoneAt, LastDone, AreAdmittedUpTo, IsRefusedOutright};
+ghost use Rattle.hx_engine.specs.Exchanges.{DoneAt, LastDone, AreAdmittedUpTo, IsRefusedOutright, Settles};
 
 use crate::answers::{SubmitError, refused};
 use crate::flight::{Flight, Landed};
@@ -28,6 +28,8 @@ pub struct Entered {
     pub count: usize,
     pub last: Done,
     pub refused: Option<SubmitError>,
+    /// A receipt for what is told, where they were told at once.
+    pub told: Option<Receipt<Entry>>,
 }
 
 impl Entered {
@@ -37,6 +39,7 @@ impl Entered {
           count = 0;
           last = record { place = 0; first = 0; count = 0 };
           refused = Some error;
+          told = None;
         } }
     {
         Entered {
@@ -47,6 +50,7 @@ impl Entered {
                 count: 0,
             },
             refused: Some(error),
+            told: None,
         }
     }
 }
@@ -260,6 +264,7 @@ impl<V: Venue, J: Journal + Drop> Held<V, J> {
                         count: i,
                         last,
                         refused: Some(error),
+                        told: None,
                     };
                 }
             }
@@ -268,6 +273,7 @@ impl<V: Venue, J: Journal + Drop> Held<V, J> {
             count: events.len(),
             last,
             refused: None,
+            told: None,
         }
     }
 
@@ -309,10 +315,18 @@ impl<V: Venue, J: Journal + Drop> Held<V, J> {
         requires admitted { admitted.now ≡ V.admitted }
         requires kept { kept.now ≡ V.kept }
     {
-        let Landed { keeper, knows, end } = landed;
+        let Landed {
+            keeper,
+            room,
+            knows,
+            end,
+        } = landed;
         if self.keeper.is_some() || self.desk.sealed_len() != end {
             self.failed = Some(JournalError::Closed);
             return;
+        }
+        if self.records.is_empty() {
+            self.records = room;
         }
         self.register.confirm(admitted, knows);
         self.tell(log, kept, keeper);
@@ -336,6 +350,81 @@ impl<V: Venue, J: Journal + Drop> Held<V, J> {
         desk.release(log);
         keeper.renew(kept, receipt);
         *home = Some(keeper);
+    }
+
+    /// Whether the entry at a place is told. Who knows that it was admitted knows from then on all that is told.
+    pub fn settle(
+        &mut self,
+        log: &Log<Entry>,
+        admitted: &Log<Entry>,
+        knows: &mut Receipt<Entry>,
+        entered: &mut Receipt<Entry>,
+        place: u64,
+    ) -> bool
+        requires log { log.now ≡ V.log }
+        requires admitted { admitted.now ≡ V.admitted }
+        requires knows { knows.old.log ≡ V.log }
+        requires entered { entered.old.log ≡ V.admitted }
+        ensures told { MatchBool result
+            (Settles V.setup place entered.old.known knows.old.known knows.new.known)
+            (knows.new ≡ knows.old) }
+        ensures log { knows.new.log ≡ V.log }
+        ensures entered { entered.new ≡ entered.old }
+    {
+        if self.desk.told_len() < place {
+            return false;
+        }
+        let mine = entered.again(admitted);
+        self.recall(admitted, mine);
+        self.desk.stands();
+        self.desk.renew(log, knows);
+        true
+    }
+
+    // Keeps and tells what waits, where the journal touches no disk.
+    fn lead_at_once(&mut self, log: &Log<Entry>, admitted: &Log<Entry>, kept: &Log<Entry>)
+        requires log { log.now ≡ V.log }
+        requires admitted { admitted.now ≡ V.admitted }
+        requires kept { kept.now ≡ V.kept }
+    {
+        let Some(flight) = self.begin(admitted) else {
+            return;
+        };
+        match flight.fly(kept) {
+            Ok(landed) => self.land(log, admitted, kept, landed),
+            Err((_journal, error)) => self.failed = Some(error),
+        }
+    }
+
+    /// Keeps and tells what waits, where the journal touches no disk: whoever has the lock does so at once. Answers a
+    /// receipt for what is told, if the entry at a place is.
+    pub fn tell_at_once(
+        &mut self,
+        log: &Log<Entry>,
+        admitted: &Log<Entry>,
+        kept: &Log<Entry>,
+        knows: &mut Receipt<Entry>,
+        entered: &mut Receipt<Entry>,
+        place: u64,
+    ) -> Option<Receipt<Entry>>
+        requires log { log.now ≡ V.log }
+        requires admitted { admitted.now ≡ V.admitted }
+        requires kept { kept.now ≡ V.kept }
+        requires knows { knows.old.log ≡ V.log }
+        requires entered { entered.old.log ≡ V.admitted }
+        ensures told { IfSome result (λ r. (r.log ≡ V.log)
+            × Settles V.setup place entered.old.known knows.old.known r.known) }
+        ensures same { (knows.new ≡ knows.old) × (entered.new ≡ entered.old) }
+    {
+        if !self.keeper.as_ref().is_some_and(|keeper| keeper.is_quick()) {
+            return None;
+        }
+        self.lead_at_once(log, admitted, kept);
+        let mut told = knows.again(log);
+        if self.settle(log, admitted, &mut told, entered, place) {
+            return Some(told);
+        }
+        None
     }
 
     /// The receipt knows from now on the whole history, told or not.

@@ -137,6 +137,11 @@ impl<V: Venue, J: Journal + Drop> Keeper<V, J> {
         self.writer.receipt(log)
     }
 
+    /// Whether the journal touches no disk.
+    pub fn is_quick(&self) -> bool {
+        self.journal.is_quick()
+    }
+
     /// The receipt knows from now on all that is kept.
     pub fn renew(&mut self, log: &Log<Entry>, receipt: &mut Receipt<Entry>)
         requires log { log.now ≡ V.kept }

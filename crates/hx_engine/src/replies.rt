@@ -162,4 +162,11 @@ impl<V: Venue, J: Journal + Drop> Exchange<V, J> {
     pub fn ended(&self, rt: &impl Wait) -> bool {
         self.desk.lock(rt).desk.ended()
     }
+
+    /// Whether nothing more is told: hours code `C` is past, or the journal has failed. No clause says what the market was
+    /// when it was asked.
+    pub fn is_closed(&self, rt: &impl Wait) -> bool {
+        let held = self.desk.lock(rt);
+        held.desk.ended() || held.failed.is_some()
+    }
 }

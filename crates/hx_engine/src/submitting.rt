@@ -1,5 +1,5 @@
 //! How events are recorded: they are admitted under the lock, and told once they are kept.
-ghost use Rattle.std.specs.Prelude.{◌≡◌, ◌≢◌, ◌⊎◌, ◌↔◌, ◌+◌, ◌-◌, ◌<◌, ◌≤◌, [], ◌∷◌, ◌++◌, length, map, take, Some, Err, IfOk, IfErr, OnOk, OnErr, MatchBool};
+ghost use Rattle.std.specs.Prelude.{◌≡◌, ◌≢◌, ◌⊎◌, ◌↔◌, ◌+◌, ◌-◌, ◌<◌, ◌≤◌, [], ◌∷◌, ◌++◌, length, map, take, Some, Err, IfOk, IfErr, IfSome, OnOk, OnErr, MatchBool};
 ghost use Rattle.hx_tape_lines.specs.Text.{record_of};
 ghost use Rattle.std.specs.Vec.{vec_len, vec_capacity};
 ghost use Rattle.std.specs.Bool.{OnTrue};
@@ -134,6 +134,7 @@ impl<V: Venue, J: Journal + Drop> Exchange<V, J> {
             count,
             last,
             refused,
+            told,
         } = self.enter(
             rt,
             pass.number,
@@ -157,7 +158,7 @@ impl<V: Venue, J: Journal + Drop> Exchange<V, J> {
         let mut events = events;
         events.truncate(count);
         add_all(&mut pass.sent, events, last.place);
-        if !self.await_told(rt, &mut pass.knows, &mut pass.entered, last.place) {
+        if !self.await_told(rt, &mut pass.knows, &mut pass.entered, last.place, told) {
             return Err((SubmitError::Stopped, 0));
         }
         pass.told = pass.sent.len();
@@ -188,7 +189,7 @@ impl<V: Venue, J: Journal + Drop> Exchange<V, J> {
         let place = self.history_len(rt);
         let mut known = knows.again(&self.log);
         let mut mine = entered.again(&self.admitted);
-        if self.await_told(rt, &mut known, &mut mine, place) {
+        if self.await_told(rt, &mut known, &mut mine, place, None) {
             return error;
         }
         SubmitError::Stopped
@@ -226,7 +227,8 @@ impl<V: Venue, J: Journal + Drop> Exchange<V, J> {
         held.refuse(event, stopped)
     }
 
-    // Admits events, up to the first that is refused.
+    // Admits events, up to the first that is refused. Where the journal touches no disk they are told before the lock is
+    // given back.
     fn enter(
         &self,
         rt: &impl Wait,
@@ -249,35 +251,56 @@ impl<V: Venue, J: Journal + Drop> Exchange<V, J> {
         ensures counted { share.new.amount ≡ share.old.amount + result.count }
         ensures parts { share.new.parts ≡ share.old.parts }
         ensures outright { AreAdmittedUpTo V.setup events.now result.count result.refused }
+        ensures told { IfSome result.told (λ r. (r.log ≡ V.log)
+            × Settles V.setup result.last.place entered.new.known knows.old.known r.known) }
     {
-        let mut held = self.desk.lock(rt);
-        let held = &mut *held;
+        let mut lock = self.desk.lock(rt);
+        let held = &mut *lock;
         if held.failed.is_some() {
             return Entered::none(held.refuse(&events[0], true));
         }
         let known = knows.again(&self.log);
         held.desk.confirm(&self.log, known);
         held.desk.stands();
-        let admitted = held.enter_all(&self.log, &self.admitted, number, share, events, written);
+        let mut made = held.enter_all(&self.log, &self.admitted, number, share, events, written);
         held.note(&self.admitted, entered);
-        admitted
+        let (log, admitted, kept) = (&self.log, &self.admitted, &self.kept);
+        made.told = held.tell_at_once(log, admitted, kept, knows, entered, made.last.place);
+        drop(lock);
+        self.wake(made.told.is_some());
+        made
     }
 
-    // Waits until the entry at a place is told, and leads where nobody does; false where the journal has failed.
+    // Wakes who waits, where there is news.
+    fn wake(&self, is_news: bool) {
+        if is_news {
+            self.recorded.notify_all();
+        }
+    }
+
+    // Waits until the entry at a place is told, and leads where nobody does; false where the journal has failed. Where a
+    // receipt says that it is told, it waits for nobody.
     fn await_told(
         &self,
         rt: &impl Wait,
         knows: &mut Receipt<Entry>,
         entered: &mut Receipt<Entry>,
         place: u64,
+        told: Option<Receipt<Entry>>,
     ) -> bool
         requires knows { knows.old.log ≡ V.log }
         requires entered { entered.old.log ≡ V.admitted }
+        requires told { IfSome told (λ r. (r.log ≡ V.log)
+            × Settles V.setup place entered.old.known knows.old.known r.known) }
         ensures told { MatchBool result
             (Settles V.setup place entered.old.known knows.old.known knows.new.known)
             (knows.new.known ≡ knows.old.known) }
         ensures logs { (knows.new.log ≡ V.log) × (entered.new.log ≡ V.admitted) }
     {
+        if let Some(told) = told {
+            *knows = told;
+            return true;
+        }
         for _ in rt.forever() {
             match self.turn(rt, knows, entered, place) {
                 Ok(told) => return told,
@@ -309,17 +332,13 @@ impl<V: Venue, J: Journal + Drop> Exchange<V, J> {
             held.desk.told_len() < place && held.failed.is_none() && held.keeper.is_none()
         });
         let held = &mut *held;
-        if held.desk.told_len() < place {
-            return match held.begin(&self.admitted) {
-                Some(flight) => Err(flight),
-                None => Ok(false),
-            };
+        if held.settle(&self.log, &self.admitted, knows, entered, place) {
+            return Ok(true);
         }
-        let mine = entered.again(&self.admitted);
-        held.recall(&self.admitted, mine);
-        held.desk.stands();
-        held.desk.renew(&self.log, knows);
-        Ok(true)
+        match held.begin(&self.admitted) {
+            Some(flight) => Err(flight),
+            None => Ok(false),
+        }
     }
 
     // Keeps a batch without the lock, then tells it under the lock, and wakes who waits.

@@ -1,2 +1,0 @@
-pub mod Recovering
-pub mod Restored

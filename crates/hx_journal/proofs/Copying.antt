@@ -62,7 +62,7 @@ one_copied text rest tape line behind then count n so_far lacks cut more one =
     }
 
 -- no line feed, no line
-no_lines : (ls : List (List ℕ)) → Lacks 10 (text_of ls) → ls ≡ []
+pub no_lines : (ls : List (List ℕ)) → Lacks 10 (text_of ls) → ls ≡ []
 no_lines [] lacks = refl
 no_lines (l ∷ ls) lacks =
     let within : length l < length (l ++ 10 ∷ text_of ls) = omega (arith, length-append l (10 ∷ text_of ls)) in

@@ -10,3 +10,5 @@ pub mod Copying
 pub mod Spelling
 pub mod Appending
 pub mod Recovery
+pub mod Fronts
+pub mod Heading

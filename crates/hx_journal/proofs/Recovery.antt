@@ -18,7 +18,7 @@ are_front : (front behind : List (List ℕ)) → AreLines (front ++ behind) → 
 are_front [] behind are = tt
 are_front (line ∷ front) behind are = (are.0, are_front front behind are.1)
 
-are_sealed : (file : List ℕ) → AreLines (sealed (lines_of file))
+pub are_sealed : (file : List ℕ) → AreLines (sealed (lines_of file))
 are_sealed file =
     let p = sealed_prefix (lines_of file) in
     are_front (sealed (lines_of file)) p.0 (subst AreLines (sym p.1) (lines_of_are file))

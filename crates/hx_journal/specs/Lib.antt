@@ -9,4 +9,5 @@ pub mod Errors
 pub mod Files
 pub mod Blocks
 pub mod Openings
+pub mod Surveys
 pub mod Unkept

@@ -4,12 +4,32 @@ ghost use Rattle.hx_journal.specs.Openings.{IsOpenCause, IsOtherDay};
 
 use crate::OpenError;
 use crate::mark::{ends_whole_block, spell_mark};
+use crate::sum::crc32;
 use std::alloc::Global;
 
-/// Follows the chain of blocks in a text that stands at a place of a file, behind a line with this
-/// sum, and returns the sum of the last block. The error names the first byte of the first block
-/// that is not as it was written.
-pub fn follow(alloc: Global, text: &[u8], place: usize, sum: u32) -> Result<u32, OpenError>
+/// Sees that the blocks of a file, behind its first line, are as they were written, and that no
+/// whole block stands behind them. Returns the sum of the last block. The error names the first
+/// byte of the first block that is not as it was written, or of what stands behind them all.
+pub fn check(alloc: Global, first: &[u8], blocks: &[u8], behind: &[u8]) -> Result<u32, OpenError>
+    ensures cause { (before now : ℕ) → IfErr result (λ e. IsOpenCause before now e) }
+    ensures day { IfErr result (λ e. IsOtherDay e → ⊥) }
+{
+    let place = first.len() + 1;
+    let sum = match follow(alloc, blocks, place, crc32(0, first)) {
+        Ok(sum) => sum,
+        Err(error) => return Err(error),
+    };
+    if whole_blocks(behind) > 0 {
+        let at = place.saturating_add(blocks.len());
+        return Err(OpenError::Damaged { at });
+    }
+    Ok(sum)
+}
+
+// Follows the chain of blocks in a text that stands at a place of a file, behind a line with this
+// sum, and returns the sum of the last block. The error names the first byte of the first block
+// that is not as it was written.
+fn follow(alloc: Global, text: &[u8], place: usize, sum: u32) -> Result<u32, OpenError>
     ensures cause { (before now : ℕ) → IfErr result (λ e. IsOpenCause before now e) }
     ensures day { IfErr result (λ e. IsOtherDay e → ⊥) }
 {
@@ -56,18 +76,19 @@ struct Chain {
     sum: u32,
 }
 
-/// Whether a whole block ends in a text, one whose own sum is right.
-pub fn has_whole_block(text: &[u8]) -> bool {
+/// How many whole blocks end in a text, each one by its own sum.
+pub fn whole_blocks(text: &[u8]) -> usize {
+    let mut blocks = 0usize;
     let mut start = 0;
     for (i, b) in text.iter().enumerate() {
         if *b == b'\n' {
             let front = text.get(..start).unwrap_or(&[]);
             let line = text.get(start..i).unwrap_or(&[]);
             if ends_whole_block(front, line) {
-                return true;
+                blocks = blocks.saturating_add(1);
             }
             start = i + 1;
         }
     }
-    false
+    blocks
 }

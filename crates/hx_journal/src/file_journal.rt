@@ -72,6 +72,10 @@ impl<D: Device> Journal for FileJournal<D> {
         Ok(())
     }
 
+    fn is_quick(&self) -> bool {
+        false
+    }
+
     fn stands(&self) {
         let _ = &self.records;
         self.lines.stands();

@@ -1,8 +1,8 @@
 //! The first line of a journal: which day it is of.
-ghost use Rattle.std.specs.Prelude.{◌≡◌, ◌↔◌, true, IsTrue, IfOk, IsErrOf};
+ghost use Rattle.std.specs.Prelude.{◌≡◌, ◌≢◌, ◌↔◌, ◌++◌, true, ℕ, List, codes, IsTrue, IfOk, IfSome, IfNone, IsErrOf};
 ghost use Rattle.hx_journal.specs.Lines.{IsLine};
 ghost use Rattle.hx_journal.specs.Records.{is_mark};
-ghost use Rattle.hx_journal.specs.Heads.{IsWord, head_of};
+ghost use Rattle.hx_journal.specs.Heads.{IsWord, IsHeadOf, head_of};
 ghost use Rattle.hx_journal.specs.declared.head.HeadError.TheVariants.{Memory};
 
 use hx_text::split_once;
@@ -118,14 +118,27 @@ impl Head {
     }
 }
 
-fn parts(line: &[u8]) -> Option<(&[u8], &[u8], &[u8])> {
-    let (session, rest) = split_once(line.strip_prefix(TAG)?, b' ')?;
+/// What stands behind the tag of a line, up to a space, up to the next one, and behind that.
+pub(crate) fn parts(line: &[u8]) -> Option<(&[u8], &[u8], &[u8])>
+    ensures some { IfSome result (λ p. IsHeadOf line.now p.0.now p.1.now p.2.now) }
+    ensures none { IfNone result ((session day setup : List ℕ)
+        → IsWord session → IsWord day → IsWord setup → line.now ≢ head_of session day setup) }
+{
+    let (session, rest) = split_once(behind_tag(line)?, b' ')?;
     let (day, setup) = split_once(rest, b' ')?;
     Some((session, day, setup))
 }
 
-// Whether all bytes are printed, and no space.
-fn is_word(word: &[u8]) -> bool
+// What stands behind the tag of a line.
+fn behind_tag(line: &[u8]) -> Option<&[u8]>
+    ensures some { IfSome result (λ rest. line.now ≡ codes "#hx1 " ++ rest.now) }
+    ensures none { IfNone result ((rest : List ℕ) → line.now ≢ codes "#hx1 " ++ rest) }
+{
+    line.strip_prefix(TAG)
+}
+
+/// Whether all bytes are printed, and no space.
+pub(crate) fn is_word(word: &[u8]) -> bool
     ensures { IsTrue result ↔ IsWord word.now }
 {
     for b in word {
@@ -134,4 +147,32 @@ fn is_word(word: &[u8]) -> bool
         }
     }
     true
+}
+
+/// Whether a text may be what a crash left of the first line of some day: each byte is zero or one
+/// of such a line, and those behind its line feed are zero.
+pub(crate) fn may_be_torn_head(text: &[u8]) -> bool {
+    let (line, behind) = split_once(text, b'\n').unwrap_or((text, &[]));
+    are_zeros(behind) && may_be_torn_line(line)
+}
+
+fn are_zeros(bytes: &[u8]) -> bool {
+    bytes.iter().all(|b| *b == 0)
+}
+
+fn may_be_torn_line(line: &[u8]) -> bool {
+    for (i, b) in line.iter().enumerate() {
+        if *b != 0 && !may_stand_at(i, *b) {
+            return false;
+        }
+    }
+    true
+}
+
+// Whether some first line has this byte there.
+fn may_stand_at(i: usize, byte: u8) -> bool {
+    match TAG.get(i) {
+        Some(b) => byte == *b,
+        None => byte >= b' ' && byte <= b'~',
+    }
 }

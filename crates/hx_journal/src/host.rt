@@ -12,6 +12,7 @@ use std::io::{ErrorKind, Read};
 use std::os::fd::AsRawFd;
 use std::os::unix::fs::{FileExt, OpenOptionsExt};
 use std::path::Path;
+use std::rt::Files;
 use std::{fs, io};
 
 /// An open file of the system.
@@ -67,29 +68,42 @@ impl From<TryLockError> for FileError {
     }
 }
 
-/// Opens a journal's file for this process alone, or makes it for its user alone, and reads it
-/// whole. The lock ends with the file. What is there is brought to the disk first, and the system's
-/// copy of it let go: after a sync that failed, or a process that was killed, it may be other than
-/// what the disk has.
-pub fn open_file(rt: &HostRuntime, path: &str) -> Result<(Noted<HostFile>, Vec<u8>), FileError>
+impl HostFile {
+    /// Opens a journal's file for this process alone, or makes it for its user alone, and reads it whole. The lock ends
+    /// with the file. What is there is brought to the disk first, and the system's copy of it let go: after a sync that
+    /// failed, or a process that was killed, it may be other than what the disk has.
+    pub fn open<R: Files<File = fs::File> + AllocGlobal>(
+        rt: &R,
+        path: &str,
+    ) -> Result<(HostFile, Vec<u8>), FileError> {
+        let mut file = OpenOptions::new()
+            .read(true)
+            .write(true)
+            .create(true)
+            .mode(0o600)
+            .open(rt, path)?;
+        file.try_lock()?;
+        file.sync_all()?;
+        sync_folder(rt, path)?;
+        forget_pages(&file)?;
+        let mut bytes = Vec::new(rt.alloc());
+        file.read_to_end(&mut bytes)?;
+        Ok((HostFile { file }, bytes))
+    }
+}
+
+/// Opens a journal's file for this process alone, as `HostFile::open` does, and notes its calls.
+pub fn open_file<R: Files<File = fs::File> + AllocGlobal>(
+    rt: &R,
+    path: &str,
+) -> Result<(Noted<HostFile>, Vec<u8>), FileError>
     ensures seen { IfOk result (λ r. r.1.items ≡ seen_of r.0.log.events) }
     ensures durable { IfOk result
         (λ r. Only (seen_of r.0.log.events) (leaves_of r.0.log.events)) }
     ensures well { IfOk result (λ r. faults_of r.0.log.events ≡ 0) }
 {
-    let mut file = OpenOptions::new()
-        .read(true)
-        .write(true)
-        .create(true)
-        .mode(0o600)
-        .open(rt, path)?;
-    file.try_lock()?;
-    file.sync_all()?;
-    sync_folder(rt, path)?;
-    forget_pages(&file)?;
-    let mut bytes = Vec::new(rt.alloc());
-    file.read_to_end(&mut bytes)?;
-    let noted = Noted::opened(HostFile { file }, &bytes);
+    let (file, bytes) = HostFile::open(rt, path)?;
+    let noted = Noted::opened(file, &bytes);
     Ok((noted, bytes))
 }
 
@@ -104,7 +118,7 @@ fn forget_pages(file: &fs::File) -> io::Result<()> {
 }
 
 // The folder says under which name the file is found.
-fn sync_folder(rt: &HostRuntime, path: &str) -> io::Result<()> {
+fn sync_folder<R: Files<File = fs::File>>(rt: &R, path: &str) -> io::Result<()> {
     let folder = match Path::new(path).parent() {
         Some(folder) if !folder.as_str().is_empty() => folder,
         _ => Path::new("."),

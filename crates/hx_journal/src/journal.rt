@@ -65,6 +65,9 @@ pub trait Journal {
         ensures any_moment { is_open self.old ≡ true → Leaves (moment self.old) (moment self.new)
             (left_since self.old) (left_since self.new) (kept self.old) (appended self.old) };
 
+    /// Whether its calls touch no disk: then they may be made while others wait for a lock.
+    fn is_quick(&self) -> bool;
+
     /// After a crash now, recovery reads what is kept, and nothing that was not appended. It does
     /// nothing.
     fn stands(&self)

@@ -36,10 +36,12 @@
 
 mod blocks;
 mod call_log;
+mod cutting;
 mod device;
 mod error;
 mod file_journal;
 mod head;
+mod head_parts;
 mod host;
 mod journal;
 mod line_file;
@@ -50,19 +52,23 @@ mod noted;
 mod open_error;
 mod opening;
 mod sum;
+mod surveying;
 mod tape;
 mod unkept;
 
 pub use call_log::CallLog;
+pub use cutting::cut_off;
 pub use device::{Device, DeviceError};
 pub use error::JournalError;
 pub use file_journal::FileJournal;
 pub use head::{Head, HeadError, HeadPart};
+pub use head_parts::HeadParts;
 pub use host::{FileError, HostFile, open_file};
 pub use journal::Journal;
 pub use memory::MemoryFile;
 pub use noted::{Noted, RawFile};
 pub use open_error::OpenError;
+pub use surveying::{Survey, survey_of};
 pub use unkept::Unkept;
 
 #[cfg(test)]

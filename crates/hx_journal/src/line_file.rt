@@ -241,16 +241,17 @@ impl<D: Device> LineFile<D> {
     }
 }
 
-// Cuts the file behind a place, up to which it has whole lines. The cut has to be on the disk
-// before anything is written there: what stood behind it would come back between the bytes of the
-// next group.
-fn repair<D: Device>(file: &mut D, end: usize) -> Result<(), DeviceError>
+/// Cuts a file of which all is on the disk behind a place, up to which it has whole lines, and sees
+/// that the cut is on the disk. That has to be so before anything is written there: what stood
+/// behind the place would come back between the bytes of the next group.
+pub(crate) fn repair<D: Device>(file: &mut D, end: usize) -> Result<(), DeviceError>
     requires inside { end ≤ length (D.seen file.old) }
     requires front { take end (D.seen file.old)
         ≡ text_of (lines_of (take end (D.seen file.old))) }
     requires durable { Only (D.seen file.old) (D.may_leave file.old) }
     requires well { D.faults file.old ≡ 0 }
 
+    ensures seen { OnOk result (D.seen file.new ≡ take end (D.seen file.old)) }
     ensures at_rest { OnOk result (IsAtRest (D.seen file.new) end) }
     ensures stored { OnOk result
         (lines_of (D.seen file.new) ≡ lines_of (take end (D.seen file.old))) }

@@ -8,7 +8,7 @@ ghost use Rattle.hx_journal.specs.Errors.{IsCause};
 ghost use Rattle.hx_journal.specs.Files.{stored, HasFromTo};
 ghost use Rattle.hx_journal.specs.Openings.{IsOpened, IsRefusal, NamesOther, IsOpenCause};
 
-use crate::blocks::{follow, has_whole_block};
+use crate::blocks::check;
 use crate::line_file::{LineFile, MOST_BYTES};
 use crate::measure::measure;
 use crate::open_error::OpenError;
@@ -194,13 +194,10 @@ fn examine(alloc: Global, text: &[u8], end: usize, head: &Head) -> Result<Blocks
     if !is_head(first, head) {
         return Err(OpenError::of_head(head.other_part(first)));
     }
-    let sum = match follow(alloc, rest, first.len() + 1, crc32(0, first)) {
+    let sum = match check(alloc, first, rest, &text[end..]) {
         Ok(sum) => sum,
         Err(error) => return Err(error),
     };
-    if has_whole_block(&text[end..]) {
-        return Err(OpenError::Damaged { at: end });
-    }
     let (tape, records) = tape_of(alloc, blocks)?;
     Ok(Blocks { tape, records, sum })
 }

@@ -54,5 +54,9 @@ impl Journal for Unkept {
         Ok(())
     }
 
+    fn is_quick(&self) -> bool {
+        true
+    }
+
     fn stands(&self) {}
 }

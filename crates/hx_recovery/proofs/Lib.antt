@@ -1,6 +1,8 @@
-pub mod Records
-pub mod Telling
-pub mod Recovering
-pub mod OutputLines
 pub mod NoBadLine
+pub mod OutputLines
+pub mod Reading
+pub mod Records
+pub mod Recovering
 pub mod Replaying
+pub mod Restored
+pub mod Telling

@@ -1,4 +1,8 @@
-//! What is told again after a crash, and by a replay of the day's tape, over the definitions alone.
+//! How a day goes on from its journal; and, over the definitions alone, what is told again after a crash, and by a replay
+//! of the day's tape.
 #![tactic(auto)]
 
+mod going_on;
 pub mod laws;
+
+pub use going_on::{RecoveryError, recover};

@@ -20,7 +20,7 @@ use std::thread::Threads;
 const FEW: usize = 65_536;
 
 // So many bytes are read at once, or fewer.
-const PIECE: usize = 1_052_672;
+const PIECE: usize = 4_198_400;
 
 // Plays lines of what is pending in turns, where they are worth a thread.
 fn play_many<B: Book + Drop, W: Write + Send, T: Threads>(

@@ -30,8 +30,6 @@ pub struct OpenArgs {
     pub login_limit: u32,
     /// For how many seconds the end of the feed's session is told, once a second.
     pub end: u32,
-    /// The number of the day since 1970, UTC, whose times the members' messages have.
-    pub day: u64,
 }
 
 impl ServeArgs {

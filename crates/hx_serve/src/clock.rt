@@ -1,19 +1,42 @@
-//! The machine's clock.
+//! The times of a day.
 ghost use Rattle.std.specs.Prelude.{◌<◌};
 
 use hx_sessions::Clock;
+use std::sync::atomic::{AtomicU64, Ordering};
 use std::time::Clock as Timer;
 
 // Nanoseconds of a day.
 const DAY: u64 = 86_400_000_000_000;
+
+/// Which times a day has: those of the machine's clock, which begins anew at midnight; or those of one day, none of them
+/// below one that was given before.
+#[derive(Clone, Copy)]
+pub struct Times<'a> {
+    // The day, since 1970, UTC, and the last time that was given.
+    of_day: Option<(u64, &'a AtomicU64)>,
+}
+
+impl<'a> Times<'a> {
+    /// The machine's.
+    pub fn of_machine() -> Times<'a> {
+        Times { of_day: None }
+    }
+
+    /// Those of one day, since 1970, UTC, none below the last one given, in nanoseconds: before the day it is the first
+    /// nanosecond of it, behind it the last.
+    pub fn of_day(day: u64, last: &'a AtomicU64) -> Times<'a> {
+        Times {
+            of_day: Some((day, last)),
+        }
+    }
+}
 
 /// The time of day in nanoseconds, UTC, by the machine's clock; 0 where it cannot be read.
 #[derive(Clone, Copy)]
 pub struct DayClock<'a, T> {
     /// The runtime whose clock it is.
     pub rt: &'a T,
-    // The day, since 1970, whose time it tells: before it the first nanosecond of it, after it the last.
-    day: Option<u64>,
+    times: Times<'a>,
 }
 
 // The nanoseconds since 1970; 0 where the clock cannot be read.
@@ -29,27 +52,44 @@ pub fn today<T: Timer>(rt: &T) -> u64 {
     since_1970(rt) / DAY
 }
 
+// The time of one day at a moment since 1970.
+fn within(day: u64, moment: u64) -> u64
+    ensures { result < 86400000000000 }
+{
+    if moment / DAY > day {
+        return DAY - 1;
+    }
+    if moment / DAY < day {
+        return 0;
+    }
+    moment % DAY
+}
+
 impl<'a, T: Timer> DayClock<'a, T> {
-    /// The clock, whose time of day begins anew at midnight.
+    /// The machine's clock, whose time of day begins anew at midnight.
     pub fn of_clock(rt: &'a T) -> DayClock<'a, T> {
-        DayClock { rt, day: None }
+        DayClock {
+            rt,
+            times: Times::of_machine(),
+        }
     }
 
-    /// The clock of one day, where a day is given: it stands still at the day's end.
-    pub fn of_day(rt: &'a T, day: Option<u64>) -> DayClock<'a, T> {
-        DayClock { rt, day }
+    /// The clock of a day.
+    pub fn of(rt: &'a T, times: Times<'a>) -> DayClock<'a, T> {
+        DayClock { rt, times }
     }
 
     /// The time of day: always within the day.
     pub fn time_of_day(&self) -> u64
         ensures { result < 86400000000000 }
     {
-        let time = since_1970(self.rt);
-        match self.day {
-            Some(day) if time / DAY > day => DAY - 1,
-            Some(day) if time / DAY < day => 0,
-            _ => time % DAY,
-        }
+        let moment = since_1970(self.rt);
+        let Some((day, last)) = self.times.of_day else {
+            return moment % DAY;
+        };
+        let time = within(day, moment);
+        let before = last.fetch_max(time, Ordering::SeqCst);
+        time.max(before).min(DAY - 1)
     }
 }
 

@@ -1,7 +1,7 @@
 //! The parts of a day's sessions: how they are made of connections and passes, and what comes back of them.
 ghost use Rattle.std.specs.Prelude.{◌≡◌};
 
-use crate::clock::DayClock;
+use crate::clock::{DayClock, Times};
 use crate::fault::ServeError;
 use crate::notices::tell_end;
 use crate::sockets::{Connection, Inlet, Outlet};
@@ -23,6 +23,7 @@ pub type Served<V, C> = Result<Vec<(Member<V, C>, Result<Ended, Fault>)>, Vec<Me
 pub fn hire<'a, V: Venue, T: Clock>(
     rt: &'a T,
     alloc: Global,
+    times: Times<'a>,
     log: &Log<Entry>,
     connections: Vec<Connection>,
     passes: &mut Vec<Pass<V>>,
@@ -39,7 +40,7 @@ pub fn hire<'a, V: Venue, T: Clock>(
         parts.push(Part {
             input: connection.inlet,
             output: connection.outlet,
-            inbound: DayClock::of_clock(rt),
+            inbound: DayClock::of(rt, times),
             outbound: DayClock::of_clock(rt),
             pass,
             reader: reader.split(log),

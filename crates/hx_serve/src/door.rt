@@ -188,8 +188,9 @@ impl Door {
     }
 }
 
-/// Takes connections until code `C` is past, and gives those that have sent their login to places. One that has not
-/// within the limit is closed, and so are all that wait in the end. Where there is no memory to begin nobody is taken.
+/// Takes connections until code `C` is past, or the journal has failed, and gives those that have sent their login to
+/// places. One that has not within the limit is closed, and so are all that wait in the end. If there is no memory to
+/// begin, nobody is taken.
 pub fn keep_door<V: Venue, J: Journal + Drop, B: Board, T: Wait + Clock>(
     rt: &T,
     alloc: Global,
@@ -203,7 +204,7 @@ pub fn keep_door<V: Venue, J: Journal + Drop, B: Board, T: Wait + Clock>(
         && listener.set_nonblocking(true).is_ok()
     {
         for _ in 0..u64::MAX {
-            if exchange.ended(rt) {
+            if exchange.is_closed(rt) {
                 break;
             }
             door.welcome(rt, &listener, board);

@@ -1,6 +1,7 @@
 //! What a day is served by.
 
 use crate::args::{OpenArgs, ServeArgs};
+use crate::clock::Times;
 use hx_members::Setup;
 
 /// What a day is served by, from its first connection to its last.
@@ -18,4 +19,6 @@ pub struct Hosting<'a, G, B> {
     pub board: &'a B,
     /// What the command line asks of an open day: then connections are taken all day.
     pub open: Option<OpenArgs>,
+    /// The times of members' messages.
+    pub times: Times<'a>,
 }

@@ -1,12 +1,16 @@
 //! A day whose history goes to a file.
+ghost use Rattle.std.specs.Prelude.{◌≡◌, true};
+ghost use Rattle.hx_tape_lines.specs.Text.{record_of};
+ghost use Rattle.hx_desk.specs.Entries.{restored};
+ghost use Rattle.hx_engine.specs.Journals.{lines};
 
 use crate::fault::ServeError;
 use crate::history::write_history;
 use crate::hosting::Hosting;
 use crate::notices::{Board, Notice};
-use crate::serving::{Day, serve_day};
+use crate::serving::{Beginning, Day, serve_from};
 use crate::sockets::Doors;
-use hx_members::Seed;
+use hx_engine::Journal;
 use hx_sessions::Gate;
 use log::Log as Logs;
 use std::alloc::Global;
@@ -57,9 +61,9 @@ fn fault_of(day: Day, kept: Result<(), ServeError>) -> Result<(), ServeError> {
     }
 }
 
-/// Serves a day over sockets at 127.0.0.1, and writes its history as a tape to a new file, if a path is given. The ports
-/// are taken before the file is made: a day that cannot begin leaves no file, and touches none. The last line goes to the
-/// output before the history is written.
+/// Serves a day over sockets at 127.0.0.1, from what its journal keeps on, and writes its history as a tape to a new
+/// file, if a path is given. The ports are taken before the file is made: a day that cannot begin leaves no file, and
+/// touches none. The last line goes to the output before the history is written.
 pub fn serve_kept<
     T: Net<Listener = TcpListener, Stream = TcpStream>
         + Files
@@ -68,6 +72,7 @@ pub fn serve_kept<
         + Clock
         + Logs
         + Sync,
+    J: Journal + Drop + Send,
     G: Gate + Sync,
     B: Board + Sync,
     R: Read + Send + Drop,
@@ -76,11 +81,16 @@ pub fn serve_kept<
     rt: &T,
     alloc: Global,
     hosting: &Hosting<'_, G, B>,
-    seed: Seed,
+    beginning: Beginning<J>,
     input: R,
     output: &mut W,
     history: Option<&str>,
-) -> Result<(), ServeError> {
+) -> Result<(), ServeError>
+    requires journal { J.appended beginning.recovered.journal
+        ≡ lines record_of (restored beginning.recovered.events.items) }
+    requires safe { (J.kept beginning.recovered.journal ≡ J.appended beginning.recovered.journal)
+        × (J.is_open beginning.recovered.journal ≡ true) }
+{
     let doors = Doors::open(rt, hosting.args)?;
     let file = match history {
         Some(path) => Some(new_history(rt, path)?),
@@ -89,7 +99,7 @@ pub fn serve_kept<
     if hosting.is_standard {
         hosting.board.post(Notice::StandardSetup);
     }
-    let day = serve_day(rt, alloc, hosting, doors, seed, input, output)?;
+    let day = serve_from(rt, alloc, hosting, doors, beginning, input, output)?;
     let kept = match file {
         Some(file) => keep_history(alloc, &day, file),
         None => Ok(()),

@@ -26,7 +26,7 @@ mod sockets;
 mod workers;
 
 pub use args::{OpenArgs, ServeArgs};
-pub use clock::{DayClock, today};
+pub use clock::{DayClock, Times, today};
 pub use ending::{fault_of_day, write_last_line};
 pub use fault::ServeError;
 pub use history::write_history;
@@ -35,5 +35,5 @@ pub use kept_day::{keep_history, new_history, serve_kept};
 pub use notices::{Board, Json, JsonNotices, Left, Notice, Notices, Refusal, Silent};
 pub use operator::operate;
 pub use rate::Rate;
-pub use serving::{Day, serve, serve_day};
+pub use serving::{Beginning, Day, serve, serve_day, serve_from};
 pub use sockets::{Datagrams, Doors};

@@ -77,6 +77,17 @@ pub enum Notice {
     },
     /// More requests came than are answered, in some second.
     Crowd,
+    /// The day goes on from its journal.
+    Resumed {
+        /// With so many events.
+        events: u64,
+        /// And so many messages of the feed.
+        feed: u64,
+    },
+    /// The disk has no room for the journal: nothing is told until there is room.
+    JournalWaits,
+    /// There is room again.
+    JournalGoesOn,
     /// There is no setup: the passwords are those of the standard one, which everybody can read.
     StandardSetup,
 }
@@ -162,6 +173,13 @@ impl Display for Notice {
             Notice::Closing => f.write_str("operator input ended: the hours are ended"),
             Notice::Unanswered { to } => write!(f, "answer to {to} not sent"),
             Notice::Crowd => f.write_str("more requests than are answered"),
+            Notice::Resumed { events, feed } => {
+                write!(f, "resumed at event {events}, feed {feed}")
+            }
+            Notice::JournalWaits => f.write_str(
+                "journal full: nothing is told until there is room",
+            ),
+            Notice::JournalGoesOn => f.write_str("journal has room again"),
             Notice::StandardSetup => f.write_str("no setup: the passwords are the published ones"),
         }
     }
@@ -221,7 +239,15 @@ impl Display for Json {
             Notice::Unanswered { to } => {
                 write!(f, "{{\"notice\":\"answer not sent\",\"to\":\"{to}\"}}")
             }
-            Notice::Closing | Notice::Crowd | Notice::StandardSetup => {
+            Notice::Resumed { events, feed } => write!(
+                f,
+                "{{\"notice\":\"resumed\",\"events\":{events},\"feed\":{feed}}}"
+            ),
+            Notice::Closing
+            | Notice::Crowd
+            | Notice::JournalWaits
+            | Notice::JournalGoesOn
+            | Notice::StandardSetup => {
                 let notice = self.notice;
                 write!(f, "{{\"notice\":\"{notice}\"}}")
             }

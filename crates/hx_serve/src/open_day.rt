@@ -1,7 +1,6 @@
 //! The workers of an open day, all at once: the publisher, the door, the places, and the operator.
 ghost use Rattle.std.specs.Prelude.{◌≡◌};
 
-use crate::args::OpenArgs;
 use crate::door::keep_door;
 use crate::fault::ServeError;
 use crate::hosting::Hosting;
@@ -11,8 +10,7 @@ use crate::operating::conduct;
 use crate::places::{Place, serve_places};
 use crate::publishing::Publishing;
 use crate::sockets::Datagrams;
-use hx_engine::{Exchange, Pass, Venue};
-use hx_journal::Unkept;
+use hx_engine::{Exchange, Journal, Pass, Venue};
 use hx_sessions::Gate;
 use std::alloc::Global;
 use std::io::Read;
@@ -33,16 +31,24 @@ pub struct Staff<V: Venue, R> {
     pub pass: Pass<V>,
     /// His input.
     pub input: R,
-    /// What the command line asks of the day.
-    pub open: OpenArgs,
+    /// How many seconds a connection has for its login.
+    pub login_limit: u32,
 }
 
 /// What is left when the operator and all sessions have ended: the passes, his one, and his fault.
 pub type Closed<V> = (Vec<Pass<V>>, (Pass<V>, Option<ServeError>));
 
+// The operator, with what he works by.
+#[derive(Drop)]
+struct Desk<V: Venue, R> {
+    pass: Pass<V>,
+    input: R,
+}
+
 // The places, in this thread, and the operator.
-fn trade<
+fn attend<
     V: Venue + Send + Sync,
+    J: Journal + Drop + Send,
     G: Gate + Sync,
     B: Board + Sync,
     R: Read + Send + Drop,
@@ -50,7 +56,35 @@ fn trade<
 >(
     rt: &T,
     alloc: Global,
-    exchange: &Exchange<V, Unkept>,
+    exchange: &Exchange<V, J>,
+    hosting: &Hosting<'_, G, B>,
+    lobby: &Lobby,
+    places: Vec<Place<V>>,
+    desk: Desk<V, R>,
+) -> Closed<V> {
+    let Desk { pass, input } = desk;
+    join(
+        rt,
+        move || serve_places(rt, alloc, exchange, hosting, lobby, places),
+        move || {
+            let mut input = input;
+            conduct(rt, alloc, exchange, hosting, pass, &mut input)
+        },
+    )
+}
+
+// The door, in this thread, and those who write.
+fn trade<
+    V: Venue + Send + Sync,
+    J: Journal + Drop + Send,
+    G: Gate + Sync,
+    B: Board + Sync,
+    R: Read + Send + Drop,
+    T: Threads + Wait + Clock + Sync,
+>(
+    rt: &T,
+    alloc: Global,
+    exchange: &Exchange<V, J>,
     hosting: &Hosting<'_, G, B>,
     lobby: &Lobby,
     staff: Staff<V, R>,
@@ -60,30 +94,23 @@ fn trade<
         listener,
         pass,
         input,
-        open,
+        login_limit,
     } = staff;
-    let limit = Duration::from_secs(u64::from(open.login_limit));
-    let ((), (passes, operated)) = join(
+    let limit = Duration::from_secs(u64::from(login_limit));
+    let desk = Desk { pass, input };
+    let ((), closed) = join(
         rt,
         move || keep_door(rt, alloc, exchange, listener, lobby, limit, hosting.board),
-        move || {
-            join(
-                rt,
-                move || serve_places(rt, alloc, exchange, hosting, lobby, places),
-                move || {
-                    let mut input = input;
-                    conduct(rt, alloc, exchange, hosting, open, pass, &mut input)
-                },
-            )
-        },
+        move || attend(rt, alloc, exchange, hosting, lobby, places, desk),
     );
-    (passes, operated)
+    closed
 }
 
 /// Publishes while the operator and the sessions last, and until all that they sent is published.
 pub fn work_open<
     'a,
     V: Venue + Send + Sync,
+    J: Journal + Drop + Send,
     G: Gate + Sync,
     B: Board + Sync,
     D: Datagrams + Sync,
@@ -92,7 +119,7 @@ pub fn work_open<
 >(
     rt: &T,
     alloc: Global,
-    exchange: &Exchange<V, Unkept>,
+    exchange: &Exchange<V, J>,
     hosting: &Hosting<'_, G, B>,
     socket: &D,
     publishing: Publishing<'a, V>,

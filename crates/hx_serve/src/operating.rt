@@ -1,6 +1,5 @@
 //! The operator of an open day: a line that is bad or refused is told of, and the next one is read.
 
-use crate::args::OpenArgs;
 use crate::clock::DayClock;
 use crate::fault::ServeError;
 use crate::hosting::Hosting;
@@ -135,12 +134,12 @@ impl<V: Venue> Conductor<V> {
                 Ok(0) => return Ok(()),
                 Ok(count) => {
                     self.take_piece(rt, alloc, exchange, board, &chunk[..count])?;
-                    if exchange.ended(rt) {
-                        return Ok(());
-                    }
                 }
                 Err(error) if error.kind() == ErrorKind::Interrupted => {}
                 Err(_) => return Err(ServeError::Read),
+            }
+            if exchange.is_closed(rt) {
+                return Ok(());
             }
         }
         Err(ServeError::Turns)
@@ -154,7 +153,7 @@ impl<V: Venue> Conductor<V> {
         time: u64,
     ) {
         for code in HOURS {
-            if !exchange.ended(rt) {
+            if !exchange.is_closed(rt) {
                 let _ = exchange.submit(rt, &mut self.pass, &Event::Hours { time, code });
             }
         }
@@ -163,13 +162,13 @@ impl<V: Venue> Conductor<V> {
 
 /// Reads the operator's input, and sends the event of each line by his pass; one that is bad or refused is told of, and
 /// the next one is read. Where the input ends, or fails, before code `C` is past, the codes that are left are sent: so
-/// the day ends. Answers the pass, and what was wrong with the input itself.
+/// the day ends. Where the journal has failed, nothing more is read or sent. Answers the pass, and what was wrong with the
+/// input itself.
 pub fn conduct<V: Venue, J: Journal + Drop, G, B: Board, R: Read, T: Wait + Clock>(
     rt: &T,
     alloc: Global,
     exchange: &Exchange<V, J>,
     hosting: &Hosting<'_, G, B>,
-    open: OpenArgs,
     pass: Pass<V>,
     input: &mut R,
 ) -> (Pass<V>, Option<ServeError>) {
@@ -183,14 +182,14 @@ pub fn conduct<V: Venue, J: Journal + Drop, G, B: Board, R: Read, T: Wait + Cloc
     let fault = conductor
         .read_all(rt, alloc, exchange, watched, input)
         .err();
-    if !exchange.ended(rt) {
+    if !exchange.is_closed(rt) {
         hosting.board.post(Notice::Closing);
     }
     for _ in 0..u64::MAX {
-        if exchange.ended(rt) {
+        if exchange.is_closed(rt) {
             break;
         }
-        let time = DayClock::of_day(rt, Some(open.day)).time_of_day();
+        let time = DayClock::of(rt, hosting.times).time_of_day();
         conductor.send_hours(rt, exchange, time);
         thread::sleep(rt, Duration::from_millis(AGAIN));
     }

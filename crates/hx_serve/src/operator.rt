@@ -181,13 +181,16 @@ impl<V: Venue> Operator<V> {
                 Ok(false) => return Ok(()),
                 Err(fault) => return Err(fault),
             }
+            if exchange.failure(rt).is_some() {
+                return Err(ServeError::Journal);
+            }
         }
         Err(ServeError::Turns)
     }
 }
 
-/// Reads the operator's input, and sends the event of each line by his pass, up to the end of the input or the first
-/// line that is bad or refused. Answers the pass, and the fault.
+/// Reads the operator's input, and sends the event of each line by his pass, up to the end of the input, the first line
+/// that is bad or refused, or a journal that has failed. Answers the pass, and the fault.
 pub fn operate<V: Venue, J: Journal + Drop, T: Wait, R: Read>(
     rt: &T,
     alloc: Global,

@@ -102,7 +102,7 @@ impl<V: Venue + Send + Sync> Place<V> {
         let part = Part {
             input: inlet,
             output: outlet,
-            inbound: DayClock::of_day(rt, hosting.open.map(|open| open.day)),
+            inbound: DayClock::of(rt, hosting.times),
             outbound: DayClock::of_clock(rt),
             pass: self.pass,
             reader: self.reader,

@@ -68,7 +68,7 @@ pub struct Publishing<'a, V: Venue> {
 }
 
 impl<'a, V: Venue> Publishing<'a, V> {
-    /// A publisher that has sent nothing, and a server.
+    /// A publisher of the messages that are still to come, and a server of all of them.
     pub fn new(
         session: [u8; 10],
         args: &ServeArgs,
@@ -80,10 +80,10 @@ impl<'a, V: Venue> Publishing<'a, V> {
         requires log { log.now ≡ V.log }
         requires first { first.log ≡ V.log }
         requires second { second.log ≡ V.log }
-        ensures { result.publisher.messages ≡ first }
+        ensures { IsPrefix first.known result.publisher.messages.known }
     {
         Publishing {
-            publisher: Publisher::new(session, LogMessages::new(log, first), now),
+            publisher: Publisher::going_on(session, LogMessages::new(log, first), now),
             server: Server::new(session, LogMessages::new(log, second)),
             feed: args.feed,
             rate: Rate::of(args.answers),

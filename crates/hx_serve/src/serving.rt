@@ -1,24 +1,31 @@
 //! A day, from its first connection to its last line.
-ghost use Rattle.std.specs.Prelude.{◌≡◌, ◌+◌, [], length, None, IfOk};
+ghost use Rattle.std.specs.Prelude.{◌≡◌, ◌+◌, [], length, None, true, IfOk};
+ghost use mathlib.Core.List.{IsPrefix};
 ghost use Rattle.std.specs.Io.KnownBytes.{Appends};
+ghost use Rattle.hx_journal.specs.Unkept.{appended_in, kept_in};
+ghost use Rattle.hx_tape_lines.specs.Text.{record_of};
+ghost use Rattle.hx_desk.specs.Entries.{restored};
+ghost use Rattle.hx_engine.specs.Journals.{lines};
 ghost use Rattle.hx_engine.specs.Opening.{IsNewLog};
 ghost use Rattle.hx_serve.specs.Days.{IsServed};
 ghost use Rattle.hx_serve.specs.LastLine.{last_line};
 
 use crate::args::ServeArgs;
-use crate::clock::DayClock;
+use crate::clock::{DayClock, Times};
 use crate::crew::{dismiss, hire};
 use crate::ending::{fault_of_day, write_last_line};
 use crate::fault::ServeError;
 use crate::hosting::Hosting;
-use crate::notices::{Board, Notices};
+use crate::notices::{Board, Notice, Notices};
 use crate::open_day::{Staff, work_open};
 use crate::places::make_places;
 use crate::publishing::Publishing;
 use crate::sockets::{Datagrams, Doors, take};
 use crate::workers::{Writers, work};
 use hx_blog::{Log, Reader};
-use hx_engine::{Entry, Exchange, FinishError, Finished, Logs, Pass, Venue};
+use hx_engine::{
+    DeskError, Entry, Exchange, FinishError, Finished, Journal, Logs, Pass, Recovered, Venue,
+};
 use hx_journal::Unkept;
 use hx_members::{Seed, Setup};
 use hx_sessions::Gate;
@@ -66,15 +73,48 @@ struct Crew<V: Venue> {
     ghost belongs: { reader.log ≡ V.log },
 }
 
-// What an exchange is made of: a copy of the setup, its logs and a reader of the feed's, its ledger, and the seed of its
-// tokens.
+/// What a day begins with: the seed of its table of tokens, and what its journal keeps.
 #[derive(Drop)]
-struct Founding {
+pub struct Beginning<J: Journal> {
+    /// The seed, which is drawn where strangers trade.
+    pub seed: Seed,
+    /// The journal and the events of the day before a crash, of which there may be none.
+    pub recovered: Recovered<J>,
+}
+
+impl Beginning<Unkept> {
+    /// That of a new day, which no journal keeps.
+    pub fn unkept(alloc: Global, seed: Seed) -> Beginning<Unkept>
+        ensures events { result.recovered.events.items ≡ [] }
+        ensures appended { appended_in result.recovered.journal.log.events ≡ [] }
+        ensures kept { kept_in result.recovered.journal.log.events ≡ [] }
+    {
+        let recovered = Recovered {
+            journal: Unkept::new(),
+            events: Vec::new(alloc),
+        };
+        Beginning { seed, recovered }
+    }
+}
+
+// What an exchange is made of: a copy of the setup, its logs and a reader of the feed's, its ledger, and what it goes on
+// from.
+#[derive(Drop)]
+struct Founding<J: Journal> {
     own: Setup,
     logs: Logs,
     reader: Reader<Entry>,
     blank: Blank,
-    seed: Seed,
+    beginning: Beginning<J>,
+}
+
+// The fault of a day whose events are not recorded again.
+fn fault_of_resume(error: DeskError) -> ServeError {
+    match error {
+        DeskError::NoMemory => ServeError::NoMemory,
+        DeskError::Full { .. } => ServeError::Full,
+        DeskError::BadTime | DeskError::Limit { .. } | DeskError::NoMember => ServeError::Journal,
+    }
 }
 
 // The publisher learns what every pass knows.
@@ -93,6 +133,7 @@ fn learn_all<'a, V: Venue>(
 // A day of so many connections, from the first one on, up to the packet that ends the feed.
 fn attend<
     V: Venue + Send + Sync,
+    J: Journal + Drop + Send,
     G: Gate + Sync,
     B: Board + Sync,
     D: Datagrams + Sync + Drop,
@@ -101,7 +142,7 @@ fn attend<
 >(
     rt: &T,
     alloc: Global,
-    exchange: &Exchange<V, Unkept>,
+    exchange: &Exchange<V, J>,
     hosting: &Hosting<'_, G, B>,
     doors: Doors<D>,
     crew: Crew<V>,
@@ -116,7 +157,15 @@ fn attend<
     let log = exchange.feed_log();
     let connections = take(alloc, &listener, hosting.args.sessions)?;
     drop(listener);
-    let parts = hire(rt, alloc, log, connections, &mut passes, &mut reader)?;
+    let parts = hire(
+        rt,
+        alloc,
+        hosting.times,
+        log,
+        connections,
+        &mut passes,
+        &mut reader,
+    )?;
     let now = DayClock::of_clock(rt).time_of_day();
     let other = reader.split(log);
     let session = *hosting.setup.session();
@@ -128,7 +177,7 @@ fn attend<
     let begun = dismiss(rt, hosting.setup, served, &mut passes);
     let _ = passes.push(own);
     learn_all(&mut publishing, log, &mut passes);
-    let sent = publishing.finish(rt, &socket);
+    let sent = exchange.failure(rt).is_some() || publishing.finish(rt, &socket);
     Ok(Outcome {
         passes,
         network: !sent,
@@ -142,6 +191,7 @@ fn attend<
 // with a message each.
 fn attend_open<
     V: Venue + Send + Sync,
+    J: Journal + Drop + Send,
     G: Gate + Sync,
     B: Board + Sync,
     D: Datagrams + Sync + Drop,
@@ -150,7 +200,7 @@ fn attend_open<
 >(
     rt: &T,
     alloc: Global,
-    exchange: &Exchange<V, Unkept>,
+    exchange: &Exchange<V, J>,
     hosting: &Hosting<'_, G, B>,
     doors: Doors<D>,
     crew: Crew<V>,
@@ -183,15 +233,18 @@ fn attend_open<
         listener,
         pass,
         input,
-        open,
+        login_limit: open.login_limit,
     };
     let (mut publishing, (mut passes, (own, operated))) = work_open(
         rt, alloc, exchange, hosting, &socket, publishing, staff,
     );
     let _ = passes.push(own);
     learn_all(&mut publishing, log, &mut passes);
-    let sent = publishing.finish(rt, &socket);
-    publishing.linger(rt, &socket, hosting.board, open.end);
+    let stopped = exchange.failure(rt).is_some();
+    let sent = stopped || publishing.finish(rt, &socket);
+    if !stopped {
+        publishing.linger(rt, &socket, hosting.board, open.end);
+    }
     Ok(Outcome {
         passes,
         network: !sent,
@@ -201,13 +254,14 @@ fn attend_open<
 }
 
 // Ends the exchange, and writes the last line.
-fn conclude<V: Venue, W: Write>(
+fn conclude<V: Venue, J: Journal + Drop, W: Write>(
     alloc: Global,
-    exchange: Exchange<V, Unkept>,
+    exchange: Exchange<V, J>,
     outcome: Outcome<V>,
     output: &mut W,
 ) -> Result<Day, ServeError>
     ensures served { IfOk result (λ day. IsServed V.setup day.history.items day.feed) }
+    ensures begins { IfOk result (λ day. IsPrefix (restored V.before) day.history.items) }
     ensures told { IfOk result (λ day. day.fault ≡ None
         → Appends (W.contents output.old) (W.contents output.new)
         (last_line (length day.history.items) day.feed)) }
@@ -235,6 +289,7 @@ fn conclude<V: Venue, W: Write>(
 // A day over an exchange of its own.
 fn run<
     V: Venue + Send + Sync,
+    J: Journal + Drop + Send,
     G: Gate + Sync,
     B: Board + Sync,
     D: Datagrams + Sync + Drop,
@@ -246,7 +301,7 @@ fn run<
     alloc: Global,
     hosting: &Hosting<'_, G, B>,
     doors: Doors<D>,
-    founding: Founding,
+    founding: Founding<J>,
     input: R,
     output: &mut W,
 ) -> Result<Day, ServeError>
@@ -254,11 +309,17 @@ fn run<
     requires admitted { IsNewLog V.admitted founding.logs.admitted }
     requires kept { IsNewLog V.kept founding.logs.kept }
     requires of_setup { founding.own ≡ V.setup }
-    requires before { V.before ≡ [] }
+    requires before { founding.beginning.recovered.events.items ≡ V.before }
+    requires journal { J.appended founding.beginning.recovered.journal
+        ≡ lines record_of (restored V.before) }
+    requires safe { (J.kept founding.beginning.recovered.journal
+        ≡ J.appended founding.beginning.recovered.journal)
+        × (J.is_open founding.beginning.recovered.journal ≡ true) }
     requires reader { founding.reader.log ≡ V.log }
     requires blank { (founding.blank.name ≡ V.name) × (founding.blank.parts ≡ V.parts) }
     requires passes { hosting.now.args.now.sessions + 1 ≡ V.parts }
     ensures served { IfOk result (λ day. IsServed V.setup day.history.items day.feed) }
+    ensures begins { IfOk result (λ day. IsPrefix (restored V.before) day.history.items) }
     ensures told { IfOk result (λ day. day.fault ≡ None
         → Appends (W.contents output.old) (W.contents output.new)
         (last_line (length day.history.items) day.feed)) }
@@ -266,18 +327,26 @@ fn run<
     let Founding {
         own,
         logs,
-        reader,
+        mut reader,
         blank,
-        seed,
+        beginning,
     } = founding;
+    let Beginning { seed, recovered } = beginning;
+    let events = recovered.events.len() as u64;
     let count = hosting.args.sessions + 1;
-    let journal = Unkept::new();
-    let (exchange, mut passes) = Exchange::<V, Unkept>::seeded(
-        alloc, own, logs, journal, blank, count, seed,
-    )?;
+    let (exchange, mut passes) = match Exchange::<V, J>::resume(
+        alloc, own, logs, recovered, blank, count, seed,
+    ) {
+        Ok(made) => made,
+        Err(error) => return Err(fault_of_resume(error)),
+    };
     let Some(own) = passes.pop() else {
         return Err(ServeError::NoMemory);
     };
+    let feed = reader.look(exchange.feed_log());
+    if events != 0 {
+        hosting.board.post(Notice::Resumed { events, feed });
+    }
     let crew = Crew {
         own,
         passes,
@@ -287,9 +356,57 @@ fn run<
     conclude(alloc, exchange, outcome, output)
 }
 
-/// Serves a day through these doors, and answers what it leaves; or why its sessions never began. Its table of tokens has
-/// this seed. The gate is called round each submit and at each login. The last line goes to the output: where the day had
-/// no fault it is the one of its history and feed.
+/// Serves a day through these doors, from what its journal keeps of it on, and answers what it leaves; or why its sessions
+/// never began. The gate is called round each submit and at each login. The last line goes to the output: where the day
+/// had no fault it is the one of its history and feed. The history begins with the events of the journal.
+pub fn serve_from<
+    J: Journal + Drop + Send,
+    G: Gate + Sync,
+    B: Board + Sync,
+    D: Datagrams + Sync + Drop,
+    T: Threads + Wait + Clock + Logger + Sync,
+    R: Read + Send + Drop,
+    W: Write,
+>(
+    rt: &T,
+    alloc: Global,
+    hosting: &Hosting<'_, G, B>,
+    doors: Doors<D>,
+    beginning: Beginning<J>,
+    input: R,
+    output: &mut W,
+) -> Result<Day, ServeError>
+    requires journal { J.appended beginning.recovered.journal
+        ≡ lines record_of (restored beginning.recovered.events.items) }
+    requires safe { (J.kept beginning.recovered.journal ≡ J.appended beginning.recovered.journal)
+        × (J.is_open beginning.recovered.journal ≡ true) }
+    ensures served { IfOk result (λ day. IsServed hosting.now.setup.now day.history.items day.feed) }
+    ensures begins { IfOk result (λ day.
+        IsPrefix (restored beginning.recovered.events.items) day.history.items) }
+    ensures told { IfOk result (λ day. day.fault ≡ None
+        → Appends (W.contents output.old) (W.contents output.new)
+        (last_line (length day.history.items) day.feed)) }
+{
+    let own = hosting.setup.copy(alloc)?;
+    let (log, pen, reader) = Log::<Entry>::new(alloc, hosting.args.capacity)?;
+    let (admitted, register, _) = Log::<Entry>::new(alloc, 1)?;
+    let (kept, keeper, _) = Log::<Entry>::new(alloc, 1)?;
+    let blank = Blank::new(u64::from(hosting.args.sessions) + 1);
+    let founding = Founding {
+        own,
+        logs: Logs {
+            feed: (log, pen),
+            admitted: (admitted, register),
+            kept: (kept, keeper),
+        },
+        reader,
+        blank,
+        beginning,
+    };
+    run::<Brand, J, G, B, D, T, R, W>(rt, alloc, hosting, doors, founding, input, output)
+}
+
+/// The same, of a day that no journal keeps.
 pub fn serve_day<
     G: Gate + Sync,
     B: Board + Sync,
@@ -311,23 +428,8 @@ pub fn serve_day<
         → Appends (W.contents output.old) (W.contents output.new)
         (last_line (length day.history.items) day.feed)) }
 {
-    let own = hosting.setup.copy(alloc)?;
-    let (log, pen, reader) = Log::<Entry>::new(alloc, hosting.args.capacity)?;
-    let (admitted, register, _) = Log::<Entry>::new(alloc, 1)?;
-    let (kept, keeper, _) = Log::<Entry>::new(alloc, 1)?;
-    let blank = Blank::new(u64::from(hosting.args.sessions) + 1);
-    let founding = Founding {
-        own,
-        logs: Logs {
-            feed: (log, pen),
-            admitted: (admitted, register),
-            kept: (kept, keeper),
-        },
-        reader,
-        blank,
-        seed,
-    };
-    run::<Brand, G, B, D, T, R, W>(rt, alloc, hosting, doors, founding, input, output)
+    let beginning = Beginning::unkept(alloc, seed);
+    serve_from(rt, alloc, hosting, doors, beginning, input, output)
 }
 
 /// Serves a day over sockets at 127.0.0.1: so many sessions of members by TCP, the packets of the feed and the answers
@@ -354,6 +456,7 @@ pub fn serve<
         gate: &notices,
         board: &notices,
         open: None,
+        times: Times::of_machine(),
     };
     let doors = Doors::open(rt, args)?;
     match serve_day(rt, alloc, &hosting, doors, seed, input, output)?.fault {

@@ -6,8 +6,7 @@ use crate::notices::Board;
 use crate::operator::operate;
 use crate::publishing::Publishing;
 use crate::sockets::Datagrams;
-use hx_engine::{Exchange, Pass, Venue};
-use hx_journal::Unkept;
+use hx_engine::{Exchange, Journal, Pass, Venue};
 use hx_sessions::{Clock, Gate, serve_all};
 use std::alloc::Global;
 use std::io::Read;
@@ -33,6 +32,7 @@ pub type Traded<V, C> = ((Pass<V>, Option<ServeError>), Served<V, C>);
 // The operator, in this thread, and all sessions. Where no thread can be made, the sessions come after him.
 fn trade<
     V: Venue + Send + Sync,
+    J: Journal + Drop + Send,
     C: Clock + Send + Drop,
     G: Gate + Sync,
     B: Sync,
@@ -41,7 +41,7 @@ fn trade<
 >(
     rt: &T,
     alloc: Global,
-    exchange: &Exchange<V, Unkept>,
+    exchange: &Exchange<V, J>,
     hosting: &Hosting<'_, G, B>,
     writers: Writers<V, C, R>,
 ) -> Traded<V, C> {
@@ -62,6 +62,7 @@ fn trade<
 pub fn work<
     'a,
     V: Venue + Send + Sync,
+    J: Journal + Drop + Send,
     C: Clock + Send + Drop,
     G: Gate + Sync,
     B: Board + Sync,
@@ -71,7 +72,7 @@ pub fn work<
 >(
     rt: &T,
     alloc: Global,
-    exchange: &Exchange<V, Unkept>,
+    exchange: &Exchange<V, J>,
     hosting: &Hosting<'_, G, B>,
     socket: &D,
     publishing: Publishing<'a, V>,

@@ -10,5 +10,6 @@ mod histories;
 mod lines;
 mod notices;
 mod open_days;
+mod restarts;
 mod two_parts;
 mod vendor;

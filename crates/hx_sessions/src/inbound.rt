@@ -199,6 +199,9 @@ pub fn receive<V: Venue, J: Journal + Drop, R: Read, C: Clock, G: Gate, T: Wait>
                 if !is_passing(&error) {
                     return (inbox, Stop::Faulted(Fault::Read));
                 }
+                if trader.exchange.failure(rt).is_some() {
+                    return (inbox, Stop::Faulted(Fault::Stopped));
+                }
             }
         }
     }

@@ -62,7 +62,8 @@ fn read_more<R: Read>(
 }
 
 /// Reads the first packet, which must be a login, and no byte behind it. Answers the reads that are left. Behind each
-/// read that leaves less than a login it looks whether the day is over, and stops there: who is silent keeps no day.
+/// read that leaves less than a login it looks whether the day is over, or the journal has failed, and stops there: who is
+/// silent keeps no day.
 pub fn read_login<V: Venue, J: Journal + Drop, R: Read, T: Wait>(
     rt: &T,
     alloc: Global,
@@ -90,6 +91,9 @@ pub fn read_login<V: Venue, J: Journal + Drop, R: Read, T: Wait>(
             Ok((Some(login), _count)) => return Ok((login, turns - turn - 1)),
             Ok((None, count)) => {
                 kept += count;
+                if exchange.failure(rt).is_some() {
+                    return Err(Stop::Faulted(Fault::Stopped));
+                }
                 if exchange.is_over(rt, reader) {
                     return Err(Stop::Ended(Ended::DayEnd));
                 }

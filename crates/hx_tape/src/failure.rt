@@ -1,22 +1,15 @@
 //! Why the program ends without success.
 
-use hx_members::SetupError;
-use hx_replay::TapeError;
+use hx_day_journal::DayJournalError;
+use hx_journal_tool::ToolError;
+use hx_runs::RunError;
 use hx_serve::ServeError;
-use hx_show::ShowError;
-use hx_units::NoMemory;
 use hx_watch::WatchError;
 use std::alloc::AllocError;
 
 /// Why the program ends without success.
 #[derive(Debug, Drop, thiserror::Error)]
 pub enum Failure {
-    /// The command line, which `clap` has answered.
-    #[error("")]
-    CommandLine,
-    /// A word of the command line that is no text, which `clap` does not take.
-    #[error("error: invalid UTF-8 was detected in one or more arguments")]
-    NoText,
     /// The feed would go to the port of requests.
     #[error("error: --feed and --requests are the same port")]
     SamePorts,
@@ -26,31 +19,33 @@ pub enum Failure {
         /// Its name.
         path: String,
     },
+    /// The day that is asked for.
+    #[error("error: --day is no date YYYYMMDD")]
+    NoDay,
     #[error(transparent)]
-    Setup(SetupError),
+    Day(DayJournalError),
     #[error(transparent)]
-    Tape(TapeError),
+    Run(RunError),
     #[error(transparent)]
     Serve(ServeError),
     #[error(transparent)]
     Watch(WatchError),
+    #[error(transparent)]
+    Journal(ToolError),
 }
 
 impl Failure {
     /// The status that the program ends with.
     pub fn status(&self) -> u8 {
         match self {
-            Failure::CommandLine | Failure::NoText | Failure::SamePorts => 2,
-            Failure::Setup(SetupError::Bad { .. })
-            | Failure::Tape(TapeError::Line { .. })
-            | Failure::Serve(ServeError::Line { .. })
-            | Failure::Watch(WatchError::Screen { .. }) => 1,
-            Failure::Setup(SetupError::NoMemory)
-            | Failure::Tape(TapeError::NoMemory)
-            | Failure::Serve(ServeError::NoMemory)
-            | Failure::Watch(WatchError::NoMemory) => 3,
+            Failure::SamePorts | Failure::NoDay => 2,
+            Failure::Day(error) => error.status(),
+            Failure::Run(error) => error.status(),
+            Failure::Serve(ServeError::Line { .. }) | Failure::Watch(WatchError::Screen { .. }) => {
+                1
+            }
+            Failure::Serve(ServeError::NoMemory) | Failure::Watch(WatchError::NoMemory) => 3,
             Failure::HistoryIsThere { .. } => 4,
-            Failure::Tape(TapeError::Read | TapeError::Write | TapeError::Turns) => 4,
             Failure::Serve(
                 ServeError::Read
                 | ServeError::Write
@@ -61,25 +56,26 @@ impl Failure {
                 | ServeError::Turns,
             ) => 4,
             Failure::Watch(WatchError::Network | WatchError::Write) => 4,
+            Failure::Journal(error) => error.status(),
         }
     }
 }
 
 impl From<AllocError> for Failure {
-    fn from(_e: AllocError) -> Failure {
-        Failure::Tape(TapeError::NoMemory)
+    fn from(e: AllocError) -> Failure {
+        Failure::Run(RunError::from(e))
     }
 }
 
-impl From<NoMemory> for Failure {
-    fn from(_e: NoMemory) -> Failure {
-        Failure::Tape(TapeError::NoMemory)
+impl From<DayJournalError> for Failure {
+    fn from(e: DayJournalError) -> Failure {
+        Failure::Day(e)
     }
 }
 
-impl From<TapeError> for Failure {
-    fn from(e: TapeError) -> Failure {
-        Failure::Tape(e)
+impl From<RunError> for Failure {
+    fn from(e: RunError) -> Failure {
+        Failure::Run(e)
     }
 }
 
@@ -95,12 +91,8 @@ impl From<WatchError> for Failure {
     }
 }
 
-impl From<ShowError> for Failure {
-    fn from(e: ShowError) -> Failure {
-        Failure::Tape(match e {
-            ShowError::NoMemory => TapeError::NoMemory,
-            ShowError::Read => TapeError::Read,
-            ShowError::Write => TapeError::Write,
-        })
+impl From<ToolError> for Failure {
+    fn from(e: ToolError) -> Failure {
+        Failure::Journal(e)
     }
 }

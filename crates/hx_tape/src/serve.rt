@@ -1,23 +1,44 @@
 //! The command that serves a day.
+ghost use Rattle.std.specs.Prelude.{◌≡◌, true};
+ghost use Rattle.hx_tape_lines.specs.Text.{record_of};
+ghost use Rattle.hx_desk.specs.Entries.{restored};
+ghost use Rattle.hx_engine.specs.Journals.{lines};
 
 use crate::failure::Failure;
-use crate::setups::read_setup;
+use crate::input::WakingInput;
 use clap::ArgMatches;
+use hx_day_journal::{Syncs, Wanted, day_of, digest_of, last_time, open_journal};
+use hx_engine::Journal;
 use hx_members::{Seed, Setup};
+use hx_runs::{read_setup_text, setup_of};
 use hx_serve::{
-    Board, Hosting, JsonNotices, Notices, OpenArgs, ServeArgs, ServeError, Silent, serve_kept,
-    today,
+    Beginning, Board, Hosting, JsonNotices, Notices, OpenArgs, ServeArgs, ServeError, Silent,
+    Times, serve_kept, today,
 };
 use hx_sessions::Gate;
 use log::Log;
-use std::alloc::Global;
 use std::hash::RandomState;
-use std::io;
+use std::io::Read;
 use std::net::{Net, TcpListener, TcpStream};
 use std::random::RandomSource;
 use std::rt::{Clock, Files};
 use std::sync::Wait;
+use std::sync::atomic::{AtomicU64, Ordering};
 use std::thread::Threads;
+use std::{fs, io};
+
+// What the command line asks of a day, as it was read.
+#[derive(Clone, Copy)]
+struct Plan<'a> {
+    setup: &'a Setup,
+    // The text of the setup, unless it is the standard one.
+    text: Option<&'a [u8]>,
+    args: &'a ServeArgs,
+    open: Option<OpenArgs>,
+    // The day since 1970, and the last time that it gave.
+    day: u64,
+    last: &'a AtomicU64,
+}
 
 // The numbers of the command line, whose ranges `clap` has looked at.
 fn args_of(matches: &ArgMatches<'_>) -> Option<ServeArgs> {
@@ -33,23 +54,78 @@ fn args_of(matches: &ArgMatches<'_>) -> Option<ServeArgs> {
 }
 
 // What is asked of an open day, where one is.
-fn open_of<R: Clock>(rt: &R, matches: &ArgMatches<'_>) -> Option<OpenArgs> {
+fn open_of(matches: &ArgMatches<'_>) -> Option<OpenArgs> {
     if !matches.get_flag("open") {
         return None;
     }
     Some(OpenArgs {
         login_limit: matches.get_one::<u32>("login-limit")?,
         end: matches.get_one::<u32>("end")?,
-        day: today(rt),
     })
 }
 
-// Serves a day, with a seed that is drawn.
+// When a journal is brought to the disk.
+fn syncs_of(matches: &ArgMatches<'_>) -> Syncs {
+    match matches.get_str("sync") {
+        Some("never") => Syncs::Never,
+        _ => Syncs::Group,
+    }
+}
+
+// The day that is asked for, or today.
+fn day_asked<R: Clock>(rt: &R, matches: &ArgMatches<'_>) -> Result<u64, Failure> {
+    match matches.get_str("day") {
+        Some(text) => day_of(text).ok_or(Failure::NoDay),
+        None => Ok(today(rt)),
+    }
+}
+
+// Serves a day from what it begins with.
 fn host<
+    R: AllocGlobal
+        + Print
+        + Files
+        + Log
+        + Net<Listener = TcpListener, Stream = TcpStream>
+        + Clock
+        + Threads
+        + Wait
+        + Sync,
+    J: Journal + Drop + Send,
+    G: Gate + Sync,
+    B: Board + Sync,
+    I: Read + Send + Drop,
+>(
+    rt: &R,
+    matches: &ArgMatches<'_>,
+    hosting: &Hosting<'_, G, B>,
+    beginning: Beginning<J>,
+    input: I,
+) -> Result<(), Failure>
+    requires journal { J.appended beginning.recovered.journal
+        ≡ lines record_of (restored beginning.recovered.events.items) }
+    requires safe { (J.kept beginning.recovered.journal ≡ J.appended beginning.recovered.journal)
+        × (J.is_open beginning.recovered.journal ≡ true) }
+{
+    let alloc = rt.alloc();
+    let path = matches.get_str("history");
+    let mut output = io::writer(rt);
+    match serve_kept(rt, alloc, hosting, beginning, input, &mut output, path) {
+        Ok(()) => Ok(()),
+        Err(ServeError::HistoryIsThere) => Err(Failure::HistoryIsThere {
+            path: String::from_str(alloc, path.unwrap_or(""))?,
+        }),
+        Err(fault) => Err(Failure::Serve(fault)),
+    }
+}
+
+// Serves a day with a seed that is drawn: over its journal, where the command line names one.
+fn begin<
+    'x,
     R: AllocGlobal
         + Input
         + Print
-        + Files
+        + Files<File = fs::File>
         + Log
         + Net<Listener = TcpListener, Stream = TcpStream>
         + Clock
@@ -59,7 +135,13 @@ fn host<
         + Sync,
     G: Gate + Sync,
     B: Board + Sync,
->(rt: &R, matches: &ArgMatches<'_>, hosting: &Hosting<'_, G, B>) -> Result<(), Failure>
+>(
+    rt: &'x R,
+    matches: &ArgMatches<'_>,
+    plan: Plan<'x>,
+    gate: &'x G,
+    board: &'x B,
+) -> Result<(), Failure>
 where
     R::Reader: Send,
 {
@@ -68,15 +150,38 @@ where
         return Err(Failure::Serve(ServeError::Read));
     };
     let seed = Seed::Drawn(keys);
-    let path = matches.get_str("history");
-    let mut output = io::writer(rt);
-    match serve_kept(rt, alloc, hosting, seed, rt.reader(), &mut output, path) {
-        Ok(()) => Ok(()),
-        Err(ServeError::HistoryIsThere) => Err(Failure::HistoryIsThere {
-            path: String::from_str(alloc, path.unwrap_or(""))?,
-        }),
-        Err(fault) => Err(Failure::Serve(fault)),
-    }
+    let journal = matches.get_str("journal");
+    let times = if plan.open.is_some() || journal.is_some() {
+        Times::of_day(plan.day, plan.last)
+    } else {
+        Times::of_machine()
+    };
+    let hosting = Hosting {
+        setup: plan.setup,
+        is_standard: plan.text.is_none(),
+        args: plan.args,
+        gate,
+        board,
+        open: plan.open,
+        times,
+    };
+    let Some(path) = journal else {
+        let beginning = Beginning::unkept(alloc, seed);
+        return host(rt, matches, &hosting, beginning, rt.reader());
+    };
+    let setup = digest_of(alloc, plan.text)?;
+    let wanted = Wanted {
+        session: plan.setup.session(),
+        day: plan.day,
+        setup: &setup,
+        syncs: syncs_of(matches),
+    };
+    let recovered = open_journal(rt, board, path, wanted)?;
+    plan.last
+        .fetch_max(last_time(&recovered.events), Ordering::SeqCst);
+    // (the journal may fail, and then nobody waits for the operator's next line)
+    let input = WakingInput::new(rt.reader());
+    host(rt, matches, &hosting, Beginning { seed, recovered }, input)
 }
 
 /// Serves a day as the command line asks.
@@ -85,7 +190,7 @@ pub fn serve_input<
         + Input
         + Print
         + Eprint
-        + Files
+        + Files<File = fs::File>
         + Log
         + Net<Listener = TcpListener, Stream = TcpStream>
         + Clock
@@ -100,54 +205,23 @@ where
     let Some(args) = args_of(matches) else {
         return Err(Failure::SamePorts);
     };
-    let setup: Setup = read_setup(rt, matches)?;
-    let open = open_of(rt, matches);
-    let is_standard = matches.get_str("setup").is_none();
-    let (setup, args) = (&setup, &args);
+    let text = read_setup_text(rt, matches)?;
+    let text = text.as_deref();
+    let setup = setup_of(rt.alloc(), text)?;
+    let plan = Plan {
+        setup: &setup,
+        text,
+        args: &args,
+        open: open_of(matches),
+        day: day_asked(rt, matches)?,
+        last: &AtomicU64::new(0),
+    };
     let notices = Notices { rt };
-    if open.is_none() {
-        let gate = &notices;
-        let board = &notices;
-        return host(
-            rt,
-            matches,
-            &Hosting {
-                setup,
-                is_standard,
-                args,
-                gate,
-                board,
-                open,
-            },
-        );
+    if plan.open.is_none() {
+        return begin(rt, matches, plan, &notices, &notices);
     }
-    let gate = &Silent;
     if matches.get_flag("json") {
-        let board = &JsonNotices { rt };
-        return host(
-            rt,
-            matches,
-            &Hosting {
-                setup,
-                is_standard,
-                args,
-                gate,
-                board,
-                open,
-            },
-        );
+        return begin(rt, matches, plan, &Silent, &JsonNotices { rt });
     }
-    let board = &notices;
-    host(
-        rt,
-        matches,
-        &Hosting {
-            setup,
-            is_standard,
-            args,
-            gate,
-            board,
-            open,
-        },
-    )
+    begin(rt, matches, plan, &Silent, &notices)
 }

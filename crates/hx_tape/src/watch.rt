@@ -2,6 +2,7 @@
 
 use crate::failure::Failure;
 use clap::ArgMatches;
+use hx_runs::RunError;
 use hx_units::Symbol;
 use hx_watch::{WatchArgs, watch};
 use std::io;
@@ -38,7 +39,7 @@ pub fn watch_feed<R: AllocGlobal + Print + Net + Clock>(
     matches: &ArgMatches<'_>,
 ) -> Result<(), Failure> {
     let Some(args) = args_of(matches) else {
-        return Err(Failure::CommandLine);
+        return Err(Failure::Run(RunError::CommandLine));
     };
     watch(rt, &args, &mut io::writer(rt))?;
     Ok(())

@@ -1,11 +1,14 @@
-//! What tests share: worked days in words, lines of a tape, and inputs and outputs in memory whose calls go wrong where a
-//! test says so. No contract speaks of it: what it gives is compared where a test runs.
+//! What tests share: worked days in words, lines of a tape, orders as members send them, messages
+//! and replies told shortly, and inputs and outputs in memory whose calls go wrong where a test says
+//! so. No contract speaks of it: what it gives is compared where a test runs.
 #![tactic(auto)]
 
 pub mod halts;
 pub mod lines;
 pub mod memory;
+pub mod sending;
 pub mod setups;
+pub mod shorthand;
 mod words;
 pub mod worked;
 

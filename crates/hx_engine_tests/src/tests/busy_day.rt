@@ -4,13 +4,13 @@ ghost use Rattle.hx_engine.specs.Opening.{IsNewLog};
 ghost use Rattle.hx_rules.specs.declared.event.Event.{Event};
 
 use super::exchanges::ends;
-use super::memory::Memory;
-use super::scenario::logs_of;
-use super::sending::{BUY, Order, SELL, enter_as};
 use arrayvec::ArrayVec;
 use hx_blog::{Log, Reader};
 use hx_engine::{Entry, Exchange, Logs, Pass, Venue};
+use hx_engine_testing::ground::logs_of;
+use hx_engine_testing::memory::Memory;
 use hx_members::Setup;
+use hx_testing::sending::{BUY, Order, SELL, enter_as};
 use hx_units::{NoMemory, Token};
 use std::alloc::Global;
 use std::marker::Brand;

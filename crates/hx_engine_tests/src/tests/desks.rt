@@ -1,12 +1,12 @@
 //! A desk with a log of one slot, one with few messages a member, and what its readers meet.
 ghost use Rattle.std.specs.Prelude.{◌≡◌, ◌≤◌, IfOk};
 
-use super::sending::{BUY, Order, SELL, enter, message};
-use super::shorthand::{Message, Reply, private, read_message, read_reply};
 use hx_blog::{Log, Reader};
 use hx_engine::{Desk, DeskError, Done, Entry, laws};
 use hx_market::Event;
 use hx_members::Setup;
+use hx_testing::sending::{BUY, Order, SELL, enter, message};
+use hx_testing::shorthand::{Message, Reply, private, read_message, read_reply};
 use hx_units::MemberNo;
 use std::alloc::Global;
 use std::process::Abort;

@@ -2,14 +2,14 @@
 ghost use Rattle.std.specs.Prelude.{◌≡◌, []};
 ghost use Rattle.hx_rules.specs.declared.event.Event.{Event};
 
-use super::memory::Memory;
 use super::scenario::{Scenario, play};
-use super::sending::{BUY, Order, SELL, enter};
-use super::shorthand::{Reply, private, read_reply};
 use hx_blog::Reader;
 use hx_engine::{Entry, Exchange, FinishError, Pass, Venue};
+use hx_engine_testing::memory::Memory;
 use hx_market::Event;
 use hx_members::Setup;
+use hx_testing::sending::{BUY, Order, SELL, enter};
+use hx_testing::shorthand::{Reply, private, read_reply};
 use hx_units::MemberNo;
 use std::alloc::Global;
 use std::process::Abort;

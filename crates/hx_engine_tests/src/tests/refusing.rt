@@ -3,13 +3,13 @@ ghost use Rattle.std.specs.Prelude.{◌≡◌, []};
 ghost use Rattle.hx_rules.specs.declared.event.Event.{Event};
 
 use super::exchanges::ends;
-use super::memory::Memory;
 use super::scenario::{Scenario, play};
-use super::sending::{BUY, Order, enter};
 use hx_blog::Reader;
 use hx_engine::{DeskError, Done, Entry, Exchange, Pass, SubmitError, Venue};
+use hx_engine_testing::memory::Memory;
 use hx_market::Event;
 use hx_members::Setup;
+use hx_testing::sending::{BUY, Order, enter};
 use std::alloc::Global;
 use std::process::Abort;
 use std::sync::Wait;

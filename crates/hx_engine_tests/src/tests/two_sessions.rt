@@ -4,14 +4,14 @@ ghost use Rattle.hx_engine.specs.Opening.{IsNewLog};
 ghost use Rattle.hx_rules.specs.declared.event.Event.{Event};
 
 use super::exchanges::ends;
-use super::memory::Memory;
-use super::scenario::logs_of;
-use super::sending::{BUY, Order, SELL, enter};
-use super::shorthand::{Message, Reply, private, read_message, read_reply};
 use hx_blog::{Log, Reader};
 use hx_engine::{Entry, Exchange, Logs, News, Pass, Venue};
+use hx_engine_testing::ground::logs_of;
+use hx_engine_testing::memory::Memory;
 use hx_market::Event;
 use hx_members::Setup;
+use hx_testing::sending::{BUY, Order, SELL, enter};
+use hx_testing::shorthand::{Message, Reply, private, read_message, read_reply};
 use hx_units::MemberNo;
 use std::alloc::Global;
 use std::marker::Brand;

@@ -23,6 +23,12 @@ pub struct Counting {
     pub crowds: AtomicU64,
     /// The end of his input before code `C`.
     pub closings: AtomicU64,
+    /// That a day goes on, with how many events and messages of the feed the last time.
+    pub resumed: AtomicU64,
+    pub events: AtomicU64,
+    pub feed: AtomicU64,
+    /// That the journal has no room, and has room again.
+    pub waits: AtomicU64,
 }
 
 impl Counting {
@@ -39,6 +45,10 @@ impl Counting {
             unanswered: AtomicU64::new(0),
             crowds: AtomicU64::new(0),
             closings: AtomicU64::new(0),
+            resumed: AtomicU64::new(0),
+            events: AtomicU64::new(0),
+            feed: AtomicU64::new(0),
+            waits: AtomicU64::new(0),
         }
     }
 }
@@ -70,6 +80,12 @@ impl Board for Counting {
             Notice::Refused { .. } => &self.bad,
             Notice::Unanswered { .. } => &self.unanswered,
             Notice::Crowd => &self.crowds,
+            Notice::Resumed { events, feed } => {
+                self.events.store(events, Ordering::SeqCst);
+                self.feed.store(feed, Ordering::SeqCst);
+                &self.resumed
+            }
+            Notice::JournalWaits | Notice::JournalGoesOn => &self.waits,
             Notice::Closing | Notice::StandardSetup => &self.closings,
         };
         count.fetch_add(1, Ordering::SeqCst);

@@ -4,7 +4,7 @@ use super::boards::{Counting, told};
 use super::client::{Client, free_ports};
 use super::days::args_of;
 use hx_members::{Seed, Setup};
-use hx_serve::{Datagrams, Doors, Hosting, Silent, serve_day};
+use hx_serve::{Datagrams, Doors, Hosting, Silent, Times, serve_day, today};
 use log::Log;
 use std::io::ErrorKind;
 use std::net::{Ipv4Addr, Net, SocketAddr, TcpListener, TcpStream};
@@ -74,6 +74,8 @@ fn serve_beside<
         .with_answers(2)
         .ok_or("answers")?;
     let setup = Setup::standard(alloc)?;
+    let last = AtomicU64::new(0);
+    let times = Times::of_day(today(rt), &last);
     let hosting = Hosting {
         setup: &setup,
         is_standard: false,
@@ -81,6 +83,7 @@ fn serve_beside<
         gate: &Silent,
         board,
         open: None,
+        times,
     };
     let doors = Doors {
         listener: TcpListener::bind(rt, (Ipv4Addr::new(127, 0, 0, 1), ports.0))?,

@@ -7,7 +7,7 @@ use super::days::{args_of, expect_added, expect_end, send_order};
 use super::vendor::Vendor;
 use hx_members::{Seed, Setup};
 use hx_replay::replay;
-use hx_serve::{Day, Doors, Hosting, ServeArgs, ServeError, serve_day, write_history};
+use hx_serve::{Day, Doors, Hosting, ServeArgs, ServeError, Times, serve_day, write_history};
 use hx_sessions::Gate;
 use hx_units::MemberNo;
 use log::Log;
@@ -101,6 +101,7 @@ fn serve_held<
 ) -> Result<Day, ServeError> {
     let setup = Setup::standard(alloc)?;
     let board = Counting::new();
+    let times = Times::of_machine();
     let hosting = Hosting {
         setup: &setup,
         is_standard: false,
@@ -108,6 +109,7 @@ fn serve_held<
         gate,
         board: &board,
         open: None,
+        times,
     };
     let doors = Doors::open(rt, args)?;
     serve_day(rt, alloc, &hosting, doors, Seed::Fixed, &b""[..], output)

@@ -6,8 +6,8 @@ use super::days::args_of;
 use super::vendor::Vendor;
 use hx_members::{Seed, Setup};
 use hx_serve::{
-    Day, Doors, Hosting, OpenArgs, ServeArgs, ServeError, Silent, serve_day, serve_kept, today,
-    write_history,
+    Beginning, Day, Doors, Hosting, OpenArgs, ServeArgs, ServeError, Silent, Times, serve_day,
+    serve_kept, today, write_history,
 };
 use log::Log;
 use std::alloc::Global;
@@ -16,6 +16,7 @@ use std::net::{Ipv4Addr, Net, TcpListener, TcpStream};
 use std::os::unix::fs::MetadataExt;
 use std::rt::{Clock, Files};
 use std::sync::Wait;
+use std::sync::atomic::AtomicU64;
 use std::test::*;
 use std::thread::Threads;
 use std::{fs, io};
@@ -49,6 +50,8 @@ fn serve_hours<
 ) -> Result<Result<(), ServeError>, Fail> {
     let setup = Setup::standard(alloc)?;
     let board = Counting::new();
+    let last = AtomicU64::new(0);
+    let times = Times::of_day(today(rt), &last);
     let hosting = Hosting {
         setup: &setup,
         is_standard: false,
@@ -58,11 +61,12 @@ fn serve_hours<
         open: Some(OpenArgs {
             login_limit: 15,
             end: 0,
-            day: today(rt),
         }),
+        times,
     };
     let path = Some(path);
-    Ok(serve_kept(rt, alloc, &hosting, Seed::Fixed, HOURS, output, path))
+    let beginning = Beginning::unkept(alloc, Seed::Fixed);
+    Ok(serve_kept(rt, alloc, &hosting, beginning, HOURS, output, path))
 }
 
 #[test]
@@ -148,6 +152,8 @@ fn day_of_hours<
     let args = args_of(free_ports(rt)?, vendor.port()?, 1, 100)?;
     let setup = Setup::standard(alloc)?;
     let board = Counting::new();
+    let last = AtomicU64::new(0);
+    let times = Times::of_day(today(rt), &last);
     let hosting = Hosting {
         setup: &setup,
         is_standard: false,
@@ -157,8 +163,8 @@ fn day_of_hours<
         open: Some(OpenArgs {
             login_limit: 15,
             end: 0,
-            day: today(rt),
         }),
+        times,
     };
     let doors = Doors::open(rt, &args)?;
     let mut output = Vec::new(alloc);

@@ -6,7 +6,9 @@ use super::days::{args_of, log_in, send_order};
 use super::lines::Lines;
 use super::vendor::{END, Vendor};
 use hx_members::{Seed, Setup};
-use hx_serve::{Day, Doors, Hosting, OpenArgs, ServeArgs, ServeError, Silent, serve_day, today};
+use hx_serve::{
+    Day, Doors, Hosting, OpenArgs, ServeArgs, ServeError, Silent, Times, serve_day, today,
+};
 use log::Log;
 use std::alloc::Global;
 use std::net::{Net, TcpListener, TcpStream};
@@ -24,38 +26,88 @@ const CLOSING: &[u8] = b"1 0 51\n2 0 4d\n3 0 45\n4 0 43\n";
 // A login of ALPHA, from his second reply on.
 const ALPHA_AGAIN: &[u8; 46] = b"ALPHA PWALPHA                               2 ";
 
-// An open day of today.
-fn open_args<R: Clock>(rt: &R, login_limit: u32, end: u32) -> OpenArgs {
-    OpenArgs {
-        login_limit,
-        end,
-        day: today(rt),
+/// How an open day differs from others: how many slots its log has, how many seconds a login and the
+/// end of the feed have, and how many of the operator's pieces of input are there from the start.
+#[derive(Clone, Copy)]
+pub struct Terms {
+    capacity: u64,
+    login_limit: u32,
+    end: u32,
+    let_go: u64,
+}
+
+/// A day of a hundred slots.
+pub const USUAL: Terms = Terms {
+    capacity: 100,
+    login_limit: 15,
+    end: 0,
+    let_go: 0,
+};
+
+/// An open day of one place: its vendor, its ports for sessions and for requests, what is asked of it,
+/// how often each thing was told, and how many of the operator's pieces of input are there.
+#[derive(Drop)]
+pub struct Stage {
+    pub vendor: Vendor,
+    pub ports: (u16, u16),
+    pub args: ServeArgs,
+    pub open: OpenArgs,
+    pub board: Counting,
+    pub let_go: AtomicU64,
+}
+
+impl Stage {
+    /// A day on free ports.
+    pub fn new<R: Net<Listener = TcpListener, Stream = TcpStream> + Clock>(
+        rt: &R,
+        terms: Terms,
+    ) -> Result<Stage, Fail> {
+        let vendor = Vendor::listen(rt)?;
+        let ports = free_ports(rt)?;
+        let args = args_of(ports, vendor.port()?, 1, terms.capacity)?;
+        let open = OpenArgs {
+            login_limit: terms.login_limit,
+            end: terms.end,
+        };
+        Ok(Stage {
+            vendor,
+            ports,
+            args,
+            open,
+            board: Counting::new(),
+            let_go: AtomicU64::new(terms.let_go),
+        })
     }
 }
 
-// What an open day leaves, where the operator's pieces of input come as the client lets them go.
+// What an open day leaves and writes, where the operator's pieces of input come as the client lets
+// them go.
 fn serve_open<
+    'x,
     R: Net<Listener = TcpListener, Stream = TcpStream> + Threads + Wait + Clock + Log + Sync,
 >(
-    rt: &R,
+    rt: &'x R,
     alloc: Global,
-    args: &ServeArgs,
-    open: OpenArgs,
-    board: &Counting,
-    input: Lines<'_, R>,
-    output: &mut Vec<u8>,
-) -> Result<Day, ServeError> {
+    stage: &'x Stage,
+    pieces: &'x [&'x [u8]],
+) -> Result<(Day, Vec<u8>), ServeError> {
     let setup = Setup::standard(alloc)?;
+    let last = AtomicU64::new(0);
+    let times = Times::of_day(today(rt), &last);
     let hosting = Hosting {
         setup: &setup,
         is_standard: false,
-        args,
+        args: &stage.args,
         gate: &Silent,
-        board,
-        open: Some(open),
+        board: &stage.board,
+        open: Some(stage.open),
+        times,
     };
-    let doors = Doors::open(rt, args)?;
-    serve_day(rt, alloc, &hosting, doors, Seed::Fixed, input, output)
+    let doors = Doors::open(rt, &stage.args)?;
+    let input = Lines::new(rt, pieces, &stage.let_go);
+    let mut output = Vec::new(alloc);
+    let day = serve_day(rt, alloc, &hosting, doors, Seed::Fixed, input, &mut output)?;
+    Ok((day, output))
 }
 
 // Waits until so much was told.
@@ -137,21 +189,19 @@ fn members_and_strangers<R: Net<Listener = TcpListener, Stream = TcpStream> + Cl
 #[test]
 fn strangers_hold_nothing(rt: HostRuntime) -> Result<(), Fail> {
     let alloc = rt.alloc();
-    let vendor = Vendor::listen(&rt)?;
-    let ports = free_ports(&rt)?;
-    let args = args_of(ports, vendor.port()?, 1, 100)?;
-    let open = open_args(&rt, 1, 0);
-    let (board, let_go) = (Counting::new(), AtomicU64::new(0));
-    let pieces = [CLOSING];
-    let input = Lines::new(&rt, &pieces, &let_go);
-    let mut output = Vec::new(alloc);
+    let terms = Terms {
+        login_limit: 1,
+        ..USUAL
+    };
+    let stage = Stage::new(&rt, terms)?;
+    let board = &stage.board;
     let (served, played) = join(
         &rt,
-        || serve_open(&rt, alloc, &args, open, &board, input, &mut output),
-        || members_and_strangers(&rt, alloc, ports.0, &board, &let_go),
+        || serve_open(&rt, alloc, &stage, &[CLOSING]),
+        || members_and_strangers(&rt, alloc, stage.ports.0, &stage.board, &stage.let_go),
     );
     played?;
-    let Ok(day) = served else {
+    let Ok((day, output)) = served else {
         return Err(Fail::from("no day"));
     };
     assert!(rt; day.fault.is_none());
@@ -170,21 +220,19 @@ fn strangers_hold_nothing(rt: HostRuntime) -> Result<(), Fail> {
 #[test]
 fn the_day_ends_beside_silent_connections(rt: HostRuntime) -> Result<(), Fail> {
     let alloc = rt.alloc();
-    let vendor = Vendor::listen(&rt)?;
-    let ports = free_ports(&rt)?;
-    let args = args_of(ports, vendor.port()?, 1, 100)?;
-    let open = open_args(&rt, 3600, 0);
-    let (board, let_go) = (Counting::new(), AtomicU64::new(0));
-    let pieces = [CLOSING];
-    let input = Lines::new(&rt, &pieces, &let_go);
-    let mut output = Vec::new(alloc);
+    let terms = Terms {
+        login_limit: 3600,
+        ..USUAL
+    };
+    let stage = Stage::new(&rt, terms)?;
+    let board = &stage.board;
     let (served, played) = join(
         &rt,
-        || serve_open(&rt, alloc, &args, open, &board, input, &mut output),
+        || serve_open(&rt, alloc, &stage, &[CLOSING]),
         || {
-            let mut silent = Client::connect(&rt, ports.0)?;
+            let mut silent = Client::connect(&rt, stage.ports.0)?;
             thread::sleep(&rt, Duration::from_secs(1));
-            let_go.store(1, Ordering::SeqCst);
+            stage.let_go.store(1, Ordering::SeqCst);
             assert!(rt; silent.receive(alloc)?.is_none());
             Ok::<(), Fail>(())
         },
@@ -200,21 +248,17 @@ fn the_day_ends_beside_silent_connections(rt: HostRuntime) -> Result<(), Fail> {
 #[test]
 fn the_operator_can_always_end_the_day(rt: HostRuntime) -> Result<(), Fail> {
     let alloc = rt.alloc();
-    let vendor = Vendor::listen(&rt)?;
-    let ports = free_ports(&rt)?;
-    let args = args_of(ports, vendor.port()?, 1, 100)?;
-    let open = open_args(&rt, 15, 0);
-    let (board, let_go) = (Counting::new(), AtomicU64::new(9));
+    let terms = Terms { let_go: 9, ..USUAL };
+    let stage = Stage::new(&rt, terms)?;
+    let board = &stage.board;
     let long = [b'5'; 3000];
     let pieces: [&[u8]; 3] = [
         b"1 0 zz\n2 0 51\n86400000000000 0 4b\n",
         &long,
         b"\n3 0 4d\n",
     ];
-    let input = Lines::new(&rt, &pieces, &let_go);
-    let mut output = Vec::new(alloc);
-    let served = serve_open(&rt, alloc, &args, open, &board, input, &mut output);
-    let Ok(day) = served else {
+    let served = serve_open(&rt, alloc, &stage, &pieces);
+    let Ok((day, _)) = served else {
         return Err(Fail::from("no day"));
     };
     assert!(rt; day.fault.is_none());
@@ -266,21 +310,19 @@ fn fill<R: Net<Listener = TcpListener, Stream = TcpStream> + Clock + Abort>(
 #[test]
 fn the_hours_always_have_room(rt: HostRuntime) -> Result<(), Fail> {
     let alloc = rt.alloc();
-    let vendor = Vendor::listen(&rt)?;
-    let ports = free_ports(&rt)?;
-    let args = args_of(ports, vendor.port()?, 1, 30)?;
-    let open = open_args(&rt, 15, 0);
-    let (board, let_go) = (Counting::new(), AtomicU64::new(0));
-    let pieces = [CLOSING];
-    let input = Lines::new(&rt, &pieces, &let_go);
-    let mut output = Vec::new(alloc);
+    let terms = Terms {
+        capacity: 30,
+        ..USUAL
+    };
+    let stage = Stage::new(&rt, terms)?;
+    let board = &stage.board;
     let (served, played) = join(
         &rt,
-        || serve_open(&rt, alloc, &args, open, &board, input, &mut output),
-        || fill(&rt, alloc, ports.0, &let_go),
+        || serve_open(&rt, alloc, &stage, &[CLOSING]),
+        || fill(&rt, alloc, stage.ports.0, &stage.let_go),
     );
     played?;
-    let Ok(day) = served else {
+    let Ok((day, _)) = served else {
         return Err(Fail::from("no day"));
     };
     assert_eq!(rt; (told(&board.faulted), told(&board.bad)), (1, 0));
@@ -308,18 +350,16 @@ fn hear_the_end<R: Abort>(
 #[test]
 fn the_end_of_the_feed_can_be_repaired(rt: HostRuntime) -> Result<(), Fail> {
     let alloc = rt.alloc();
-    let vendor = Vendor::listen(&rt)?;
-    let ports = free_ports(&rt)?;
-    let args = args_of(ports, vendor.port()?, 1, 100)?;
-    let open = open_args(&rt, 15, 2);
-    let (board, let_go) = (Counting::new(), AtomicU64::new(1));
-    let pieces = [CLOSING];
-    let input = Lines::new(&rt, &pieces, &let_go);
-    let mut output = Vec::new(alloc);
+    let terms = Terms {
+        end: 2,
+        let_go: 1,
+        ..USUAL
+    };
+    let stage = Stage::new(&rt, terms)?;
     let (served, heard) = join(
         &rt,
-        || serve_open(&rt, alloc, &args, open, &board, input, &mut output),
-        || hear_the_end(&rt, alloc, &vendor, ports.1),
+        || serve_open(&rt, alloc, &stage, &[CLOSING]),
+        || hear_the_end(&rt, alloc, &stage.vendor, stage.ports.1),
     );
     heard?;
     assert!(rt; served.is_ok());

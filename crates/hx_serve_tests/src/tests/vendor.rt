@@ -96,6 +96,22 @@ impl Vendor {
         Ok(self.socket.recv_from(&mut buffer).is_err())
     }
 
+    /// Whether the end of the session is among the packets that come until none comes for a while.
+    pub fn hears_the_end(&self) -> Result<bool, Fail> {
+        let mut buffer = [0; 1500];
+        self.socket
+            .set_read_timeout(Some(Duration::from_millis(200)))?;
+        for _ in 0..1000 {
+            let Ok((count, _)) = self.socket.recv_from(&mut buffer) else {
+                return Ok(false);
+            };
+            if count >= 20 && number(&buffer[18..20]) == END {
+                return Ok(true);
+            }
+        }
+        Ok(false)
+    }
+
     /// Asks for the message of this number, at most 255.
     pub fn ask(&self, requests: u16, message: u8) -> Result<(), Fail> {
         let mut request = *b"HX00000001\0\0\0\0\0\0\0\0\0\x01";

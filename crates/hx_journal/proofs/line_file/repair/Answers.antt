@@ -46,3 +46,6 @@ returns-clause-at_rest g c =
 
 pub returns-clause-stored : goal.returns-clause-stored
 returns-clause-stored g c = ap lines_of (c.in_ok-sync.ensures.same ∙ c.in_ok-cut.ensures.cut c.requires.well)
+
+pub returns-clause-seen : goal.returns-clause-seen
+returns-clause-seen g c = c.in_ok-sync.ensures.same ∙ c.in_ok-cut.ensures.cut c.requires.well

@@ -5,7 +5,7 @@ use Rattle.hx_sessions.specs.Workers.{Receiving}
 use Rattle.hx_sessions.proofs.Passes.{carries_none, carries_more}
 use Rattle.hx_sessions.proofs.Taking.{receiving_none, receiving_more, receiving_kept, received_here, received_end, received_stop, acting_all, why_all}
 use Rattle.hx_sessions.proofs.inbound.receive.Goals as goal
-use Rattle.hx_sessions.proofs.inbound.receive.Goals.{in-Ok+in-Ok-take, in-Err+else-not-is_passing}
+use Rattle.hx_sessions.proofs.inbound.receive.Goals.{in-Ok+in-Ok-take, in-Err+else-not-is_passing+else-is_some}
 
 pub loop-init : goal.loop-init
 loop-init g c =
@@ -24,6 +24,10 @@ returns-clause-received g c = received_here c.args.trader.now.member _ _ _ _ _ (
 pub returns-then-not-is_passing-clause-received : goal.returns-then-not-is_passing-clause-received
 returns-then-not-is_passing-clause-received g c =
     received_here c.args.trader.now.member _ _ _ _ _ (stops.Faulted faults.Read) (receiving_kept c.args.trader.now.member _ _ _ _ _ _ c.loop.invariant.so_far c.in-Err.ensures.bytes) (λ ps ds a. why_all (g.R.Read.remaining c.read.new.self) faults.Read ps ds a)
+
+pub returns-then-is_some-clause-received : goal.returns-then-is_some-clause-received
+returns-then-is_some-clause-received g c =
+    received_here c.args.trader.now.member _ _ _ _ _ (stops.Faulted faults.Stopped) (receiving_kept c.args.trader.now.member _ _ _ _ _ _ c.loop.invariant.so_far c.in-Err.ensures.bytes) (λ ps ds a. why_all (g.R.Read.remaining c.read.new.self) faults.Stopped ps ds a)
 
 pub returns-in-Ok-eq0-clause-received : goal.returns-in-Ok-eq0-clause-received
 returns-in-Ok-eq0-clause-received g c =
@@ -47,7 +51,7 @@ loop-preserved g c =
       | in-Ok+in-Ok-take w ↦
           let more = receiving_more c.args.trader.now.member a (g.R.Read.remaining c.loop.inbox.input) (g.R.Read.remaining c.read.new.self) c.loop.framer w.take.new.framer _ s c.loop.inbox.sender.pass.sent w.take.new.sender.pass.sent _ inv.so_far w.in-Ok.ensures.bytes.0 w.in-Ok-take.ensures.takes in
           rw (w.inbox-is, w.framer-is) (record { pass = carries_more c.args.inbox.sender.pass c.loop.inbox.sender.pass w.take.new.sender.pass inv.pass w.in-Ok-take.ensures.pass; so_far = more })
-      | in-Err+else-not-is_passing w ↦
+      | in-Err+else-not-is_passing+else-is_some w ↦
           let kept = receiving_kept c.args.trader.now.member a (g.R.Read.remaining c.loop.inbox.input) (g.R.Read.remaining c.read.new.self) c.loop.framer s c.loop.inbox.sender.pass.sent inv.so_far w.in-Err.ensures.bytes in
           rw (w.inbox-is, w.framer-is) (record { pass = inv.pass; so_far = kept })
     ]

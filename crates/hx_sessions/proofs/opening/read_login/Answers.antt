@@ -23,6 +23,12 @@ returns-in-Ok-Some-default-clause-ok g c =
 pub returns-in-Err-clause-err : goal.returns-in-Err-clause-err
 returns-in-Err-clause-err g c = awaits_stop _ _ _ _ c.loop-turn.framer c.loop-turn.kept c.in-Err.stop c.loop-turn.invariant.awaits c.in-Err.ensures.err
 
+pub returns-then-is_some-clause-err : goal.returns-then-is_some-clause-err
+returns-then-is_some-clause-err g c =
+    let read = rw c.in-Ok-None-default.field-0-0-is at c.in-Ok-None-default.ensures.ok in
+    let more = awaits_more _ _ _ c.loop-turn.framer c.read_more.new.framer c.loop-turn.kept _ c.in-Ok-None-default.count c.loop-turn.invariant.awaits read in
+    (more.bytes, more.read)
+
 pub returns-then-is_over-clause-known : goal.returns-then-is_over-clause-known
 returns-then-is_over-clause-known g c = prefix_trans c.args.reader.now.known c.loop-turn.reader.known c.is_over.new.reader.known c.loop-turn.invariant.known c.is_over.ensures.reader.known
 

@@ -1,13 +1,7 @@
-use Rattle.std.proofs.Common.{Bool}
 use mir.Syntax.{of_param}
-use denote.Exit.{if_kept, unseen}
-use denote.Param.Send.{Quiet, Quiet-if}
+use Rattle.hx_sessions.proofs.Sending.{nothing_left}
 use Rattle.hx_sessions.proofs.Slots.{served_there}
 use Rattle.hx_sessions.proofs.serving.serve_slots.Goals as goal
-
--- what is moved leaves nothing behind in its thread
-nothing_left : {D : Type 0} (kept : Bool) → Quiet (if_kept {D = D} kept unseen unseen)
-nothing_left kept = Quiet-if kept unseen unseen (λ x w. tt) (λ x w. tt)
 
 -- what a closure asks of the types that it moves and shares is what the function asks of them: first as its own clause
 -- says it, then as the calls in it do

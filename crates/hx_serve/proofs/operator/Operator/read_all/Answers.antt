@@ -14,3 +14,8 @@ returns-in-Err-clause-err g c =
 
 pub loop-preserved : goal.loop-preserved
 loop-preserved g c = some_more _ _ _ _ _ _ _ _ c.loop.invariant (goes_on _ _ _ _ _ _ _ c.in-Ok-true.field-0-test c.in-Ok-true.ensures.ok)
+
+pub returns-then-is_some-clause-err : goal.returns-then-is_some-clause-err
+returns-then-is_some-clause-err g c =
+    let h = some_more _ _ _ _ _ _ _ _ c.loop.invariant (goes_on _ _ _ _ _ _ _ c.in-Ok-true.field-0-test c.in-Ok-true.ensures.ok) in
+    (h.0, h.1, _, h.2)

@@ -1,0 +1,6 @@
+//! Tests of days that stop, go on from what is kept, and tell all again: at each call of the
+//! journal's file, where a journal takes no more records, or between two events.
+#![tactic(auto)]
+
+#[cfg(test)]
+mod tests;

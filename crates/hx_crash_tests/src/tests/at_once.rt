@@ -1,0 +1,201 @@
+//! Two members who send at once over a journal whose sync is slow: nobody is told of what is not synced.
+ghost use Rattle.std.specs.Prelude.{◌≡◌, []};
+ghost use Rattle.hx_engine.specs.Opening.{IsNewLog};
+ghost use Rattle.hx_rules.specs.declared.event.Event.{Event};
+
+use hx_blog::Reader;
+use hx_engine::{Entry, Exchange, Journal, JournalError, Pass, Venue};
+use hx_engine_testing::ground::{Ground, ground_of};
+use hx_engine_testing::memory::Memory;
+use hx_members::Setup;
+use hx_testing::sending::{BUY, Order, enter};
+use hx_units::MemberNo;
+use std::alloc::Global;
+use std::marker::Brand;
+use std::process::Abort;
+use std::sync::Wait;
+use std::sync::atomic::{AtomicU64, Ordering};
+use std::test::*;
+use std::thread;
+use std::thread::Threads;
+
+// How many orders each member sends.
+const EACH: u8 = 20;
+
+// A journal in memory that says how many records are synced.
+#[derive(Drop)]
+struct Watched<'a> {
+    memory: Memory,
+    synced: &'a AtomicU64,
+}
+
+impl Journal for Watched<'_> {
+    ghost use Rattle.std.specs.Prelude.{◌≡◌, ℕ, List, true, take};
+    ghost use Rattle.hx_journal.specs.Crashes.{IsBetween};
+    ghost use Rattle.hx_engine.specs.Journals.{record_texts};
+
+    ghost appended = { λ j. record_texts j.memory.records.items };
+
+    ghost kept = { λ j. take j.memory.synced (record_texts j.memory.records.items) };
+
+    ghost is_open = { λ j. true };
+
+    ghost faults = { λ j. 0 };
+
+    ghost moment = { λ j. 0 };
+
+    ghost left_since = { λ j t c. IsBetween
+        (take j.memory.synced (record_texts j.memory.records.items)) c
+        (record_texts j.memory.records.items) };
+
+    fn append(&mut self, bytes: &[u8]) -> Result<(), JournalError> {
+        self.memory.append(bytes)
+    }
+
+    fn sync(&mut self) -> Result<(), JournalError> {
+        let answer = self.memory.sync();
+        self.synced
+            .store(self.memory.synced as u64, Ordering::SeqCst);
+        answer
+    }
+
+    fn is_quick(&self) -> bool {
+        false
+    }
+
+    fn stands(&self) {
+        let _ = &self.synced;
+        self.memory.stands();
+    }
+}
+
+// A member with his pass and his reader, and how many records are synced.
+#[derive(Drop)]
+struct Sender<'a, V: Venue> {
+    member: u16,
+    pass: Pass<V>,
+    reader: Reader<Entry>,
+    synced: &'a AtomicU64,
+    ghost belongs: { reader.log ≡ V.log },
+}
+
+// The order of a member with this number: it is displayed and does not trade, so it has one reply.
+fn order_of(member: u16, number: u8) -> Order {
+    Order {
+        member,
+        token: [b'A', b'A'.saturating_add(number)],
+        ..BUY
+    }
+}
+
+impl<V: Venue> Sender<'_, V> {
+    // How many replies the two members have.
+    fn replies<R: Wait>(&mut self, rt: &R, exchange: &Exchange<V, Watched>) -> Option<u64> {
+        let first = exchange.news(rt, &mut self.reader, MemberNo::of(1)?);
+        let second = exchange.news(rt, &mut self.reader, MemberNo::of(2)?);
+        first.replies.checked_add(second.replies)
+    }
+
+    // Sends his orders, and counts those that are answered: none where one is answered, or a reply told to anybody, before
+    // its record is synced.
+    fn session<R: Wait>(
+        &mut self,
+        rt: &R,
+        alloc: Global,
+        exchange: &Exchange<V, Watched>,
+    ) -> Option<u8> {
+        for number in 0..EACH {
+            let event = enter(alloc, &order_of(self.member, number)).ok()?;
+            let done = exchange.submit(rt, &mut self.pass, &event).ok()?;
+            if self.synced.load(Ordering::SeqCst) < done.place {
+                return None;
+            }
+            let replies = self.replies(rt, exchange)?;
+            if self.synced.load(Ordering::SeqCst) < replies {
+                return None;
+            }
+        }
+        Some(EACH)
+    }
+}
+
+// Both send at once: all is answered, kept and told, by at most as many syncs as there are orders.
+fn two_senders<V: Venue + Send + Sync, R: Threads + Wait + Abort + Sync>(
+    rt: &R,
+    alloc: Global,
+    ground: Ground,
+    synced: &AtomicU64,
+) -> Result<(), Fail>
+    requires feed { IsNewLog V.log ground.logs.feed }
+    requires admitted { IsNewLog V.admitted ground.logs.admitted }
+    requires kept { IsNewLog V.kept ground.logs.kept }
+    requires of_setup { ground.setup ≡ V.setup }
+    requires before { V.before ≡ [] }
+    requires reader { ground.reader.log ≡ V.log }
+    requires blank { (ground.blank.name ≡ V.name) × (ground.blank.parts ≡ V.parts) × (V.parts ≡ 2) }
+{
+    let Ground {
+        setup,
+        logs,
+        blank,
+        reader,
+    } = ground;
+    let journal = Watched {
+        memory: Memory::new(alloc, 1000),
+        synced,
+    };
+    let (exchange, mut passes) = Exchange::<V, Watched>::new(
+        alloc, setup, logs, journal, blank, 2,
+    )?;
+    let mut reader = reader;
+    let mut first = Sender {
+        member: 1,
+        pass: passes.pop().ok_or("a pass")?,
+        reader: reader.split(exchange.feed_log()),
+        synced,
+    };
+    let mut second = Sender {
+        member: 2,
+        pass: passes.pop().ok_or("a pass")?,
+        reader,
+        synced,
+    };
+    let shared = &exchange;
+    let (one, two) = thread::join(
+        rt,
+        || first.session(rt, alloc, shared),
+        || second.session(rt, alloc, shared),
+    );
+    assert!(rt; (one, two) == (Some(EACH), Some(EACH)));
+    let both = 2 * u64::from(EACH);
+    assert!(rt; first.replies(rt, &exchange) == Some(both));
+    passes.push(first.pass)?;
+    passes.push(second.pass)?;
+    expect_kept(rt, exchange, passes, both)
+}
+
+// The exchange ends with this number of entries, all of them synced, by as many syncs or fewer.
+fn expect_kept<V: Venue, R: Abort>(
+    rt: &R,
+    exchange: Exchange<V, Watched>,
+    passes: Vec<Pass<V>>,
+    count: u64,
+) -> Result<(), Fail> {
+    let Ok(finished) = exchange.finish(passes) else {
+        return Err("all passes are there".into());
+    };
+    let journal = finished.journal.ok_or("a journal")?;
+    assert_eq!(rt; finished.history.len() as u64, count);
+    assert_eq!(rt; finished.feed, count);
+    assert_eq!(rt; journal.memory.synced as u64, count);
+    assert!(rt; journal.memory.syncs <= count);
+    Ok(())
+}
+
+#[test]
+fn two_members_send_at_once(rt: HostRuntime) -> Result<(), Fail> {
+    let alloc = rt.alloc();
+    let ground = ground_of(alloc, Setup::standard(alloc)?, 100, 2)?;
+    let synced = AtomicU64::new(0);
+    two_senders::<Brand, _>(&rt, alloc, ground, &synced)
+}

@@ -1,0 +1,246 @@
+//! A day that stops at each call of the journal's file in turn, and goes on from what a crash leaves: all that was told
+//! is told again in the same place, and in the end all is told as on a day that never stopped.
+ghost use Rattle.std.specs.Prelude.{◌<◌};
+
+use super::going_on::{Day, play};
+use super::shared_file::SharedFile;
+use super::told::Told;
+use hx_journal::{DeviceError, JournalError};
+use hx_market::Event;
+use hx_ouch::{Cancel, Inbound, encode_in};
+use hx_testing::sending::{BUY, Order, SELL, enter, message, token};
+use hx_testing::setups::STANDARD;
+use std::alloc::Global;
+use std::ops::Range;
+use std::process::Abort;
+use std::sync::Wait;
+use std::test::*;
+
+// How many rounds of ten events the day has.
+const ROUNDS: u8 = 20;
+
+/// A day that nothing stops.
+pub fn whole_day<R: Wait + Abort>(rt: &R, alloc: Global, day: Day) -> Result<Told, Fail> {
+    let file = SharedFile::new(alloc, b"", u64::MAX, DeviceError::Failed)?;
+    let course = play(rt, alloc, day, file, b"")?;
+    assert_eq!(rt; course.answered, day.events.len());
+    assert!(rt; course.failure.is_none());
+    assert!(rt; course.again == Told::nothing(alloc)?);
+    Ok(course.told)
+}
+
+// The day goes on from what a crash left.
+fn goes_on<R: Wait + Abort>(
+    rt: &R,
+    alloc: Global,
+    day: Day,
+    left: &[u8],
+    whole: &Told,
+) -> Result<Told, Fail> {
+    let file = SharedFile::new(alloc, left, u64::MAX, DeviceError::Failed)?;
+    let course = play(rt, alloc, day, file, left)?;
+    assert_eq!(rt; course.answered, day.events.len());
+    assert!(rt; course.failure.is_none());
+    assert!(rt; course.told == *whole);
+    Ok(course.again)
+}
+
+/// When a file begins to fail: behind this number of calls, and what each one answers then.
+#[derive(Clone, Copy)]
+pub struct Stop {
+    pub calls: u64,
+    pub fault: DeviceError,
+}
+
+// The file fails: why the journal failed then, if the day did not come to its end before. All that was told is told again
+// of what a crash leaves. What was synced alone tells no more than that.
+fn stops<R: Wait + Abort>(
+    rt: &R,
+    alloc: Global,
+    day: Day,
+    stop: Stop,
+    whole: &Told,
+) -> Result<Option<JournalError>, Fail> {
+    let file = SharedFile::new(alloc, b"", stop.calls, stop.fault)?;
+    let course = play(rt, alloc, day, file.again()?, b"")?;
+    let left = file.left(alloc)?;
+    let place = (stop.calls / 2) as usize % left.len().max(1);
+    let image = left.get(place).ok_or("what is left")?;
+    let again = goes_on(rt, alloc, day, image, whole)?;
+    assert!(rt; again.begins_with(&course.told));
+    assert!(rt; place > 0 || again == course.told);
+    assert!(rt; whole.begins_with(&again));
+    Ok(course.failure)
+}
+
+/// The day stops at each of these calls of the file in turn.
+pub fn stops_at_calls<R: Wait + Abort>(
+    rt: &R,
+    alloc: Global,
+    day: Day,
+    calls: Range<u64>,
+    fault: DeviceError,
+) -> Result<Told, Fail> {
+    let whole = whole_day(rt, alloc, day)?;
+    for calls in calls {
+        let stop = Stop { calls, fault };
+        let failure = stops(rt, alloc, day, stop, &whole)?;
+        assert!(rt; failure == Some(JournalError::from(fault)));
+    }
+    Ok(whole)
+}
+
+// The members who display, who hide, and who sell first in a round.
+fn member(round: u8, place: u8) -> u16 {
+    1 + (u16::from(round) + u16::from(place)) % 3
+}
+
+// The event at a place of a round, a tenth of a second behind the one before. The first member displays a buy order and
+// the second hides one; the third sells to both. He displays a sell order, the first member another buy order, which he
+// then cancels in part or whole. The second hides a sell order, and the first buys of both sellers. The second displays an
+// order for a second, and the tick of the next round ends it.
+fn event_at(alloc: Global, round: u8, place: u8) -> Result<Event, Fail>
+    requires { (round < 20) × (place < 10) }
+{
+    let time = 1000 + 100_000_000 * (10 * u64::from(round) + u64::from(place));
+    let (first, second, third) = (member(round, 0), member(round, 1), member(round, 2));
+    let order = Order {
+        time,
+        member: first,
+        token: [b'A' + round, b'0' + place],
+        ..BUY
+    };
+    Ok(match place {
+        0 => enter(alloc, &order)?,
+        1 => enter(
+            alloc,
+            &Order {
+                member: second,
+                display: b'N',
+                ..order
+            },
+        )?,
+        2 => enter(
+            alloc,
+            &Order {
+                member: third,
+                side: SELL.side,
+                shares: 150,
+                ..order
+            },
+        )?,
+        3 => enter(
+            alloc,
+            &Order {
+                member: third,
+                side: SELL.side,
+                price: 101_000,
+                ..order
+            },
+        )?,
+        4 => enter(
+            alloc,
+            &Order {
+                shares: 300,
+                price: 99_000,
+                ..order
+            },
+        )?,
+        5 => cancel(alloc, round, first, time)?,
+        6 => enter(
+            alloc,
+            &Order {
+                member: second,
+                side: SELL.side,
+                price: 101_000,
+                display: b'N',
+                ..order
+            },
+        )?,
+        7 => enter(
+            alloc,
+            &Order {
+                shares: 150,
+                price: 101_000,
+                ..order
+            },
+        )?,
+        8 => enter(
+            alloc,
+            &Order {
+                member: second,
+                price: 98_000,
+                time_in_force: 1,
+                ..order
+            },
+        )?,
+        _ => Event::Tick { time },
+    })
+}
+
+// The cancel of the fifth order of a round: to 200 shares, or whole, in turn.
+fn cancel(alloc: Global, round: u8, member: u16, time: u64) -> Result<Event, Fail>
+    requires { round < 20 }
+{
+    let bytes = encode_in(&Inbound::Cancel(Cancel {
+        token: token([b'A' + round, b'4']),
+        shares: if round % 2 == 0 { 200 } else { 0 },
+    }));
+    Ok(message(alloc, member, time, bytes.as_slice())?)
+}
+
+// All events of the day.
+fn events(alloc: Global) -> Result<Vec<Event>, Fail> {
+    let mut events = Vec::new(alloc);
+    for round in 0..ROUNDS {
+        for place in 0..10u8 {
+            events.push(event_at(alloc, round, place)?)?;
+        }
+    }
+    Ok(events)
+}
+
+// In four turns as many events are sent as in any other: sixteen. So the day has fifty groups, and each is written by one
+// call of the file and synced by another; four calls open the file.
+fn stops_at_quarter<R: Wait + Abort>(
+    rt: &R,
+    alloc: Global,
+    calls: Range<u64>,
+) -> Result<Told, Fail> {
+    let events = events(alloc)?;
+    let day = Day {
+        setup: STANDARD,
+        events: &events,
+        at_once: [1, 7, 2, 6],
+    };
+    stops_at_calls(rt, alloc, day, calls, DeviceError::Failed)
+}
+
+// Each round has nine messages of the feed: four orders that are added, two times an execution and a trade, and a cancel;
+// and but for the first round the delete of an order of a second. Eight orders are accepted, each of four executions is
+// told to two, and the cancel and that delete to one.
+#[test]
+fn stops_at_the_first_quarter_of_a_day(rt: HostRuntime) -> Result<(), Fail> {
+    let whole = stops_at_quarter(&rt, rt.alloc(), 0..26)?;
+    assert_eq!(rt; whole.feed.len(), 20 * 9 + 19);
+    assert_eq!(rt; whole.reply_count(), 20 * (8 + 8 + 1) + 19);
+    Ok(())
+}
+
+#[test]
+fn stops_at_the_second_quarter_of_a_day(rt: HostRuntime) -> Result<(), Fail> {
+    stops_at_quarter(&rt, rt.alloc(), 26..52)?;
+    Ok(())
+}
+
+#[test]
+fn stops_at_the_third_quarter_of_a_day(rt: HostRuntime) -> Result<(), Fail> {
+    stops_at_quarter(&rt, rt.alloc(), 52..78)?;
+    Ok(())
+}
+
+#[test]
+fn stops_at_the_last_quarter_of_a_day(rt: HostRuntime) -> Result<(), Fail> {
+    stops_at_quarter(&rt, rt.alloc(), 78..104)?;
+    Ok(())
+}

@@ -1,0 +1,187 @@
+//! A day over the journal's file, from its beginning or from what the file has of it.
+ghost use Rattle.std.specs.Prelude.{◌≡◌, true};
+ghost use Rattle.hx_tape_lines.specs.Text.{record_of};
+ghost use Rattle.hx_desk.specs.Entries.{restored};
+ghost use Rattle.hx_engine.specs.Journals.{lines};
+ghost use Rattle.hx_engine.specs.Opening.{IsNewLog};
+
+use super::shared_file::SharedFile;
+use super::told::{Told, hear};
+use hx_engine::{
+    Exchange, FinishError, Journal, JournalError, Pass, Recovered, SubmitError, Venue,
+};
+use hx_engine_testing::ground::{Ground, ground_of};
+use hx_journal::{FileJournal, Head, Noted, OpenError};
+use hx_market::Event;
+use hx_members::{Seed, Setup};
+use hx_recovery::{RecoveryError, recover};
+use std::alloc::Global;
+use std::marker::Brand;
+use std::process::Abort;
+use std::sync::Wait;
+use std::test::*;
+
+/// A day: the text of its setup, its events, and how many of them are sent at once, in turn.
+#[derive(Clone, Copy)]
+pub struct Day<'a> {
+    pub setup: &'a [u8],
+    pub events: &'a [Event],
+    pub at_once: [usize; 4],
+}
+
+/// How a day went.
+#[derive(Drop)]
+pub struct Course {
+    /// What was told of the events that the journal had, before another was sent.
+    pub again: Told,
+    /// What was told in the end.
+    pub told: Told,
+    /// How many events were answered, those that the journal had among them.
+    pub answered: usize,
+    /// Why the journal failed, where it did.
+    pub failure: Option<JournalError>,
+}
+
+type Kept = FileJournal<Noted<SharedFile>>;
+
+/// Plays a day over a file that has these bytes: the events that it has are told again, and the others are sent, until
+/// the file fails.
+pub fn play<R: Wait + Abort>(
+    rt: &R,
+    alloc: Global,
+    day: Day,
+    file: SharedFile,
+    bytes: &[u8],
+) -> Result<Course, Fail> {
+    let ground = ground_of(alloc, Setup::read(alloc, day.setup)?, 1000, 1)?;
+    let head = Head::new(alloc, b"HX00000001", b"20260711", b"9fc2")?;
+    match recover(alloc, file, bytes, &head) {
+        Ok(recovered) => go_on::<Brand, Kept, R>(rt, alloc, day, ground, recovered),
+        Err(RecoveryError::Open(OpenError::Journal(error))) => {
+            Ok(Course {
+                again: Told::nothing(alloc)?,
+                told: Told::nothing(alloc)?,
+                answered: 0,
+                failure: Some(error),
+            })
+        }
+        Err(_) => Err("the journal is damaged".into()),
+    }
+}
+
+/// Plays a day over a journal that keeps some of its events: the rest of the day is sent.
+pub fn go_on<V: Venue, J: Journal + Drop, R: Wait + Abort>(
+    rt: &R,
+    alloc: Global,
+    day: Day,
+    ground: Ground,
+    recovered: Recovered<J>,
+) -> Result<Course, Fail>
+    requires feed { IsNewLog V.log ground.logs.feed }
+    requires admitted { IsNewLog V.admitted ground.logs.admitted }
+    requires kept { IsNewLog V.kept ground.logs.kept }
+    requires of_setup { ground.setup ≡ V.setup }
+    requires before { recovered.events.items ≡ V.before }
+    requires journal { J.appended recovered.journal ≡ lines record_of (restored V.before) }
+    requires safe { (J.kept recovered.journal ≡ J.appended recovered.journal)
+        × (J.is_open recovered.journal ≡ true) }
+    requires reader { ground.reader.log ≡ V.log }
+    requires blank { (ground.blank.name ≡ V.name) × (ground.blank.parts ≡ V.parts) × (V.parts ≡ 1) }
+{
+    let Ground {
+        setup,
+        logs,
+        blank,
+        mut reader,
+    } = ground;
+    let first = recovered.events.len();
+    let Ok((exchange, mut passes)) = Exchange::<V, J>::resume(
+        alloc,
+        setup,
+        logs,
+        recovered,
+        blank,
+        1,
+        Seed::Fixed,
+    ) else {
+        return Err("an exchange".into());
+    };
+    let mut pass = passes.pop().ok_or("a pass")?;
+    let again = hear(rt, alloc, &exchange, &mut reader)?;
+    let (answered, stopped) = send_from(rt, alloc, &exchange, &mut pass, day, first)?;
+    let told = hear(rt, alloc, &exchange, &mut reader)?;
+    let failure = exchange.failure(rt);
+    assert_eq!(rt; failure.is_some(), stopped);
+    if stopped {
+        // Nothing is recorded any more, and nothing told.
+        let tick = exchange.submit(rt, &mut pass, &Event::Tick { time: 0 });
+        assert!(rt; tick == Err(SubmitError::Stopped));
+        assert!(rt; hear(rt, alloc, &exchange, &mut reader)? == told);
+    }
+    passes.push(pass)?;
+    expect_end(rt, exchange, passes, answered, stopped)?;
+    Ok(Course {
+        again,
+        told,
+        answered,
+        failure,
+    })
+}
+
+// Sends the events of a day from a place on, until the exchange stops: how many were answered, those before among them,
+// and whether it stopped.
+fn send_from<V: Venue, J: Journal + Drop, R: Wait>(
+    rt: &R,
+    alloc: Global,
+    exchange: &Exchange<V, J>,
+    pass: &mut Pass<V>,
+    day: Day,
+    first: usize,
+) -> Result<(usize, bool), Fail> {
+    let mut answered = first;
+    for turn in 0..day.events.len() {
+        let batch = batch_from(alloc, day, answered, turn)?;
+        let count = batch.len();
+        if count == 0 {
+            break;
+        }
+        match exchange.submit_all(rt, pass, batch) {
+            Ok(_) => answered = answered.saturating_add(count),
+            Err((SubmitError::Stopped, 0)) => return Ok((answered, true)),
+            Err(_) => return Err("an event is refused".into()),
+        }
+    }
+    Ok((answered, false))
+}
+
+// The events that are sent in this turn.
+fn batch_from(alloc: Global, day: Day, first: usize, turn: usize) -> Result<Vec<Event>, Fail> {
+    let size = day.at_once[turn % 4];
+    let mut batch = Vec::new(alloc);
+    for event in day.events.iter().skip(first).take(size) {
+        batch.push(event.copy(alloc)?)?;
+    }
+    Ok(batch)
+}
+
+// The exchange ends with the events that were answered, or does not end where it stopped.
+fn expect_end<V: Venue, J: Journal + Drop, R: Abort>(
+    rt: &R,
+    exchange: Exchange<V, J>,
+    passes: Vec<Pass<V>>,
+    answered: usize,
+    stopped: bool,
+) -> Result<(), Fail> {
+    match exchange.finish(passes) {
+        Ok(finished) => {
+            assert!(rt; !stopped);
+            assert_eq!(rt; finished.history.len(), answered);
+            Ok(())
+        }
+        Err(FinishError::Stopped { .. }) => {
+            assert!(rt; stopped);
+            Ok(())
+        }
+        Err(FinishError::Missing { .. }) => Err("all passes are there".into()),
+    }
+}

@@ -1,0 +1,82 @@
+//! How the journal of a day is opened.
+ghost use Rattle.std.specs.Prelude.{◌≡◌, true, IfOk};
+ghost use Rattle.hx_journal.specs.Calls.{seen_of};
+ghost use Rattle.hx_journal.specs.Files.{stored, appended};
+ghost use Rattle.hx_journal.specs.Records.{records_of};
+ghost use Rattle.hx_tape_lines.specs.Text.{record_of};
+ghost use Rattle.hx_desk.specs.Entries.{restored};
+ghost use Rattle.hx_engine.specs.Journals.{lines};
+
+use crate::date::date_of;
+use crate::fault::DayJournalError;
+use crate::file::{PatientFile, Syncs};
+use hx_engine::Recovered;
+use hx_journal::{FileJournal, Head, HostFile, Noted};
+use hx_market::Event;
+use hx_recovery::recover;
+use hx_serve::Board;
+use std::fs;
+use std::rt::Files;
+use std::time::Clock;
+
+/// The journal of a day in a file of the system.
+pub type DayFile<'a, B, T> = FileJournal<Noted<PatientFile<'a, HostFile, B, T>>>;
+
+/// Which journal is wanted, and how it is kept.
+#[derive(Clone, Copy)]
+pub struct Wanted<'a> {
+    /// The session, 10 letters or digits.
+    pub session: &'a [u8],
+    /// The day, since 1970.
+    pub day: u64,
+    /// The digest of the setup's text, as `digest_of` gives it.
+    pub setup: &'a [u8],
+    /// When it is brought to the disk.
+    pub syncs: Syncs,
+}
+
+/// Opens the journal of a day, or makes it where no file of this name is there, and reads the events that it keeps. What a
+/// crash left behind its last whole block is cut off. While it is open no other process opens it.
+///
+/// Errors: where the file is of another session, day or setup, or damaged, it is not touched.
+pub fn open_journal<'a, B: Board, T: Files<File = fs::File> + AllocGlobal + Clock>(
+    rt: &'a T,
+    board: &'a B,
+    path: &str,
+    wanted: Wanted<'_>,
+) -> Result<Recovered<DayFile<'a, B, T>>, DayJournalError>
+    ensures appended { IfOk result (λ r.
+        records_of (appended (λ d. seen_of d.log.events) r.journal)
+        ≡ lines record_of (restored r.events.items)) }
+    ensures kept { IfOk result (λ r.
+        records_of (stored (λ d. seen_of d.log.events) r.journal)
+        ≡ lines record_of (restored r.events.items)) }
+    ensures is_open { IfOk result (λ r. r.journal.is_open ≡ true) }
+{
+    let alloc = rt.alloc();
+    let day = date_of(alloc, wanted.day)?;
+    let head = Head::new(alloc, wanted.session, &day, wanted.setup)?;
+    let (file, bytes) = HostFile::open(rt, path)?;
+    let file = PatientFile::new(file, bytes.len(), wanted.syncs, board, rt);
+    Ok(recover(alloc, file, &bytes, &head)?)
+}
+
+// When an event happened, in nanoseconds since midnight.
+fn time_of(event: &Event) -> u64 {
+    match event {
+        Event::Message { time, .. }
+        | Event::Tick { time }
+        | Event::Hours { time, .. }
+        | Event::Halt { time, .. }
+        | Event::Break { time, .. } => *time,
+    }
+}
+
+/// The last of the times of events, in nanoseconds since midnight: a day that goes on from them gives no time below it.
+pub fn last_time(events: &[Event]) -> u64 {
+    let mut last = 0;
+    for event in events {
+        last = time_of(event).max(last);
+    }
+    last
+}

@@ -1,0 +1,5 @@
+//! What tests of an exchange share: what a new one stands on, and a journal in memory.
+#![tactic(auto)]
+
+pub mod ground;
+pub mod memory;

@@ -1,5 +1,0 @@
-use Rattle.std.proofs.Common.{◌≡◌}
-use Rattle.hx_engine_tests.proofs.tests.resuming.expect_feed.Given as goal
-
-abbrev pub invariant-loop-want : goal.invariant-loop-want
-invariant-loop-want g l = l.reader.log ≡ l.fn.reader.log

@@ -1,0 +1,11 @@
+-- The records of events that an exchange goes on from.
+use Rattle.std.proofs.Common.{◌≡◌, ◌∙◌, ◌≤◌, ℕ, List, [], ◌∷◌, ◌++◌, length, map, drop, refl, ap, sym}
+use Rattle.std.proofs.lemmas.List.{append-nil, drop_all}
+use Rattle.hx_rules.specs.declared.event.Event.{Event}
+use Rattle.hx_tape_lines.specs.Text.{record_of}
+use Rattle.hx_desk.specs.Entries.{restored}
+use Rattle.hx_engine.specs.Journals.{lines}
+
+pub lines_restored : (events : List Event) → lines record_of (restored events) ≡ map record_of events
+lines_restored [] = refl
+lines_restored (e ∷ events) = ap (λ l. record_of e ∷ l) (lines_restored events)

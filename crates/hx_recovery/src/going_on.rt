@@ -1,0 +1,106 @@
+//! How a day goes on from its journal.
+ghost use Rattle.std.specs.Prelude.{◌≡◌, map, true, IfOk};
+ghost use Rattle.hx_journal.specs.Calls.{seen_of};
+ghost use Rattle.hx_journal.specs.Files.{stored, appended};
+ghost use Rattle.hx_journal.specs.Lines.{text_of};
+ghost use Rattle.hx_journal.specs.Records.{records_of, recovered};
+ghost use Rattle.hx_tape_lines.specs.Text.{record_of};
+ghost use Rattle.hx_desk.specs.Entries.{restored};
+ghost use Rattle.hx_engine.specs.Journals.{lines};
+
+use hx_engine::{Journal, JournalError, Recovered};
+use hx_journal::{FileJournal, Head, Noted, OpenError, RawFile};
+use hx_market::Event;
+use hx_tape_lines::read_event;
+use hx_text::split_once;
+use hx_units::NoMemory;
+use std::alloc::{AllocError, AllocFailed, Global};
+
+/// Why a day does not go on from a journal.
+#[derive(Clone, Copy, Debug, PartialEq, Eq, Drop)]
+pub enum RecoveryError {
+    /// The journal is not opened.
+    Open(OpenError),
+    /// A record of it is no line of an event.
+    NoEvent {
+        /// Its number, counted from 1.
+        record: u64,
+    },
+    /// A growth was refused.
+    NoMemory,
+}
+
+impl From<AllocError> for RecoveryError {
+    fn from(_error: AllocError) -> RecoveryError {
+        RecoveryError::NoMemory
+    }
+}
+
+impl<T: Drop> From<AllocFailed<T>> for RecoveryError {
+    fn from(_error: AllocFailed<T>) -> RecoveryError {
+        RecoveryError::NoMemory
+    }
+}
+
+impl From<NoMemory> for RecoveryError {
+    fn from(_error: NoMemory) -> RecoveryError {
+        RecoveryError::NoMemory
+    }
+}
+
+// The events of a tape.
+fn events_of(alloc: Global, tape: &[u8]) -> Result<Vec<Event>, RecoveryError>
+    ensures { IfOk result (λ events. tape.now ≡ text_of (map record_of events.items)) }
+{
+    let mut events = Vec::new(alloc);
+    let mut rest = tape;
+    while let Some((line, others)) = split_once(rest, b'\n') {
+        let Some(event) = read_event(Vec::new(alloc), line)? else {
+            return Err(no_event(events.len()));
+        };
+        events.push(event)?;
+        rest = others;
+    }
+    if !rest.is_empty() {
+        return Err(no_event(events.len()));
+    }
+    Ok(events)
+}
+
+// The record behind so many events is none.
+fn no_event(events: usize) -> RecoveryError {
+    RecoveryError::NoEvent {
+        record: (events as u64).saturating_add(1),
+    }
+}
+
+/// The journal of a file that has these bytes, all of them on the disk, and the events that it keeps: what an exchange
+/// goes on from.
+///
+/// Errors: `Open` where the journal is not opened, `NoEvent` where a record is no line of an event, `NoMemory`.
+pub fn recover<F: RawFile + Drop>(
+    alloc: Global,
+    file: F,
+    bytes: &[u8],
+    head: &Head,
+) -> Result<Recovered<FileJournal<Noted<F>>>, RecoveryError>
+    ensures appended { IfOk result (λ r.
+        records_of (appended (λ d. seen_of d.log.events) r.journal)
+        ≡ lines record_of (restored r.events.items)) }
+    ensures kept { IfOk result (λ r.
+        records_of (stored (λ d. seen_of d.log.events) r.journal)
+        ≡ lines record_of (restored r.events.items)) }
+    ensures is_open { IfOk result (λ r. r.journal.is_open ≡ true) }
+
+    // The events are those whose records the file keeps.
+    ensures read { IfOk result (λ r. map record_of r.events.items ≡ recovered bytes.now) }
+{
+    match FileJournal::open(alloc, Noted::opened(file, bytes), bytes, head) {
+        Ok((journal, tape)) => {
+            let events = events_of(alloc, &tape)?;
+            Ok(Recovered { journal, events })
+        }
+        Err((OpenError::Journal(JournalError::Memory), _file)) => Err(RecoveryError::NoMemory),
+        Err((error, _file)) => Err(RecoveryError::Open(error)),
+    }
+}

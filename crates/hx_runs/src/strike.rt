@@ -1,0 +1,29 @@
+//! The command that writes a tape without quiet chains.
+
+use crate::fault::RunError;
+use crate::setups::read_setup;
+use clap::ArgMatches;
+use hx_replay::{strike_all_tape, strike_tape};
+use hx_units::MemberNo;
+use std::io;
+use std::rt::Files;
+
+/// Writes the input without the messages of quiet chains: a member's, or those of all.
+pub fn strike_input<R: AllocGlobal + Input + Print + Files>(
+    rt: &R,
+    matches: &ArgMatches<'_>,
+) -> Result<(), RunError> {
+    let alloc = rt.alloc();
+    let (mut reader, mut writer) = (rt.reader(), io::writer(rt));
+    if matches.get_flag("all") {
+        let setup = read_setup(rt, matches)?;
+        strike_all_tape(alloc, &setup, &mut reader, &mut writer)?;
+        return Ok(());
+    }
+    let Some(member) = matches.get_one::<u16>("member").and_then(MemberNo::of) else {
+        return Err(RunError::CommandLine);
+    };
+    let setup = read_setup(rt, matches)?;
+    strike_tape(alloc, &setup, &mut reader, &mut writer, member)?;
+    Ok(())
+}
