@@ -26,21 +26,30 @@ fn the_day_in_turns(rt: HostRuntime) -> Result<(), Fail> {
     Ok(())
 }
 
-// The reader gives as much as there is room for, five times and the last time less, and then ends. What is written is what
-// is written line by line: of 15,000 lines of the day, of the same once more, and of the whole day.
+// The first 15,000 lines of the day, seven times, and then the whole day: 125,000 lines, of which one read takes some
+// 45,000.
+fn seven_times_and_whole(alloc: Global, day: &Day) -> Result<Vec<u8>, Fail> {
+    let most = first_lines(&day.tape, 15_000);
+    let mut tape = Vec::new(alloc);
+    for _ in 0..7 {
+        tape.extend_from_slice(most)?;
+    }
+    tape.extend_from_slice(&day.tape)?;
+    Ok(tape)
+}
+
+// The reader gives as much as there is room for, three times and the last time less, and then ends. What is written is what
+// is written line by line.
 #[test]
 fn pieces_that_fill_their_room(rt: HostRuntime) -> Result<(), Fail> {
     let setup = setup_of(rt.alloc(), SETUP)?;
     let day = day(rt.alloc())?;
-    let most = first_lines(&day.tape, 15_000);
-    let mut tape = Vec::from_slice(rt.alloc(), most)?;
-    tape.extend_from_slice(most)?;
-    tape.extend_from_slice(&day.tape)?;
+    let tape = seven_times_and_whole(rt.alloc(), &day)?;
     let (mut told, mut output) = (Vec::new(rt.alloc()), Vec::new(rt.alloc()));
     replay(rt.alloc(), &setup, &mut tape.as_slice(), &mut told)?;
     let mut reader = Input::new(&tape);
     let counts = replay_ahead(&rt, rt.alloc(), &setup, &mut reader, &mut output)?;
-    assert_eq!(rt; (counts.events, reader.calls), (50_000, 6));
+    assert_eq!(rt; (counts.events, reader.calls), (125_000, 4));
     assert!(rt; output.as_slice() == told.as_slice());
     Ok(())
 }
@@ -51,21 +60,22 @@ fn pieces_that_fill_their_room(rt: HostRuntime) -> Result<(), Fail> {
 fn a_second_read_that_fails(rt: HostRuntime) -> Result<(), Fail> {
     let setup = setup_of(rt.alloc(), SETUP)?;
     let day = day(rt.alloc())?;
+    let tape = seven_times_and_whole(rt.alloc(), &day)?;
     let (mut told, mut output) = (Vec::new(rt.alloc()), Vec::new(rt.alloc()));
     let mut reader = Input {
         bad: Bad {
             call: 2,
             kind: Some(ErrorKind::BrokenPipe),
         },
-        ..Input::new(&day.tape)
+        ..Input::new(&tape)
     };
     let ended = replay_ahead(&rt, rt.alloc(), &setup, &mut reader, &mut output);
     assert!(rt; matches!(ended, Err(TapeError::Read)));
     assert_eq!(rt; reader.calls, 2);
-    let read = day.tape.len().saturating_sub(reader.bytes.len());
-    assert!(rt; read > 1 << 20);
+    let read = tape.len().saturating_sub(reader.bytes.len());
+    assert!(rt; read > 1 << 22);
     // It breaks off in a line, of which nothing is told.
-    let whole = replay(rt.alloc(), &setup, &mut front(&day.tape, read), &mut told);
+    let whole = replay(rt.alloc(), &setup, &mut front(&tape, read), &mut told);
     assert!(rt;
         matches!(
             whole,
@@ -104,7 +114,7 @@ fn all_is_written_before_more_is_waited_for(rt: HostRuntime) -> Result<(), Fail>
     Ok(())
 }
 
-// Behind so many lines of the day, in the middle of a turn, stands a line with this fault: what those lines tell is written,
+// Behind n lines of a long tape, in the middle of a turn, stands a line with this fault: what those lines tell is written,
 // as it is line by line.
 fn expect_stop<R: AllocGlobal + Abort + Threads>(
     rt: &R,
@@ -114,10 +124,11 @@ fn expect_stop<R: AllocGlobal + Abort + Threads>(
 ) -> Result<(), Fail> {
     let setup = setup_of(rt.alloc(), SETUP)?;
     let day = day(rt.alloc())?;
-    let mut front = first_lines(&day.tape, lines);
+    let long = seven_times_and_whole(rt.alloc(), &day)?;
+    let mut front = first_lines(&long, lines);
     let mut tape = Vec::from_slice(rt.alloc(), front)?;
     tape.extend_from_slice(bad)?;
-    tape.extend_from_slice(&day.tape)?;
+    tape.extend_from_slice(&long)?;
     let (mut told, mut output) = (Vec::new(rt.alloc()), Vec::new(rt.alloc()));
     replay(rt.alloc(), &setup, &mut front, &mut told)?;
     match replay_ahead(rt, rt.alloc(), &setup, &mut tape.as_slice(), &mut output) {
@@ -142,15 +153,15 @@ fn a_line_that_is_refused(rt: HostRuntime) -> Result<(), Fail> {
     expect_stop(&rt, 5_000, b"86400000000000 1 58\n", Kind::Time)
 }
 
-// The first read gives less than 10,000 lines, so the same two lines stand in what the second one gives.
+// The first read gives less than 60,000 lines, so the same two lines stand in what the second one gives.
 #[test]
 fn a_line_of_the_second_read_that_is_none(rt: HostRuntime) -> Result<(), Fail> {
-    expect_stop(&rt, 10_000, b"no line\n", Kind::Bad)
+    expect_stop(&rt, 60_000, b"no line\n", Kind::Bad)
 }
 
 #[test]
 fn a_line_of_the_second_read_that_is_refused(rt: HostRuntime) -> Result<(), Fail> {
-    expect_stop(&rt, 10_000, b"86400000000000 1 58\n", Kind::Time)
+    expect_stop(&rt, 60_000, b"86400000000000 1 58\n", Kind::Time)
 }
 
 // Each write takes at least 65,536 bytes, and the fourth one fails.
