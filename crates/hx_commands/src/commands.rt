@@ -1,66 +1,9 @@
 //! The commands, each with its options.
 
 use crate::journal::journal_command;
-use clap::{Arg, ArgAction, ArgGroup, Command, value_parser};
+use clap::{Arg, ArgAction, Command, value_parser};
+use hx_tape_commands::{setup_file, tape_command};
 use std::alloc::{AllocError, Global};
-
-// The program's name.
-const PROGRAM: &str = "hx_tape";
-
-// The file of the setup.
-fn setup_file<'a>(alloc: Global) -> Arg<'a> {
-    Arg::new(alloc, "setup")
-        .long("setup")
-        .value_name("FILE")
-        .help("The setup of the day, in place of the standard one")
-}
-
-fn replay_command<'a>(alloc: Global) -> Result<Command<'a>, AllocError> {
-    Command::new(alloc, "replay")
-        .about("Writes the output lines of a tape")
-        .arg(setup_file(alloc))
-}
-
-// The number of a member.
-fn member<'a>(alloc: Global) -> Arg<'a> {
-    Arg::new(alloc, "member")
-        .long("member")
-        .value_name("N")
-        .value_parser(value_parser!(u16).range(1..=4095))
-        .help("The number of the member")
-}
-
-// One member, or all: the one or the other.
-fn strike_command<'a>(alloc: Global) -> Result<Command<'a>, AllocError> {
-    let all = Arg::new(alloc, "all")
-        .long("all")
-        .action(ArgAction::SetTrue)
-        .help("All members at once");
-    let whose = ArgGroup::new(alloc, "whose")
-        .required(true)
-        .arg("member")?
-        .arg("all")?;
-    Command::new(alloc, "strike")
-        .about("Writes a tape without the messages of quiet chains, of a member or of all")
-        .arg(member(alloc))?
-        .arg(all)?
-        .group(whose)?
-        .arg(setup_file(alloc))
-}
-
-// The feed or a member, or neither of them.
-fn show_command<'a>(alloc: Global) -> Result<Command<'a>, AllocError> {
-    let feed = Arg::new(alloc, "feed")
-        .long("feed")
-        .action(ArgAction::SetTrue)
-        .help("The messages of the feed alone");
-    let which = ArgGroup::new(alloc, "which").arg("member")?.arg("feed")?;
-    Command::new(alloc, "show")
-        .about("Writes a tape, or the output of replay, in words")
-        .arg(member(alloc))?
-        .arg(feed)?
-        .group(which)
-}
 
 // A port, 1 to 65,535.
 fn port<'a>(alloc: Global, name: &'static str, help: &'static str) -> Arg<'a> {
@@ -126,7 +69,13 @@ fn kept_day<'a>(alloc: Global, command: Command<'a>) -> Result<Command<'a>, Allo
         .long("day")
         .value_name("YYYYMMDD")
         .help("The day of the journal and of an open day's times, in place of today, UTC");
-    command.arg(journal)?.arg(sync)?.arg(day)
+    let ahead = Arg::new(alloc, "ahead")
+        .long("ahead")
+        .value_name("N")
+        .default_value("65536")
+        .value_parser(value_parser!(u64).range(1..=1_000_000_000))
+        .help("How many events may wait for the journal: where more would, no message is taken");
+    command.arg(journal)?.arg(sync)?.arg(day)?.arg(ahead)
 }
 
 fn serve_command<'a>(alloc: Global) -> Result<Command<'a>, AllocError> {
@@ -186,24 +135,9 @@ fn watch_command<'a>(alloc: Global) -> Result<Command<'a>, AllocError> {
         .arg(stock)
 }
 
-// The program, with its commands over tapes.
-fn tapes<'a>(alloc: Global) -> Result<Command<'a>, AllocError> {
-    Command::new(alloc, PROGRAM)
-        .subcommand_required(true)
-        .subcommand(replay_command(alloc)?)?
-        .subcommand(strike_command(alloc)?)?
-        .subcommand(show_command(alloc)?)
-}
-
-/// The command line of the commands over tapes alone: replay, strike and show. Its texts name the
-/// program `hx_tape`, whatever its file is called.
-pub fn tape_command<'a>(alloc: Global) -> Result<Command<'a>, AllocError> {
-    tapes(alloc)?.bin_name(PROGRAM)
-}
-
-/// The program's whole command line: the commands over tapes, serve and watch.
+/// The program's whole command line: the commands over tapes, serve, watch and journal.
 pub fn command<'a>(alloc: Global) -> Result<Command<'a>, AllocError> {
-    tapes(alloc)?
+    tape_command(alloc)?
         .subcommand(serve_command(alloc)?)?
         .subcommand(watch_command(alloc)?)?
         .subcommand(journal_command(alloc)?)

@@ -1,7 +1,7 @@
-//! The words of the programs' command lines: their commands, and what each of them takes.
+//! The words of the program's command line: its commands, and what each of them takes.
 #![tactic(auto)]
 
 mod commands;
 mod journal;
 
-pub use commands::{command, tape_command};
+pub use commands::command;

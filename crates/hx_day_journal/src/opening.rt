@@ -13,8 +13,8 @@ use crate::file::{PatientFile, Syncs};
 use hx_engine::Recovered;
 use hx_journal::{FileJournal, Head, HostFile, Noted};
 use hx_market::Event;
-use hx_recovery::recover;
-use hx_serve::Board;
+use hx_recovery::{Progress, recover};
+use hx_serve::{Board, Notice};
 use std::fs;
 use std::rt::Files;
 use std::time::Clock;
@@ -35,8 +35,26 @@ pub struct Wanted<'a> {
     pub syncs: Syncs,
 }
 
+// After how many events the operator is told how far the reading of a journal has come.
+const STEP: u64 = 1_000_000;
+
+// Tells the operator how far it has come.
+#[derive(Clone, Copy)]
+struct Telling<'a, B> {
+    board: &'a B,
+}
+
+impl<B: Board> Progress for Telling<'_, B> {
+    fn reached(&self, events: u64) {
+        if events % STEP == 0 {
+            self.board.post(Notice::Reading { events });
+        }
+    }
+}
+
 /// Opens the journal of a day, or makes it where no file of this name is there, and reads the events that it keeps. What a
-/// crash left behind its last whole block is cut off. While it is open no other process opens it.
+/// crash left behind its last whole block is cut off. While it is open no other process opens it. The board is told of each
+/// million events that are read.
 ///
 /// Errors: where the file is of another session, day or setup, or damaged, it is not touched.
 pub fn open_journal<'a, B: Board, T: Files<File = fs::File> + AllocGlobal + Clock>(
@@ -58,7 +76,7 @@ pub fn open_journal<'a, B: Board, T: Files<File = fs::File> + AllocGlobal + Cloc
     let head = Head::new(alloc, wanted.session, &day, wanted.setup)?;
     let (file, bytes) = HostFile::open(rt, path)?;
     let file = PatientFile::new(file, bytes.len(), wanted.syncs, board, rt);
-    Ok(recover(alloc, file, &bytes, &head)?)
+    Ok(recover(alloc, file, &bytes, &head, &Telling { board })?)
 }
 
 // When an event happened, in nanoseconds since midnight.

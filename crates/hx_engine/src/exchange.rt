@@ -36,6 +36,8 @@ pub struct Exchange<V: Venue, J: Journal> {
     // Told of each batch that is told, and of a journal that failed.
     pub(crate) recorded: Condvar,
     pub(crate) passes: PassCount<V>,
+    // So many events may be admitted that are not yet told.
+    pub(crate) ahead: u64,
     pub(crate) alloc: Global,
     pub ghost named: { log ≡ V.log },
     pub ghost admitted_named: { admitted ≡ V.admitted },
@@ -107,6 +109,7 @@ impl<V: Venue, J: Journal + Drop> Exchange<V, J> {
             desk,
             recorded: _,
             passes: _,
+            ahead: _,
             alloc: _,
         } = self;
         let Held {
@@ -146,6 +149,7 @@ impl<V: Venue, J: Journal + Drop> Exchange<V, J> {
             desk,
             recorded: _,
             passes: _,
+            ahead: _,
             alloc: _,
         } = self;
         let Held {

@@ -148,6 +148,11 @@ impl<V: Venue, J: Journal + Drop> Held<V, J> {
         }
     }
 
+    /// How many events are admitted and not yet told.
+    pub fn ahead_len(&self) -> u64 {
+        self.desk.history_len().saturating_sub(self.desk.told_len())
+    }
+
     /// Admits an event for a pass, with its record, and counts it in its share.
     pub fn admit(
         &mut self,

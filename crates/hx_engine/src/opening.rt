@@ -153,8 +153,17 @@ impl<V: Venue, J: Journal + Drop> Exchange<V, J> {
             desk: Mutex::new(Held::open(alloc, desk, book, spare, register, receipt, keeper)),
             recorded: Condvar::new(),
             passes: PassCount::of(passes),
+            ahead: u64::MAX,
             alloc,
         };
         Ok((exchange, made))
+    }
+
+    /// The same, but where this many events, at least one, are admitted and not yet told, the next calls of `submit` wait
+    /// before theirs is. Of a new exchange that number has no limit.
+    pub fn at_most_ahead(self, events: u64) -> Self {
+        let mut exchange = self;
+        exchange.ahead = events.max(1);
+        exchange
     }
 }

@@ -254,7 +254,9 @@ impl<V: Venue, J: Journal + Drop> Exchange<V, J> {
         ensures told { IfSome result.told (λ r. (r.log ≡ V.log)
             × Settles V.setup result.last.place entered.new.known knows.old.known r.known) }
     {
-        let mut lock = self.desk.lock(rt);
+        let mut lock = self.recorded.wait_while(rt, self.desk.lock(rt), |held| {
+            held.ahead_len() >= self.ahead && held.failed.is_none()
+        });
         let held = &mut *lock;
         if held.failed.is_some() {
             return Entered::none(held.refuse(&events[0], true));

@@ -48,8 +48,26 @@ impl From<NoMemory> for RecoveryError {
     }
 }
 
+/// Is told how far the reading of a journal has come.
+pub trait Progress {
+    /// This number of events are read.
+    fn reached(&self, events: u64);
+}
+
+/// Nobody looks at the reading of a journal.
+#[derive(Clone, Copy, Drop)]
+pub struct Unwatched;
+
+impl Progress for Unwatched {
+    fn reached(&self, _events: u64) {}
+}
+
 // The events of a tape.
-fn events_of(alloc: Global, tape: &[u8]) -> Result<Vec<Event>, RecoveryError>
+fn events_of<P: Progress>(
+    alloc: Global,
+    tape: &[u8],
+    progress: &P,
+) -> Result<Vec<Event>, RecoveryError>
     ensures { IfOk result (λ events. tape.now ≡ text_of (map record_of events.items)) }
 {
     let mut events = Vec::new(alloc);
@@ -59,6 +77,7 @@ fn events_of(alloc: Global, tape: &[u8]) -> Result<Vec<Event>, RecoveryError>
             return Err(no_event(events.len()));
         };
         events.push(event)?;
+        progress.reached(events.len() as u64);
         rest = others;
     }
     if !rest.is_empty() {
@@ -75,14 +94,15 @@ fn no_event(events: usize) -> RecoveryError {
 }
 
 /// The journal of a file that has these bytes, all of them on the disk, and the events that it keeps: what an exchange
-/// goes on from.
+/// goes on from. The progress is told of each event that is read.
 ///
 /// Errors: `Open` where the journal is not opened, `NoEvent` where a record is no line of an event, `NoMemory`.
-pub fn recover<F: RawFile + Drop>(
+pub fn recover<F: RawFile + Drop, P: Progress>(
     alloc: Global,
     file: F,
     bytes: &[u8],
     head: &Head,
+    progress: &P,
 ) -> Result<Recovered<FileJournal<Noted<F>>>, RecoveryError>
     ensures appended { IfOk result (λ r.
         records_of (appended (λ d. seen_of d.log.events) r.journal)
@@ -97,7 +117,7 @@ pub fn recover<F: RawFile + Drop>(
 {
     match FileJournal::open(alloc, Noted::opened(file, bytes), bytes, head) {
         Ok((journal, tape)) => {
-            let events = events_of(alloc, &tape)?;
+            let events = events_of(alloc, &tape, progress)?;
             Ok(Recovered { journal, events })
         }
         Err((OpenError::Journal(JournalError::Memory), _file)) => Err(RecoveryError::NoMemory),

@@ -77,6 +77,11 @@ pub enum Notice {
     },
     /// More requests came than are answered, in some second.
     Crowd,
+    /// The journal is being read.
+    Reading {
+        /// This number of events are.
+        events: u64,
+    },
     /// The day goes on from its journal.
     Resumed {
         /// With so many events.
@@ -173,6 +178,7 @@ impl Display for Notice {
             Notice::Closing => f.write_str("operator input ended: the hours are ended"),
             Notice::Unanswered { to } => write!(f, "answer to {to} not sent"),
             Notice::Crowd => f.write_str("more requests than are answered"),
+            Notice::Reading { events } => write!(f, "journal read up to event {events}"),
             Notice::Resumed { events, feed } => {
                 write!(f, "resumed at event {events}, feed {feed}")
             }
@@ -238,6 +244,9 @@ impl Display for Json {
             ),
             Notice::Unanswered { to } => {
                 write!(f, "{{\"notice\":\"answer not sent\",\"to\":\"{to}\"}}")
+            }
+            Notice::Reading { events } => {
+                write!(f, "{{\"notice\":\"journal read\",\"events\":{events}}}")
             }
             Notice::Resumed { events, feed } => write!(
                 f,

@@ -80,6 +80,8 @@ pub struct Beginning<J: Journal> {
     pub seed: Seed,
     /// The journal and the events of the day before a crash, of which there may be none.
     pub recovered: Recovered<J>,
+    /// How many events may wait for the journal, at least one: where more would, nobody's next one is recorded.
+    pub ahead: u64,
 }
 
 impl Beginning<Unkept> {
@@ -93,7 +95,11 @@ impl Beginning<Unkept> {
             journal: Unkept::new(),
             events: Vec::new(alloc),
         };
-        Beginning { seed, recovered }
+        Beginning {
+            seed,
+            recovered,
+            ahead: u64::MAX,
+        }
     }
 }
 
@@ -331,7 +337,11 @@ fn run<
         blank,
         beginning,
     } = founding;
-    let Beginning { seed, recovered } = beginning;
+    let Beginning {
+        seed,
+        recovered,
+        ahead,
+    } = beginning;
     let events = recovered.events.len() as u64;
     let count = hosting.args.sessions + 1;
     let (exchange, mut passes) = match Exchange::<V, J>::resume(
@@ -340,6 +350,7 @@ fn run<
         Ok(made) => made,
         Err(error) => return Err(fault_of_resume(error)),
     };
+    let exchange = exchange.at_most_ahead(ahead);
     let Some(own) = passes.pop() else {
         return Err(ServeError::NoMemory);
     };

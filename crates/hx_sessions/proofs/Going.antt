@@ -1,6 +1,6 @@
 -- How a delivery goes on.
-use Rattle.std.proofs.Common.{◌≡◌, ℕ, zero, suc, ◌+◌, ◌-◌, ◌<◌, ◌≤◌, List, [], ◌∷◌, ◌++◌, length, take, drop, Bool, true, false, Option, refl, sym, ap, ◌∙◌, subst, inl, inr, arith, append_assoc, append-nil, length-append, take-append-drop, length-drop, length-take}
-use Rattle.std.specs.Prelude.{MatchBool}
+use Rattle.std.proofs.Common.{◌≡◌, ℕ, zero, suc, ◌+◌, ◌-◌, ◌<◌, ◌≤◌, List, [], ◌∷◌, ◌++◌, length, take, drop, Bool, true, false, Option, Some, Result, Ok, Err, refl, sym, ap, ◌∙◌, subst, inl, inr, arith, append_assoc, append-nil, length-append, take-append-drop, length-drop, length-take}
+use Rattle.std.specs.Prelude.{MatchBool, IfErr, OnOk}
 use Rattle.std.specs.List.{concat}
 use Rattle.std.specs.Io.KnownBytes.{Appends}
 use Rattle.std.proofs.KnownBytes.{Appends-nil, Appends-trans}
@@ -19,8 +19,9 @@ use Rattle.hx_desk.proofs.Growth.{replies_grow}
 use Rattle.hx_members.specs.Setups.{Setup}
 use Rattle.hx_sessions.specs.declared.ending.Stop.{Stop}
 use Rattle.hx_sessions.specs.declared.ending.Stop.TheVariants as stop
-use Rattle.hx_sessions.specs.Workers.{SentUntil}
-use Rattle.hx_sessions.specs.Frames.{day_over, WritesAll, WritesSome, AreFrames, Sends, Delivers, Sent, SentSome}
+use Rattle.hx_sessions.specs.Workers.{SendsMore, StopsIn, SentUntil}
+use Rattle.hx_sessions.specs.declared.ending.Fault.TheVariants as fault
+use Rattle.hx_sessions.specs.Frames.{day_over, Writes, WritesAll, WritesSome, AreFrames, Sends, Delivers, Sent, SentSome}
 
 drop_one : (all : List (List ℕ)) (i : ℕ) → drop 1 (drop i all) ≡ drop (i + 1) all
 drop_one all i = drop-drop 1 i all ∙ ap (λ n. drop n all) (omega arith)
@@ -261,3 +262,68 @@ pub sent_bounds : (first : ℕ) (replies rest : List (List ℕ)) (d : Delivery) 
 sent_bounds first replies rest d a b s =
     let room = sent_room first replies rest d a b s in
     (omega (arith, s.delivers.next, s.delivers.starts), omega (arith, room))
+
+-- ---- what went into a batch first
+
+pub batch_sent : (first : ℕ) (replies rest : List (List ℕ)) (d : Delivery) (bytes : List ℕ) (a c : Option (List ℕ)) → Sent first replies rest d (Some []) (Some bytes) → Appends a c bytes → Sent first replies rest d a c
+batch_sent first replies rest d bytes a c s w = record { frames = s.frames; delivers = s.delivers; wrote = subst (Appends a c) s.wrote w }
+
+batch_cut : (first : ℕ) (replies rest : List (List ℕ)) (d : Delivery) (bytes left : List ℕ) (a c : Option (List ℕ)) → Sent first replies rest d (Some []) (Some bytes) → Writes a c bytes left → SentSome first replies rest d a c
+batch_cut first replies rest d bytes left a c s w = record { frames = s.frames; delivers = s.delivers; wrote = (left, subst (λ l. Writes a c l left) s.wrote w) }
+
+some_sent : (first : ℕ) (replies rest : List (List ℕ)) (d : Delivery) (bytes : List ℕ) (a c : Option (List ℕ)) → SentSome first replies rest d (Some []) (Some bytes) → Appends a c bytes → SentSome first replies rest d a c
+some_sent first replies rest d bytes a c s w =
+    let v = s.wrote.1 in record {
+      frames = s.frames;
+      delivers = s.delivers;
+      wrote = (s.wrote.0, record { front = v.front; bytes_are = v.bytes_are; wrote = subst (Appends a c) v.wrote w });
+    }
+
+some_cut : (first : ℕ) (replies rest : List (List ℕ)) (d : Delivery) (bytes left : List ℕ) (a c : Option (List ℕ)) → SentSome first replies rest d (Some []) (Some bytes) → Writes a c bytes left → SentSome first replies rest d a c
+some_cut first replies rest d bytes left a c s w =
+    let v = s.wrote.1 in record {
+      frames = s.frames;
+      delivers = s.delivers;
+      wrote = (
+        left ++ s.wrote.0,
+        record {
+          front = w.front;
+          bytes_are = v.bytes_are ∙ (ap (λ l. l ++ s.wrote.0) (sym v.wrote ∙ w.bytes_are) ∙ append_assoc w.front left s.wrote.0);
+          wrote = w.wrote;
+        },
+      );
+    }
+
+-- the batch was written
+pub until_sent : (past : Bool) (first : ℕ) (replies : List (List ℕ)) (d : Delivery) (bytes : List ℕ) (a c : Option (List ℕ)) (s : Stop) → SentUntil past first replies d (Some []) (Some bytes) s → Appends a c bytes → SentUntil past first replies d a c s
+until_sent past first replies d bytes a c stop.Told (is, rest, t) w = (is, rest, batch_sent first replies rest d bytes a c t w)
+until_sent past first replies d bytes a c (stop.Ended e) (is, over, by, t) w = (is, over, by, batch_sent first replies [] d bytes a c t w)
+until_sent past first replies d bytes a c (stop.Faulted f) (rest, inl (t, is)) w = (rest, inl (batch_sent first replies rest d bytes a c t w, is))
+until_sent past first replies d bytes a c (stop.Faulted f) (rest, inr (is, by, t)) w = (rest, inr (is, by, some_sent first replies rest d bytes a c t w))
+
+-- the output failed
+pub until_cut : (past : Bool) (first : ℕ) (replies : List (List ℕ)) (d : Delivery) (bytes left : List ℕ) (a c : Option (List ℕ)) (s : Stop) → SentUntil past first replies d (Some []) (Some bytes) s → Writes a c bytes left → SentUntil past first replies d a c (stop.Faulted fault.Write)
+until_cut past first replies d bytes left a c stop.Told (is, rest, t) w = (rest, inr (refl, λ o. absurd (cc (is, o)), batch_cut first replies rest d bytes left a c t w))
+until_cut past first replies d bytes left a c (stop.Ended e) (is, over, by, t) w = ([], inr (refl, λ _. by, batch_cut first replies [] d bytes left a c t w))
+until_cut past first replies d bytes left a c (stop.Faulted f) (rest, inl (t, is)) w = (rest, inr (refl, λ o. absurd (cc (is, o)), batch_cut first replies rest d bytes left a c t w))
+until_cut past first replies d bytes left a c (stop.Faulted f) (rest, inr (is, by, t)) w = (rest, inr (refl, by, some_cut first replies rest d bytes left a c t w))
+
+pub all_cut : (past : Bool) (first : ℕ) (replies rest : List (List ℕ)) (d : Delivery) (bytes left : List ℕ) (a c : Option (List ℕ)) → d.over ≡ false → Sent first replies rest d (Some []) (Some bytes) → Writes a c bytes left → SentUntil past first replies d a c (stop.Faulted fault.Write)
+all_cut past first replies rest d bytes left a c live s w = (rest, inr (refl, λ o. absurd (cc (live, o)), batch_cut first replies rest d bytes left a c s w))
+
+-- the replies of a page are the next ones
+pub page_ahead : (replies rows : List (List ℕ)) (d : Delivery) (bytes : List ℕ) → d.over ≡ false → 1 ≤ d.next → d.next ≤ length replies + 1 → rows ≡ take 64 (drop (d.next - 1) replies) → bytes ≡ [] → Sent d.next replies (rows ++ drop 64 (drop (d.next - 1) replies)) d (Some []) (Some bytes)
+page_ahead replies rows d bytes live one most page none =
+    let behind = drop 64 (drop (d.next - 1) replies) in
+    subst (λ l. Sent d.next replies (rows ++ behind) d (Some []) (Some l)) (sym none) (sent_none_of d.next replies (rows ++ behind) d (Some []) refl live one most (page_all (drop (d.next - 1) replies) rows page))
+
+-- the output failed, whether all of a page went into the batch or not
+pub fill_cut : (r : Result (Unit {0}) Stop) (past : Bool) (first : ℕ) (replies rows behind : List (List ℕ)) (old new : Delivery) (before after left : List ℕ) (a c : Option (List ℕ)) → OnOk r (new.over ≡ false) → OnOk r (SendsMore rows old new before after) → IfErr r (StopsIn rows old new before after)
+    → Sent first replies (rows ++ behind) old (Some []) (Some before) → Writes a c after left → SentUntil past first replies new a c (stop.Faulted fault.Write)
+fill_cut (Ok u) past first replies rows behind old new before after left a c live ok err s w = all_cut past first replies behind new after left a c live (ok first replies behind (Some []) s) w
+fill_cut (Err e) past first replies rows behind old new before after left a c live ok err s w = until_cut past first replies new after left a c e (err past first replies behind (Some []) s) w
+
+-- one reply goes out by a turn
+pub next_of : (old new : Delivery) (rows : List (List ℕ)) (i : ℕ) (frames : List (List ℕ)) → i < length rows → Sends old new (drop i rows) false frames → new.next ≡ old.next + 1
+next_of old new rows i frames room s =
+    omega (arith, sends_next old new (drop i rows) false frames s, length-take 1 (drop i rows), length-drop i rows, room)

@@ -1,5 +1,6 @@
 -- What passes keep.
-use Rattle.std.proofs.Common.{◌≡◌, ℕ, List, [], ◌∷◌, ◌++◌, refl, ap, sym, ◌∙◌, subst}
+use Rattle.std.proofs.Common.{◌≡◌, ℕ, zero, suc, List, [], ◌∷◌, ◌++◌, length, take, Result, Ok, Err, refl, ap, sym, ◌∙◌, subst}
+use Rattle.std.specs.Prelude.{IfOk, IfErr}
 use mathlib.Core.List.{IsPrefix}
 use Rattle.hx_members.specs.Setups.{Setup}
 use Rattle.hx_rules.specs.declared.event.Event.{Event}
@@ -9,10 +10,12 @@ use Rattle.hx_blog.specs.Feed.{Entries}
 use Rattle.hx_blog.proofs.Prefixes.{prefix_self, prefix_trans}
 use Rattle.hx_desk.specs.declared.entry.Entry.{Entry}
 use Rattle.hx_desk.specs.declared.entry.Done.{Done}
-use Rattle.hx_desk.specs.Entries.{entry_of, feed_spelled, ledger_from, ledger}
-use Rattle.hx_engine.specs.Passes.{PassState}
-use Rattle.hx_engine.specs.Exchanges.{Sends, Stays}
-use Rattle.hx_sessions.specs.Asked.{CarriesOn}
+use Rattle.hx_desk.specs.Entries.{feed_spelled, ledger_from, ledger}
+use Rattle.hx_engine.specs.Passes.{PassState, sent_by}
+use Rattle.hx_engine.specs.declared.answers.SubmitError.{SubmitError}
+use Rattle.hx_engine.specs.Exchanges.{SendsAll, SendsFirst, Stays}
+use Rattle.hx_sessions.specs.Asked.{CarriesOn, SendsOn, SendsSome}
+use Rattle.hx_sessions.proofs.Taking.{sends_none, sends_placed}
 
 -- the ledger of a longer history begins with that of a shorter
 ledger_more : (setup : Setup) (a : Market) (xs ys : List Entry) → IsPrefix (ledger_from setup a xs) (ledger_from setup a (xs ++ ys))
@@ -35,12 +38,28 @@ carries_same old new is = subst (CarriesOn old) (sym is) (carries_none old)
 pub carries_more : (a b c : PassState) → CarriesOn a b → CarriesOn b c → CarriesOn a c
 carries_more a b c p q = record { number = q.number ∙ p.number; known = prefix_trans a.known b.known c.known p.known q.known }
 
-pub carries_sent : (setup : Setup) (old new : PassState) (event : Event) (done : Done) → Sends setup old new event done → CarriesOn old new
-carries_sent setup old new event done s =
-    let others = entry_of old.number event ∷ s.after in
+carries_all : (setup : Setup) (old new : PassState) (events : List Event) (done : Done) → SendsAll setup old new events done → CarriesOn old new
+carries_all setup old new events done s =
+    let others = sent_by old.number events ++ s.after in
     let more : IsPrefix old.known (ledger setup (s.before ++ others)) =
     prefix_trans old.known (ledger setup s.before) (ledger setup (s.before ++ others)) s.knew (ledger_begins setup s.before others) in
     record { number = s.number; known = subst (IsPrefix old.known) (sym s.knows) more }
 
 pub carries_stays : (old new : PassState) → Stays old new → CarriesOn old new
 carries_stays old new s = record { number = s.number; known = subst (IsPrefix old.known) (sym s.known) (prefix_self old.known) }
+
+carries_first : (setup : Setup) (old new : PassState) (events : List Event) (count : ℕ) → SendsFirst setup old new events count → CarriesOn old new
+carries_first setup old new events zero s = carries_stays old new s
+carries_first setup old new events (suc n) (done, s) = carries_all setup old new (take (suc n) events) done s
+
+-- whether all events were recorded, or the first of them
+pub carries_on : (setup : Setup) (old new : PassState) (events : List Event) (r : Result Done (SubmitError × ℕ)) → IfOk r (SendsAll setup old new events) → IfErr r (λ e. SendsFirst setup old new events e.1) → CarriesOn old new
+carries_on setup old new events (Ok done) sent kept = carries_all setup old new events done sent
+carries_on setup old new events (Err e) sent kept = carries_first setup old new events e.1 kept
+
+pub sends_all : (setup : Setup) (old new : PassState) (events : List Event) (done : Done) → SendsAll setup old new events done → SendsOn old.sent new.sent events
+sends_all setup old new events done s = sends_placed old.sent new.sent (length s.before) events s.sent
+
+pub sends_first : (setup : Setup) (old new : PassState) (events : List Event) (count : ℕ) → SendsFirst setup old new events count → SendsSome old.sent new.sent events
+sends_first setup old new events zero s = (0, subst (λ l. SendsOn old.sent l []) (sym s.sent) (sends_none old.sent))
+sends_first setup old new events (suc n) (done, s) = (suc n, sends_placed old.sent new.sent (length s.before) (take (suc n) events) s.sent)

@@ -1,11 +1,11 @@
 -- How packets are acted on.
-use Rattle.std.proofs.Common.{◌≡◌, ℕ, ◌+◌, ◌<◌, ◌≤◌, List, [], ◌∷◌, ◌++◌, length, get_or, take, drop, Option, Some, Result, Ok, Err, refl, sym, ap, ◌∙◌, subst, inl, inr, arith, append_assoc, append-nil, take-append-drop}
+use Rattle.std.proofs.Common.{◌≡◌, ℕ, ◌+◌, ◌<◌, ◌≤◌, zero, suc, List, [], ◌∷◌, ◌++◌, length, map, get_or, take, drop, Option, Some, None, Result, Ok, Err, refl, sym, ap, ◌∙◌, subst, inl, inr, arith, append_assoc, append-nil, take-append-drop}
 use Rattle.std.specs.Io.KnownBytes.{Consumes, Keeps, IsAtEnd}
 use Rattle.hx_soup.specs.Framers.{Takes as Gives, StopsAt}
 use Rattle.std.proofs.KnownBytes.{Consumes-trans, Consumes-nil, Consumes-kept}
 use Rattle.std.proofs.lemmas.Grind.{flat_map-append}
 use Rattle.std.proofs.lemmas.List.Elements.{All-append}
-use Rattle.std.proofs.lemmas.List.{drop_more, drop_all}
+use Rattle.std.proofs.lemmas.List.{drop_more, drop_all, map-append}
 use mathlib.Core.List.{IsPrefix}
 use Rattle.hx_soup.specs.declared.packet.SoupPacket.{SoupPacket}
 use Rattle.hx_soup.specs.Packets.{packet_bytes, stream_of, IsPacket, Cuts, HasFault}
@@ -14,33 +14,64 @@ use Rattle.hx_session_core.specs.declared.intake.Action.{Action}
 use Rattle.hx_session_core.specs.declared.intake.Action.TheVariants as action
 use Rattle.hx_rules.specs.declared.event.Event.{Event}
 use Rattle.hx_rules.specs.declared.event.Event.TheVariants.{Message}
-use Rattle.hx_sessions.specs.Asked.{HasLogout, asked, asked_by, AreMessages, Submits, IsStream}
+use Rattle.hx_engine.specs.Passes.{placed}
+use Rattle.hx_blog.proofs.Prefixes.{prefix_trans}
+use Rattle.hx_sessions.specs.Asked.{HasLogout, asked, asked_by, AreMessages, SendsOn, SendsSome, Submits, IsStream}
 use Rattle.hx_sessions.specs.declared.ending.Ended.TheVariants as ended
 use Rattle.hx_sessions.specs.declared.ending.Fault.{Fault}
 use Rattle.hx_sessions.specs.declared.ending.Fault.TheVariants as fault
 use Rattle.hx_sessions.specs.declared.ending.Stop.{Stop}
 use Rattle.hx_sessions.specs.declared.ending.Stop.TheVariants as stop
-use Rattle.hx_sessions.specs.Workers.{Acting, Closed, Cut, ActedUntil, Receiving, Received, Why, Takes, Acted}
+use Rattle.hx_sessions.specs.Workers.{Acting, Closed, Cut, ActedUntil, AsksUntil, Gathers, Receiving, Received, Why, Takes, Acted}
 
 -- ---- what was sent
 
-messages-append : (member : ℕ) (xs ys : List (ℕ × Event)) (ts us : List (List ℕ)) → AreMessages member xs ts → AreMessages member ys us → AreMessages member (xs ++ ys) (ts ++ us)
+messages-append : (member : ℕ) (xs ys : List Event) (ts us : List (List ℕ)) → AreMessages member xs ts → AreMessages member ys us → AreMessages member (xs ++ ys) (ts ++ us)
 messages-append member [] ys [] us a b = b
 messages-append member [] ys (t ∷ ts) us a b = absurd a
 messages-append member (x ∷ xs) ys [] us a b = absurd a
 messages-append member (x ∷ xs) ys (t ∷ ts) us (time, is, a) b = (time, is, messages-append member xs ys ts us a b)
 
-pub submits_none : (member : ℕ) (sent : List (ℕ × Event)) → Submits member sent sent []
-submits_none member sent = record { more = []; sent = sym (append-nil sent); are = tt }
+messages-take : (member n : ℕ) (xs : List Event) (ts : List (List ℕ)) → AreMessages member xs ts → AreMessages member (take n xs) (take n ts)
+messages-take member zero xs ts a = tt
+messages-take member (suc n) [] [] a = tt
+messages-take member (suc n) [] (t ∷ ts) a = absurd a
+messages-take member (suc n) (x ∷ xs) [] a = absurd a
+messages-take member (suc n) (x ∷ xs) (t ∷ ts) (time, is, a) = (time, is, messages-take member n xs ts a)
 
-pub submits_one : (member : ℕ) (old new : List (ℕ × Event)) (place time : ℕ) (text : List ℕ) → new ≡ old ++ (place, Message member time text) ∷ [] → Submits member old new (text ∷ [])
-submits_one member old new place time text is = record { more = (place, Message member time text) ∷ []; sent = is; are = (time, refl, tt) }
+pub messages_none : (member : ℕ) (events : List Event) → events ≡ [] → AreMessages member events []
+messages_none member events none = subst (λ l. AreMessages member l []) (sym none) tt
+
+-- one message more
+pub messages_more : (member time : ℕ) (text : List ℕ) (xs ys : List Event) (ts : List (List ℕ)) → AreMessages member xs ts → ys ≡ xs ++ Message member time text ∷ [] → AreMessages member ys (ts ++ text ∷ [])
+messages_more member time text xs ys ts a is = subst (λ l. AreMessages member l (ts ++ text ∷ [])) (sym is) (messages-append member xs (Message member time text ∷ []) ts (text ∷ []) a (time, refl, tt))
+
+events_of_placed : (n : ℕ) (events : List Event) → map (λ (x : ℕ × Event). x.1) (placed n events) ≡ events
+events_of_placed n [] = refl
+events_of_placed n (e ∷ events) = ap (λ l. e ∷ l) (events_of_placed (n + 1) events)
+
+-- nothing was sent
+pub sends_none : (sent : List (ℕ × Event)) → SendsOn sent sent []
+sends_none sent = record { more = []; sent = sym (append-nil sent); are = refl }
+
+pub sends_placed : (old new : List (ℕ × Event)) (n : ℕ) (events : List Event) → new ≡ old ++ placed n events → SendsOn old new events
+sends_placed old new n events is = record { more = placed n events; sent = is; are = events_of_placed n events }
+
+sends_join : (a b c : List (ℕ × Event)) (xs ys : List Event) → SendsOn a b xs → SendsOn b c ys → SendsOn a c (xs ++ ys)
+sends_join a b c xs ys s t = record {
+  more = s.more ++ t.more;
+  sent = t.sent ∙ (ap (λ l. l ++ t.more) s.sent ∙ append_assoc a s.more t.more);
+  are = map-append (λ x. x.1) s.more t.more ∙ (ap (λ l. l ++ map (λ x. x.1) t.more) s.are ∙ ap (λ l. xs ++ l) t.are);
+}
+
+pub submits_none : (member : ℕ) (sent : List (ℕ × Event)) → Submits member sent sent []
+submits_none member sent = record { events = []; sends = sends_none sent; are = tt }
 
 pub submits_join : (member : ℕ) (a b c : List (ℕ × Event)) (ts us : List (List ℕ)) → Submits member a b ts → Submits member b c us → Submits member a c (ts ++ us)
 submits_join member a b c ts us s t = record {
-  more = s.more ++ t.more;
-  sent = t.sent ∙ (ap (λ l. l ++ t.more) s.sent ∙ append_assoc a s.more t.more);
-  are = messages-append member s.more t.more ts us s.are t.are;
+  events = s.events ++ t.events;
+  sends = sends_join a b c s.events t.events s.sends t.sends;
+  are = messages-append member s.events t.events ts us s.are t.are;
 }
 
 -- ---- acting on packets one by one
@@ -95,6 +126,39 @@ upto_cut packets i done u = record { asks = λ later. (asked (drop i packets ++ 
 pub upto_all : (packets : List SoupPacket) (i : ℕ) (done : List (List ℕ)) → Upto packets i done → length packets ≤ i → Acting packets done
 upto_all packets i done u h = record { asks = λ later. u.asks later ∙ ap (λ l. done ++ asked (l ++ later)) (drop_all i packets h) }
 
+-- ---- acting on packets all at once
+
+pub acting_cut : (ps : List SoupPacket) (ds : List (List ℕ)) → Acting ps ds → Cut ps ds
+acting_cut ps ds a = record { asks = λ later. (asked later, sym (a.asks later)) }
+
+closed_cut : (packets : List SoupPacket) (texts : List (List ℕ)) → Closed packets texts → Cut packets texts
+closed_cut packets texts c = record { asks = λ later. ([], append-nil texts ∙ sym (c.asks later)) }
+
+until_cut : (packets : List SoupPacket) (texts : List (List ℕ)) (stop : Option Stop) → AsksUntil packets texts stop → Cut packets texts
+until_cut packets texts None a = acting_cut packets texts a
+until_cut packets texts (Some stop.Told) a = absurd a
+until_cut packets texts (Some (stop.Ended e)) (is, has, c) = closed_cut packets texts c
+until_cut packets texts (Some (stop.Faulted f)) (inl (is, c)) = closed_cut packets texts c
+until_cut packets texts (Some (stop.Faulted f)) (inr c) = c
+
+cut_take : (packets : List SoupPacket) (texts : List (List ℕ)) (n : ℕ) → Cut packets texts → Cut packets (take n texts)
+cut_take packets texts n c = record {
+  asks = λ later. prefix_trans (take n texts) texts (asked (packets ++ later)) (drop n texts, take-append-drop n texts) (c.asks later);
+}
+
+-- all was submitted
+pub acted_all : (member : ℕ) (old new : List (ℕ × Event)) (packets : List SoupPacket) (events : List Event) → Gathers member packets events None → SendsOn old new events → (u : Unit {0}) → Acted member old new packets (Ok u)
+acted_all member old new packets events (texts, are, asks) s u = (texts, record { events = events; sends = s; are = are }, asks)
+
+-- all was submitted, and the worker stops
+pub acted_until : (member : ℕ) (old new : List (ℕ × Event)) (packets : List SoupPacket) (events : List Event) (w : Stop) → Gathers member packets events (Some w) → SendsOn old new events → Acted member old new packets (Err w)
+acted_until member old new packets events w (texts, are, asks) s = (texts, record { events = events; sends = s; are = are }, asks)
+
+-- a submit was refused
+pub acted_some : (member : ℕ) (old new : List (ℕ × Event)) (packets : List SoupPacket) (events : List Event) (w : Option Stop) (f : Fault) → Gathers member packets events w → SendsSome old new events → Acted member old new packets (Err (stop.Faulted f))
+acted_some member old new packets events w f (texts, are, asks) (n, s) =
+    (take n texts, record { events = take n events; sends = s; are = messages-take member n events texts are }, inr (cut_take packets texts n (until_cut packets texts w asks)))
+
 -- ---- pieces of a stream
 
 whole_join : (stream x rest tail : List ℕ) (ps qs : List SoupPacket) → stream ≡ stream_of ps ++ rest → rest ++ x ≡ stream_of qs ++ tail → stream ++ x ≡ stream_of (ps ++ qs) ++ tail
@@ -132,9 +196,6 @@ acting_join ps qs ds es a b = record {
 
 pub acting_all : (ps : List SoupPacket) (ds : List (List ℕ)) → Acting ps ds → ds ≡ asked ps
 acting_all ps ds a = sym (ap asked (sym (append-nil ps)) ∙ (a.asks [] ∙ append-nil ds))
-
-pub acting_cut : (ps : List SoupPacket) (ds : List (List ℕ)) → Acting ps ds → Cut ps ds
-acting_cut ps ds a = record { asks = λ later. (asked later, sym (a.asks later)) }
 
 asked_two : (ps qs : List SoupPacket) (ds : List (List ℕ)) → Acting ps ds → asked (ps ++ qs) ≡ ds ++ asked qs
 asked_two ps qs ds a = a.asks qs

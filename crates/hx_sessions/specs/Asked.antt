@@ -1,5 +1,5 @@
 -- What the packets of a client behind his login ask to submit, and what a pass sent for it.
-use Rattle.std.specs.Prelude.{ℕ, ◌≡◌, ◌⊎◌, List, [], ◌∷◌, ◌++◌}
+use Rattle.std.specs.Prelude.{ℕ, ◌≡◌, ◌⊎◌, List, [], ◌∷◌, ◌++◌, map, take}
 use mathlib.Core.List.{IsPrefix}
 use Rattle.hx_soup.specs.declared.packet.SoupPacket.{SoupPacket}
 use Rattle.hx_soup.specs.Packets.{Cuts, HasFault}
@@ -36,19 +36,29 @@ abbrev pub IsStream : List ℕ → List SoupPacket → Type 0
 IsStream bytes packets =
     ((rest : List ℕ) × Cuts bytes packets rest) ⊎ ((bad : ℕ) × HasFault bytes packets bad)
 
--- what was sent, with its places, is messages of the member with these texts, in order
-abbrev pub AreMessages : ℕ → List (ℕ × Event) → List (List ℕ) → Type 0
+-- the events are messages of the member with these texts, in order
+abbrev pub AreMessages : ℕ → List Event → List (List ℕ) → Type 0
 AreMessages member [] [] = Unit {0}
 AreMessages member [] (t ∷ ts) = ⊥
-AreMessages member (x ∷ xs) [] = ⊥
-AreMessages member (x ∷ xs) (t ∷ ts) =
-    (time : ℕ) × (x.1 ≡ Message member time t) × AreMessages member xs ts
+AreMessages member (e ∷ es) [] = ⊥
+AreMessages member (e ∷ es) (t ∷ ts) =
+    (time : ℕ) × (e ≡ Message member time t) × AreMessages member es ts
+
+-- a pass sent these events, each at its place, and nothing else
+pub record SendsOn (old new : List (ℕ × Event)) (events : List Event) : Type 0 where
+  pub more : List (ℕ × Event)
+  pub sent : new ≡ old ++ more
+  pub are : map (λ x. x.1) more ≡ events
+
+-- a pass sent the first of these events, and nothing else
+abbrev pub SendsSome : (old new : List (ℕ × Event)) → List Event → Type 0
+SendsSome old new events = (count : ℕ) × SendsOn old new (take count events)
 
 -- a pass sent messages of the member with these texts, and nothing else
 pub record Submits (member : ℕ) (old new : List (ℕ × Event)) (texts : List (List ℕ)) : Type 0 where
-  pub more : List (ℕ × Event)
-  pub sent : new ≡ old ++ more
-  pub are : AreMessages member more texts
+  pub events : List Event
+  pub sends : SendsOn old new events
+  pub are : AreMessages member events texts
 
 -- a pass keeps its number, and knows as much or more
 pub record CarriesOn (old new : PassState) : Type 0 where

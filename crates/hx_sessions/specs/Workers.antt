@@ -1,5 +1,5 @@
 -- What the two workers of a session leave.
-use Rattle.std.specs.Prelude.{ℕ, ◌≡◌, ◌⊎◌, List, [], ◌++◌, Option, Some, Bool, true, false, Result, Ok, Err}
+use Rattle.std.specs.Prelude.{ℕ, ◌≡◌, ◌⊎◌, List, [], ◌++◌, Option, Some, None, Bool, true, false, Result, Ok, Err}
 use Rattle.std.specs.Io.KnownBytes.{Consumes, IsAtEnd}
 use mathlib.Core.List.{IsPrefix}
 use Rattle.hx_soup.specs.declared.packet.SoupPacket.{SoupPacket}
@@ -12,7 +12,7 @@ use Rattle.hx_sessions.specs.declared.ending.Fault.{Fault}
 use Rattle.hx_sessions.specs.declared.ending.Fault.TheVariants as fault
 use Rattle.hx_sessions.specs.declared.ending.Stop.{Stop}
 use Rattle.hx_sessions.specs.declared.ending.Stop.TheVariants as stop
-use Rattle.hx_sessions.specs.Asked.{asked, HasLogout, IsStream, Submits}
+use Rattle.hx_sessions.specs.Asked.{asked, HasLogout, IsStream, AreMessages, Submits}
 use Rattle.hx_sessions.specs.Frames.{Sent, SentSome}
 
 -- How both ended, as one: a fault before an ending, the inbound fault first, and the end of the day before the other
@@ -50,6 +50,20 @@ SentUntil past first replies d old new (stop.Faulted f) =
     ⊎ ((f ≡ fault.Write) × (d.over ≡ true → past ≡ true)
     × SentSome first replies rest d old new))
 
+-- Whatever went out before: these replies, which were the next ones, have gone out as well.
+abbrev pub SendsMore : List (List ℕ) → (old new : Delivery) → (before after : List ℕ) → Type 0
+SendsMore rows old new before after =
+    (first : ℕ) (replies behind : List (List ℕ)) (start : Option (List ℕ))
+    → Sent first replies (rows ++ behind) old start (Some before)
+    → Sent first replies behind new start (Some after)
+
+-- The same, until the worker stops: some of them have gone out.
+abbrev pub StopsIn : List (List ℕ) → (old new : Delivery) → (before after : List ℕ) → Stop → Type 0
+StopsIn rows old new before after s =
+    (past : Bool) (first : ℕ) (replies behind : List (List ℕ)) (start : Option (List ℕ))
+    → Sent first replies (rows ++ behind) old start (Some before)
+    → SentUntil past first replies new start (Some after) s
+
 -- ---- what comes in
 
 -- So far all packets were acted on, and the session goes on: what was submitted is what they ask, whatever follows.
@@ -70,6 +84,16 @@ ActedUntil packets done (stop.Ended e) =
     (e ≡ ended.Logout) × HasLogout packets × Closed packets done
 ActedUntil packets done (stop.Faulted f) =
     ((f ≡ fault.Framing) × Closed packets done) ⊎ Cut packets done
+
+-- Behind the texts that packets ask to submit either nothing is wrong so far, or the worker stops.
+abbrev pub AsksUntil : List SoupPacket → List (List ℕ) → Option Stop → Type 0
+AsksUntil packets texts None = Acting packets texts
+AsksUntil packets texts (Some s) = ActedUntil packets texts s
+
+-- The events are messages of the member with the texts that the packets ask to submit.
+abbrev pub Gathers : ℕ → List SoupPacket → List Event → Option Stop → Type 0
+Gathers member packets events stop =
+    (texts : List (List ℕ)) × AreMessages member events texts × AsksUntil packets texts stop
 
 abbrev pub Acted :
     ℕ → List (ℕ × Event) → List (ℕ × Event) → List SoupPacket → Result (Unit {0}) Stop → Type 0

@@ -1,8 +1,9 @@
 //! The worker that takes messages in.
-ghost use Rattle.std.specs.Prelude.{ℕ, List, ◌≡◌, ◌⊎◌, ◌+◌, ◌++◌, [], ◌∷◌, IfErr, OnOk, Some, IsSome};
+ghost use Rattle.std.specs.Prelude.{ℕ, List, ◌≡◌, ◌⊎◌, ◌+◌, ◌++◌, [], ◌∷◌, OnOk, OnErr, Some, IsSome};
 ghost use Rattle.hx_session_core.specs.declared.intake.Intake.TheVariants as intakes;
-ghost use Rattle.hx_sessions.specs.Asked.{CarriesOn, Submits};
-ghost use Rattle.hx_sessions.specs.Workers.{ActedUntil, Acted, Takes, Received};
+ghost use Rattle.hx_rules.specs.declared.event.Event.TheVariants.{Message};
+ghost use Rattle.hx_sessions.specs.Asked.{CarriesOn, Submits, SendsOn, SendsSome};
+ghost use Rattle.hx_sessions.specs.Workers.{ActedUntil, Acted, Gathers, Takes, Received};
 ghost use Rattle.hx_sessions.specs.declared.ending.Fault.TheVariants as faults;
 ghost use Rattle.hx_sessions.specs.declared.ending.Stop.TheVariants as stops;
 
@@ -12,7 +13,7 @@ use hx_engine::{DeskError, Exchange, Journal, Pass, SubmitError, Venue};
 use hx_market::{Bytes, Event};
 use hx_session_core::{Action, Intake};
 use hx_soup::{Framer, FramerError, SoupPacket};
-use hx_units::MemberNo;
+use hx_units::{MemberNo, NoMemory};
 use std::alloc::Global;
 use std::io::{Error, ErrorKind, Read};
 use std::sync::Wait;
@@ -50,34 +51,113 @@ fn fault_of(error: SubmitError) -> Fault {
     }
 }
 
-// Submits one message of the member.
+// What packets ask for: messages to submit, and why the worker stops behind them, if it does.
+#[derive(Drop)]
+struct Gathered {
+    events: Vec<Event>,
+    stop: Option<Stop>,
+}
+
+impl Gathered {
+    // These, and behind them the worker stops.
+    fn until(events: Vec<Event>, stop: Stop) -> Gathered
+        ensures { result ≡ record { events = events; stop = Some stop } }
+    {
+        Gathered {
+            events,
+            stop: Some(stop),
+        }
+    }
+}
+
+// Puts a message of the member behind others.
+fn add_message(
+    alloc: Global,
+    events: &mut Vec<Event>,
+    member: MemberNo,
+    time: u64,
+    text: &[u8],
+) -> Result<(), NoMemory>
+    ensures ok { OnOk result (events.new.items
+        ≡ events.old.items ++ Message member time (text.now) ∷ []) }
+    ensures err { OnErr result (events.new.items ≡ events.old.items) }
+{
+    events.reserve(1)?;
+    let bytes = Vec::from_slice(alloc, text)?;
+    events.push_reserved(Event::Message {
+        member: member.get(),
+        time,
+        bytes: Bytes::of(bytes),
+    });
+    Ok(())
+}
+
+// Gathers the messages of packets behind the login, up to a logout or a fault. Each bears the time at which it is read.
+fn gather<C: Clock>(
+    alloc: Global,
+    member: MemberNo,
+    clock: &mut C,
+    packets: &[SoupPacket],
+) -> Gathered
+    ensures { Gathers member packets.now result.events.items result.stop }
+{
+    let mut events = Vec::new(alloc);
+    let mut intake = Intake::Open;
+    for packet in packets {
+        match intake.packet(packet) {
+            Action::Submit => {
+                let text = packet.payload.as_slice();
+                match add_message(alloc, &mut events, member, clock.now(), text) {
+                    Ok(()) => {}
+                    Err(_) => return Gathered::until(events, Stop::Faulted(Fault::NoMemory)),
+                }
+            }
+            Action::Ignore => {}
+            Action::Logout => return Gathered::until(events, Stop::Ended(Ended::Logout)),
+            Action::Login(_) | Action::Fault => {
+                return Gathered::until(events, Stop::Faulted(Fault::Framing));
+            }
+        }
+    }
+    Gathered { events, stop: None }
+}
+
+// Calls the gate before each message behind this number, up to the other one.
+fn open_gate<G: Gate>(gate: &G, member: MemberNo, behind: u64, last: u64) {
+    for number in behind..last {
+        gate.before(member, number.saturating_add(1));
+    }
+}
+
+// Calls the gate after each message behind this number, up to the other one.
+fn close_gate<G: Gate>(gate: &G, member: MemberNo, behind: u64, last: u64) {
+    for number in behind..last {
+        gate.after(member, number.saturating_add(1));
+    }
+}
+
+// Submits messages of the member, all at once.
 fn submit<V: Venue, J: Journal + Drop, C: Clock, G: Gate, T: Wait>(
     rt: &T,
-    alloc: Global,
     trader: &Trader<'_, V, J, G>,
     sender: &mut Sender<V, C>,
-    text: &[u8],
+    events: Vec<Event>,
 ) -> Result<(), Fault>
     ensures pass { CarriesOn sender.old.pass sender.new.pass }
-    ensures ok { OnOk result (Submits trader.now.member
-        sender.old.pass.sent sender.new.pass.sent (text.now ∷ [])) }
-    ensures err { IfErr result (λ e. sender.new.pass.sent ≡ sender.old.pass.sent) }
+    ensures ok { OnOk result (SendsOn sender.old.pass.sent sender.new.pass.sent events.items) }
+    ensures err { OnErr result (SendsSome sender.old.pass.sent sender.new.pass.sent events.items) }
 {
-    let Ok(bytes) = Vec::from_slice(alloc, text) else {
-        return Err(Fault::NoMemory);
-    };
-    let event = Event::Message {
-        member: trader.member.get(),
-        time: sender.clock.now(),
-        bytes: Bytes::of(bytes),
-    };
-    sender.number = sender.number.saturating_add(1);
-    trader.gate.before(trader.member, sender.number);
-    let done = trader.exchange.submit(rt, &mut sender.pass, &event);
-    trader.gate.after(trader.member, sender.number);
+    if events.is_empty() {
+        return Ok(());
+    }
+    let behind = sender.number;
+    sender.number = behind.saturating_add(events.len() as u64);
+    open_gate(trader.gate, trader.member, behind, sender.number);
+    let done = trader.exchange.submit_all(rt, &mut sender.pass, events);
+    close_gate(trader.gate, trader.member, behind, sender.number);
     match done {
         Ok(_) => Ok(()),
-        Err(error) => Err(fault_of(error)),
+        Err((error, _)) => Err(fault_of(error)),
     }
 }
 
@@ -93,22 +173,15 @@ fn act<V: Venue, J: Journal + Drop, C: Clock, G: Gate, T: Wait>(
     ensures acted { Acted trader.now.member
         sender.old.pass.sent sender.new.pass.sent packets.now result }
 {
-    let mut intake = Intake::Open;
-    for packet in packets {
-        match intake.packet(packet) {
-            Action::Submit => {
-                let text = packet.payload.as_slice();
-                match submit(rt, alloc, trader, sender, text) {
-                    Ok(()) => {}
-                    Err(fault) => return Err(Stop::Faulted(fault)),
-                }
-            }
-            Action::Ignore => {}
-            Action::Logout => return Err(Stop::Ended(Ended::Logout)),
-            Action::Login(_) | Action::Fault => return Err(Stop::Faulted(Fault::Framing)),
-        }
+    let Gathered { events, stop } = gather(alloc, trader.member, &mut sender.clock, packets);
+    match submit(rt, trader, sender, events) {
+        Ok(()) => {}
+        Err(fault) => return Err(Stop::Faulted(fault)),
     }
-    Ok(())
+    match stop {
+        Some(stop) => Err(stop),
+        None => Ok(()),
+    }
 }
 
 // Acts on the packets before a fault of the stream, and says why the worker stops.

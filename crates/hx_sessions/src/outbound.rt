@@ -4,7 +4,7 @@ ghost use mathlib.Core.List.{IsPrefix};
 ghost use Rattle.hx_units.specs.Fields.{texts};
 ghost use Rattle.hx_desk.specs.Known.{known_replies};
 ghost use Rattle.hx_sessions.specs.Frames.{day_over, IsNextOf, Sends, Sent, WritesAll, WritesSome};
-ghost use Rattle.hx_sessions.specs.Workers.{SentRound, SentUntil};
+ghost use Rattle.hx_sessions.specs.Workers.{SendsMore, StopsIn, SentRound, SentUntil};
 
 use crate::ending::{Ended, Fault, Stop};
 use crate::ports::Clock;
@@ -21,6 +21,9 @@ use std::time::{Clock as Timer, Duration};
 
 // The most replies that are taken from the exchange at once.
 const PAGE: u64 = 64;
+
+// Room for a page of replies, each behind the three bytes of its packet's head.
+const BATCH: usize = 64 * 83;
 
 // With nothing to send, a worker looks after so many milliseconds at the latest whether the other one has ended, and
 // whether a heartbeat is due.
@@ -66,9 +69,44 @@ fn send<W: Write>(
     }
 }
 
+// Puts the packets of replies, which are the next ones, into a batch, until the worker stops.
+fn fill<C: Clock>(
+    clock: &mut C,
+    delivery: &mut Delivery,
+    rows: &[ArrayVec<u8, 80>],
+    told: &AtomicBool,
+    left: &mut u64,
+    batch: &mut ArrayVec<u8, BATCH>,
+) -> Result<(), Stop>
+    requires live { delivery.old.over ≡ false }
+    requires room { delivery.old.next + length rows.now < 2 ^ 64 }
+    ensures live { OnOk result (delivery.new.over ≡ false) }
+    ensures ok { OnOk result (SendsMore (texts rows.now) delivery.old delivery.new
+        batch.old.items batch.new.items) }
+    ensures err { IfErr result (StopsIn (texts rows.now) delivery.old delivery.new
+        batch.old.items batch.new.items) }
+{
+    for i in 0..rows.len() {
+        if told.load(Ordering::SeqCst) {
+            return Err(Stop::Told);
+        }
+        if *left == 0 {
+            return Err(Stop::Faulted(Fault::Turns));
+        }
+        *left -= 1;
+        let now = clock.now();
+        let next = &rows[i..];
+        match send(batch, delivery, next, false, now) {
+            Ok(()) => {}
+            Err(Broken) => return Err(Stop::Faulted(Fault::Write)),
+        }
+    }
+    Ok(())
+}
+
 impl<W: Write, C: Clock> Outbox<W, C> {
-    // Sends a page of the replies from the next one on, or else what a turn without replies gives. Answers whether
-    // replies went out: more may be left then.
+    // Sends a page of the replies from the next one on, by one write, or else what a turn without replies gives. Answers
+    // whether replies went out: more may be left then.
     fn round<V: Venue, J: Journal + Drop, T: Wait>(
         &mut self,
         rt: &T,
@@ -114,22 +152,17 @@ impl<W: Write, C: Clock> Outbox<W, C> {
                 Err(Broken) => return Err(Stop::Faulted(Fault::Write)),
             }
         }
-        for i in 0..rows.len() {
-            if told.load(Ordering::SeqCst) {
-                return Err(Stop::Told);
-            }
-            if *left == 0 {
-                return Err(Stop::Faulted(Fault::Turns));
-            }
-            *left -= 1;
-            let now = self.clock.now();
-            let next = &rows[i..];
-            match send(&mut self.output, &mut self.delivery, next, false, now) {
-                Ok(()) => {}
-                Err(Broken) => return Err(Stop::Faulted(Fault::Write)),
-            }
+        let mut batch = ArrayVec::<u8, BATCH>::new();
+        let clock = &mut self.clock;
+        let filled = fill(clock, &mut self.delivery, &rows, told, left, &mut batch);
+        match write_whole(&mut self.output, batch.as_slice()) {
+            Ok(()) => {}
+            Err(Broken) => return Err(Stop::Faulted(Fault::Write)),
         }
-        Ok(true)
+        match filled {
+            Ok(()) => Ok(true),
+            Err(stop) => Err(stop),
+        }
     }
 }
 

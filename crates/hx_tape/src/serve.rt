@@ -181,7 +181,12 @@ where
         .fetch_max(last_time(&recovered.events), Ordering::SeqCst);
     // (the journal may fail, and then nobody waits for the operator's next line)
     let input = WakingInput::new(rt.reader());
-    host(rt, matches, &hosting, Beginning { seed, recovered }, input)
+    let beginning = Beginning {
+        seed,
+        recovered,
+        ahead: matches.get_one::<u64>("ahead").unwrap_or(u64::MAX),
+    };
+    host(rt, matches, &hosting, beginning, input)
 }
 
 /// Serves a day as the command line asks.

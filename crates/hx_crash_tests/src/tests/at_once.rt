@@ -119,12 +119,20 @@ impl<V: Venue> Sender<'_, V> {
     }
 }
 
-// Both send at once: all is answered, kept and told, by at most as many syncs as there are orders.
+// How many events may be admitted that are not told, and how many syncs there are at least.
+#[derive(Clone, Copy)]
+struct Bounds {
+    ahead: u64,
+    syncs: u64,
+}
+
+// Both send at once, within these bounds: all is answered, kept and told, by at most as many syncs as there are orders.
 fn two_senders<V: Venue + Send + Sync, R: Threads + Wait + Abort + Sync>(
     rt: &R,
     alloc: Global,
     ground: Ground,
     synced: &AtomicU64,
+    bounds: Bounds,
 ) -> Result<(), Fail>
     requires feed { IsNewLog V.log ground.logs.feed }
     requires admitted { IsNewLog V.admitted ground.logs.admitted }
@@ -147,6 +155,7 @@ fn two_senders<V: Venue + Send + Sync, R: Threads + Wait + Abort + Sync>(
     let (exchange, mut passes) = Exchange::<V, Watched>::new(
         alloc, setup, logs, journal, blank, 2,
     )?;
+    let exchange = exchange.at_most_ahead(bounds.ahead);
     let mut reader = reader;
     let mut first = Sender {
         member: 1,
@@ -171,15 +180,16 @@ fn two_senders<V: Venue + Send + Sync, R: Threads + Wait + Abort + Sync>(
     assert!(rt; first.replies(rt, &exchange) == Some(both));
     passes.push(first.pass)?;
     passes.push(second.pass)?;
-    expect_kept(rt, exchange, passes, both)
+    expect_kept(rt, exchange, passes, both, bounds.syncs)
 }
 
-// The exchange ends with this number of entries, all of them synced, by as many syncs or fewer.
+// The exchange ends with this number of entries, all of them synced, by as many syncs or fewer, and at least this many.
 fn expect_kept<V: Venue, R: Abort>(
     rt: &R,
     exchange: Exchange<V, Watched>,
     passes: Vec<Pass<V>>,
     count: u64,
+    least: u64,
 ) -> Result<(), Fail> {
     let Ok(finished) = exchange.finish(passes) else {
         return Err("all passes are there".into());
@@ -188,7 +198,7 @@ fn expect_kept<V: Venue, R: Abort>(
     assert_eq!(rt; finished.history.len() as u64, count);
     assert_eq!(rt; finished.feed, count);
     assert_eq!(rt; journal.memory.synced as u64, count);
-    assert!(rt; journal.memory.syncs <= count);
+    assert!(rt; journal.memory.syncs <= count && journal.memory.syncs >= least);
     Ok(())
 }
 
@@ -197,5 +207,32 @@ fn two_members_send_at_once(rt: HostRuntime) -> Result<(), Fail> {
     let alloc = rt.alloc();
     let ground = ground_of(alloc, Setup::standard(alloc)?, 100, 2)?;
     let synced = AtomicU64::new(0);
-    two_senders::<Brand, _>(&rt, alloc, ground, &synced)
+    two_senders::<Brand, _>(
+        &rt,
+        alloc,
+        ground,
+        &synced,
+        Bounds {
+            ahead: u64::MAX,
+            syncs: 1,
+        },
+    )
+}
+
+// Where one event may be admitted that is not told, each is synced alone.
+#[test]
+fn one_waits_for_the_other(rt: HostRuntime) -> Result<(), Fail> {
+    let alloc = rt.alloc();
+    let ground = ground_of(alloc, Setup::standard(alloc)?, 100, 2)?;
+    let synced = AtomicU64::new(0);
+    two_senders::<Brand, _>(
+        &rt,
+        alloc,
+        ground,
+        &synced,
+        Bounds {
+            ahead: 1,
+            syncs: 40,
+        },
+    )
 }

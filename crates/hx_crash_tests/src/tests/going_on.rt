@@ -14,7 +14,7 @@ use hx_engine_testing::ground::{Ground, ground_of};
 use hx_journal::{FileJournal, Head, Noted, OpenError};
 use hx_market::Event;
 use hx_members::{Seed, Setup};
-use hx_recovery::{RecoveryError, recover};
+use hx_recovery::{RecoveryError, Unwatched, recover};
 use std::alloc::Global;
 use std::marker::Brand;
 use std::process::Abort;
@@ -55,7 +55,7 @@ pub fn play<R: Wait + Abort>(
 ) -> Result<Course, Fail> {
     let ground = ground_of(alloc, Setup::read(alloc, day.setup)?, 1000, 1)?;
     let head = Head::new(alloc, b"HX00000001", b"20260711", b"9fc2")?;
-    match recover(alloc, file, bytes, &head) {
+    match recover(alloc, file, bytes, &head, &Unwatched) {
         Ok(recovered) => go_on::<Brand, Kept, R>(rt, alloc, day, ground, recovered),
         Err(RecoveryError::Open(OpenError::Journal(error))) => {
             Ok(Course {

@@ -85,7 +85,7 @@ impl Board for Counting {
                 self.feed.store(feed, Ordering::SeqCst);
                 &self.resumed
             }
-            Notice::JournalWaits | Notice::JournalGoesOn => &self.waits,
+            Notice::JournalWaits | Notice::JournalGoesOn | Notice::Reading { .. } => &self.waits,
             Notice::Closing | Notice::StandardSetup => &self.closings,
         };
         count.fetch_add(1, Ordering::SeqCst);

@@ -13,7 +13,7 @@ use hx_day_journal::last_time;
 use hx_engine::Journal;
 use hx_journal::{DeviceError, Head, HostFile, RawFile};
 use hx_members::{Seed, Setup};
-use hx_recovery::recover;
+use hx_recovery::{Unwatched, recover};
 use hx_serve::{Beginning, Day, Doors, Hosting, ServeError, Silent, Times, serve_from};
 use log::Log;
 use std::alloc::Global;
@@ -146,12 +146,16 @@ fn serve_file<
         return Err(ServeError::Read);
     };
     let file = FailingFile { file, calls };
-    let Ok(recovered) = recover(alloc, file, &bytes, &head) else {
+    let Ok(recovered) = recover(alloc, file, &bytes, &head, &Unwatched) else {
         return Err(ServeError::Read);
     };
     let last = last_time(&recovered.events);
-    let seed = Seed::Fixed;
-    serve_over(rt, stage, last, Beginning { seed, recovered }, &[CLOSING])
+    let beginning = Beginning {
+        seed: Seed::Fixed,
+        recovered,
+        ahead: u64::MAX,
+    };
+    serve_over(rt, stage, last, beginning, &[CLOSING])
 }
 
 // ALPHA's displayed and his hidden order are kept and told; of the third one nobody is told, and his line is closed.

@@ -56,6 +56,8 @@ pub struct Want<'a> {
     pub whole: &'a [u8],
     /// Whether it may lack memory, and end so: it has submitted no more then, and written a beginning of this.
     pub may_lack: bool,
+    /// How often it writes at most.
+    pub writes: u64,
 }
 
 impl<'a> Want<'a> {
@@ -67,6 +69,7 @@ impl<'a> Want<'a> {
             least: whole,
             whole,
             may_lack: false,
+            writes: u64::MAX,
         }
     }
 
@@ -82,6 +85,7 @@ impl<'a> Want<'a> {
         assert!(rt; sent <= self.sent.1);
         assert!(rt; self.whole.starts_with(&output.taken));
         assert_eq!(rt; output.flushed, 1);
+        assert!(rt; output.calls <= self.writes);
         if self.may_lack && end == End::NoMemory {
             return;
         }

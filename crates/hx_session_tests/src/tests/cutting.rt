@@ -44,6 +44,31 @@ fn a_stream_cut_at_each_byte(rt: HostRuntime) -> Result<(), Fail> {
     Ok(())
 }
 
+// Behind the login all comes by one read: both orders are one submit, and one by one they are two.
+#[test]
+fn messages_of_one_read_are_one_submit(rt: HostRuntime) -> Result<(), Fail> {
+    let alloc = rt.alloc();
+    let (bytes, replies) = (two_orders(alloc)?, two_replies(alloc)?);
+    let count = AtomicU64::new(0);
+    for (most, at_once) in [(usize::MAX, 2), (49, 1)] {
+        let client = Client {
+            input: Input {
+                most,
+                ..Input::new(&bytes)
+            },
+            output: Output::new(alloc, &count),
+            want: Want::new(End::Logout, 2, &replies),
+        };
+        let day = Day {
+            submits: Some(2),
+            at_once: Some(at_once),
+            ..Day::of(alloc, vec![in alloc; client]?)
+        };
+        play(&rt, alloc, day)?;
+    }
+    Ok(())
+}
+
 #[test]
 fn a_stream_byte_by_byte(rt: HostRuntime) -> Result<(), Fail> {
     let alloc = rt.alloc();

@@ -16,7 +16,8 @@ use std::time::Clock;
 // How a session ends, what it submits at least and at most, and how many bytes it writes at least and at most.
 type Outcome = (End, (usize, usize), (usize, usize));
 
-// A session of two orders, whose bytes come in 40 at a time: the login in two reads, then three more.
+// A session of two orders, whose bytes come in 40 at a time: the login in two reads, then three more. A write takes the
+// answer to the login, or one reply.
 fn expect<R: AllocGlobal + Threads + Wait + Clock + Abort + Sync>(
     rt: &R,
     read: Bad,
@@ -34,6 +35,7 @@ fn expect<R: AllocGlobal + Threads + Wait + Clock + Abort + Sync>(
             ..Input::new(&bytes)
         },
         output: Output {
+            most: ONE - LOGIN,
             bad: write,
             ..Output::new(alloc, &count)
         },
@@ -43,6 +45,7 @@ fn expect<R: AllocGlobal + Threads + Wait + Clock + Abort + Sync>(
             least: replies.get(..least).ok_or("a front")?,
             whole: replies.get(..most).ok_or("a front")?,
             may_lack: false,
+            writes: u64::MAX,
         },
     };
     play(rt, alloc, Day::of(alloc, vec![in alloc; client]?))

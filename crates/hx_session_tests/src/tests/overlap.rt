@@ -9,18 +9,21 @@ use hx_units::MemberNo;
 use std::sync::atomic::{AtomicU64, Ordering};
 use std::test::Fail;
 
-/// Holds the first submit of each of two members until the other's is there, and looks whether behind each submit it is
-/// called once, with the number of the call before it.
+/// Holds the first submit of each of two members until the other's is there, and looks whether it is called once before
+/// each message and once after it, each time in their order.
 #[derive(Drop)]
 pub struct Meeting {
     first: AtomicU64,
     second: AtomicU64,
     in_vain: AtomicU64,
-    // The number of the submit that the first member, and any other, is in; 0 where he is in none.
-    within: [AtomicU64; 2],
-    // How often it was called out of this order.
+    // The number of the last message that it was called before, and after, of the first member and of any other.
+    begun: [AtomicU64; 2],
+    ended: [AtomicU64; 2],
+    // Whether it was called out of this order.
     astray: AtomicU64,
     submits: AtomicU64,
+    // How many messages it was called before, of the member whose first submit was over last, when that was over.
+    at_once: AtomicU64,
 }
 
 impl Meeting {
@@ -40,10 +43,17 @@ impl Meeting {
             first: AtomicU64::new(told),
             second: AtomicU64::new(told),
             in_vain: AtomicU64::new(0),
-            within: [AtomicU64::new(0), AtomicU64::new(0)],
+            begun: [AtomicU64::new(0), AtomicU64::new(0)],
+            ended: [AtomicU64::new(0), AtomicU64::new(0)],
             astray: AtomicU64::new(0),
             submits: AtomicU64::new(0),
+            at_once: AtomicU64::new(0),
         }
+    }
+
+    /// How many messages there were in the first submit that was over last.
+    pub fn at_once(&self) -> u64 {
+        self.at_once.load(Ordering::SeqCst)
     }
 
     /// Whether nobody waited in vain.
@@ -51,29 +61,36 @@ impl Meeting {
         self.in_vain.load(Ordering::SeqCst) == 0
     }
 
-    /// How many submits there were, where it was called once before and once behind each of them, with its number.
+    /// How many messages were submitted, where it was called once before and once after each of them, with its number.
     pub fn submits(&self) -> Option<u64> {
-        let [first, second] = &self.within;
-        for number in [first, second, &self.astray] {
-            if number.load(Ordering::SeqCst) != 0 {
+        for i in 0..2 {
+            if self.begun[i].load(Ordering::SeqCst) != self.ended[i].load(Ordering::SeqCst) {
                 return None;
             }
+        }
+        if self.astray.load(Ordering::SeqCst) != 0 {
+            return None;
         }
         Some(self.submits.load(Ordering::SeqCst))
     }
 
-    // The submit that the member is in.
-    fn within(&self, member: MemberNo) -> &AtomicU64 {
-        let [first, second] = &self.within;
-        if member.get() == 1 { first } else { second }
+    // Each number follows the one before it, or is the first one of a session, and none comes after its submit that did not
+    // come before it. Returns how many came before theirs.
+    fn count(&self, counts: &[AtomicU64; 2], member: MemberNo, number: u64) -> u64 {
+        let i = if member.get() == 1 { 0 } else { 1 };
+        let before = counts[i].swap(number, Ordering::SeqCst);
+        let begun = self.begun[i].load(Ordering::SeqCst);
+        let follows = number == 1 || before.saturating_add(1) == number;
+        if !follows || begun < number {
+            self.astray.store(1, Ordering::SeqCst);
+        }
+        begun
     }
 }
 
 impl Gate for Meeting {
     fn before(&self, member: MemberNo, number: u64) {
-        if self.within(member).swap(number, Ordering::SeqCst) != 0 {
-            self.astray.store(1, Ordering::SeqCst);
-        }
+        let _ = self.count(&self.begun, member, number);
         if number != 1 {
             return;
         }
@@ -89,8 +106,9 @@ impl Gate for Meeting {
     }
 
     fn after(&self, member: MemberNo, number: u64) {
-        if self.within(member).swap(0, Ordering::SeqCst) != number {
-            self.astray.store(1, Ordering::SeqCst);
+        let begun = self.count(&self.ended, member, number);
+        if number == 1 {
+            self.at_once.store(begun, Ordering::SeqCst);
         }
         self.submits.fetch_add(1, Ordering::SeqCst);
     }

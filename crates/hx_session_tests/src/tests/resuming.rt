@@ -101,7 +101,8 @@ fn many(alloc: Global) -> Result<(Vec<Order>, Vec<u8>), NoMemory> {
     Ok((orders, replies))
 }
 
-// The session has a turn for each reply, and a few.
+// The session has a turn for each reply, and a few. They go out 64 by one write: the last ones behind the logout, and the
+// answer to the login before all.
 #[test]
 fn thousands_of_replies(rt: HostRuntime) -> Result<(), Fail> {
     let alloc = rt.alloc();
@@ -111,7 +112,10 @@ fn thousands_of_replies(rt: HostRuntime) -> Result<(), Fail> {
     let client = Client {
         input: Input::new(&bytes),
         output: Output::new(alloc, &count),
-        want: Want::new(End::Logout, 0, &replies),
+        want: Want {
+            writes: 50,
+            ..Want::new(End::Logout, 0, &replies)
+        },
     };
     let day = Day {
         before: orders,

@@ -47,6 +47,8 @@ pub struct Day<'a> {
     pub gate: Meeting,
     /// How many submits the sessions make, where the test says so.
     pub submits: Option<u64>,
+    /// How many messages the first submit has, where the test says so.
+    pub at_once: Option<u64>,
     /// The turns that each session has.
     pub turns: u64,
     /// How many events and how many messages of the feed there are at the end, where the test says so.
@@ -63,6 +65,7 @@ impl<'a> Day<'a> {
             later: Vec::new(alloc),
             gate: Meeting::of_nobody(),
             submits: None,
+            at_once: None,
             turns: 1_000_000,
             left: None,
         }
@@ -249,6 +252,7 @@ fn play_at<V: Venue + Send + Sync, R: Threads + Wait + Timer + Abort + Sync>(
     let submits = day.gate.submits();
     assert!(rt; submits.is_some());
     assert!(rt; day.submits.is_none() || day.submits == submits);
+    assert!(rt; day.at_once.is_none() || day.at_once == Some(day.gate.at_once()));
     match day.left {
         Some((entries, messages)) => stage.finish(rt, entries, messages),
         None => Ok(()),

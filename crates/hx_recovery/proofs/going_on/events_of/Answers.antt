@@ -6,7 +6,7 @@ use Rattle.hx_recovery.proofs.Reading.{read_more}
 use Rattle.hx_recovery.proofs.going_on.events_of.Goals as goal
 
 pub loop-line-preserved : goal.loop-line-preserved
-loop-line-preserved c =
+loop-line-preserved g c =
     let cut = c.in-Some in
     let its_line = subst (λ o. IfSome o (IsLineOf cut.line.now)) c.in-Some-2.is c.in_ok-event.ensures.some in
     subst (λ items. c.args.tape.now ≡ text_of (map record_of items) ++ cut.others.now) (sym c.in_ok-push.ensures.items)

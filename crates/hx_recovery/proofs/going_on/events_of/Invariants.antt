@@ -4,8 +4,8 @@ use Rattle.hx_tape_lines.specs.Text.{record_of}
 use Rattle.hx_recovery.proofs.going_on.events_of.Given as goal
 
 abbrev pub decreases-loop-line : goal.decreases-loop-line
-decreases-loop-line l = length l.rest
+decreases-loop-line g l = length l.rest
 
 -- the records of the events so far, and the rest, are the tape
 abbrev pub invariant-loop-line : goal.invariant-loop-line
-invariant-loop-line l = l.tape ≡ text_of (map record_of l.events.items) ++ l.rest
+invariant-loop-line g l = l.tape ≡ text_of (map record_of l.events.items) ++ l.rest

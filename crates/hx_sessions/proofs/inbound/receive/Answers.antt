@@ -1,4 +1,4 @@
-use Rattle.std.proofs.Common.{◌≡◌, ℕ, Option, List, [], ap, sym, ◌∙◌, subst, take, refl, arith}
+use Rattle.std.proofs.Common.{◌≡◌, ℕ, Option, List, [], ap, sym, subst, take, arith}
 use Rattle.hx_sessions.specs.declared.ending.Fault.TheVariants as faults
 use Rattle.hx_sessions.specs.declared.ending.Stop.TheVariants as stops
 use Rattle.hx_sessions.specs.Workers.{Receiving}

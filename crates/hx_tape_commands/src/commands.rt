@@ -1,0 +1,73 @@
+//! The commands over tapes, each with its options.
+
+use clap::{Arg, ArgAction, ArgGroup, Command, value_parser};
+use std::alloc::{AllocError, Global};
+
+// The program's name.
+const PROGRAM: &str = "hx_tape";
+
+/// The option that names the file of the setup, `--setup`.
+pub fn setup_file<'a>(alloc: Global) -> Arg<'a> {
+    Arg::new(alloc, "setup")
+        .long("setup")
+        .value_name("FILE")
+        .help("The setup of the day, in place of the standard one")
+}
+
+fn replay_command<'a>(alloc: Global) -> Result<Command<'a>, AllocError> {
+    Command::new(alloc, "replay")
+        .about("Writes the output lines of a tape")
+        .arg(setup_file(alloc))
+}
+
+// The number of a member.
+fn member<'a>(alloc: Global) -> Arg<'a> {
+    Arg::new(alloc, "member")
+        .long("member")
+        .value_name("N")
+        .value_parser(value_parser!(u16).range(1..=4095))
+        .help("The number of the member")
+}
+
+// One member, or all: the one or the other.
+fn strike_command<'a>(alloc: Global) -> Result<Command<'a>, AllocError> {
+    let all = Arg::new(alloc, "all")
+        .long("all")
+        .action(ArgAction::SetTrue)
+        .help("All members at once");
+    let whose = ArgGroup::new(alloc, "whose")
+        .required(true)
+        .arg("member")?
+        .arg("all")?;
+    Command::new(alloc, "strike")
+        .about("Writes a tape without the messages of quiet chains, of a member or of all")
+        .arg(member(alloc))?
+        .arg(all)?
+        .group(whose)?
+        .arg(setup_file(alloc))
+}
+
+// The feed or a member, or neither of them.
+fn show_command<'a>(alloc: Global) -> Result<Command<'a>, AllocError> {
+    let feed = Arg::new(alloc, "feed")
+        .long("feed")
+        .action(ArgAction::SetTrue)
+        .help("The messages of the feed alone");
+    let which = ArgGroup::new(alloc, "which").arg("member")?.arg("feed")?;
+    Command::new(alloc, "show")
+        .about("Writes a tape, or the output of replay, in words")
+        .arg(member(alloc))?
+        .arg(feed)?
+        .group(which)
+}
+
+/// The command line of the commands over tapes: replay, strike and show. Its texts name the program `hx_tape`, whatever
+/// its file is called.
+pub fn tape_command<'a>(alloc: Global) -> Result<Command<'a>, AllocError> {
+    Command::new(alloc, PROGRAM)
+        .subcommand_required(true)
+        .subcommand(replay_command(alloc)?)?
+        .subcommand(strike_command(alloc)?)?
+        .subcommand(show_command(alloc)?)?
+        .bin_name(PROGRAM)
+}

@@ -1,0 +1,6 @@
+//! The words of the command line of the commands over tapes.
+#![tactic(auto)]
+
+mod commands;
+
+pub use commands::{setup_file, tape_command};
