@@ -202,37 +202,32 @@ fn expect_kept<V: Venue, R: Abort>(
     Ok(())
 }
 
-#[test]
-fn two_members_send_at_once(rt: HostRuntime) -> Result<(), Fail> {
+// Both send at once at a new exchange, within these bounds.
+fn send_within<R: AllocGlobal + Threads + Wait + Abort + Sync>(
+    rt: &R,
+    bounds: Bounds,
+) -> Result<(), Fail> {
     let alloc = rt.alloc();
     let ground = ground_of(alloc, Setup::standard(alloc)?, 100, 2)?;
     let synced = AtomicU64::new(0);
-    two_senders::<Brand, _>(
-        &rt,
-        alloc,
-        ground,
-        &synced,
-        Bounds {
-            ahead: u64::MAX,
-            syncs: 1,
-        },
-    )
+    two_senders::<Brand, _>(rt, alloc, ground, &synced, bounds)
+}
+
+#[test]
+fn two_members_send_at_once(rt: HostRuntime) -> Result<(), Fail> {
+    let bounds = Bounds {
+        ahead: u64::MAX,
+        syncs: 1,
+    };
+    send_within(&rt, bounds)
 }
 
 // Where one event may be admitted that is not told, each is synced alone.
 #[test]
 fn one_waits_for_the_other(rt: HostRuntime) -> Result<(), Fail> {
-    let alloc = rt.alloc();
-    let ground = ground_of(alloc, Setup::standard(alloc)?, 100, 2)?;
-    let synced = AtomicU64::new(0);
-    two_senders::<Brand, _>(
-        &rt,
-        alloc,
-        ground,
-        &synced,
-        Bounds {
-            ahead: 1,
-            syncs: 40,
-        },
-    )
+    let bounds = Bounds {
+        ahead: 1,
+        syncs: 40,
+    };
+    send_within(&rt, bounds)
 }

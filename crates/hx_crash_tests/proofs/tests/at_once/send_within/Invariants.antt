@@ -1,5 +1,5 @@
 use Rattle.std.proofs.Common.{[]}
-use Rattle.hx_crash_tests.proofs.tests.at_once.two_members_send_at_once.Given as goal
+use Rattle.hx_crash_tests.proofs.tests.at_once.send_within.Given as goal
 
 abbrev pub ghosts-two_senders-V-Venue : goal.ghosts-two_senders-V-Venue
 ghosts-two_senders-V-Venue g a = record {
