@@ -31,7 +31,7 @@ pub struct PatientFile<'a, F, B, T> {
 }
 
 impl<'a, F: RawFile + Drop, B: Board, T: Clock> PatientFile<'a, F, B, T> {
-    /// A file that has so many bytes. The board is told when a write waits, and when it goes on.
+    /// A file of `len` bytes. The board is told when a write waits, and when it goes on.
     pub fn new(file: F, len: usize, syncs: Syncs, board: &'a B, rt: &'a T) -> Self {
         PatientFile {
             file,

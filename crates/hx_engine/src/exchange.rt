@@ -36,7 +36,7 @@ pub struct Exchange<V: Venue, J: Journal> {
     // Told of each batch that is told, and of a journal that failed.
     pub(crate) recorded: Condvar,
     pub(crate) passes: PassCount<V>,
-    // So many events may be admitted that are not yet told.
+    // How many events may be admitted and not yet told.
     pub(crate) ahead: u64,
     pub(crate) alloc: Global,
     pub ghost named: { log ≡ V.log },

@@ -28,7 +28,7 @@ pub struct Entered {
     pub count: usize,
     pub last: Done,
     pub refused: Option<SubmitError>,
-    /// A receipt for what is told, where they were told at once.
+    /// A receipt for all that is published, if they were told at once.
     pub told: Option<Receipt<Entry>>,
 }
 
@@ -401,8 +401,8 @@ impl<V: Venue, J: Journal + Drop> Held<V, J> {
         }
     }
 
-    /// Keeps and tells what waits, where the journal touches no disk: whoever has the lock does so at once. Answers a
-    /// receipt for what is told, if the entry at a place is.
+    /// Keeps and tells what waits, where the journal touches no disk: whoever has the lock does so at once. Returns a
+    /// receipt for all that is published, if the entry at a place is told.
     pub fn tell_at_once(
         &mut self,
         log: &Log<Entry>,

@@ -19,7 +19,7 @@ use std::alloc::{AllocError, Global};
 /// what stands behind these.
 #[derive(Debug, Drop)]
 pub struct Survey<'a> {
-    /// What the first line says; none where there is none yet, or another line.
+    /// What the first line says; none if it is not there yet, or another line.
     pub head: Option<HeadParts<'a>>,
     /// The records of the blocks, as a tape.
     pub tape: Vec<u8>,
@@ -27,7 +27,7 @@ pub struct Survey<'a> {
     pub records: usize,
     /// How many blocks there are.
     pub blocks: usize,
-    /// The byte where the last block ends; where there is none, the first line.
+    /// The byte where the last block ends; without a block, the first line.
     pub end: usize,
     /// How many bytes stand behind that, up to the last that is not zero: what a crash left of
     /// blocks that nobody was told of, or all that is damaged.

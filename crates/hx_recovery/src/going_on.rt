@@ -86,7 +86,7 @@ fn events_of<P: Progress>(
     Ok(events)
 }
 
-// The record behind so many events is none.
+// The record behind this number of events is none.
 fn no_event(events: usize) -> RecoveryError {
     RecoveryError::NoEvent {
         record: (events as u64).saturating_add(1),

@@ -25,7 +25,7 @@ pub fn read_setup_text<R: AllocGlobal + Files>(
     }
 }
 
-/// The setup of a text, or the standard one where there is none.
+/// The setup of a text, or the standard one without a text.
 pub fn setup_of(alloc: Global, text: Option<&[u8]>) -> Result<Setup, RunError> {
     let Some(text) = text else {
         return Ok(Setup::standard(alloc)?);
