@@ -14,7 +14,7 @@ use hx_engine::Journal;
 use hx_members::{Seed, Setup};
 use hx_runs::{read_setup_text, setup_of};
 use hx_serve::{
-    Addresses, Beginning, Board, Hosting, JsonNotices, Meter, Metered, Notices, OpenArgs,
+    Addresses, Beginning, Board, Fittings, Hosting, JsonNotices, Meter, Metered, Notices, OpenArgs,
     ServeArgs, ServeError, Silent, Tally, Times, serve_kept, today,
 };
 use hx_sessions::{DropCopy, Gate};
@@ -134,6 +134,94 @@ fn host<
     }
 }
 
+// What a day starts with besides its journal.
+#[derive(Drop)]
+struct Start {
+    seed: Seed,
+    fittings: Fittings,
+}
+
+// Serves a day that no journal keeps.
+fn begin_unkept<
+    R: AllocGlobal
+        + Input
+        + Print
+        + Files
+        + Log
+        + Net<Listener = TcpListener, Stream = TcpStream>
+        + Clock
+        + Threads
+        + Wait
+        + Sync,
+    G: Gate + Sync,
+    B: Board + Sync,
+>(
+    rt: &R,
+    matches: &ArgMatches<'_>,
+    hosting: &Hosting<'_, G, B>,
+    start: Start,
+) -> Result<(), Failure>
+where
+    R::Reader: Send,
+{
+    let Start { seed, fittings } = start;
+    let mut beginning = Beginning::unkept(rt.alloc(), seed);
+    beginning.fittings = fittings;
+    if hosting.open.is_none() {
+        return host(rt, matches, hosting, beginning, rt.reader());
+    }
+    let input = WakingInput::new(rt.reader());
+    host(rt, matches, hosting, beginning, input)
+}
+
+// Serves a day over its journal. The journal may fail, or the day end, and then nobody waits for the operator's next line.
+fn begin_kept<
+    'x,
+    R: AllocGlobal
+        + Input
+        + Print
+        + Files<File = fs::File>
+        + Log
+        + Net<Listener = TcpListener, Stream = TcpStream>
+        + Clock
+        + Threads
+        + Wait
+        + Sync,
+    G: Gate + Sync,
+    B: Board + Sync,
+>(
+    rt: &'x R,
+    matches: &ArgMatches<'_>,
+    plan: Plan<'x>,
+    hosting: &Hosting<'_, G, B>,
+    board: &'x B,
+    path: &str,
+    start: Start,
+) -> Result<(), Failure>
+where
+    R::Reader: Send,
+{
+    let Start { seed, fittings } = start;
+    let setup = digest_of(rt.alloc(), plan.text)?;
+    let wanted = Wanted {
+        session: plan.setup.session(),
+        day: plan.day,
+        setup: &setup,
+        syncs: syncs_of(matches),
+    };
+    let recovered = open_journal(rt, board, path, wanted)?;
+    plan.last
+        .fetch_max(last_time(&recovered.events), Ordering::SeqCst);
+    let input = WakingInput::new(rt.reader());
+    let beginning = Beginning {
+        seed,
+        recovered,
+        ahead: matches.get_one::<u64>("ahead").unwrap_or(u64::MAX),
+        fittings,
+    };
+    host(rt, matches, hosting, beginning, input)
+}
+
 // Serves a day with a seed that is drawn: over its journal, where the command line names one.
 fn begin<
     'x,
@@ -185,34 +273,44 @@ where
         meter: plan.meter,
         copies: plan.copies,
     };
-    let Some(path) = journal else {
-        let mut beginning = Beginning::unkept(alloc, seed);
-        beginning.fittings = fittings;
-        if plan.open.is_none() {
-            return host(rt, matches, &hosting, beginning, rt.reader());
-        }
-        let input = WakingInput::new(rt.reader());
-        return host(rt, matches, &hosting, beginning, input);
+    let start = Start { seed, fittings };
+    match journal {
+        Some(path) => begin_kept(rt, matches, plan, &hosting, board, path, start),
+        None => begin_unkept(rt, matches, &hosting, start),
+    }
+}
+
+// The same, with a board that counts what concerns the journal.
+fn begin_metered<
+    'x,
+    R: AllocGlobal
+        + Input
+        + Print
+        + Files<File = fs::File>
+        + Log
+        + Net<Listener = TcpListener, Stream = TcpStream>
+        + Clock
+        + RandomSource
+        + Threads
+        + Wait
+        + Sync,
+    G: Gate + Sync,
+    B: Board + Sync,
+>(
+    rt: &'x R,
+    matches: &ArgMatches<'_>,
+    plan: Plan<'x>,
+    gate: &'x G,
+    board: &'x B,
+) -> Result<(), Failure>
+where
+    R::Reader: Send,
+{
+    let board = Metered {
+        board,
+        meter: plan.meter,
     };
-    let setup = digest_of(alloc, plan.text)?;
-    let wanted = Wanted {
-        session: plan.setup.session(),
-        day: plan.day,
-        setup: &setup,
-        syncs: syncs_of(matches),
-    };
-    let recovered = open_journal(rt, board, path, wanted)?;
-    plan.last
-        .fetch_max(last_time(&recovered.events), Ordering::SeqCst);
-    // (the journal may fail, or the day end, and then nobody waits for the operator's next line)
-    let input = WakingInput::new(rt.reader());
-    let beginning = Beginning {
-        seed,
-        recovered,
-        ahead: matches.get_one::<u64>("ahead").unwrap_or(u64::MAX),
-        fittings,
-    };
-    host(rt, matches, &hosting, beginning, input)
+    begin(rt, matches, plan, gate, &board)
 }
 
 /// Serves a day as the command line asks.
@@ -258,20 +356,11 @@ where
         copies: &copies,
     };
     let notices = Notices { rt };
-    let board = Metered {
-        board: &notices,
-        meter: &meter,
-    };
     if plan.open.is_none() {
-        return begin(rt, matches, plan, &notices, &board);
+        return begin_metered(rt, matches, plan, &notices, &notices);
     }
     if matches.get_flag("json") {
-        let notices = JsonNotices { rt };
-        let board = Metered {
-            board: &notices,
-            meter: &meter,
-        };
-        return begin(rt, matches, plan, &Silent, &board);
+        return begin_metered(rt, matches, plan, &Silent, &JsonNotices { rt });
     }
-    begin(rt, matches, plan, &Silent, &board)
+    begin_metered(rt, matches, plan, &Silent, &notices)
 }
