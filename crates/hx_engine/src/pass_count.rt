@@ -1,6 +1,5 @@
 //! How many passes an exchange has.
 ghost use Rattle.std.specs.Prelude.{◌≡◌, ◌≤◌};
-ghost use Rattle.hx_engine.specs.Opening.{most_passes};
 
 use crate::venue::Venue;
 use std::marker::{Model, PhantomData};
@@ -14,19 +13,18 @@ pub struct PassCount<V: Venue> {
 
 impl<V: Venue> Model for PassCount<V> {
     ghost use Rattle.std.specs.Prelude.{◌≡◌, ◌≤◌, ℕ};
-    ghost use Rattle.hx_engine.specs.Opening.{most_passes};
 
     ghost Value = { ℕ };
 
     ghost view = { λ c. c.count };
 
-    ghost invariant = { λ c. (c.count ≡ V.parts) × (c.count ≤ most_passes) };
+    ghost invariant = { λ c. (c.count ≡ V.parts) × (c.count ≤ 64) };
 }
 
 impl<V: Venue> PassCount<V> {
     /// So many.
     pub fn of(count: u16) -> PassCount<V>
-        requires { (count ≡ V.parts) × (count ≤ most_passes) }
+        requires { (count ≡ V.parts) × (count ≤ 64) }
         ensures { result ≡ count }
     {
         PassCount {
@@ -38,7 +36,7 @@ impl<V: Venue> PassCount<V> {
     /// The number.
     pub fn get(&self) -> u16
         ensures value { result ≡ V.parts }
-        ensures limit { result ≤ most_passes }
+        ensures limit { result ≤ 64 }
     {
         self.count
     }

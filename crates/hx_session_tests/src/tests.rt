@@ -1,7 +1,6 @@
 //! Sessions over readers and writers in memory.
 
 mod client;
-mod copying;
 mod cutting;
 mod day;
 mod failing;

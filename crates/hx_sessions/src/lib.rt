@@ -2,7 +2,6 @@
 //! messages, another sends the member's replies, at the same time.
 #![tactic(auto)]
 
-mod copies;
 mod ending;
 mod inbound;
 pub mod laws;
@@ -15,7 +14,6 @@ mod serving;
 mod session;
 mod writing;
 
-pub use copies::{DropCopy, Logins};
 pub use ending::{Ended, Fault};
 pub use hx_session_core::{Action, Delivery, Intake, Start, Turn, start};
 pub use part::Part;

@@ -1,3 +1,0 @@
-pub mod Addresses
-pub mod Pauses
-pub mod Sources

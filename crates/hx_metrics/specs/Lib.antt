@@ -1,4 +1,0 @@
-pub mod Hours
-pub mod Rows
-pub mod Metrics
-pub mod Answers

@@ -1,6 +1,0 @@
-//! The text, each answer, and the page on loopback.
-
-mod answers;
-mod loopback;
-mod texts;
-mod venue;
