@@ -3,7 +3,7 @@
 use hx_journal::{DeviceError, RawFile};
 use hx_serve::{Board, Notice};
 use std::thread;
-use std::time::{Clock, Duration};
+use std::time::{Clock, Duration, Instant};
 
 // A full disk is looked at so often, in milliseconds.
 const AGAIN: u64 = 500;
@@ -31,7 +31,7 @@ pub struct PatientFile<'a, F, B, T> {
 }
 
 impl<'a, F: RawFile + Drop, B: Board, T: Clock> PatientFile<'a, F, B, T> {
-    /// A file of `len` bytes. The board is told when a write waits, and when it goes on.
+    /// A file of `len` bytes. The board is told when a write waits, and when it goes on, and how long each sync took.
     pub fn new(file: F, len: usize, syncs: Syncs, board: &'a B, rt: &'a T) -> Self {
         PatientFile {
             file,
@@ -84,7 +84,17 @@ impl<'a, F: RawFile + Drop, B: Board, T: Clock> RawFile for PatientFile<'a, F, B
 
     fn sync(&mut self) -> Result<(), DeviceError> {
         match self.syncs {
-            Syncs::Group => self.file.sync(),
+            Syncs::Group => {
+                let begun = Instant::now(self.rt);
+                self.file.sync()?;
+                if let Ok(begun) = begun
+                    && let Ok(time) = begun.elapsed(self.rt)
+                {
+                    let nanoseconds = u64::try_from(time.as_nanos()).unwrap_or(u64::MAX);
+                    self.board.synced(nanoseconds);
+                }
+                Ok(())
+            }
             Syncs::Never => Ok(()),
         }
     }

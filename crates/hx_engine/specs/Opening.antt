@@ -1,5 +1,5 @@
 -- How an exchange is opened.
-use Rattle.std.specs.Prelude.{◌≡◌, []}
+use Rattle.std.specs.Prelude.{ℕ, ◌≡◌, []}
 use Rattle.hx_blog.specs.Ends.{LogId, WriterState}
 use Rattle.hx_desk.specs.declared.entry.Entry.{Entry}
 
@@ -7,3 +7,7 @@ use Rattle.hx_desk.specs.declared.entry.Entry.{Entry}
 abbrev pub IsNewLog : LogId → LogId × WriterState Entry → Type 0
 IsNewLog name ends =
     (ends.0 ≡ name) × (ends.1 ≡ record { log = name; published = []; staged = [] })
+
+-- the most passes of an exchange
+abbrev pub most_passes : ℕ
+most_passes = 1024

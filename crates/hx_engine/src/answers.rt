@@ -26,6 +26,17 @@ pub struct News {
     pub ended: bool,
 }
 
+/// How far an exchange has come. These numbers are for its operator: they count orders that nobody else sees.
+#[derive(Clone, Copy, Debug, PartialEq, Eq)]
+pub struct Counts {
+    /// How many events are recorded.
+    pub recorded: u64,
+    /// How many of them are told; the others wait for the journal.
+    pub told: u64,
+    /// How many messages of the feed are published.
+    pub feed: u64,
+}
+
 /// What an exchange leaves.
 #[derive(Drop)]
 pub struct Finished<J: Journal> {

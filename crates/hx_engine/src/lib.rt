@@ -23,7 +23,7 @@ mod replies;
 mod submitting;
 mod venue;
 
-pub use answers::{Audit, FinishError, Finished, News, SubmitError};
+pub use answers::{Audit, Counts, FinishError, Finished, News, SubmitError};
 pub use exchange::Exchange;
 pub use hx_desk::{Desk, DeskError, Done, Entry, laws};
 pub use hx_journal::{Journal, JournalError};

@@ -3,7 +3,7 @@ ghost use Rattle.std.specs.Prelude.{◌≡◌, ◌≤◌, [], true, IfOk};
 ghost use Rattle.hx_tape_lines.specs.Text.{record_of};
 ghost use Rattle.hx_desk.specs.Entries.{restored};
 ghost use Rattle.hx_engine.specs.Journals.{lines};
-ghost use Rattle.hx_engine.specs.Opening.{IsNewLog};
+ghost use Rattle.hx_engine.specs.Opening.{IsNewLog, most_passes};
 ghost use Rattle.hx_engine.specs.Passes.{new_passes};
 
 use crate::exchange::Exchange;
@@ -44,7 +44,7 @@ pub struct Recovered<J: Journal> {
 }
 
 impl<V: Venue, J: Journal + Drop> Exchange<V, J> {
-    /// An exchange over new logs and an empty journal, with so many passes, 1 to 64, and the fixed seed. What it was
+    /// An exchange over new logs and an empty journal, with so many passes, 1 to 1,024, and the fixed seed. What it was
     /// given is gone after `NoMemory`.
     pub fn new(
         alloc: Global,
@@ -62,13 +62,13 @@ impl<V: Venue, J: Journal + Drop> Exchange<V, J> {
         requires journal { J.appended journal ≡ [] }
         requires safe { (J.kept journal ≡ J.appended journal) × (J.is_open journal ≡ true) }
         requires blank { (blank.name ≡ V.name) × (blank.parts ≡ V.parts) }
-        requires passes { (1 ≤ passes) × (passes ≤ 64) × (passes ≡ V.parts) }
+        requires passes { (1 ≤ passes) × (passes ≤ most_passes) × (passes ≡ V.parts) }
         ensures { IfOk result (λ made. made.1.items ≡ new_passes passes) }
     {
         Exchange::seeded(alloc, setup, logs, journal, blank, passes, Seed::Fixed)
     }
 
-    /// An exchange over new logs and an empty journal, with so many passes, 1 to 64, whose table of tokens has this
+    /// An exchange over new logs and an empty journal, with so many passes, 1 to 1,024, whose table of tokens has this
     /// seed: members choose their tokens, so where strangers trade it should be drawn. What it was given is gone after
     /// `NoMemory`.
     pub fn seeded(
@@ -88,7 +88,7 @@ impl<V: Venue, J: Journal + Drop> Exchange<V, J> {
         requires journal { J.appended journal ≡ [] }
         requires safe { (J.kept journal ≡ J.appended journal) × (J.is_open journal ≡ true) }
         requires blank { (blank.name ≡ V.name) × (blank.parts ≡ V.parts) }
-        requires passes { (1 ≤ passes) × (passes ≤ 64) × (passes ≡ V.parts) }
+        requires passes { (1 ≤ passes) × (passes ≤ most_passes) × (passes ≡ V.parts) }
         ensures { IfOk result (λ made. made.1.items ≡ new_passes passes) }
     {
         let recovered = Recovered {
@@ -102,7 +102,7 @@ impl<V: Venue, J: Journal + Drop> Exchange<V, J> {
     }
 
     /// An exchange that goes on from events that its journal keeps: they are told again, over new logs, and its passes,
-    /// 1 to 64, sent none of them. Its table of tokens has this seed. An error says why an event is not recorded again:
+    /// 1 to 1,024, sent none of them. Its table of tokens has this seed. An error says why an event is not recorded again:
     /// the log of the feed has no room for it, or there is no memory, or it is of another setup. What it was given is
     /// gone then.
     pub fn resume(
@@ -123,7 +123,7 @@ impl<V: Venue, J: Journal + Drop> Exchange<V, J> {
         requires safe { (J.kept recovered.journal ≡ J.appended recovered.journal)
             × (J.is_open recovered.journal ≡ true) }
         requires blank { (blank.name ≡ V.name) × (blank.parts ≡ V.parts) }
-        requires passes { (1 ≤ passes) × (passes ≤ 64) × (passes ≡ V.parts) }
+        requires passes { (1 ≤ passes) × (passes ≤ most_passes) × (passes ≡ V.parts) }
         ensures { IfOk result (λ made. made.1.items ≡ new_passes passes) }
     {
         let Logs {

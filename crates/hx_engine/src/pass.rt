@@ -1,5 +1,6 @@
 //! Passes, through which events are sent.
 ghost use Rattle.std.specs.Prelude.{◌≡◌, ◌<◌, ◌≤◌, [], length, IfOk, OnOk};
+ghost use Rattle.hx_engine.specs.Opening.{most_passes};
 ghost use Rattle.hx_engine.specs.Passes.{new_passes};
 
 use crate::venue::Venue;
@@ -99,7 +100,7 @@ pub(crate) fn make_passes<V: Venue>(
     requires register { register.old
         ≡ record { log = V.admitted; published = []; staged = [] } }
     requires spare { (spare.old.parts ≡ count) × (spare.old.amount ≡ 0) }
-    requires passes { (count ≡ V.parts) × (count ≤ 64) }
+    requires passes { (count ≡ V.parts) × (count ≤ most_passes) }
     ensures passes { IfOk result (λ passes. passes.items ≡ new_passes count) }
     ensures writer { writer.new ≡ writer.old }
     ensures register { register.new ≡ register.old }

@@ -1,5 +1,6 @@
 //! How many passes an exchange has.
 ghost use Rattle.std.specs.Prelude.{◌≡◌, ◌≤◌};
+ghost use Rattle.hx_engine.specs.Opening.{most_passes};
 
 use crate::venue::Venue;
 use std::marker::{Model, PhantomData};
@@ -13,18 +14,19 @@ pub struct PassCount<V: Venue> {
 
 impl<V: Venue> Model for PassCount<V> {
     ghost use Rattle.std.specs.Prelude.{◌≡◌, ◌≤◌, ℕ};
+    ghost use Rattle.hx_engine.specs.Opening.{most_passes};
 
     ghost Value = { ℕ };
 
     ghost view = { λ c. c.count };
 
-    ghost invariant = { λ c. (c.count ≡ V.parts) × (c.count ≤ 64) };
+    ghost invariant = { λ c. (c.count ≡ V.parts) × (c.count ≤ most_passes) };
 }
 
 impl<V: Venue> PassCount<V> {
     /// So many.
     pub fn of(count: u16) -> PassCount<V>
-        requires { (count ≡ V.parts) × (count ≤ 64) }
+        requires { (count ≡ V.parts) × (count ≤ most_passes) }
         ensures { result ≡ count }
     {
         PassCount {
@@ -36,7 +38,7 @@ impl<V: Venue> PassCount<V> {
     /// The number.
     pub fn get(&self) -> u16
         ensures value { result ≡ V.parts }
-        ensures limit { result ≤ 64 }
+        ensures limit { result ≤ most_passes }
     {
         self.count
     }

@@ -1,12 +1,12 @@
 //! What an exchange tells of a member's replies, and of the end of the day.
-ghost use Rattle.std.specs.Prelude.{◌≡◌, ◌<◌, length, IfOk, IfErr};
+ghost use Rattle.std.specs.Prelude.{◌≡◌, ◌<◌, ◌≤◌, length, IfOk, IfErr};
 ghost use Rattle.hx_units.specs.Fields.{texts};
 ghost use Rattle.hx_desk.specs.Rows.{from_number, page};
 ghost use Rattle.hx_desk.specs.Desks.{is_over};
 ghost use Rattle.hx_desk.specs.Known.{AreFew, CatchesUp, IsWhole, known_market, known_replies};
 ghost use Rattle.hx_engine.specs.Exchanges.{AreKnownReplies, IsNews};
 
-use crate::answers::News;
+use crate::answers::{Counts, News};
 use crate::exchange::Exchange;
 use crate::held::Held;
 use crate::venue::Venue;
@@ -168,5 +168,30 @@ impl<V: Venue, J: Journal + Drop> Exchange<V, J> {
     pub fn is_closed(&self, rt: &impl Wait) -> bool {
         let held = self.desk.lock(rt);
         held.desk.ended() || held.failed.is_some()
+    }
+
+    /// Sleeps until more than `seen` messages of the feed are published, or until this time has passed, and returns how many
+    /// there are. No clause says what the log was then: its readers know.
+    pub fn wait_for_feed<R: Wait + Clock>(&self, rt: &R, seen: u64, limit: Duration) -> u64 {
+        self.recorded
+            .wait_timeout_while(rt, self.desk.lock(rt), limit, |held| {
+                held.desk.feed_count() <= seen
+            })
+            .0
+            .desk
+            .feed_count()
+    }
+
+    /// How far the exchange has come.
+    pub fn counts(&self, rt: &impl Wait) -> Counts
+        ensures { result.told ≤ result.recorded }
+    {
+        let held = self.desk.lock(rt);
+        held.desk.stands();
+        Counts {
+            recorded: held.desk.history_len(),
+            told: held.desk.told_len(),
+            feed: held.desk.feed_count(),
+        }
     }
 }

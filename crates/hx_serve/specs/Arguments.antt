@@ -4,6 +4,10 @@ use Rattle.std.specs.Prelude.{ℕ, ◌≤◌, ◌≢◌}
 abbrev pub most_sessions : ℕ
 most_sessions = 63
 
+-- the most sessions that are logged in at a time in an open day
+abbrev pub most_places : ℕ
+most_places = 1000
+
 -- the most messages that the log of the feed has room for
 abbrev pub most_messages : ℕ
 most_messages = 1000000
@@ -20,8 +24,13 @@ most_answers = 1000000
 abbrev pub IsWithin : (most number : ℕ) → Type 0
 IsWithin most number = (1 ≤ number) × (number ≤ most)
 
--- three ports, and how much is taken: the feed does not go to the port of requests
+-- three ports, and how much is taken, with so many sessions at most: the feed does not go to the port of requests
+abbrev pub AreWithin : (most port feed requests sessions capacity turns : ℕ) → Type 0
+AreWithin most port feed requests sessions capacity turns =
+    (1 ≤ port) × (1 ≤ feed) × (1 ≤ requests) × (feed ≢ requests)
+    × IsWithin most sessions × IsWithin most_messages capacity × IsWithin most_turns turns
+
+-- the same, of a day that is not open
 abbrev pub AreInRange : (port feed requests sessions capacity turns : ℕ) → Type 0
 AreInRange port feed requests sessions capacity turns =
-    (1 ≤ port) × (1 ≤ feed) × (1 ≤ requests) × (feed ≢ requests)
-    × IsWithin most_sessions sessions × IsWithin most_messages capacity × IsWithin most_turns turns
+    AreWithin most_sessions port feed requests sessions capacity turns

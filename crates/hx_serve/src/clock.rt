@@ -39,8 +39,8 @@ pub struct DayClock<'a, T> {
     times: Times<'a>,
 }
 
-// The nanoseconds since 1970; 0 where the clock cannot be read.
-fn since_1970<T: Timer>(rt: &T) -> u64 {
+/// The nanoseconds since 1970; 0 where the clock cannot be read.
+pub fn since_1970<T: Timer>(rt: &T) -> u64 {
     match rt.since_1970() {
         Ok(time) => u64::try_from(time.as_nanos()).unwrap_or(u64::MAX),
         Err(_) => 0,

@@ -2,6 +2,7 @@
 ghost use Rattle.std.specs.Prelude.{◌≡◌};
 ghost use Rattle.hx_serve.specs.declared.fault.ServeError.TheVariants.{NoMemory as OutOfMemory};
 
+use hx_doors::DoorsError;
 use hx_replay::Kind;
 use hx_units::NoMemory;
 use std::alloc::{AllocError, AllocFailed};
@@ -65,5 +66,14 @@ impl From<NoMemory> for ServeError {
 
     fn from(_error: NoMemory) -> ServeError {
         ServeError::NoMemory
+    }
+}
+
+impl From<DoorsError> for ServeError {
+    fn from(error: DoorsError) -> ServeError {
+        match error {
+            DoorsError::NoMemory => ServeError::NoMemory,
+            DoorsError::Network => ServeError::Network,
+        }
     }
 }

@@ -2,7 +2,10 @@
 
 use crate::args::{OpenArgs, ServeArgs};
 use crate::clock::Times;
+use crate::meter::Meter;
+use hx_doors::{Addresses, Tally};
 use hx_members::Setup;
+use hx_sessions::DropCopy;
 
 /// What a day is served by, from its first connection to its last.
 #[derive(Clone, Copy)]
@@ -13,6 +16,8 @@ pub struct Hosting<'a, G, B> {
     pub is_standard: bool,
     /// What the command line asks.
     pub args: &'a ServeArgs,
+    /// Where the day listens and sends.
+    pub addresses: &'a Addresses,
     /// The gate, which is called round each submit and at each login.
     pub gate: &'a G,
     /// Where notices go.
@@ -21,4 +26,10 @@ pub struct Hosting<'a, G, B> {
     pub open: Option<OpenArgs>,
     /// The times of members' messages.
     pub times: Times<'a>,
+    /// What is counted of an open day's connections and logins.
+    pub tally: &'a Tally,
+    /// What is counted of the journal and of requests.
+    pub meter: &'a Meter,
+    /// The logins that are drop copies.
+    pub copies: &'a [DropCopy],
 }

@@ -9,7 +9,7 @@ use crate::history::write_history;
 use crate::hosting::Hosting;
 use crate::notices::{Board, Notice};
 use crate::serving::{Beginning, Day, serve_from};
-use crate::sockets::Doors;
+use hx_doors::Doors;
 use hx_engine::Journal;
 use hx_sessions::Gate;
 use log::Log as Logs;
@@ -61,7 +61,7 @@ fn fault_of(day: Day, kept: Result<(), ServeError>) -> Result<(), ServeError> {
     }
 }
 
-/// Serves a day over sockets at 127.0.0.1, from what its journal keeps on, and writes its history as a tape to a new
+/// Serves a day over sockets, from what its journal keeps on, and writes its history as a tape to a new
 /// file, if a path is given. The ports are taken before the file is made: a day that cannot begin leaves no file, and
 /// touches none. The last line goes to the output before the history is written.
 pub fn serve_kept<
@@ -91,7 +91,7 @@ pub fn serve_kept<
     requires safe { (J.kept beginning.recovered.journal ≡ J.appended beginning.recovered.journal)
         × (J.is_open beginning.recovered.journal ≡ true) }
 {
-    let doors = Doors::open(rt, hosting.args)?;
+    let doors = Doors::open(rt, hosting.addresses)?;
     let file = match history {
         Some(path) => Some(new_history(rt, path)?),
         None => None,
@@ -99,7 +99,13 @@ pub fn serve_kept<
     if hosting.is_standard {
         hosting.board.post(Notice::StandardSetup);
     }
-    let day = serve_from(rt, alloc, hosting, doors, beginning, input, output)?;
+    if hosting.open.is_some() && !hosting.addresses.are_loopback() {
+        hosting.board.post(Notice::OpenToOthers);
+    }
+    let mut day = serve_from(rt, alloc, hosting, doors, beginning, input, output)?;
+    if let Some(socket) = day.socket.take() {
+        socket.close(rt);
+    }
     let kept = match file {
         Some(file) => keep_history(alloc, &day, file),
         None => Ok(()),

@@ -2,29 +2,13 @@
 ghost use Rattle.std.specs.Prelude.{◌≡◌};
 ghost use Rattle.hx_serve.specs.Faults.{fault_number};
 
+use hx_doors::{DoorBoard, Left};
 use hx_sessions::{Ended, Fault, Gate};
 use hx_units::MemberNo;
 use log::{Log, info};
 use std::fmt;
 use std::fmt::{Display, Formatter};
 use std::net::SocketAddr;
-
-/// Why a connection ended before its login.
-#[derive(Clone, Copy, Debug, PartialEq, Eq)]
-pub enum Left {
-    /// It was closed at its other end.
-    Gone,
-    /// It sent something else than a login.
-    NoLogin,
-    /// It did not log in within its time.
-    Late,
-    /// No place was free within its time.
-    NoPlace,
-    /// More connections came than can wait at the door.
-    Crowded,
-    /// The day was over.
-    DayEnd,
-}
 
 /// Something that the operator is told. Nothing in it is secret: no order, no password.
 #[derive(Clone, Copy, Debug, PartialEq, Eq)]
@@ -70,6 +54,27 @@ pub enum Notice {
     },
     /// The operator's input has ended: the codes of the hours that are left are recorded.
     Closing,
+    /// The time of a code of the schedule has come.
+    Scheduled {
+        /// The code.
+        code: u8,
+        /// Why it was not recorded, if it was not.
+        why: Option<Refusal>,
+    },
+    /// The operator has ended a session.
+    Dropped {
+        /// Whose.
+        member: MemberNo,
+        /// From where.
+        from: SocketAddr,
+    },
+    /// A member may not log in now, and has tried.
+    Forbidden {
+        /// Who.
+        member: MemberNo,
+        /// From where.
+        from: SocketAddr,
+    },
     /// An answer to a request could not be sent.
     Unanswered {
         /// To whom.
@@ -95,6 +100,13 @@ pub enum Notice {
     JournalGoesOn,
     /// There is no setup: the passwords are those of the standard one, which everybody can read.
     StandardSetup,
+    /// Other machines can reach the day.
+    OpenToOthers,
+    /// A packet of the feed could not be sent to one of its addresses.
+    Unsent {
+        /// To which.
+        to: SocketAddr,
+    },
 }
 
 /// Why a line of the operator was refused.
@@ -123,19 +135,6 @@ impl Display for Refusal {
             Refusal::NoMemory => "no memory",
             Refusal::Journal => "journal failed",
             Refusal::Other => "refused",
-        })
-    }
-}
-
-impl Display for Left {
-    fn fmt<W: fmt::Write>(&self, f: &mut Formatter<W>) -> fmt::Result {
-        f.write_str(match self {
-            Left::Gone => "gone before its login",
-            Left::NoLogin => "no login",
-            Left::Late => "no login in time",
-            Left::NoPlace => "no place is free",
-            Left::Crowded => "too many wait at the door",
-            Left::DayEnd => "the day is over",
         })
     }
 }
@@ -176,6 +175,27 @@ impl Display for Notice {
             Notice::Left { from, why } => write!(f, "connection from {from} closed: {why}"),
             Notice::Refused { line, why } => write!(f, "operator line {line}: {why}"),
             Notice::Closing => f.write_str("operator input ended: the hours are ended"),
+            Notice::Scheduled { code, why } => {
+                let code = char::from(*code);
+                match why {
+                    None => write!(f, "hours {code} by the schedule"),
+                    Some(why) => write!(f, "hours {code} by the schedule: {why}"),
+                }
+            }
+            Notice::Dropped { member, from } => {
+                let member = member.get();
+                write!(
+                    f,
+                    "session end member {member} from {from}: ended by the operator"
+                )
+            }
+            Notice::Forbidden { member, from } => {
+                let member = member.get();
+                write!(
+                    f,
+                    "login of member {member} from {from} refused by the operator"
+                )
+            }
             Notice::Unanswered { to } => write!(f, "answer to {to} not sent"),
             Notice::Crowd => f.write_str("more requests than are answered"),
             Notice::Reading { events } => write!(f, "journal read up to event {events}"),
@@ -187,6 +207,10 @@ impl Display for Notice {
             ),
             Notice::JournalGoesOn => f.write_str("journal has room again"),
             Notice::StandardSetup => f.write_str("no setup: the passwords are the published ones"),
+            Notice::OpenToOthers => f.write_str(
+                "open to other machines: put a line that encrypts before it (see OPERATING)",
+            ),
+            Notice::Unsent { to } => write!(f, "feed to {to} not sent"),
         }
     }
 }
@@ -245,6 +269,9 @@ impl Display for Json {
             Notice::Unanswered { to } => {
                 write!(f, "{{\"notice\":\"answer not sent\",\"to\":\"{to}\"}}")
             }
+            Notice::Unsent { to } => {
+                write!(f, "{{\"notice\":\"feed not sent\",\"to\":\"{to}\"}}")
+            }
             Notice::Reading { events } => {
                 write!(f, "{{\"notice\":\"journal read\",\"events\":{events}}}")
             }
@@ -252,11 +279,27 @@ impl Display for Json {
                 f,
                 "{{\"notice\":\"resumed\",\"events\":{events},\"feed\":{feed}}}"
             ),
+            Notice::Dropped { member, from } => {
+                let member = member.get();
+                write!(
+                    f,
+                    "{{\"notice\":\"session end\",\"member\":{member},\"from\":\"{from}\",\"how\":\"ended by the operator\"}}"
+                )
+            }
+            Notice::Forbidden { member, from } => {
+                let member = member.get();
+                write!(
+                    f,
+                    "{{\"notice\":\"login refused by the operator\",\"member\":{member},\"from\":\"{from}\"}}"
+                )
+            }
             Notice::Closing
+            | Notice::Scheduled { .. }
             | Notice::Crowd
             | Notice::JournalWaits
             | Notice::JournalGoesOn
-            | Notice::StandardSetup => {
+            | Notice::StandardSetup
+            | Notice::OpenToOthers => {
                 let notice = self.notice;
                 write!(f, "{{\"notice\":\"{notice}\"}}")
             }
@@ -268,6 +311,22 @@ impl Display for Json {
 pub trait Board {
     /// Tells the operator.
     fn post(&self, notice: Notice);
+
+    /// The journal was brought to the disk, which took so many nanoseconds.
+    fn synced(&self, _nanoseconds: u64) {}
+}
+
+/// The board of the door: a connection that was closed there is told of by a notice.
+#[derive(Clone, Copy)]
+pub struct DoorNotices<'a, B> {
+    /// Where the notices go.
+    pub board: &'a B,
+}
+
+impl<'a, B: Board> DoorBoard for DoorNotices<'a, B> {
+    fn tell_left(&self, from: SocketAddr, why: Left) {
+        self.board.post(Notice::Left { from, why });
+    }
 }
 
 /// A gate that holds nothing, and a board that writes each notice as a line of the log.

@@ -1,52 +1,133 @@
 //! The workers of an open day, all at once: the publisher, the door, the places, and the operator.
 ghost use Rattle.std.specs.Prelude.{◌≡◌};
 
-use crate::door::keep_door;
+use crate::args::OpenArgs;
+use crate::clock::{DayClock, Times};
+use crate::director::{Director, Duties};
 use crate::fault::ServeError;
-use crate::hosting::Hosting;
-use crate::lobby::Lobby;
-use crate::notices::Board;
+use crate::fittings::Metrics;
+use crate::floor::Floor;
+use crate::notices::{Board, DoorNotices};
 use crate::operating::conduct;
-use crate::places::{Place, serve_places};
+use crate::places::{Hall, Place, serve_places};
 use crate::publishing::Publishing;
-use crate::sockets::Datagrams;
+use crate::watching::{Viewer, Watch};
+use hx_doors::{Datagrams, DayEnd, DoorRules, keep_door};
 use hx_engine::{Exchange, Journal, Pass, Venue};
+use hx_metrics::serve_metrics;
+use hx_operator::OperatorSocket;
 use hx_sessions::Gate;
 use std::alloc::Global;
 use std::io::Read;
 use std::net::TcpListener;
-use std::sync::Wait;
 use std::sync::atomic::{AtomicBool, Ordering};
+use std::sync::{Mutex, Wait};
 use std::thread::{Threads, join};
-use std::time::{Clock, Duration};
+use std::time::Clock;
 
-/// Who writes in an open day: the places, what members connect to, and the operator by his pass and his input.
+/// Where the figures of an open day are shown, and by which reader replies are counted.
+#[derive(Drop)]
+pub struct Page<V: Venue> {
+    /// Where, if they are.
+    pub metrics: Option<Metrics>,
+    /// By which reader.
+    pub viewer: Viewer<V>,
+}
+
+/// Who directs an open day: by standard input, and by the operator's socket and the clock.
+#[derive(Drop)]
+pub struct Desk<V: Venue, R> {
+    /// The pass of what comes from standard input.
+    pub pass: Pass<V>,
+    /// Standard input.
+    pub input: R,
+    /// The pass of what comes from the socket and the clock.
+    pub other: Pass<V>,
+    /// What the clock asks for, and the socket.
+    pub duties: Duties,
+}
+
+/// Who writes in an open day: the places, what members connect to, and the operator.
 #[derive(Drop)]
 pub struct Staff<V: Venue, R> {
     /// The places.
     pub places: Vec<Place<V>>,
     /// The socket that members connect to.
     pub listener: TcpListener,
-    /// The operator's pass.
-    pub pass: Pass<V>,
-    /// His input.
-    pub input: R,
-    /// How many seconds a connection has for its login.
-    pub login_limit: u32,
+    /// The operator's desk.
+    pub desk: Desk<V, R>,
+    /// The page of figures.
+    pub page: Page<V>,
+    /// What is asked of the day.
+    pub open: OpenArgs,
 }
 
-/// What is left when the operator and all sessions have ended: the passes, his one, and his fault.
-pub type Closed<V> = (Vec<Pass<V>>, (Pass<V>, Option<ServeError>));
+/// What the operator leaves: the pass and the socket of what came by the socket and the clock, and the pass and the fault of
+/// standard input.
+pub type Steered<V> = (
+    (Pass<V>, Option<OperatorSocket>),
+    (Pass<V>, Option<ServeError>),
+);
 
-// The operator, with what he works by.
-#[derive(Drop)]
-struct Desk<V: Venue, R> {
-    pass: Pass<V>,
-    input: R,
+/// What is left when the operator and all sessions have ended: the passes of the places, and what he leaves.
+pub type Closed<V> = (Vec<Pass<V>>, Steered<V>);
+
+// The end of an exchange's day.
+#[derive(Clone, Copy)]
+struct Closing<'a, V: Venue, J: Journal> {
+    exchange: &'a Exchange<V, J>,
+}
+
+impl<'a, V: Venue, J: Journal + Drop> DayEnd for Closing<'a, V, J> {
+    fn is_over<T: Wait>(&self, rt: &T) -> bool {
+        self.exchange.is_closed(rt)
+    }
+}
+
+// The operator by his socket and the clock, in this thread, and by standard input.
+fn steer<
+    'x,
+    V: Venue + Send + Sync,
+    J: Journal + Drop + Send,
+    B: Board + Sync,
+    R: Read + Send + Drop,
+    T: Threads + Wait + Clock + Sync,
+>(
+    rt: &'x T,
+    alloc: Global,
+    exchange: &'x Exchange<V, J>,
+    floor: &'x Floor<'x, B>,
+    times: Times<'x>,
+    desk: Desk<V, R>,
+    gone: &'x AtomicBool,
+) -> Steered<V> {
+    let Desk {
+        pass,
+        input,
+        other,
+        duties,
+    } = desk;
+    let director = Director {
+        rt,
+        alloc,
+        exchange,
+        floor,
+        clock: DayClock::of(rt, times),
+        pass: other,
+    };
+    join(
+        rt,
+        move || director.direct(duties, gone),
+        move || {
+            let mut input = input;
+            conduct(rt, alloc, exchange, floor, times, pass, &mut input)
+        },
+    )
 }
 
 // The places, in this thread, and the operator.
 fn attend<
+    'x,
     V: Venue + Send + Sync,
     J: Journal + Drop + Send,
     G: Gate + Sync,
@@ -54,27 +135,29 @@ fn attend<
     R: Read + Send + Drop,
     T: Threads + Wait + Clock + Sync,
 >(
-    rt: &T,
+    rt: &'x T,
     alloc: Global,
-    exchange: &Exchange<V, J>,
-    hosting: &Hosting<'_, G, B>,
-    lobby: &Lobby,
+    exchange: &'x Exchange<V, J>,
+    hall: &'x Hall<'x, G, B>,
     places: Vec<Place<V>>,
     desk: Desk<V, R>,
 ) -> Closed<V> {
-    let Desk { pass, input } = desk;
+    let gone = AtomicBool::new(false);
+    let (flag, floor, times) = (&gone, hall.floor, hall.hosting.times);
     join(
         rt,
-        move || serve_places(rt, alloc, exchange, hosting, lobby, places),
         move || {
-            let mut input = input;
-            conduct(rt, alloc, exchange, hosting, pass, &mut input)
+            let passes = serve_places(rt, alloc, exchange, hall, places);
+            flag.store(true, Ordering::SeqCst);
+            passes
         },
+        move || steer(rt, alloc, exchange, floor, times, desk, flag),
     )
 }
 
 // The door, in this thread, and those who write.
 fn trade<
+    'x,
     V: Venue + Send + Sync,
     J: Journal + Drop + Send,
     G: Gate + Sync,
@@ -82,26 +165,79 @@ fn trade<
     R: Read + Send + Drop,
     T: Threads + Wait + Clock + Sync,
 >(
-    rt: &T,
+    rt: &'x T,
     alloc: Global,
-    exchange: &Exchange<V, J>,
-    hosting: &Hosting<'_, G, B>,
-    lobby: &Lobby,
+    exchange: &'x Exchange<V, J>,
+    hall: &'x Hall<'x, G, B>,
+    open: OpenArgs,
+    writers: (TcpListener, Vec<Place<V>>, Desk<V, R>),
+) -> Closed<V> {
+    let (listener, places, desk) = writers;
+    let (hosting, lobby) = (hall.hosting, hall.lobby);
+    let rules = DoorRules {
+        setup: hosting.setup,
+        login_limit: open.login_limit,
+        each: open.connections_per_address,
+        tally: hosting.tally,
+    };
+    let board = DoorNotices {
+        board: hosting.board,
+    };
+    let end = Closing { exchange };
+    let ((), closed) = join(
+        rt,
+        move || keep_door(rt, alloc, &end, listener, lobby, rules, &board),
+        move || attend(rt, alloc, exchange, hall, places, desk),
+    );
+    closed
+}
+
+// The page of figures, where there is one, and those who trade.
+fn trade_watched<
+    'x,
+    V: Venue + Send + Sync,
+    J: Journal + Drop + Send,
+    G: Gate + Sync,
+    B: Board + Sync,
+    R: Read + Send + Drop,
+    T: Threads + Wait + Clock + Sync,
+>(
+    rt: &'x T,
+    alloc: Global,
+    exchange: &'x Exchange<V, J>,
+    hall: &'x Hall<'x, G, B>,
     staff: Staff<V, R>,
 ) -> Closed<V> {
     let Staff {
         places,
         listener,
-        pass,
-        input,
-        login_limit,
+        desk,
+        page,
+        open,
     } = staff;
-    let limit = Duration::from_secs(u64::from(login_limit));
-    let desk = Desk { pass, input };
-    let ((), closed) = join(
+    let writers = (listener, places, desk);
+    let Page { metrics, viewer } = page;
+    let Some(Metrics { listener, keys }) = metrics else {
+        return trade(rt, alloc, exchange, hall, open, writers);
+    };
+    let over = AtomicBool::new(false);
+    let flag = &over;
+    let watch = Watch {
         rt,
-        move || keep_door(rt, alloc, exchange, listener, lobby, limit, hosting.board),
-        move || attend(rt, alloc, exchange, hosting, lobby, places, desk),
+        exchange,
+        floor: hall.floor,
+        tally: hall.hosting.tally,
+        viewer: Mutex::new(viewer),
+        over: flag,
+    };
+    let (_, closed) = join(
+        rt,
+        move || serve_metrics(rt, alloc, listener, &watch, keys),
+        move || {
+            let closed = trade(rt, alloc, exchange, hall, open, writers);
+            flag.store(true, Ordering::SeqCst);
+            closed
+        },
     );
     closed
 }
@@ -109,6 +245,7 @@ fn trade<
 /// Publishes while the operator and the sessions last, and until all that they sent is published.
 pub fn work_open<
     'a,
+    'x,
     V: Venue + Send + Sync,
     J: Journal + Drop + Send,
     G: Gate + Sync,
@@ -117,22 +254,21 @@ pub fn work_open<
     R: Read + Send + Drop,
     T: Threads + Wait + Clock + Sync,
 >(
-    rt: &T,
+    rt: &'x T,
     alloc: Global,
-    exchange: &Exchange<V, J>,
-    hosting: &Hosting<'_, G, B>,
+    exchange: &'x Exchange<V, J>,
+    hall: &'x Hall<'x, G, B>,
     socket: &D,
     publishing: Publishing<'a, V>,
     staff: Staff<V, R>,
 ) -> (Publishing<'a, V>, Closed<V>) {
     let ended = AtomicBool::new(false);
-    let lobby = Lobby::new(alloc);
-    let (flag, room, board) = (&ended, &lobby, hosting.board);
+    let (flag, board) = (&ended, hall.hosting.board);
     join(
         rt,
         move || publishing.work(rt, socket, board, flag),
         move || {
-            let closed = trade(rt, alloc, exchange, hosting, room, staff);
+            let closed = trade_watched(rt, alloc, exchange, hall, staff);
             flag.store(true, Ordering::SeqCst);
             closed
         },

@@ -1,8 +1,8 @@
 //! The operator of an open day: a line that is bad or refused is told of, and the next one is read.
 
-use crate::clock::DayClock;
+use crate::clock::{DayClock, Times};
 use crate::fault::ServeError;
-use crate::hosting::Hosting;
+use crate::floor::Floor;
 use crate::notices::{Board, Notice, Refusal};
 use crate::operator::LONGEST;
 use hx_engine::{DeskError, Exchange, Journal, Pass, SubmitError, Venue};
@@ -34,8 +34,8 @@ struct Conductor<V: Venue> {
     overlong: bool,
 }
 
-// Why a line is refused.
-fn refusal_of(error: SubmitError) -> Refusal {
+/// Why an event of the operator is refused.
+pub fn refusal_of(error: SubmitError) -> Refusal {
     let SubmitError::Refused(error) = error else {
         return Refusal::Journal;
     };
@@ -49,11 +49,12 @@ fn refusal_of(error: SubmitError) -> Refusal {
 
 impl<V: Venue> Conductor<V> {
     // Sends the event of a line, or answers why not.
-    fn send_line<J: Journal + Drop, T: Wait>(
+    fn send_line<J: Journal + Drop, B, T: Wait>(
         &mut self,
         rt: &T,
         alloc: Global,
         exchange: &Exchange<V, J>,
+        floor: &Floor<'_, B>,
         text: &[u8],
     ) -> Result<(), Refusal> {
         if self.overlong {
@@ -66,7 +67,10 @@ impl<V: Venue> Conductor<V> {
             return Err(Refusal::Bad);
         };
         match exchange.submit(rt, &mut self.pass, &event) {
-            Ok(_) => Ok(()),
+            Ok(_) => {
+                floor.bulletin.note(floor.setup, &event);
+                Ok(())
+            }
             Err(error) => Err(refusal_of(error)),
         }
     }
@@ -77,12 +81,12 @@ impl<V: Venue> Conductor<V> {
         rt: &T,
         alloc: Global,
         exchange: &Exchange<V, J>,
-        board: &B,
+        floor: &Floor<'_, B>,
         text: &[u8],
     ) {
         self.lines = self.lines.saturating_add(1);
-        if let Err(why) = self.send_line(rt, alloc, exchange, text) {
-            board.post(Notice::Refused {
+        if let Err(why) = self.send_line(rt, alloc, exchange, floor, text) {
+            floor.board.post(Notice::Refused {
                 line: self.lines,
                 why,
             });
@@ -97,7 +101,7 @@ impl<V: Venue> Conductor<V> {
         rt: &T,
         alloc: Global,
         exchange: &Exchange<V, J>,
-        board: &B,
+        floor: &Floor<'_, B>,
         piece: &[u8],
     ) -> Result<(), ServeError> {
         let mut text = Vec::from_slice(alloc, &self.pending)?;
@@ -107,7 +111,7 @@ impl<V: Venue> Conductor<V> {
             let Some((line, others)) = split_once(rest, b'\n') else {
                 break;
             };
-            self.take_line(rt, alloc, exchange, board, line);
+            self.take_line(rt, alloc, exchange, floor, line);
             rest = others;
         }
         if rest.len() > LONGEST {
@@ -124,16 +128,15 @@ impl<V: Venue> Conductor<V> {
         rt: &T,
         alloc: Global,
         exchange: &Exchange<V, J>,
-        hosting: (&B, u64),
+        floor: &Floor<'_, B>,
         input: &mut R,
     ) -> Result<(), ServeError> {
-        let (board, turns) = hosting;
         let mut chunk = [0; PIECE];
-        for _ in 0..turns {
+        for _ in 0..floor.turns {
             match input.read(&mut chunk) {
                 Ok(0) => return Ok(()),
                 Ok(count) => {
-                    self.take_piece(rt, alloc, exchange, board, &chunk[..count])?;
+                    self.take_piece(rt, alloc, exchange, floor, &chunk[..count])?;
                 }
                 Err(error) if error.kind() == ErrorKind::Interrupted => {}
                 Err(_) => return Err(ServeError::Read),
@@ -146,15 +149,17 @@ impl<V: Venue> Conductor<V> {
     }
 
     // Sends all codes of the hours, of which those that are past do nothing.
-    fn send_hours<J: Journal + Drop, T: Wait>(
+    fn send_hours<J: Journal + Drop, B, T: Wait>(
         &mut self,
         rt: &T,
         exchange: &Exchange<V, J>,
+        floor: &Floor<'_, B>,
         time: u64,
     ) {
         for code in HOURS {
-            if !exchange.is_closed(rt) {
-                let _ = exchange.submit(rt, &mut self.pass, &Event::Hours { time, code });
+            let event = Event::Hours { time, code };
+            if !exchange.is_closed(rt) && exchange.submit(rt, &mut self.pass, &event).is_ok() {
+                floor.bulletin.note(floor.setup, &event);
             }
         }
     }
@@ -162,13 +167,14 @@ impl<V: Venue> Conductor<V> {
 
 /// Reads the operator's input, and sends the event of each line by his pass; one that is bad or refused is told of, and
 /// the next one is read. Where the input ends, or fails, before code `C` is past, the codes that are left are sent: so
-/// the day ends. Where the journal has failed, nothing more is read or sent. Answers the pass, and what was wrong with the
-/// input itself.
-pub fn conduct<V: Venue, J: Journal + Drop, G, B: Board, R: Read, T: Wait + Clock>(
+/// the day ends, unless it stays open without an input. Where the journal has failed, nothing more is read or sent. Gives
+/// the pass back, and what was wrong with the input itself.
+pub fn conduct<V: Venue, J: Journal + Drop, B: Board, R: Read, T: Wait + Clock>(
     rt: &T,
     alloc: Global,
     exchange: &Exchange<V, J>,
-    hosting: &Hosting<'_, G, B>,
+    floor: &Floor<'_, B>,
+    times: Times<'_>,
     pass: Pass<V>,
     input: &mut R,
 ) -> (Pass<V>, Option<ServeError>) {
@@ -178,19 +184,19 @@ pub fn conduct<V: Venue, J: Journal + Drop, G, B: Board, R: Read, T: Wait + Cloc
         pending: Vec::new(alloc),
         overlong: false,
     };
-    let watched = (hosting.board, hosting.args.turns);
-    let fault = conductor
-        .read_all(rt, alloc, exchange, watched, input)
-        .err();
+    let fault = conductor.read_all(rt, alloc, exchange, floor, input).err();
+    if floor.stays_open {
+        return (conductor.pass, fault);
+    }
     if !exchange.is_closed(rt) {
-        hosting.board.post(Notice::Closing);
+        floor.board.post(Notice::Closing);
     }
     for _ in 0..u64::MAX {
         if exchange.is_closed(rt) {
             break;
         }
-        let time = DayClock::of(rt, hosting.times).time_of_day();
-        conductor.send_hours(rt, exchange, time);
+        let time = DayClock::of(rt, times).time_of_day();
+        conductor.send_hours(rt, exchange, floor, time);
         thread::sleep(rt, Duration::from_millis(AGAIN));
     }
     (conductor.pass, fault)

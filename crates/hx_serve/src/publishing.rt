@@ -3,24 +3,24 @@ ghost use Rattle.std.specs.Prelude.{◌≡◌, false, true};
 ghost use mathlib.Core.List.{IsPrefix};
 ghost use Rattle.hx_serve.specs.Publishing.{KnowsNoMore};
 
-use crate::args::ServeArgs;
 use crate::clock::DayClock;
+use crate::feeds::Feeds;
+use crate::hosting::Hosting;
+use crate::meter::Meter;
 use crate::notices::{Board, Notice};
-use crate::rate::Rate;
 use crate::rest::Rest;
-use crate::sockets::Datagrams;
+use crate::sending::send;
 use hx_blog::{Log, Reader, Receipt};
+use hx_doors::{Datagrams, Rate, count};
 use hx_engine::{Entry, Venue};
 use hx_retransmit::{LogMessages, Publisher, Server};
 use std::io::ErrorKind;
 use std::marker::PhantomData;
-use std::net::{Ipv4Addr, SocketAddr};
+use std::net::SocketAddr;
 use std::sync::atomic::{AtomicBool, Ordering};
 use std::time::{Clock, Instant};
 
-// A packet of the feed that finds no room is tried again so often, and an answer so often.
-const TRIES: u32 = 10_000;
-
+// An answer that finds no room is tried again so often.
 const ANSWER_TRIES: u32 = 100;
 
 // Once all who write have ended and all is sent, so many datagrams are looked at, whatever comes.
@@ -29,38 +29,16 @@ const LAST_ANSWERS: u32 = 1_000;
 // A request has 20 bytes; what is longer is none.
 const REQUEST: usize = 64;
 
-// Sends a datagram, and answers whether it went out.
-fn send<T: Clock, D: Datagrams>(
-    rt: &T,
-    socket: &D,
-    bytes: &[u8],
-    to: SocketAddr,
-    tries: u32,
-) -> bool {
-    let mut rest = Rest::new();
-    for _ in 0..tries {
-        match socket.send(bytes, to) {
-            Ok(_) => return true,
-            Err(error) => match error.kind() {
-                ErrorKind::WouldBlock => rest.sleep(rt),
-                // An answer to an earlier datagram: nobody listens there.
-                ErrorKind::Interrupted | ErrorKind::ConnectionRefused => {}
-                _ => return false,
-            },
-        }
-    }
-    false
-}
-
 /// A publisher of the feed and a server of requests, each over a reader of its own of the log.
 #[derive(Drop)]
 pub struct Publishing<'a, V: Venue> {
     publisher: Publisher<LogMessages<'a, Entry>>,
     server: Server<LogMessages<'a, Entry>>,
-    // The port that the feed goes to.
-    feed: u16,
-    // How often requests are answered.
+    // Where the feed goes.
+    feeds: Feeds<'a>,
+    // How often requests are answered, and what is counted of that.
     rate: Rate,
+    meter: &'a Meter,
     /// Whether a packet of the feed could not be sent, or a datagram not be received.
     pub failed: bool,
     of: PhantomData<V>,
@@ -69,9 +47,9 @@ pub struct Publishing<'a, V: Venue> {
 
 impl<'a, V: Venue> Publishing<'a, V> {
     /// A publisher of the messages that are still to come, and a server of all of them.
-    pub fn new(
+    pub fn new<G, B>(
         session: [u8; 10],
-        args: &ServeArgs,
+        hosting: &Hosting<'a, G, B>,
         log: &'a Log<Entry>,
         first: Reader<Entry>,
         second: Reader<Entry>,
@@ -85,19 +63,19 @@ impl<'a, V: Venue> Publishing<'a, V> {
         Publishing {
             publisher: Publisher::going_on(session, LogMessages::new(log, first), now),
             server: Server::new(session, LogMessages::new(log, second)),
-            feed: args.feed,
-            rate: Rate::of(args.answers),
+            feeds: Feeds::new(&hosting.addresses.feeds, hosting.open.is_some()),
+            rate: Rate::of(hosting.args.answers),
+            meter: hosting.meter,
             failed: false,
             of: PhantomData,
         }
     }
 
-    // Sends a packet of the feed.
+    // Sends a packet of the feed to each of its addresses.
     fn send_feed<T: Clock, D: Datagrams>(&mut self, rt: &T, socket: &D, packet: &[u8])
         ensures { self.new.publisher ≡ self.old.publisher }
     {
-        let to = SocketAddr::from((Ipv4Addr::new(127, 0, 0, 1), self.feed));
-        if !send(rt, socket, packet, to, TRIES) {
+        if !self.feeds.send(rt, socket, packet) {
             self.failed = true;
         }
     }
@@ -130,13 +108,17 @@ impl<'a, V: Venue> Publishing<'a, V> {
     {
         let mut buffer = [0; REQUEST];
         match socket.receive(&mut buffer) {
-            Ok((count, from)) => {
-                if let Some(packet) = self.server.answer(&buffer[..count]) {
+            Ok((len, from)) => {
+                if let Some(packet) = self.server.answer(&buffer[..len]) {
                     if !self.rate.allows(from, now) {
+                        count(&self.meter.unanswered);
                         if self.rate.is_first_refused() {
                             board.post(Notice::Crowd);
                         }
-                    } else if !send(rt, socket, packet.as_slice(), from, ANSWER_TRIES) {
+                    } else if send(rt, socket, packet.as_slice(), from, ANSWER_TRIES) {
+                        count(&self.meter.answered);
+                    } else {
+                        count(&self.meter.unanswered);
                         board.post(Notice::Unanswered { to: from });
                     }
                 }
@@ -170,6 +152,7 @@ impl<'a, V: Venue> Publishing<'a, V> {
             let last = ended.load(Ordering::SeqCst);
             let now = clock.time_of_day();
             let sent = publishing.publish(rt, socket, now);
+            publishing.feeds.tell(board);
             let answered = publishing.answer(rt, socket, board, now);
             if last && !sent && (!answered || late >= LAST_ANSWERS) {
                 break;
@@ -256,6 +239,7 @@ impl<'a, V: Venue> Publishing<'a, V> {
             }
             let packet = self.publisher.end();
             self.send_feed(rt, socket, packet.as_slice());
+            self.feeds.tell(board);
         }
     }
 }

@@ -11,23 +11,30 @@ ghost use Rattle.hx_serve.specs.Days.{IsServed};
 ghost use Rattle.hx_serve.specs.LastLine.{last_line};
 
 use crate::args::ServeArgs;
+use crate::bulletin::Bulletin;
 use crate::clock::{DayClock, Times};
 use crate::crew::{dismiss, hire};
 use crate::ending::{fault_of_day, write_last_line};
 use crate::fault::ServeError;
+use crate::fittings::Fittings;
+use crate::floor::Floor;
 use crate::hosting::Hosting;
+use crate::meter::Meter;
 use crate::notices::{Board, Notice, Notices};
-use crate::open_day::{Staff, work_open};
-use crate::places::make_places;
+use crate::open_day::{Desk, Page, Staff, work_open};
+use crate::places::{Hall, make_places};
 use crate::publishing::Publishing;
-use crate::sockets::{Datagrams, Doors, take};
+use crate::seats::Seats;
+use crate::watching::Viewer;
 use crate::workers::{Writers, work};
 use hx_blog::{Log, Reader};
+use hx_doors::{Datagrams, Doors, Lobby, Tally, take};
 use hx_engine::{
     DeskError, Entry, Exchange, FinishError, Finished, Journal, Logs, Pass, Recovered, Venue,
 };
 use hx_journal::Unkept;
 use hx_members::{Seed, Setup};
+use hx_operator::OperatorSocket;
 use hx_sessions::Gate;
 use log::Log as Logger;
 use std::alloc::Global;
@@ -51,6 +58,8 @@ pub struct Day {
     pub feed: u64,
     /// The fault that is answered, if there was one.
     pub fault: Option<ServeError>,
+    /// The operator's socket, whose file is there until it is closed.
+    pub socket: Option<OperatorSocket>,
 }
 
 // What is left when all workers have ended.
@@ -60,6 +69,7 @@ struct Outcome<V: Venue> {
     network: bool,
     memory: bool,
     operated: Option<ServeError>,
+    socket: Option<OperatorSocket>,
 }
 
 // By what the sessions and the operator submit, and by what the publisher and the sessions read.
@@ -67,9 +77,12 @@ struct Outcome<V: Venue> {
 struct Crew<V: Venue> {
     // The operator's pass.
     own: Pass<V>,
-    // Those of the sessions.
+    // Those of the sessions, and one more: in an open day that of the operator's socket and of the clock.
     passes: Vec<Pass<V>>,
     reader: Reader<Entry>,
+    // What an open day has besides its doors, and what the operator has made of it so far.
+    fittings: Fittings,
+    bulletin: Bulletin,
     ghost belongs: { reader.log ≡ V.log },
 }
 
@@ -82,6 +95,8 @@ pub struct Beginning<J: Journal> {
     pub recovered: Recovered<J>,
     /// How many events may wait for the journal, at least one: where more would, nobody's next one is recorded.
     pub ahead: u64,
+    /// What an open day has besides its doors.
+    pub fittings: Fittings,
 }
 
 impl Beginning<Unkept> {
@@ -99,6 +114,7 @@ impl Beginning<Unkept> {
             seed,
             recovered,
             ahead: u64::MAX,
+            fittings: Fittings::none(),
         }
     }
 }
@@ -158,6 +174,7 @@ fn attend<
         own: pass,
         mut passes,
         mut reader,
+        ..
     } = crew;
     let Doors { listener, socket } = doors;
     let log = exchange.feed_log();
@@ -175,7 +192,7 @@ fn attend<
     let now = DayClock::of_clock(rt).time_of_day();
     let other = reader.split(log);
     let session = *hosting.setup.session();
-    let publishing = Publishing::new(session, hosting.args, log, reader, other, now);
+    let publishing = Publishing::new(session, hosting, log, reader, other, now);
     let writers = Writers { parts, pass, input };
     let (mut publishing, ((own, operated), served)) = work(
         rt, alloc, exchange, hosting, &socket, publishing, writers,
@@ -189,6 +206,7 @@ fn attend<
         network: !sent,
         memory: !begun,
         operated,
+        socket: None,
     })
 }
 
@@ -219,8 +237,17 @@ fn attend_open<
         own: pass,
         mut passes,
         mut reader,
+        fittings,
+        bulletin,
     } = crew;
-    let Doors { listener, socket } = doors;
+    let Fittings { duties, metrics } = fittings;
+    let Some(other) = passes.pop() else {
+        return Err(ServeError::NoMemory);
+    };
+    let Doors {
+        listener,
+        socket: datagrams,
+    } = doors;
     let log = exchange.feed_log();
     let stocks = hosting.setup.stocks().len() as u64;
     exchange.keep(
@@ -231,31 +258,56 @@ fn attend_open<
     );
     let places = make_places(alloc, log, &mut passes, &mut reader)?;
     let now = DayClock::of_clock(rt).time_of_day();
-    let other = reader.split(log);
+    let second = reader.split(log);
+    let viewer = Viewer::new(reader.split(log));
     let session = *hosting.setup.session();
-    let publishing = Publishing::new(session, hosting.args, log, reader, other, now);
+    let publishing = Publishing::new(session, hosting, log, reader, second, now);
+    let seats = Seats::new(alloc, places.len())?;
+    let lobby = Lobby::new(alloc);
+    let floor = Floor {
+        setup: hosting.setup,
+        seats: &seats,
+        bulletin: &bulletin,
+        meter: hosting.meter,
+        board: hosting.board,
+        capacity: hosting.args.capacity,
+        turns: hosting.args.turns,
+        stays_open: duties.socket.is_some() || duties.schedule.is_some(),
+    };
+    let hall = Hall {
+        hosting,
+        floor: &floor,
+        lobby: &lobby,
+    };
     let staff = Staff {
         places,
         listener,
-        pass,
-        input,
-        login_limit: open.login_limit,
+        desk: Desk {
+            pass,
+            input,
+            other,
+            duties,
+        },
+        page: Page { metrics, viewer },
+        open,
     };
-    let (mut publishing, (mut passes, (own, operated))) = work_open(
-        rt, alloc, exchange, hosting, &socket, publishing, staff,
+    let (mut publishing, (mut passes, ((other, socket), (own, operated)))) = work_open(
+        rt, alloc, exchange, &hall, &datagrams, publishing, staff,
     );
     let _ = passes.push(own);
+    let _ = passes.push(other);
     learn_all(&mut publishing, log, &mut passes);
     let stopped = exchange.failure(rt).is_some();
-    let sent = stopped || publishing.finish(rt, &socket);
+    let sent = stopped || publishing.finish(rt, &datagrams);
     if !stopped {
-        publishing.linger(rt, &socket, hosting.board, open.end);
+        publishing.linger(rt, &datagrams, hosting.board, open.end);
     }
     Ok(Outcome {
         passes,
         network: !sent,
         memory: false,
         operated,
+        socket,
     })
 }
 
@@ -277,6 +329,7 @@ fn conclude<V: Venue, J: Journal + Drop, W: Write>(
         network,
         memory,
         operated,
+        socket,
     } = outcome;
     let finished = match exchange.finish(passes) {
         Ok(finished) => finished,
@@ -289,6 +342,7 @@ fn conclude<V: Venue, J: Journal + Drop, W: Write>(
         history,
         feed,
         fault: fault_of_day(network, memory, operated, written),
+        socket,
     })
 }
 
@@ -323,7 +377,7 @@ fn run<
         × (J.is_open founding.beginning.recovered.journal ≡ true) }
     requires reader { founding.reader.log ≡ V.log }
     requires blank { (founding.blank.name ≡ V.name) × (founding.blank.parts ≡ V.parts) }
-    requires passes { hosting.now.args.now.sessions + 1 ≡ V.parts }
+    requires passes { hosting.now.args.now.sessions + 2 ≡ V.parts }
     ensures served { IfOk result (λ day. IsServed V.setup day.history.items day.feed) }
     ensures begins { IfOk result (λ day. IsPrefix (restored V.before) day.history.items) }
     ensures told { IfOk result (λ day. day.fault ≡ None
@@ -341,9 +395,14 @@ fn run<
         seed,
         recovered,
         ahead,
+        fittings,
     } = beginning;
     let events = recovered.events.len() as u64;
-    let count = hosting.args.sessions + 1;
+    let bulletin = Bulletin::new(alloc, hosting.setup)?;
+    for event in &recovered.events {
+        bulletin.note(hosting.setup, event);
+    }
+    let count = hosting.args.sessions + 2;
     let (exchange, mut passes) = match Exchange::<V, J>::resume(
         alloc, own, logs, recovered, blank, count, seed,
     ) {
@@ -362,6 +421,8 @@ fn run<
         own,
         passes,
         reader,
+        fittings,
+        bulletin,
     };
     let outcome = attend_open(rt, alloc, &exchange, hosting, doors, crew, input)?;
     conclude(alloc, exchange, outcome, output)
@@ -402,7 +463,7 @@ pub fn serve_from<
     let (log, pen, reader) = Log::<Entry>::new(alloc, hosting.args.capacity)?;
     let (admitted, register, _) = Log::<Entry>::new(alloc, 1)?;
     let (kept, keeper, _) = Log::<Entry>::new(alloc, 1)?;
-    let blank = Blank::new(u64::from(hosting.args.sessions) + 1);
+    let blank = Blank::new(u64::from(hosting.args.sessions) + 2);
     let founding = Founding {
         own,
         logs: Logs {
@@ -460,16 +521,21 @@ pub fn serve<
     output: &mut W,
 ) -> Result<(), ServeError> {
     let notices = Notices { rt };
+    let addresses = args.addresses(alloc)?;
     let hosting = Hosting {
         setup,
         is_standard: false,
         args,
+        addresses: &addresses,
         gate: &notices,
         board: &notices,
         open: None,
         times: Times::of_machine(),
+        tally: &Tally::new(),
+        meter: &Meter::new(),
+        copies: &[],
     };
-    let doors = Doors::open(rt, args)?;
+    let doors = Doors::open(rt, &addresses)?;
     match serve_day(rt, alloc, &hosting, doors, seed, input, output)?.fault {
         None => Ok(()),
         Some(fault) => Err(fault),

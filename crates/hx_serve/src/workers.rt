@@ -5,9 +5,9 @@ use crate::hosting::Hosting;
 use crate::notices::Board;
 use crate::operator::operate;
 use crate::publishing::Publishing;
-use crate::sockets::Datagrams;
+use hx_doors::Datagrams;
 use hx_engine::{Exchange, Journal, Pass, Venue};
-use hx_sessions::{Clock, Gate, serve_all};
+use hx_sessions::{Clock, Gate, Logins, serve_all};
 use std::alloc::Global;
 use std::io::Read;
 use std::sync::Wait;
@@ -46,10 +46,14 @@ fn trade<
     writers: Writers<V, C, R>,
 ) -> Traded<V, C> {
     let Writers { parts, pass, input } = writers;
-    let (setup, gate, turns) = (hosting.setup, hosting.gate, hosting.args.turns);
+    let (gate, turns) = (hosting.gate, hosting.args.turns);
+    let logins = Logins {
+        setup: hosting.setup,
+        copies: hosting.copies,
+    };
     let (served, operated) = join(
         rt,
-        move || serve_all(rt, alloc, exchange, setup, parts, gate, turns),
+        move || serve_all(rt, alloc, exchange, &logins, parts, gate, turns),
         move || {
             let mut input = input;
             operate(rt, alloc, exchange, pass, &mut input, turns)

@@ -1,6 +1,7 @@
 //! Sessions over readers and writers in memory.
 
 mod client;
+mod copying;
 mod cutting;
 mod day;
 mod failing;

@@ -20,6 +20,8 @@ use Rattle.hx_sessions.specs.Asked.{HasLogout, asked, CarriesOn}
 use Rattle.hx_sessions.specs.Frames.{day_over, Writes, Delivers, Sent, SentSome}
 use Rattle.hx_sessions.specs.Workers.{Received, Why, SentUntil, both_of}
 use Rattle.hx_sessions.specs.Logins.{NoLogin}
+use Rattle.hx_sessions.specs.declared.copies.DropCopy.{DropCopy}
+use Rattle.hx_sessions.specs.Copies.{read_by, may_send}
 use Rattle.hx_sessions.specs.Served.{Side, Brings, Wrote, WroteSome, EndsAs, Converses, acceptance, rejection, Admits, BreaksOff, Dismisses, Went, Serves, SessionsGoOn}
 use Rattle.hx_session_core.specs.declared.opening.Start.{Start}
 use Rattle.hx_engine.specs.Passes.{PassState}
@@ -28,7 +30,7 @@ use Rattle.hx_blog.proofs.Prefixes.{prefix_self, prefix_trans}
 use Rattle.hx_sessions.proofs.Taking.{submits_none}
 use Rattle.hx_sessions.proofs.Going.{until_join, sent_join, known_grows}
 use Rattle.hx_sessions.proofs.Logging.{opens_within}
-use Rattle.hx_sessions.proofs.Passes.{carries_none, carries_more}
+use Rattle.hx_sessions.proofs.Passes.{carries_none, carries_more, carries_true}
 
 -- ---- what was written
 
@@ -276,23 +278,23 @@ converses_kept setup member first answer old new out r k v = record {
 -- ---- whole sessions
 
 -- no login came
-pub no_login_ends : (setup own : Setup) (input left output : Option (List ℕ)) (known : Entries Entry) (e : Ended) → NoLogin (day_over setup known) input left (stop.Ended e) → Dismisses setup own input left output output known (Ok e)
-no_login_ends setup own input left output known e (why, bytes, read, rest, cuts) = inl (record {
+pub no_login_ends : (setup own : Setup) (copies : List DropCopy) (input left output : Option (List ℕ)) (known : Entries Entry) (e : Ended) → NoLogin (day_over setup known) input left (stop.Ended e) → Dismisses setup own copies input left output output known (Ok e)
+no_login_ends setup own copies input left output known e (why, bytes, read, rest, cuts) = inl (record {
   bytes = bytes;
   read = read;
   wrote = Keeps-refl output;
   ends = inl (elim why [ inl h ↦ inl (ap Ok h.0, h.1) | inr h ↦ inr (ap Ok h.0, h.1) ], rest, cuts);
 })
 
-pub no_login_fails : (setup own : Setup) (input left output : Option (List ℕ)) (known : Entries Entry) (f : Fault) → NoLogin (day_over setup known) input left (stop.Faulted f) → Dismisses setup own input left output output known (Err f)
-no_login_fails setup own input left output known f (bytes, read) = inl (record { bytes = bytes; read = read; wrote = Keeps-refl output; ends = inr (f, refl) })
+pub no_login_fails : (setup own : Setup) (copies : List DropCopy) (input left output : Option (List ℕ)) (known : Entries Entry) (f : Fault) → NoLogin (day_over setup known) input left (stop.Faulted f) → Dismisses setup own copies input left output output known (Err f)
+no_login_fails setup own copies input left output known f (bytes, read) = inl (record { bytes = bytes; read = read; wrote = Keeps-refl output; ends = inr (f, refl) })
 
 -- nothing was read behind the login, and the answer was broken off
-broken : (setup own : Setup) (input output answered out : Option (List ℕ)) (pass : PassState) (before reader : ReaderState Entry) (first_input : Option (List ℕ)) (r : Result Ended Fault) → (b : BreaksOff setup own first_input input output answered reader.known r) → Keeps answered out
-    → Converses setup b.start.member b.start.first (acceptance own b.start.first) (record { input = input; output = output; pass = pass; reader = before }) (record { input = input; output = out; pass = pass; reader = reader }) r
-broken setup own input output answered out pass before reader first_input r b k =
-    let replies = known_replies setup b.start.member reader.known in
-    let within = opens_within setup own b.login reader.known b.start b.opens in
+broken : (setup own : Setup) (copies : List DropCopy) (input output answered out : Option (List ℕ)) (pass : PassState) (before reader : ReaderState Entry) (first_input : Option (List ℕ)) (r : Result Ended Fault) → (b : BreaksOff setup own copies first_input input output answered reader.known r) → Keeps answered out
+    → Converses setup (read_by copies b.start.member) b.start.first (acceptance own b.start.first) (record { input = input; output = output; pass = pass; reader = before }) (record { input = input; output = out; pass = pass; reader = reader }) r
+broken setup own copies input output answered out pass before reader first_input r b k =
+    let replies = known_replies setup (read_by copies b.start.member) reader.known in
+    let within = opens_within setup own copies b.login reader.known b.start b.opens in
     let first = b.start.first in
     let answer = acceptance own first in record {
       bytes = [];
@@ -302,7 +304,7 @@ broken setup own input output answered out pass before reader first_input r b k 
       read = Consumes-nil input;
       none_lost = inl refl;
       stream = inl ([], record { whole = refl; each = λ i d l. absurd (omega arith); unfinished = tt });
-      submits = submits_none b.start.member pass.sent;
+      submits = submits_none (read_by copies b.start.member) pass.sent;
       knows = λ e. absurd (cc (e, b.is));
       ends = subst (EndsAs (day_over setup reader.known) answer first replies [] [] input output out) (sym b.is) (
         ([], refl),
@@ -324,10 +326,10 @@ broken setup own input output answered out pass before reader first_input r b k 
       );
     }
 
-went_dismissed : (setup own : Setup) (input left output answered out : Option (List ℕ)) (pass : PassState) (before reader : ReaderState Entry) (r : Result Ended Fault) → IsPrefix before.known reader.known → Dismisses setup own input left output answered reader.known r → Keeps answered out
-    → Went setup own (record { input = input; output = output; pass = pass; reader = before }) (record { input = left; output = out; pass = pass; reader = reader }) r
-went_dismissed setup own input left output answered out pass before reader r since (inl n) k = inl (record { bytes = n.bytes; read = n.read; wrote = Keeps-trans output answered out n.wrote k; ends = n.ends }, refl)
-went_dismissed setup own input left output answered out pass before reader r since (inr (inl j)) k = inr (inl (
+went_dismissed : (setup own : Setup) (copies : List DropCopy) (input left output answered out : Option (List ℕ)) (pass : PassState) (before reader : ReaderState Entry) (r : Result Ended Fault) → IsPrefix before.known reader.known → Dismisses setup own copies input left output answered reader.known r → Keeps answered out
+    → Went setup own copies (record { input = input; output = output; pass = pass; reader = before }) (record { input = left; output = out; pass = pass; reader = reader }) r
+went_dismissed setup own copies input left output answered out pass before reader r since (inl n) k = inl (record { bytes = n.bytes; read = n.read; wrote = Keeps-trans output answered out n.wrote k; ends = n.ends }, refl)
+went_dismissed setup own copies input left output answered out pass before reader r since (inr (inl j)) k = inr (inl (
   record {
     login = j.login;
     replies = j.replies;
@@ -341,7 +343,7 @@ went_dismissed setup own input left output answered out pass before reader r sin
   },
   refl,
 ))
-went_dismissed setup own input left output answered out pass before reader r since (inr (inr b)) k = inr (inr (record {
+went_dismissed setup own copies input left output answered out pass before reader r since (inr (inr b)) k = inr (inr (record {
   login = b.login;
   start = b.start;
   at_login = reader.known;
@@ -350,22 +352,23 @@ went_dismissed setup own input left output answered out pass before reader r sin
   since = since;
   opens = b.opens;
   knew = prefix_self reader.known;
-  converses = broken setup own left output answered out pass before reader input r b k;
+  silent = λ e. refl;
+  converses = broken setup own copies left output answered out pass before reader input r b k;
 }))
 
-pub dismissed : (setup own : Setup) (input left output answered out : Option (List ℕ)) (pass : PassState) (before reader : ReaderState Entry) (r : Result Ended Fault) → reader.log ≡ before.log → IsPrefix before.known reader.known → Dismisses setup own input left output answered reader.known r → Keeps answered out
-    → Serves setup own (record { input = input; output = output; pass = pass; reader = before }) (record { input = left; output = out; pass = pass; reader = reader }) r
-dismissed setup own input left output answered out pass before reader r log since d k = record {
-  goes_on = record { log = log; reader = since; pass = carries_none pass };
-  went = went_dismissed setup own input left output answered out pass before reader r since d k;
+pub dismissed : (setup own : Setup) (copies : List DropCopy) (input left output answered out : Option (List ℕ)) (pass : PassState) (before reader : ReaderState Entry) (r : Result Ended Fault) → reader.log ≡ before.log → IsPrefix before.known reader.known → Dismisses setup own copies input left output answered reader.known r → Keeps answered out
+    → Serves setup own copies (record { input = input; output = output; pass = pass; reader = before }) (record { input = left; output = out; pass = pass; reader = reader }) r
+dismissed setup own copies input left output answered out pass before reader r log since d k = record {
+  goes_on = record { log = log; reader = since; pass = carries_none true pass };
+  went = went_dismissed setup own copies input left output answered out pass before reader r since d k;
 }
 
-pub opened : (setup own : Setup) (input left output out : Option (List ℕ)) (pass : PassState) (before reader : ReaderState Entry) (start : Start) (next : ℕ) (new : Side) (last : Option (List ℕ)) (r : Result Ended Fault) → new.reader.log ≡ before.log → IsPrefix before.known reader.known → CarriesOn pass new.pass
-    → Admits setup own input left output out reader.known start → next ≡ start.first
-    → IsPrefix reader.known new.reader.known → Converses setup start.member next [] (record { input = left; output = out; pass = pass; reader = reader }) new r → Keeps new.output last
-    → Serves setup own (record { input = input; output = output; pass = pass; reader = before }) (record new { output = last }) r
-opened setup own input left output out pass before reader start next new last r log since carries a same knew v k = record {
-  goes_on = record { log = log; reader = prefix_trans before.known reader.known new.reader.known since knew; pass = carries };
+pub opened : (setup own : Setup) (copies : List DropCopy) (input left output out : Option (List ℕ)) (pass : PassState) (before reader : ReaderState Entry) (start : Start) (next : ℕ) (new : Side) (last : Option (List ℕ)) (r : Result Ended Fault) → new.reader.log ≡ before.log → IsPrefix before.known reader.known → CarriesOn (may_send copies start.member) pass new.pass
+    → Admits setup own copies input left output out reader.known start → next ≡ start.first
+    → IsPrefix reader.known new.reader.known → Converses setup (read_by copies start.member) next [] (record { input = left; output = out; pass = pass; reader = reader }) new r → Keeps new.output last
+    → Serves setup own copies (record { input = input; output = output; pass = pass; reader = before }) (record new { output = last }) r
+opened setup own copies input left output out pass before reader start next new last r log since carries a same knew v k = record {
+  goes_on = record { log = log; reader = prefix_trans before.known reader.known new.reader.known since knew; pass = carries_true (may_send copies start.member) pass new.pass carries };
   went = inr (inr (record {
     login = a.login;
     start = start;
@@ -375,18 +378,19 @@ opened setup own input left output out pass before reader start next new last r 
     since = since;
     opens = a.opens;
     knew = knew;
-    converses = converses_kept setup start.member start.first (acceptance own start.first) (record { input = left; output = output; pass = pass; reader = before }) new last r k
-        (answered setup start.member start.first next (acceptance own start.first) left output out pass reader before new r same a.wrote v);
+    silent = carries.silent;
+    converses = converses_kept setup (read_by copies start.member) start.first (acceptance own start.first) (record { input = left; output = output; pass = pass; reader = before }) new last r k
+        (answered setup (read_by copies start.member) start.first next (acceptance own start.first) left output out pass reader before new r same a.wrote v);
   }));
 }
 
 -- two sessions of one part
 pub sessions_go_on : SessionsGoOn
-sessions_go_on setup own before between after first second a b = (
+sessions_go_on setup own copies before between after first second a b = (
   record {
     log = b.goes_on.log ∙ a.goes_on.log;
     reader = prefix_trans before.reader.known between.reader.known after.reader.known a.goes_on.reader b.goes_on.reader;
-    pass = carries_more before.pass between.pass after.pass a.goes_on.pass b.goes_on.pass;
+    pass = carries_more true before.pass between.pass after.pass a.goes_on.pass b.goes_on.pass;
   },
   λ member. known_grows setup member between.reader.known after.reader.known b.goes_on.reader,
 )

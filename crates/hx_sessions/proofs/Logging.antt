@@ -19,6 +19,8 @@ use Rattle.hx_desk.specs.declared.entry.Entry.{Entry}
 use Rattle.hx_desk.specs.Known.{IsWhole, known_replies}
 use Rattle.hx_sessions.specs.Frames.{IsNextOf}
 use Rattle.hx_sessions.specs.Logins.{LogsIn, Opens, NoLogin, ReadsFirst, FailsFirst, AwaitsLogin}
+use Rattle.hx_sessions.specs.declared.copies.DropCopy.{DropCopy}
+use Rattle.hx_sessions.specs.Copies.{read_by}
 use Rattle.hx_sessions.specs.declared.ending.Ended.TheVariants as ended
 use Rattle.hx_sessions.specs.declared.ending.Stop.{Stop}
 use Rattle.hx_sessions.specs.declared.ending.Stop.TheVariants as stop
@@ -37,33 +39,33 @@ bounds false asked n e = (omega arith, omega arith)
 pub first_bounds : (asked n : ℕ) → (1 ≤ first_reply asked n) × (first_reply asked n ≤ n + 1)
 first_bounds asked n = bounds (nat_lt 0 asked && nat_le asked (n + 1)) asked n refl
 
-opens : (setup own : Setup) (login : LoginRequest) (n m : ℕ) (known : Entries Entry) (s : Start) → start_of own login n ≡ Ok s → login_of own login.user login.password ≡ Some m → n ≡ length (known_replies setup m known) → IsWhole setup known → Opens setup own login known s
-opens setup own login n m known s e is count whole =
+opens : (setup own : Setup) (copies : List DropCopy) (login : LoginRequest) (n m : ℕ) (known : Entries Entry) (s : Start) → start_of own login n ≡ Ok s → login_of own login.user login.password ≡ Some m → n ≡ length (known_replies setup (read_by copies m) known) → IsWhole setup known → Opens setup own copies login known s
+opens setup own copies login n m known s e is count whole =
     let h = started_ok (login_of own login.user login.password) (is_present login.session own.session) (first_reply login.sequence n) s e in
     let same : m ≡ s.member = cc (is, h.0) in
-    let size : n ≡ length (known_replies setup s.member known) = count ∙ ap (λ k. length (known_replies setup k known)) same in
+    let size : n ≡ length (known_replies setup (read_by copies s.member) known) = count ∙ ap (λ k. length (known_replies setup (read_by copies k) known)) same in
     record { is = ap (start_of own login) (sym size) ∙ e; whole = whole }
 
-opens_none : (setup own : Setup) (login : LoginRequest) (n : ℕ) (known : Entries Entry) (s : Start) → start_of own login n ≡ Ok s → login_of own login.user login.password ≡ None → Opens setup own login known s
-opens_none setup own login n known s e is =
+opens_none : (setup own : Setup) (copies : List DropCopy) (login : LoginRequest) (n : ℕ) (known : Entries Entry) (s : Start) → start_of own login n ≡ Ok s → login_of own login.user login.password ≡ None → Opens setup own copies login known s
+opens_none setup own copies login n known s e is =
     let h = started_ok (login_of own login.user login.password) (is_present login.session own.session) (first_reply login.sequence n) s e in
     absurd (cc (is, h.0))
 
 -- the answer to a login, by what stands for the member who logs in so
-pub started_by : (setup own : Setup) (login : LoginRequest) (n m : ℕ) (known : Entries Entry) (r : Result Start ℕ) → r ≡ start_of own login n → login_of own login.user login.password ≡ Some m → n ≡ length (known_replies setup m known) → IsWhole setup known
-    → IfOk r (λ s. Opens setup own login known s)
-started_by setup own login n m known (Ok s) e is count whole = opens setup own login n m known s (sym e) is count whole
-started_by setup own login n m known (Err x) e is count whole = tt
+pub started_by : (setup own : Setup) (copies : List DropCopy) (login : LoginRequest) (n m : ℕ) (known : Entries Entry) (r : Result Start ℕ) → r ≡ start_of own login n → login_of own login.user login.password ≡ Some m → n ≡ length (known_replies setup (read_by copies m) known) → IsWhole setup known
+    → IfOk r (λ s. Opens setup own copies login known s)
+started_by setup own copies login n m known (Ok s) e is count whole = opens setup own copies login n m known s (sym e) is count whole
+started_by setup own copies login n m known (Err x) e is count whole = tt
 
 -- no member logs in so
-pub started_by_none : (setup own : Setup) (login : LoginRequest) (n : ℕ) (known : Entries Entry) (r : Result Start ℕ) → r ≡ start_of own login n → login_of own login.user login.password ≡ None → IfOk r (λ s. Opens setup own login known s)
-started_by_none setup own login n known (Ok s) e is = opens_none setup own login n known s (sym e) is
-started_by_none setup own login n known (Err x) e is = tt
+pub started_by_none : (setup own : Setup) (copies : List DropCopy) (login : LoginRequest) (n : ℕ) (known : Entries Entry) (r : Result Start ℕ) → r ≡ start_of own login n → login_of own login.user login.password ≡ None → IfOk r (λ s. Opens setup own copies login known s)
+started_by_none setup own copies login n known (Ok s) e is = opens_none setup own copies login n known s (sym e) is
+started_by_none setup own copies login n known (Err x) e is = tt
 
 -- the first reply is there, or is the next one
-pub opens_within : (setup own : Setup) (login : LoginRequest) (known : Entries Entry) (s : Start) → Opens setup own login known s → IsNextOf (known_replies setup s.member known) s.first
-opens_within setup own login known s o =
-    let n = length (known_replies setup s.member known) in
+pub opens_within : (setup own : Setup) (copies : List DropCopy) (login : LoginRequest) (known : Entries Entry) (s : Start) → Opens setup own copies login known s → IsNextOf (known_replies setup (read_by copies s.member) known) s.first
+opens_within setup own copies login known s o =
+    let n = length (known_replies setup (read_by copies s.member) known) in
     let h = started_ok (login_of own login.user login.password) (is_present login.session own.session) (first_reply login.sequence n) s o.is in
     let b = first_bounds login.sequence n in
     (omega (arith, h.1, b.0), omega (arith, h.1, b.1))

@@ -1,5 +1,5 @@
 -- What passes keep.
-use Rattle.std.proofs.Common.{◌≡◌, ℕ, zero, suc, List, [], ◌∷◌, ◌++◌, length, take, Result, Ok, Err, refl, ap, sym, ◌∙◌, subst}
+use Rattle.std.proofs.Common.{◌≡◌, ℕ, zero, suc, List, [], ◌∷◌, ◌++◌, length, take, Bool, true, false, Result, Ok, Err, refl, ap, sym, ◌∙◌, subst}
 use Rattle.std.specs.Prelude.{IfOk, IfErr}
 use mathlib.Core.List.{IsPrefix}
 use Rattle.hx_members.specs.Setups.{Setup}
@@ -29,33 +29,45 @@ ledger_begins : (setup : Setup) (xs ys : List Entry) → IsPrefix (ledger setup 
 unfolding ledger
 ledger_begins setup xs ys = ledger_more setup (opening setup) xs ys
 
-pub carries_none : (p : PassState) → CarriesOn p p
-carries_none p = record { number = refl; known = prefix_self p.known }
+pub carries_none : (may : Bool) (p : PassState) → CarriesOn may p p
+carries_none may p = record { number = refl; known = prefix_self p.known; silent = λ e. refl }
 
-pub carries_same : (old new : PassState) → new ≡ old → CarriesOn old new
-carries_same old new is = subst (CarriesOn old) (sym is) (carries_none old)
+pub carries_same : (may : Bool) (old new : PassState) → new ≡ old → CarriesOn may old new
+carries_same may old new is = subst (CarriesOn may old) (sym is) (carries_none may old)
 
-pub carries_more : (a b c : PassState) → CarriesOn a b → CarriesOn b c → CarriesOn a c
-carries_more a b c p q = record { number = q.number ∙ p.number; known = prefix_trans a.known b.known c.known p.known q.known }
+pub carries_more : (may : Bool) (a b c : PassState) → CarriesOn may a b → CarriesOn may b c → CarriesOn may a c
+carries_more may a b c p q = record {
+  number = q.number ∙ p.number;
+  known = prefix_trans a.known b.known c.known p.known q.known;
+  silent = λ e. q.silent e ∙ p.silent e;
+}
 
-carries_all : (setup : Setup) (old new : PassState) (events : List Event) (done : Done) → SendsAll setup old new events done → CarriesOn old new
-carries_all setup old new events done s =
+-- who may send has no silence to keep
+pub carries_true : (may : Bool) (old new : PassState) → CarriesOn may old new → CarriesOn true old new
+carries_true may old new p = record { number = p.number; known = p.known; silent = λ e. absurd (cc e) }
+
+carries_all : (setup : Setup) (may : Bool) (old new : PassState) (events : List Event) (done : Done) → (may ≡ false → ⊥) → SendsAll setup old new events done → CarriesOn may old new
+carries_all setup may old new events done some s =
     let others = sent_by old.number events ++ s.after in
     let more : IsPrefix old.known (ledger setup (s.before ++ others)) =
     prefix_trans old.known (ledger setup s.before) (ledger setup (s.before ++ others)) s.knew (ledger_begins setup s.before others) in
-    record { number = s.number; known = subst (IsPrefix old.known) (sym s.knows) more }
+    record { number = s.number; known = subst (IsPrefix old.known) (sym s.knows) more; silent = λ e. absurd (some e) }
 
-pub carries_stays : (old new : PassState) → Stays old new → CarriesOn old new
-carries_stays old new s = record { number = s.number; known = subst (IsPrefix old.known) (sym s.known) (prefix_self old.known) }
+pub carries_stays : (may : Bool) (old new : PassState) → Stays old new → CarriesOn may old new
+carries_stays may old new s = record {
+  number = s.number;
+  known = subst (IsPrefix old.known) (sym s.known) (prefix_self old.known);
+  silent = λ e. s.sent;
+}
 
-carries_first : (setup : Setup) (old new : PassState) (events : List Event) (count : ℕ) → SendsFirst setup old new events count → CarriesOn old new
-carries_first setup old new events zero s = carries_stays old new s
-carries_first setup old new events (suc n) (done, s) = carries_all setup old new (take (suc n) events) done s
+carries_first : (setup : Setup) (may : Bool) (old new : PassState) (events : List Event) (count : ℕ) → (may ≡ false → ⊥) → SendsFirst setup old new events count → CarriesOn may old new
+carries_first setup may old new events zero some s = carries_stays may old new s
+carries_first setup may old new events (suc n) some (done, s) = carries_all setup may old new (take (suc n) events) done some s
 
--- whether all events were recorded, or the first of them
-pub carries_on : (setup : Setup) (old new : PassState) (events : List Event) (r : Result Done (SubmitError × ℕ)) → IfOk r (SendsAll setup old new events) → IfErr r (λ e. SendsFirst setup old new events e.1) → CarriesOn old new
-carries_on setup old new events (Ok done) sent kept = carries_all setup old new events done sent
-carries_on setup old new events (Err e) sent kept = carries_first setup old new events e.1 kept
+-- whether all events were recorded, or the first of them, where there are any
+pub carries_on : (setup : Setup) (may : Bool) (old new : PassState) (events : List Event) (r : Result Done (SubmitError × ℕ)) → (may ≡ false → ⊥) → IfOk r (SendsAll setup old new events) → IfErr r (λ e. SendsFirst setup old new events e.1) → CarriesOn may old new
+carries_on setup may old new events (Ok done) some sent kept = carries_all setup may old new events done some sent
+carries_on setup may old new events (Err e) some sent kept = carries_first setup may old new events e.1 some kept
 
 pub sends_all : (setup : Setup) (old new : PassState) (events : List Event) (done : Done) → SendsAll setup old new events done → SendsOn old.sent new.sent events
 sends_all setup old new events done s = sends_placed old.sent new.sent (length s.before) events s.sent

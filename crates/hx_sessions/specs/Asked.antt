@@ -1,5 +1,5 @@
 -- What the packets of a client behind his login ask to submit, and what a pass sent for it.
-use Rattle.std.specs.Prelude.{ℕ, ◌≡◌, ◌⊎◌, List, [], ◌∷◌, ◌++◌, map, take}
+use Rattle.std.specs.Prelude.{ℕ, ◌≡◌, ◌⊎◌, List, [], ◌∷◌, ◌++◌, map, take, Bool, false}
 use mathlib.Core.List.{IsPrefix}
 use Rattle.hx_soup.specs.declared.packet.SoupPacket.{SoupPacket}
 use Rattle.hx_soup.specs.Packets.{Cuts, HasFault}
@@ -60,7 +60,8 @@ pub record Submits (member : ℕ) (old new : List (ℕ × Event)) (texts : List 
   pub sends : SendsOn old new events
   pub are : AreMessages member events texts
 
--- a pass keeps its number, and knows as much or more
-pub record CarriesOn (old new : PassState) : Type 0 where
+-- a pass keeps its number, and knows as much or more; where nothing may be sent it has sent nothing
+pub record CarriesOn (may_send : Bool) (old new : PassState) : Type 0 where
   pub number : new.number ≡ old.number
   pub known : IsPrefix old.known new.known
+  pub silent : may_send ≡ false → new.sent ≡ old.sent

@@ -15,6 +15,8 @@ use Rattle.hx_session_core.specs.declared.opening.Start.{Start}
 use Rattle.hx_blog.specs.Feed.{Entries}
 use Rattle.hx_desk.specs.declared.entry.Entry.{Entry}
 use Rattle.hx_desk.specs.Known.{IsWhole, known_replies}
+use Rattle.hx_sessions.specs.declared.copies.DropCopy.{DropCopy}
+use Rattle.hx_sessions.specs.Copies.{read_by}
 
 -- what was read is the packet of this login, and nothing behind it
 pub record LogsIn (old new : Option (List ℕ)) (login : LoginRequest) : Type 0 where
@@ -71,9 +73,9 @@ pub record AwaitsLogin
   pub size : length bytes ≡ count
 
 -- The login starts the session so: it is this member's, it names the present session or none, and the
--- first reply is the one that was asked for, of those to the member up to what is known, or the next
+-- first reply is the one that was asked for, of those that he gets up to what is known, or the next
 -- one. What is known is a whole history.
-pub record Opens (setup own : Setup) (login : LoginRequest) (known : Entries Entry)
-    (s : Start) : Type 0 where
-  pub is : start_of own login (length (known_replies setup s.member known)) ≡ Ok s
+pub record Opens (setup own : Setup) (copies : List DropCopy) (login : LoginRequest)
+    (known : Entries Entry) (s : Start) : Type 0 where
+  pub is : start_of own login (length (known_replies setup (read_by copies s.member) known)) ≡ Ok s
   pub whole : IsWhole setup known

@@ -21,6 +21,8 @@ use Rattle.hx_sessions.specs.declared.ending.Ended.TheVariants as ended
 use Rattle.hx_sessions.specs.declared.ending.Fault.{Fault}
 use Rattle.hx_sessions.specs.declared.ending.Fault.TheVariants as fault
 use Rattle.hx_sessions.specs.Asked.{asked, HasLogout, IsStream, Submits, CarriesOn}
+use Rattle.hx_sessions.specs.declared.copies.DropCopy.{DropCopy}
+use Rattle.hx_sessions.specs.Copies.{read_by, may_send}
 use Rattle.hx_sessions.specs.Frames.{Writes, day_over, AreFrames}
 use Rattle.hx_sessions.specs.Logins.{LogsIn, Opens}
 
@@ -154,51 +156,55 @@ pub record Rejected
 
 -- A login was accepted and answered.
 pub record Admits
-    (setup own : Setup) (input left output answered : Option (List ℕ)) (known : Entries Entry)
-    (start : Start)
+    (setup own : Setup) (copies : List DropCopy) (input left output answered : Option (List ℕ))
+    (known : Entries Entry) (start : Start)
     : Type 0 where
   pub login : LoginRequest
   pub read : LogsIn input left login
-  pub opens : Opens setup own login known start
+  pub opens : Opens setup own copies login known start
   pub wrote : Appends output answered (acceptance own start.first)
 
 -- A login was accepted, and its answer broken off.
 pub record BreaksOff
-    (setup own : Setup) (input left output answered : Option (List ℕ)) (known : Entries Entry)
-    (result : Result Ended Fault)
+    (setup own : Setup) (copies : List DropCopy) (input left output answered : Option (List ℕ))
+    (known : Entries Entry) (result : Result Ended Fault)
     : Type 0 where
   pub login : LoginRequest
   pub start : Start
   pub read : LogsIn input left login
-  pub opens : Opens setup own login known start
+  pub opens : Opens setup own copies login known start
   pub unwritten : List ℕ
   pub wrote : Writes output answered (acceptance own start.first) unwritten
   pub is : result ≡ Err fault.Write
 
 -- no login came, or it was rejected, or its answer was broken off
 abbrev pub Dismisses :
-    (setup own : Setup) → (input left output answered : Option (List ℕ)) → Entries Entry
-    → Result Ended Fault → Type 0
-Dismisses setup own input left output answered known result =
+    (setup own : Setup) → List DropCopy → (input left output answered : Option (List ℕ))
+    → Entries Entry → Result Ended Fault → Type 0
+Dismisses setup own copies input left output answered known result =
     NotLoggedIn (day_over setup known) input left output answered result
     ⊎ Rejected own input left output answered result
-    ⊎ BreaksOff setup own input left output answered known result
+    ⊎ BreaksOff setup own copies input left output answered known result
 
 -- ---- sessions
 
--- The login was accepted: the session begins with the reply that was asked for, of those to the member
--- at the login. The reader had caught up with a whole history then, and has not lost any of it since.
-pub record Opened (setup own : Setup) (old new : Side) (result : Result Ended Fault) : Type 0 where
+-- The login was accepted: the session begins with the reply that was asked for, of those that the login
+-- gets. The reader had caught up with a whole history then, and has not lost any of it since. A drop
+-- copy has sent nothing.
+pub record Opened
+    (setup own : Setup) (copies : List DropCopy) (old new : Side) (result : Result Ended Fault)
+    : Type 0 where
   pub login : LoginRequest
   pub start : Start
   pub at_login : Entries Entry
   pub input : Option (List ℕ)
   pub read : LogsIn old.input input login
   pub since : IsPrefix old.reader.known at_login
-  pub opens : Opens setup own login at_login start
+  pub opens : Opens setup own copies login at_login start
   pub knew : IsPrefix at_login new.reader.known
+  pub silent : may_send copies start.member ≡ false → new.pass.sent ≡ old.pass.sent
   pub converses :
-      Converses setup start.member start.first (acceptance own start.first)
+      Converses setup (read_by copies start.member) start.first (acceptance own start.first)
       (record old { input = input }) new result
 
 -- What a part is behind a session: its reader is of the same log, and the reader and the pass know what
@@ -206,27 +212,31 @@ pub record Opened (setup own : Setup) (old new : Side) (result : Result Ended Fa
 pub record GoesOn (old new : Side) : Type 0 where
   pub log : new.reader.log ≡ old.reader.log
   pub reader : IsPrefix old.reader.known new.reader.known
-  pub pass : CarriesOn old.pass new.pass
+  pub pass : CarriesOn true old.pass new.pass
 
 -- how a session went: no login came, or it was rejected, and nothing was submitted; or it was accepted
-abbrev pub Went : (setup own : Setup) → (old new : Side) → Result Ended Fault → Type 0
-Went setup own old new result =
+abbrev pub Went :
+    (setup own : Setup) → List DropCopy → (old new : Side) → Result Ended Fault → Type 0
+Went setup own copies old new result =
     (NotLoggedIn (day_over setup new.reader.known) old.input new.input old.output new.output
     result × (new.pass ≡ old.pass))
     ⊎ (Rejected own old.input new.input old.output new.output result × (new.pass ≡ old.pass))
-    ⊎ Opened setup own old new result
+    ⊎ Opened setup own copies old new result
 
 -- A session of a member of `own`, at the exchange of `setup`: how it went, and the part goes on.
-pub record Serves (setup own : Setup) (old new : Side) (result : Result Ended Fault) : Type 0 where
+pub record Serves
+    (setup own : Setup) (copies : List DropCopy) (old new : Side) (result : Result Ended Fault)
+    : Type 0 where
   pub goes_on : GoesOn old new
-  pub went : Went setup own old new result
+  pub went : Went setup own copies old new result
 
 -- Of two sessions of one part, one after the other: the part knows behind both what it knew before and
 -- between them, and the replies to a member are those up to the first one's end, and others behind them.
 abbrev pub SessionsGoOn : Type 0
 SessionsGoOn =
-    (setup own : Setup) (before between after : Side) (first second : Result Ended Fault)
-    → Serves setup own before between first → Serves setup own between after second
+    (setup own : Setup) (copies : List DropCopy) (before between after : Side)
+    (first second : Result Ended Fault)
+    → Serves setup own copies before between first → Serves setup own copies between after second
     → GoesOn before after
     × ((member : ℕ) → IsPrefix (known_replies setup member between.reader.known)
     (known_replies setup member after.reader.known))
@@ -235,17 +245,19 @@ SessionsGoOn =
 
 -- The part that waited, if one did, was served.
 pub record ServesWaiting
-    (setup own : Setup) (waiting : Option Side) (served : Option (Side × Result Ended Fault))
+    (setup own : Setup) (copies : List DropCopy) (waiting : Option Side)
+    (served : Option (Side × Result Ended Fault))
     : Type 0 where
   pub serves :
       IfSome waiting (λ p. (s : Side × Result Ended Fault) × (served ≡ Some s)
-      × Serves setup own p s.0 s.1)
+      × Serves setup own copies p s.0 s.1)
 
 -- Each part was served, in their order: the first of what came of them is that of the first, and so on.
 abbrev pub ServesAll :
-    (setup own : Setup) → (parts : List Side) → (served : List (Side × Result Ended Fault))
-    → Type 0
-ServesAll setup own [] [] = Unit {0}
-ServesAll setup own [] (s ∷ ss) = ⊥
-ServesAll setup own (p ∷ ps) [] = ⊥
-ServesAll setup own (p ∷ ps) (s ∷ ss) = Serves setup own p s.0 s.1 × ServesAll setup own ps ss
+    (setup own : Setup) → List DropCopy → (parts : List Side)
+    → (served : List (Side × Result Ended Fault)) → Type 0
+ServesAll setup own copies [] [] = Unit {0}
+ServesAll setup own copies [] (s ∷ ss) = ⊥
+ServesAll setup own copies (p ∷ ps) [] = ⊥
+ServesAll setup own copies (p ∷ ps) (s ∷ ss) =
+    Serves setup own copies p s.0 s.1 × ServesAll setup own copies ps ss

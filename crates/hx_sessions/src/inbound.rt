@@ -1,5 +1,5 @@
 //! The worker that takes messages in.
-ghost use Rattle.std.specs.Prelude.{ℕ, List, ◌≡◌, ◌⊎◌, ◌+◌, ◌++◌, [], ◌∷◌, OnOk, OnErr, Some, IsSome};
+ghost use Rattle.std.specs.Prelude.{ℕ, List, ◌≡◌, ◌⊎◌, ◌+◌, ◌++◌, [], ◌∷◌, OnOk, OnErr, Some, IsSome, false};
 ghost use Rattle.hx_session_core.specs.declared.intake.Intake.TheVariants as intakes;
 ghost use Rattle.hx_rules.specs.declared.event.Event.TheVariants.{Message};
 ghost use Rattle.hx_sessions.specs.Asked.{CarriesOn, Submits, SendsOn, SendsSome};
@@ -19,12 +19,14 @@ use std::io::{Error, ErrorKind, Read};
 use std::sync::Wait;
 use std::sync::atomic::{AtomicBool, Ordering};
 
-/// A member who is logged in: the exchange that his messages go to, and who is called round each of them.
+/// Who is logged in: the exchange that his messages go to, who is called round each of them, whose replies he gets, and
+/// whether he may send messages. A drop copy may not.
 #[derive(Drop)]
 pub struct Trader<'a, V: Venue, J: Journal + Drop, G> {
     pub exchange: &'a Exchange<V, J>,
     pub gate: &'a G,
     pub member: MemberNo,
+    pub may_send: bool,
 }
 
 /// What submits his messages: his pass, the clock of their times, and the number of the last one in this session.
@@ -92,20 +94,26 @@ fn add_message(
     Ok(())
 }
 
-// Gathers the messages of packets behind the login, up to a logout or a fault. Each bears the time at which it is read.
+// Gathers the messages of packets behind the login, up to a logout or a fault, and where nothing may be sent up to the
+// first of them. Each bears the time at which it is read.
 fn gather<C: Clock>(
     alloc: Global,
     member: MemberNo,
+    may_send: bool,
     clock: &mut C,
     packets: &[SoupPacket],
 ) -> Gathered
-    ensures { Gathers member packets.now result.events.items result.stop }
+    ensures gathers { Gathers member packets.now result.events.items result.stop }
+    ensures silent { may_send ≡ false → result.events.items ≡ [] }
 {
     let mut events = Vec::new(alloc);
     let mut intake = Intake::Open;
     for packet in packets {
         match intake.packet(packet) {
             Action::Submit => {
+                if !may_send {
+                    return Gathered::until(events, Stop::Faulted(Fault::Framing));
+                }
                 let text = packet.payload.as_slice();
                 match add_message(alloc, &mut events, member, clock.now(), text) {
                     Ok(()) => {}
@@ -143,7 +151,8 @@ fn submit<V: Venue, J: Journal + Drop, C: Clock, G: Gate, T: Wait>(
     sender: &mut Sender<V, C>,
     events: Vec<Event>,
 ) -> Result<(), Fault>
-    ensures pass { CarriesOn sender.old.pass sender.new.pass }
+    requires silent { trader.now.may_send ≡ false → events.items ≡ [] }
+    ensures pass { CarriesOn trader.now.may_send sender.old.pass sender.new.pass }
     ensures ok { OnOk result (SendsOn sender.old.pass.sent sender.new.pass.sent events.items) }
     ensures err { OnErr result (SendsSome sender.old.pass.sent sender.new.pass.sent events.items) }
 {
@@ -169,11 +178,17 @@ fn act<V: Venue, J: Journal + Drop, C: Clock, G: Gate, T: Wait>(
     sender: &mut Sender<V, C>,
     packets: &[SoupPacket],
 ) -> Result<(), Stop>
-    ensures pass { CarriesOn sender.old.pass sender.new.pass }
+    ensures pass { CarriesOn trader.now.may_send sender.old.pass sender.new.pass }
     ensures acted { Acted trader.now.member
         sender.old.pass.sent sender.new.pass.sent packets.now result }
 {
-    let Gathered { events, stop } = gather(alloc, trader.member, &mut sender.clock, packets);
+    let Gathered { events, stop } = gather(
+        alloc,
+        trader.member,
+        trader.may_send,
+        &mut sender.clock,
+        packets,
+    );
     match submit(rt, trader, sender, events) {
         Ok(()) => {}
         Err(fault) => return Err(Stop::Faulted(fault)),
@@ -192,7 +207,7 @@ fn act_last<V: Venue, J: Journal + Drop, C: Clock, G: Gate, T: Wait>(
     sender: &mut Sender<V, C>,
     packets: &[SoupPacket],
 ) -> Stop
-    ensures pass { CarriesOn sender.old.pass sender.new.pass }
+    ensures pass { CarriesOn trader.now.may_send sender.old.pass sender.new.pass }
     ensures acted { (done : List (List ℕ))
         × Submits trader.now.member sender.old.pass.sent sender.new.pass.sent done
         × ActedUntil packets.now done result }
@@ -213,7 +228,7 @@ fn take<V: Venue, J: Journal + Drop, C: Clock, G: Gate, T: Wait>(
     piece: &[u8],
 ) -> Result<(), Stop>
     requires { IsSome framer.old }
-    ensures pass { CarriesOn sender.old.pass sender.new.pass }
+    ensures pass { CarriesOn trader.now.may_send sender.old.pass sender.new.pass }
     ensures takes { Takes trader.now.member framer.old framer.new piece.now
         sender.old.pass.sent sender.new.pass.sent result }
 {
@@ -249,7 +264,7 @@ pub fn receive<V: Venue, J: Journal + Drop, R: Read, C: Clock, G: Gate, T: Wait>
     told: &AtomicBool,
     turns: u64,
 ) -> (Inbox<V, R, C>, Stop)
-    ensures pass { CarriesOn inbox.sender.pass result.0.sender.pass }
+    ensures pass { CarriesOn trader.now.may_send inbox.sender.pass result.0.sender.pass }
     ensures received { Received trader.now.member (R.remaining inbox.input)
         (R.remaining result.0.input) inbox.sender.pass.sent result.0.sender.pass.sent result.1 }
 {

@@ -2,6 +2,7 @@
 //! messages, another sends the member's replies, at the same time.
 #![tactic(auto)]
 
+mod copies;
 mod ending;
 mod inbound;
 pub mod laws;
@@ -14,6 +15,7 @@ mod serving;
 mod session;
 mod writing;
 
+pub use copies::{DropCopy, Logins};
 pub use ending::{Ended, Fault};
 pub use hx_session_core::{Action, Delivery, Intake, Start, Turn, start};
 pub use part::Part;

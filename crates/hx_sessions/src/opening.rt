@@ -7,12 +7,12 @@ ghost use Rattle.hx_sessions.specs.Frames.{day_over};
 ghost use Rattle.hx_sessions.specs.Logins.{LogsIn, Opens, NoLogin, ReadsFirst, FailsFirst};
 ghost use Rattle.hx_sessions.specs.Served.{Admits, Dismisses};
 
+use crate::copies::{Logins, read_by};
 use crate::ending::{Ended, Fault, Stop};
 use crate::inbound::is_passing;
 use crate::writing::{Broken, write_whole};
 use hx_blog::Reader;
 use hx_engine::{Entry, Exchange, Journal, Venue};
-use hx_members::Setup;
 use hx_session_core::{Action, Intake, Start, start};
 use hx_soup::{Framer, FramerError, LoginRequest, accepted, rejected};
 use std::alloc::Global;
@@ -108,22 +108,26 @@ pub fn read_login<V: Venue, J: Journal + Drop, R: Read, T: Wait>(
 pub fn open<V: Venue, J: Journal + Drop, T: Wait>(
     rt: &T,
     exchange: &Exchange<V, J>,
-    setup: &Setup,
+    logins: &Logins<'_>,
     reader: &mut Reader<Entry>,
     login: &LoginRequest,
 ) -> Result<Start, u8>
     requires { reader.old.log ≡ V.log }
     ensures log { reader.new.log ≡ V.log }
     ensures known { IsPrefix reader.old.known reader.new.known }
-    ensures ok { IfOk result (λ s. Opens V.setup setup.now login.now reader.new.known s) }
+    ensures ok { IfOk result (λ s. Opens V.setup logins.now.setup.now logins.now.copies.now login.now
+        reader.new.known s) }
     ensures err { IfErr result (λ reason.
-        (replies : ℕ) × (start_of setup.now login.now replies ≡ Err reason)) }
+        (replies : ℕ) × (start_of logins.now.setup.now login.now replies ≡ Err reason)) }
 {
-    let replies = match setup.login(&login.user, &login.password) {
-        Some(member) => exchange.news(rt, reader, member).replies,
+    let replies = match logins.setup.login(&login.user, &login.password) {
+        Some(member) => {
+            let member = read_by(logins.copies, member);
+            exchange.news(rt, reader, member).replies
+        }
         None => 0,
     };
-    start(setup, login, replies)
+    start(logins.setup, login, replies)
 }
 
 /// The two directions of a connection.
@@ -139,7 +143,7 @@ pub fn admit<V: Venue, J: Journal + Drop, R: Read, W: Write, T: Wait>(
     rt: &T,
     alloc: Global,
     exchange: &Exchange<V, J>,
-    setup: &Setup,
+    logins: &Logins<'_>,
     line: &mut Line<R, W>,
     reader: &mut Reader<Entry>,
     turns: u64,
@@ -148,10 +152,10 @@ pub fn admit<V: Venue, J: Journal + Drop, R: Read, W: Write, T: Wait>(
     ensures log { reader.new.log ≡ V.log }
     ensures known { IsPrefix reader.old.known reader.new.known }
     ensures ok { IfOk result (λ r.
-        Admits V.setup setup.now (R.remaining line.old.input) (R.remaining line.new.input)
+        Admits V.setup logins.now.setup.now logins.now.copies.now (R.remaining line.old.input) (R.remaining line.new.input)
         (W.contents line.old.output) (W.contents line.new.output) reader.new.known r.0) }
     ensures err { IfErr result
-        (Dismisses V.setup setup.now (R.remaining line.old.input) (R.remaining line.new.input)
+        (Dismisses V.setup logins.now.setup.now logins.now.copies.now (R.remaining line.old.input) (R.remaining line.new.input)
         (W.contents line.old.output) (W.contents line.new.output) reader.new.known) }
 {
     let (login, left) = match read_login(rt, alloc, exchange, &mut line.input, reader, turns) {
@@ -160,9 +164,9 @@ pub fn admit<V: Venue, J: Journal + Drop, R: Read, W: Write, T: Wait>(
         Err(Stop::Faulted(fault)) => return Err(Err(fault)),
         Err(Stop::Told) => return Err(Err(Fault::Turns)),
     };
-    match open(rt, exchange, setup, reader, &login) {
+    match open(rt, exchange, logins, reader, &login) {
         Ok(begun) => {
-            let frame = accepted(*setup.session(), begun.first);
+            let frame = accepted(*logins.setup.session(), begun.first);
             match write_whole(&mut line.output, frame.as_slice()) {
                 Ok(()) => Ok((begun, left)),
                 Err(Broken) => Err(Err(Fault::Write)),

@@ -46,9 +46,10 @@ impl<V: Venue, W: Write, C> Promise<(Outbox<W, C>, Stop)> for Delivers<V, W, C> 
 // A worker that took nothing in, for want of a thread for the other one.
 fn not_begun<V: Venue, R: Read, C>(
     member: MemberNo,
+    may_send: bool,
     inbox: Inbox<V, R, C>,
 ) -> (Inbox<V, R, C>, Stop)
-    ensures pass { CarriesOn inbox.sender.pass result.0.sender.pass }
+    ensures pass { CarriesOn may_send inbox.sender.pass result.0.sender.pass }
     ensures received { Received member (R.remaining inbox.input)
         (R.remaining result.0.input) inbox.sender.pass.sent result.0.sender.pass.sent result.1 }
 {
@@ -78,7 +79,7 @@ pub fn work<
     requires live { outbox.delivery.over ≡ false }
     requires next { IsNextOf (known_replies V.setup trader.now.member outbox.reader.known)
         outbox.delivery.next }
-    ensures pass { CarriesOn inbox.sender.pass result.0.sender.pass }
+    ensures pass { CarriesOn trader.now.may_send inbox.sender.pass result.0.sender.pass }
     ensures received { Received trader.now.member (R.remaining inbox.input)
         (R.remaining result.0.input) inbox.sender.pass.sent result.0.sender.pass.sent result.1 }
     ensures log { result.2.reader.log ≡ V.log }
@@ -93,7 +94,7 @@ pub fn work<
     let out_flag = &out_ended;
     let exchange = trader.exchange;
     let gate = trader.gate;
-    let member = trader.member;
+    let (member, may_send) = (trader.member, trader.may_send);
     scope(
         scope_env(),
         rt,
@@ -101,7 +102,7 @@ pub fn work<
             requires { (outbox.reader.log ≡ V.log) × (outbox.delivery.over ≡ false)
                 × IsNextOf (known_replies V.setup member outbox.reader.known)
                 outbox.delivery.next }
-            ensures pass { CarriesOn inbox.sender.pass result.0.sender.pass }
+            ensures pass { CarriesOn may_send inbox.sender.pass result.0.sender.pass }
             ensures received { Received member (R.remaining inbox.input)
                 (R.remaining result.0.input) inbox.sender.pass.sent result.0.sender.pass.sent result.1 }
             ensures log { result.2.reader.log ≡ V.log }
@@ -139,6 +140,7 @@ pub fn work<
                         exchange,
                         gate,
                         member,
+                        may_send,
                     };
                     let (inbox, inn) = receive(rt, alloc, &trader, inbox, out_flag, reads);
                     in_flag.store(true, Ordering::SeqCst);
@@ -148,7 +150,7 @@ pub fn work<
                 Err(SpawnError { value: refused }) => {
                     in_flag.store(true, Ordering::SeqCst);
                     let (outbox, out) = refused();
-                    let (inbox, inn) = not_begun(member, inbox);
+                    let (inbox, inn) = not_begun(member, may_send, inbox);
                     (inbox, inn, outbox, out)
                 }
             }

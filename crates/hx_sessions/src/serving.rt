@@ -4,12 +4,12 @@ ghost use Rattle.std.specs.List.{cons_option};
 ghost use Rattle.std.specs.Thread.{IsSend, IsSync};
 ghost use Rattle.hx_sessions.specs.Served.{ServesWaiting, ServesAll};
 
+use crate::copies::Logins;
 use crate::ending::{Ended, Fault};
 use crate::part::Part;
 use crate::ports::{Clock, Gate};
 use crate::session::Session;
 use hx_engine::{Exchange, Journal, Venue};
-use hx_members::Setup;
 use std::alloc::Global;
 use std::io::{Read, Write};
 use std::sync::Wait;
@@ -39,12 +39,13 @@ fn serve<
     rt: &T,
     alloc: Global,
     exchange: &Exchange<V, J>,
-    setup: &Setup,
+    logins: &Logins<'_>,
     gate: &G,
     turns: u64,
     slot: &mut Slot<V, R, W, C>,
 )
-    ensures { ServesWaiting V.setup setup.now
+    ensures { ServesWaiting V.setup
+        logins.now.setup.now logins.now.copies.now
         (option_map (λ p. record {
           input = R.remaining p.input;
           output = W.contents p.output;
@@ -62,7 +63,7 @@ fn serve<
         )) slot.new.served) }
 {
     if let Some(part) = slot.waiting.take() {
-        slot.served = Some(Session::run(rt, alloc, exchange, setup, part, gate, turns));
+        slot.served = Some(Session::run(rt, alloc, exchange, logins, part, gate, turns));
     }
 }
 
@@ -79,14 +80,15 @@ fn serve_slots<
     rt: &T,
     alloc: Global,
     exchange: &Exchange<V, J>,
-    setup: &Setup,
+    logins: &Logins<'_>,
     gate: &G,
     turns: u64,
     slots: &mut [Slot<V, R, W, C>],
 )
     requires { 0 < length slots.old }
     ensures len { length slots.new ≡ length slots.old }
-    ensures each { (i : ℕ) (d : _) → i < length slots.old → ServesWaiting V.setup setup.now
+    ensures each { (i : ℕ) (d : _) → i < length slots.old → ServesWaiting V.setup
+        logins.now.setup.now logins.now.copies.now
         (option_map (λ p. record {
           input = R.remaining p.input;
           output = W.contents p.output;
@@ -107,7 +109,8 @@ fn serve_slots<
     let each = |_place: usize, slot: &mut Slot<V, R, W, C>|
         requires { IsSend V.row × IsSend J.row × IsSend R.row × IsSend W.row × IsSend C.row
             × IsSync V.row × IsSync G.row × IsSync T.row }
-        ensures { ServesWaiting V.setup setup.entry.now
+        ensures { ServesWaiting V.setup
+            logins.entry.now.setup.now logins.entry.now.copies.now
             (option_map (λ p. record {
               input = R.remaining p.input;
               output = W.contents p.output;
@@ -123,7 +126,7 @@ fn serve_slots<
               },
               s.1,
             )) slot.exit.now.served) }
-    { serve(rt, alloc, exchange, setup, gate, turns, slot) };
+    { serve(rt, alloc, exchange, logins, gate, turns, slot) };
     for_each_mut(rt, slots, count, &each);
 }
 
@@ -188,12 +191,13 @@ pub fn serve_all<
     rt: &T,
     alloc: Global,
     exchange: &Exchange<V, J>,
-    setup: &Setup,
+    logins: &Logins<'_>,
     parts: Vec<Part<V, R, W, C>>,
     gate: &G,
     turns: u64,
 ) -> Result<Vec<(Part<V, R, W, C>, Result<Ended, Fault>)>, Vec<Part<V, R, W, C>>>
-    ensures ok { IfOk result (λ all. ServesAll V.setup setup.now
+    ensures ok { IfOk result (λ all. ServesAll V.setup
+        logins.now.setup.now logins.now.copies.now
         (map (λ p. record {
           input = R.remaining p.input;
           output = W.contents p.output;
@@ -222,7 +226,7 @@ pub fn serve_all<
         return Err(parts);
     };
     wait_all(parts, &mut slots);
-    serve_slots(rt, alloc, exchange, setup, gate, turns, &mut slots);
+    serve_slots(rt, alloc, exchange, logins, gate, turns, &mut slots);
     take_all(slots, &mut all);
     Ok(all)
 }

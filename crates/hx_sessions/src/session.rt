@@ -7,6 +7,7 @@ ghost use Rattle.hx_sessions.specs.Frames.{IsNextOf};
 ghost use Rattle.hx_sessions.specs.Workers.{both_of};
 ghost use Rattle.hx_sessions.specs.Served.{Converses, Serves};
 
+use crate::copies::{Logins, may_send, read_by};
 use crate::ending::{Ended, Fault, Stop};
 use crate::inbound::{Inbox, Sender, Trader};
 use crate::opening::{Line, admit};
@@ -16,7 +17,6 @@ use crate::part::Part;
 use crate::ports::{Clock, Gate};
 use hx_blog::Reader;
 use hx_engine::{Entry, Exchange, Journal, Pass, Venue};
-use hx_members::Setup;
 use hx_session_core::Delivery;
 use hx_units::MemberNo;
 use std::alloc::Global;
@@ -49,7 +49,8 @@ pub fn both(inbound: Stop, outbound: Stop) -> Result<Ended, Fault>
 pub struct Session;
 
 impl Session {
-    /// Runs a session: the login, then one worker for each direction at once. The part always comes back.
+    /// Runs a session: the login, then one worker for each direction at once. The part always comes back. A drop copy gets
+    /// the replies to another member; its session ends at the first message that it sends, which goes nowhere.
     pub fn run<
         V: Venue + Send + Sync,
         J: Journal + Drop + Send,
@@ -62,12 +63,12 @@ impl Session {
         rt: &T,
         alloc: Global,
         exchange: &Exchange<V, J>,
-        setup: &Setup,
+        logins: &Logins<'_>,
         part: Part<V, R, W, C>,
         gate: &G,
         turns: u64,
     ) -> (Part<V, R, W, C>, Result<Ended, Fault>)
-        ensures { Serves V.setup setup.now
+        ensures { Serves V.setup logins.now.setup.now logins.now.copies.now
             (record {
               input = R.remaining part.input;
               output = W.contents part.output;
@@ -91,7 +92,7 @@ impl Session {
             mut reader,
         } = part;
         let mut line = Line { input, output };
-        let begun = admit(rt, alloc, exchange, setup, &mut line, &mut reader, turns);
+        let begun = admit(rt, alloc, exchange, logins, &mut line, &mut reader, turns);
         let Line { input, mut output } = line;
         match begun {
             Err(result) => {
@@ -126,7 +127,8 @@ impl Session {
                 let trader = Trader {
                     exchange,
                     gate,
-                    member: begun.member,
+                    member: read_by(logins.copies, begun.member),
+                    may_send: may_send(logins.copies, begun.member),
                 };
                 let (inbox, mut outbox, result) = converse(
                     rt, alloc, &trader, inbox, outbox, left, turns,
@@ -170,7 +172,7 @@ fn converse<
         outbox.delivery.next }
     ensures log { result.1.reader.log ≡ V.log }
     ensures known { IsPrefix outbox.reader.known result.1.reader.known }
-    ensures pass { CarriesOn inbox.sender.pass result.0.sender.pass }
+    ensures pass { CarriesOn trader.now.may_send inbox.sender.pass result.0.sender.pass }
     ensures converses { Converses V.setup trader.now.member outbox.delivery.next []
         (record {
           input = R.remaining inbox.input;

@@ -2,10 +2,11 @@
 
 use hx_day_journal::DayJournalError;
 use hx_journal_tool::ToolError;
+use hx_operator::{OperateError, ScheduleError, SocketError};
 use hx_runs::RunError;
 use hx_serve::ServeError;
 use hx_watch::WatchError;
-use std::alloc::AllocError;
+use std::alloc::{AllocError, AllocFailed};
 
 /// Why the program ends without success.
 #[derive(Debug, Drop, thiserror::Error)]
@@ -13,12 +14,48 @@ pub enum Failure {
     /// The feed would go to the port of requests.
     #[error("error: --feed and --requests are the same port")]
     SamePorts,
+    /// A word that is neither a port nor an address, or an address of a day that is not open.
+    #[error("error: {flag} takes a port, 1 to 65535, or with --open an address, ADDR:PORT")]
+    NoAddress {
+        /// The flag before it.
+        flag: &'static str,
+    },
+    /// More addresses of the feed than there may be.
+    #[error("error: --feed is given once, or with --open 16 times at most")]
+    ManyFeeds,
     /// The file that the history would go to is there: it is not touched.
     #[error("write failed: {path} is there, and a history is never written over")]
     HistoryIsThere {
         /// Its name.
         path: String,
     },
+    /// More sessions than a day that is not open has.
+    #[error("error: --sessions is 1 to 63, or with --open 1 to 1000")]
+    ManySessions,
+    /// A word that is no drop copy.
+    #[error("error: --drop-copy {word}: MEMBER=USER, of a member's number and the user of another one")]
+    NoCopy {
+        /// The word.
+        word: String,
+    },
+    /// The page of figures could not be opened.
+    #[error("network failed: --metrics")]
+    NoMetrics,
+    /// The file of the schedule could not be read.
+    #[error("read failed: --schedule")]
+    NoSchedule,
+    #[error(transparent)]
+    Schedule(ScheduleError),
+    #[error(transparent)]
+    Socket(SocketError),
+    #[error(transparent)]
+    Operate(OperateError),
+    /// A server refused its operator's words, and has said why.
+    #[error("refused")]
+    Refused,
+    /// A growth was refused.
+    #[error("no memory")]
+    NoMemory,
     /// The day that is asked for.
     #[error("error: --day is no date YYYYMMDD")]
     NoDay,
@@ -38,7 +75,12 @@ impl Failure {
     /// The status that the program ends with.
     pub fn status(&self) -> u8 {
         match self {
-            Failure::SamePorts | Failure::NoDay => 2,
+            Failure::SamePorts
+            | Failure::NoAddress { .. }
+            | Failure::ManyFeeds
+            | Failure::ManySessions
+            | Failure::NoCopy { .. }
+            | Failure::NoDay => 2,
             Failure::Day(error) => error.status(),
             Failure::Run(error) => error.status(),
             Failure::Serve(ServeError::Line { .. }) | Failure::Watch(WatchError::Screen { .. }) => {
@@ -57,6 +99,18 @@ impl Failure {
             ) => 4,
             Failure::Watch(WatchError::Network | WatchError::Write) => 4,
             Failure::Journal(error) => error.status(),
+            Failure::NoMetrics | Failure::NoSchedule => 4,
+            Failure::Schedule(ScheduleError::Line { .. }) | Failure::Refused => 1,
+            Failure::Schedule(ScheduleError::NoMemory)
+            | Failure::Socket(SocketError::NoMemory)
+            | Failure::NoMemory => 3,
+            Failure::Socket(
+                SocketError::InUse
+                | SocketError::NoSocket
+                | SocketError::Path
+                | SocketError::Failed,
+            ) => 4,
+            Failure::Operate(error) => error.status(),
         }
     }
 }
@@ -64,6 +118,12 @@ impl Failure {
 impl From<AllocError> for Failure {
     fn from(e: AllocError) -> Failure {
         Failure::Run(RunError::from(e))
+    }
+}
+
+impl<T: Drop> From<AllocFailed<T>> for Failure {
+    fn from(e: AllocFailed<T>) -> Failure {
+        Failure::from(AllocError::from(e))
     }
 }
 
@@ -94,5 +154,23 @@ impl From<WatchError> for Failure {
 impl From<ToolError> for Failure {
     fn from(e: ToolError) -> Failure {
         Failure::Journal(e)
+    }
+}
+
+impl From<ScheduleError> for Failure {
+    fn from(e: ScheduleError) -> Failure {
+        Failure::Schedule(e)
+    }
+}
+
+impl From<SocketError> for Failure {
+    fn from(e: SocketError) -> Failure {
+        Failure::Socket(e)
+    }
+}
+
+impl From<OperateError> for Failure {
+    fn from(e: OperateError) -> Failure {
+        Failure::Operate(e)
     }
 }

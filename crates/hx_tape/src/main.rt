@@ -1,10 +1,13 @@
 //! Replays a tape, writes it without quiet chains, or shows it in words, from standard input to standard output; or
-//! serves a day, or watches the feed of one.
+//! serves a day, speaks to one that is served, or watches the feed of one.
 #![tactic(auto)]
 
+mod addresses;
 mod failure;
+mod fittings;
 mod input;
 mod journal;
+mod operate;
 mod serve;
 mod watch;
 
@@ -14,6 +17,7 @@ use hx_commands::command;
 use hx_runs::{RunError, read_words, refuse, run_command};
 use journal::journal_file;
 use log::Log;
+use operate::operate_server;
 use serve::serve_input;
 use std::fs;
 use std::net::{Net, TcpListener, TcpStream};
@@ -69,6 +73,7 @@ where
     match matches.subcommand() {
         Some(("serve", matches)) => serve_input(rt, matches),
         Some(("watch", matches)) => watch_feed(rt, matches),
+        Some(("operate", matches)) => operate_server(rt, matches),
         Some(("journal", matches)) => journal_file(rt, matches),
         _ => Ok(run_command(rt, matches)?),
     }
@@ -78,7 +83,10 @@ fn main(rt: HostRuntime) -> ExitCode {
     match answer(&rt) {
         Ok(()) => ExitCode::SUCCESS,
         Err(failure) => {
-            if !matches!(failure, Failure::Run(RunError::CommandLine)) {
+            if !matches!(
+                failure,
+                Failure::Run(RunError::CommandLine) | Failure::Refused
+            ) {
                 let _ = eprintln!(rt; "{failure}");
             }
             ExitCode::from(failure.status())

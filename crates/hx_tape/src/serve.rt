@@ -4,7 +4,9 @@ ghost use Rattle.hx_tape_lines.specs.Text.{record_of};
 ghost use Rattle.hx_desk.specs.Entries.{restored};
 ghost use Rattle.hx_engine.specs.Journals.{lines};
 
+use crate::addresses::addresses_of;
 use crate::failure::Failure;
+use crate::fittings::{copies_of, fittings_of};
 use crate::input::WakingInput;
 use clap::ArgMatches;
 use hx_day_journal::{Syncs, Wanted, day_of, digest_of, last_time, open_journal};
@@ -12,10 +14,10 @@ use hx_engine::Journal;
 use hx_members::{Seed, Setup};
 use hx_runs::{read_setup_text, setup_of};
 use hx_serve::{
-    Beginning, Board, Hosting, JsonNotices, Notices, OpenArgs, ServeArgs, ServeError, Silent,
-    Times, serve_kept, today,
+    Addresses, Beginning, Board, Fittings, Hosting, JsonNotices, Meter, Metered, Notices, OpenArgs,
+    ServeArgs, ServeError, Silent, Tally, Times, serve_kept, today,
 };
-use hx_sessions::Gate;
+use hx_sessions::{DropCopy, Gate};
 use log::Log;
 use std::hash::RandomState;
 use std::io::Read;
@@ -27,6 +29,9 @@ use std::sync::atomic::{AtomicU64, Ordering};
 use std::thread::Threads;
 use std::{fs, io};
 
+// The most sessions of a day that is not open.
+const SESSIONS: u16 = 63;
+
 // What the command line asks of a day, as it was read.
 #[derive(Clone, Copy)]
 struct Plan<'a> {
@@ -34,23 +39,32 @@ struct Plan<'a> {
     // The text of the setup, unless it is the standard one.
     text: Option<&'a [u8]>,
     args: &'a ServeArgs,
+    addresses: &'a Addresses,
     open: Option<OpenArgs>,
     // The day since 1970, and the last time that it gave.
     day: u64,
     last: &'a AtomicU64,
+    // What is counted, and the drop copies.
+    meter: &'a Meter,
+    copies: &'a [DropCopy],
 }
 
 // The numbers of the command line, whose ranges `clap` has looked at.
-fn args_of(matches: &ArgMatches<'_>) -> Option<ServeArgs> {
+fn args_of(matches: &ArgMatches<'_>, addresses: &Addresses) -> Option<ServeArgs> {
+    let sessions = matches.get_one::<u16>("sessions")?;
     let args = ServeArgs::of(
-        matches.get_one::<u16>("port")?,
-        matches.get_one::<u16>("feed")?,
-        matches.get_one::<u16>("requests")?,
-        matches.get_one::<u16>("sessions")?,
+        addresses.listen.port(),
+        addresses.feeds.first()?.port(),
+        addresses.requests.port(),
+        sessions.min(SESSIONS),
         matches.get_one::<u64>("capacity")?,
         matches.get_one::<u64>("turns")?,
     )?;
-    args.with_answers(matches.get_one::<u32>("answers")?)
+    let args = args.with_answers(matches.get_one::<u32>("answers")?)?;
+    if sessions > SESSIONS {
+        return args.with_places(sessions);
+    }
+    Some(args)
 }
 
 // What is asked of an open day, where one is.
@@ -61,6 +75,7 @@ fn open_of(matches: &ArgMatches<'_>) -> Option<OpenArgs> {
     Some(OpenArgs {
         login_limit: matches.get_one::<u32>("login-limit")?,
         end: matches.get_one::<u32>("end")?,
+        connections_per_address: matches.get_one::<u32>("connections-per-address")?,
     })
 }
 
@@ -119,6 +134,94 @@ fn host<
     }
 }
 
+// What a day starts with besides its journal.
+#[derive(Drop)]
+struct Start {
+    seed: Seed,
+    fittings: Fittings,
+}
+
+// Serves a day that no journal keeps.
+fn begin_unkept<
+    R: AllocGlobal
+        + Input
+        + Print
+        + Files
+        + Log
+        + Net<Listener = TcpListener, Stream = TcpStream>
+        + Clock
+        + Threads
+        + Wait
+        + Sync,
+    G: Gate + Sync,
+    B: Board + Sync,
+>(
+    rt: &R,
+    matches: &ArgMatches<'_>,
+    hosting: &Hosting<'_, G, B>,
+    start: Start,
+) -> Result<(), Failure>
+where
+    R::Reader: Send,
+{
+    let Start { seed, fittings } = start;
+    let mut beginning = Beginning::unkept(rt.alloc(), seed);
+    beginning.fittings = fittings;
+    if hosting.open.is_none() {
+        return host(rt, matches, hosting, beginning, rt.reader());
+    }
+    let input = WakingInput::new(rt.reader());
+    host(rt, matches, hosting, beginning, input)
+}
+
+// Serves a day over its journal. The journal may fail, or the day end, and then nobody waits for the operator's next line.
+fn begin_kept<
+    'x,
+    R: AllocGlobal
+        + Input
+        + Print
+        + Files<File = fs::File>
+        + Log
+        + Net<Listener = TcpListener, Stream = TcpStream>
+        + Clock
+        + Threads
+        + Wait
+        + Sync,
+    G: Gate + Sync,
+    B: Board + Sync,
+>(
+    rt: &'x R,
+    matches: &ArgMatches<'_>,
+    plan: Plan<'x>,
+    hosting: &Hosting<'_, G, B>,
+    board: &'x B,
+    path: &str,
+    start: Start,
+) -> Result<(), Failure>
+where
+    R::Reader: Send,
+{
+    let Start { seed, fittings } = start;
+    let setup = digest_of(rt.alloc(), plan.text)?;
+    let wanted = Wanted {
+        session: plan.setup.session(),
+        day: plan.day,
+        setup: &setup,
+        syncs: syncs_of(matches),
+    };
+    let recovered = open_journal(rt, board, path, wanted)?;
+    plan.last
+        .fetch_max(last_time(&recovered.events), Ordering::SeqCst);
+    let input = WakingInput::new(rt.reader());
+    let beginning = Beginning {
+        seed,
+        recovered,
+        ahead: matches.get_one::<u64>("ahead").unwrap_or(u64::MAX),
+        fittings,
+    };
+    host(rt, matches, hosting, beginning, input)
+}
+
 // Serves a day with a seed that is drawn: over its journal, where the command line names one.
 fn begin<
     'x,
@@ -156,37 +259,58 @@ where
     } else {
         Times::of_machine()
     };
+    let fittings = fittings_of(rt, matches)?;
     let hosting = Hosting {
         setup: plan.setup,
         is_standard: plan.text.is_none(),
         args: plan.args,
+        addresses: plan.addresses,
         gate,
         board,
         open: plan.open,
         times,
+        tally: &Tally::new(),
+        meter: plan.meter,
+        copies: plan.copies,
     };
-    let Some(path) = journal else {
-        let beginning = Beginning::unkept(alloc, seed);
-        return host(rt, matches, &hosting, beginning, rt.reader());
+    let start = Start { seed, fittings };
+    match journal {
+        Some(path) => begin_kept(rt, matches, plan, &hosting, board, path, start),
+        None => begin_unkept(rt, matches, &hosting, start),
+    }
+}
+
+// The same, with a board that counts what concerns the journal.
+fn begin_metered<
+    'x,
+    R: AllocGlobal
+        + Input
+        + Print
+        + Files<File = fs::File>
+        + Log
+        + Net<Listener = TcpListener, Stream = TcpStream>
+        + Clock
+        + RandomSource
+        + Threads
+        + Wait
+        + Sync,
+    G: Gate + Sync,
+    B: Board + Sync,
+>(
+    rt: &'x R,
+    matches: &ArgMatches<'_>,
+    plan: Plan<'x>,
+    gate: &'x G,
+    board: &'x B,
+) -> Result<(), Failure>
+where
+    R::Reader: Send,
+{
+    let board = Metered {
+        board,
+        meter: plan.meter,
     };
-    let setup = digest_of(alloc, plan.text)?;
-    let wanted = Wanted {
-        session: plan.setup.session(),
-        day: plan.day,
-        setup: &setup,
-        syncs: syncs_of(matches),
-    };
-    let recovered = open_journal(rt, board, path, wanted)?;
-    plan.last
-        .fetch_max(last_time(&recovered.events), Ordering::SeqCst);
-    // (the journal may fail, and then nobody waits for the operator's next line)
-    let input = WakingInput::new(rt.reader());
-    let beginning = Beginning {
-        seed,
-        recovered,
-        ahead: matches.get_one::<u64>("ahead").unwrap_or(u64::MAX),
-    };
-    host(rt, matches, &hosting, beginning, input)
+    begin(rt, matches, plan, gate, &board)
 }
 
 /// Serves a day as the command line asks.
@@ -207,26 +331,36 @@ pub fn serve_input<
 where
     R::Reader: Send,
 {
-    let Some(args) = args_of(matches) else {
+    let addresses = addresses_of(rt.alloc(), matches)?;
+    let Some(args) = args_of(matches, &addresses) else {
         return Err(Failure::SamePorts);
     };
+    let open = open_of(matches);
+    if open.is_none() && args.sessions > SESSIONS {
+        return Err(Failure::ManySessions);
+    }
     let text = read_setup_text(rt, matches)?;
     let text = text.as_deref();
     let setup = setup_of(rt.alloc(), text)?;
+    let copies = copies_of(rt.alloc(), &setup, matches)?;
+    let meter = Meter::new();
     let plan = Plan {
         setup: &setup,
         text,
         args: &args,
-        open: open_of(matches),
+        addresses: &addresses,
+        open,
         day: day_asked(rt, matches)?,
         last: &AtomicU64::new(0),
+        meter: &meter,
+        copies: &copies,
     };
     let notices = Notices { rt };
     if plan.open.is_none() {
-        return begin(rt, matches, plan, &notices, &notices);
+        return begin_metered(rt, matches, plan, &notices, &notices);
     }
     if matches.get_flag("json") {
-        return begin(rt, matches, plan, &Silent, &JsonNotices { rt });
+        return begin_metered(rt, matches, plan, &Silent, &JsonNotices { rt });
     }
-    begin(rt, matches, plan, &Silent, &notices)
+    begin_metered(rt, matches, plan, &Silent, &notices)
 }

@@ -41,7 +41,7 @@ fn start<S: Scenario, V: Venue + Send + Sync, R: Threads + Wait + Clock + Abort 
     requires before { V.before ≡ [] }
     requires reader { ground.reader.log ≡ V.log }
     requires blank { (ground.blank.name ≡ V.name) × (ground.blank.parts ≡ V.parts) }
-    requires passes { (1 ≤ passes) × (passes ≤ 64) × (passes ≡ V.parts) }
+    requires passes { (1 ≤ passes) × (passes ≤ 1024) × (passes ≡ V.parts) }
 {
     let Ground {
         setup,
@@ -63,7 +63,7 @@ pub fn play<S: Scenario, R: Threads + Wait + Clock + Abort + Sync>(
     passes: u16,
 ) -> Result<(), Fail>
     requires capacity { (1 ≤ capacity) × (capacity ≤ 1000000) }
-    requires passes { (1 ≤ passes) × (passes ≤ 64) }
+    requires passes { (1 ≤ passes) × (passes ≤ 1024) }
 {
     let ground = ground_of(alloc, setup, capacity, passes)?;
     start::<S, Brand, R>(rt, alloc, ground, passes)

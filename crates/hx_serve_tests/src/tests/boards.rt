@@ -13,8 +13,14 @@ pub struct Counting {
     pub late: AtomicU64,
     /// Connections that sent something else than a login.
     pub strange: AtomicU64,
+    /// Connections of which there were too many of one address.
+    pub too_many: AtomicU64,
     /// Connections that were closed since the day was over.
     pub over: AtomicU64,
+    /// Addresses that the feed did not get to.
+    pub unsent: AtomicU64,
+    /// That other machines can reach the day.
+    pub warnings: AtomicU64,
     /// The operator's lines that are none.
     pub bad: AtomicU64,
     /// His lines with a time that is not within the day.
@@ -23,6 +29,8 @@ pub struct Counting {
     pub crowds: AtomicU64,
     /// The end of his input before code `C`.
     pub closings: AtomicU64,
+    /// What his socket and the clock did.
+    pub directed: AtomicU64,
     /// That a day goes on, with how many events and messages of the feed the last time.
     pub resumed: AtomicU64,
     pub events: AtomicU64,
@@ -39,12 +47,16 @@ impl Counting {
             faulted: AtomicU64::new(0),
             late: AtomicU64::new(0),
             strange: AtomicU64::new(0),
+            too_many: AtomicU64::new(0),
             over: AtomicU64::new(0),
+            unsent: AtomicU64::new(0),
+            warnings: AtomicU64::new(0),
             bad: AtomicU64::new(0),
             untimely: AtomicU64::new(0),
             unanswered: AtomicU64::new(0),
             crowds: AtomicU64::new(0),
             closings: AtomicU64::new(0),
+            directed: AtomicU64::new(0),
             resumed: AtomicU64::new(0),
             events: AtomicU64::new(0),
             feed: AtomicU64::new(0),
@@ -72,7 +84,13 @@ impl Board for Counting {
                 why: Left::NoLogin,
                 ..
             } => &self.strange,
+            Notice::Left {
+                why: Left::TooMany,
+                ..
+            } => &self.too_many,
             Notice::Left { .. } => &self.over,
+            Notice::Unsent { .. } => &self.unsent,
+            Notice::OpenToOthers => &self.warnings,
             Notice::Refused {
                 why: Refusal::Time,
                 ..
@@ -87,6 +105,9 @@ impl Board for Counting {
             }
             Notice::JournalWaits | Notice::JournalGoesOn | Notice::Reading { .. } => &self.waits,
             Notice::Closing | Notice::StandardSetup => &self.closings,
+            Notice::Scheduled { .. } | Notice::Dropped { .. } | Notice::Forbidden { .. } => {
+                &self.directed
+            }
         };
         count.fetch_add(1, Ordering::SeqCst);
     }

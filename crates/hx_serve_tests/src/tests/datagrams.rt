@@ -4,7 +4,7 @@ use super::boards::{Counting, told};
 use super::client::{Client, free_ports};
 use super::days::args_of;
 use hx_members::{Seed, Setup};
-use hx_serve::{Datagrams, Doors, Hosting, Silent, Times, serve_day, today};
+use hx_serve::{Datagrams, Doors, Hosting, Meter, Silent, Tally, Times, serve_day, today};
 use log::Log;
 use std::io::ErrorKind;
 use std::net::{Ipv4Addr, Net, SocketAddr, TcpListener, TcpStream};
@@ -80,10 +80,14 @@ fn serve_beside<
         setup: &setup,
         is_standard: false,
         args: &args,
+        addresses: &args.addresses(alloc)?,
         gate: &Silent,
         board,
         open: None,
         times,
+        tally: &Tally::new(),
+        meter: &Meter::new(),
+        copies: &[],
     };
     let doors = Doors {
         listener: TcpListener::bind(rt, (Ipv4Addr::new(127, 0, 0, 1), ports.0))?,

@@ -7,7 +7,9 @@ use super::days::{args_of, expect_added, expect_end, send_order};
 use super::vendor::Vendor;
 use hx_members::{Seed, Setup};
 use hx_replay::replay;
-use hx_serve::{Day, Doors, Hosting, ServeArgs, ServeError, Times, serve_day, write_history};
+use hx_serve::{
+    Day, Doors, Hosting, Meter, ServeArgs, ServeError, Tally, Times, serve_day, write_history,
+};
 use hx_sessions::Gate;
 use hx_units::MemberNo;
 use log::Log;
@@ -102,16 +104,21 @@ fn serve_held<
     let setup = Setup::standard(alloc)?;
     let board = Counting::new();
     let times = Times::of_machine();
+    let addresses = args.addresses(alloc)?;
     let hosting = Hosting {
         setup: &setup,
         is_standard: false,
         args,
+        addresses: &addresses,
         gate,
         board: &board,
         open: None,
         times,
+        tally: &Tally::new(),
+        meter: &Meter::new(),
+        copies: &[],
     };
-    let doors = Doors::open(rt, args)?;
+    let doors = Doors::open(rt, &addresses)?;
     serve_day(rt, alloc, &hosting, doors, Seed::Fixed, &b""[..], output)
 }
 

@@ -6,8 +6,8 @@ use super::days::args_of;
 use super::vendor::Vendor;
 use hx_members::{Seed, Setup};
 use hx_serve::{
-    Beginning, Day, Doors, Hosting, OpenArgs, ServeArgs, ServeError, Silent, Times, serve_day,
-    serve_kept, today, write_history,
+    Beginning, Day, Doors, Hosting, Meter, OpenArgs, ServeArgs, ServeError, Silent, Tally, Times,
+    serve_day, serve_kept, today, write_history,
 };
 use log::Log;
 use std::alloc::Global;
@@ -56,13 +56,18 @@ fn serve_hours<
         setup: &setup,
         is_standard: false,
         args,
+        addresses: &args.addresses(alloc)?,
         gate: &Silent,
         board: &board,
         open: Some(OpenArgs {
             login_limit: 15,
             end: 0,
+            connections_per_address: 8,
         }),
         times,
+        tally: &Tally::new(),
+        meter: &Meter::new(),
+        copies: &[],
     };
     let path = Some(path);
     let beginning = Beginning::unkept(alloc, Seed::Fixed);
@@ -150,6 +155,7 @@ fn day_of_hours<
 >(rt: &R, alloc: Global) -> Result<Day, Fail> {
     let vendor = Vendor::listen(rt)?;
     let args = args_of(free_ports(rt)?, vendor.port()?, 1, 100)?;
+    let addresses = args.addresses(alloc)?;
     let setup = Setup::standard(alloc)?;
     let board = Counting::new();
     let last = AtomicU64::new(0);
@@ -158,15 +164,20 @@ fn day_of_hours<
         setup: &setup,
         is_standard: false,
         args: &args,
+        addresses: &addresses,
         gate: &Silent,
         board: &board,
         open: Some(OpenArgs {
             login_limit: 15,
             end: 0,
+            connections_per_address: 8,
         }),
         times,
+        tally: &Tally::new(),
+        meter: &Meter::new(),
+        copies: &[],
     };
-    let doors = Doors::open(rt, &args)?;
+    let doors = Doors::open(rt, &addresses).map_err(|_| "no doors")?;
     let mut output = Vec::new(alloc);
     match serve_day(rt, alloc, &hosting, doors, Seed::Fixed, HOURS, &mut output) {
         Ok(day) => Ok(day),

@@ -75,6 +75,20 @@ fn notices_in_words_and_as_json(rt: HostRuntime) -> Result<(), Fail> {
     reads(
         &rt,
         alloc,
+        Notice::Unsent { to: from },
+        "feed to 127.0.0.1:5000 not sent",
+        "{\"notice\":\"feed not sent\",\"to\":\"127.0.0.1:5000\"}",
+    )?;
+    reads(
+        &rt,
+        alloc,
+        Notice::OpenToOthers,
+        "open to other machines: put a line that encrypts before it (see OPERATING)",
+        "{\"notice\":\"open to other machines: put a line that encrypts before it (see OPERATING)\"}",
+    )?;
+    reads(
+        &rt,
+        alloc,
         Notice::Closing,
         "operator input ended: the hours are ended",
         "{\"notice\":\"operator input ended: the hours are ended\"}",

@@ -7,7 +7,8 @@ use super::lines::Lines;
 use super::vendor::{END, Vendor};
 use hx_members::{Seed, Setup};
 use hx_serve::{
-    Day, Doors, Hosting, OpenArgs, ServeArgs, ServeError, Silent, Times, serve_day, today,
+    Addresses, Day, Doors, Hosting, Meter, OpenArgs, ServeArgs, ServeError, Silent, Tally, Times,
+    serve_day, today,
 };
 use log::Log;
 use std::alloc::Global;
@@ -20,20 +21,22 @@ use std::thread;
 use std::thread::{Threads, join};
 use std::time::{Clock, Duration};
 
-// The codes of the hours that are left of a day that begins open, and what the feed tells of each: itself.
-const CLOSING: &[u8] = b"1 0 51\n2 0 4d\n3 0 45\n4 0 43\n";
+/// The codes of the hours that are left of a day that begins open, and what the feed tells of each: itself.
+pub const CLOSING: &[u8] = b"1 0 51\n2 0 4d\n3 0 45\n4 0 43\n";
 
 // A login of ALPHA, from his second reply on.
 const ALPHA_AGAIN: &[u8; 46] = b"ALPHA PWALPHA                               2 ";
 
 /// How an open day differs from others: how many slots its log has, how many seconds a login and the
-/// end of the feed have, and how many of the operator's pieces of input are there from the start.
+/// end of the feed have, how many connections of one address there may be, and how many of the operator's pieces
+/// of input are there from the start.
 #[derive(Clone, Copy)]
 pub struct Terms {
-    capacity: u64,
-    login_limit: u32,
-    end: u32,
-    let_go: u64,
+    pub capacity: u64,
+    pub login_limit: u32,
+    pub end: u32,
+    pub connections_per_address: u32,
+    pub let_go: u64,
 }
 
 /// A day of a hundred slots.
@@ -41,24 +44,29 @@ pub const USUAL: Terms = Terms {
     capacity: 100,
     login_limit: 15,
     end: 0,
+    connections_per_address: 8,
     let_go: 0,
 };
 
-/// An open day of one place: its vendor, its ports for sessions and for requests, what is asked of it,
-/// how often each thing was told, and how many of the operator's pieces of input are there.
+/// An open day of one place: its vendor, its ports for sessions and for requests, what is asked of it, where it
+/// listens and sends, how often each thing was told, what was counted at its door, and how many of the operator's
+/// pieces of input are there.
 #[derive(Drop)]
 pub struct Stage {
     pub vendor: Vendor,
     pub ports: (u16, u16),
     pub args: ServeArgs,
     pub open: OpenArgs,
+    pub addresses: Addresses,
     pub board: Counting,
+    pub tally: Tally,
+    pub meter: Meter,
     pub let_go: AtomicU64,
 }
 
 impl Stage {
     /// A day on free ports.
-    pub fn new<R: Net<Listener = TcpListener, Stream = TcpStream> + Clock>(
+    pub fn new<R: AllocGlobal + Net<Listener = TcpListener, Stream = TcpStream> + Clock>(
         rt: &R,
         terms: Terms,
     ) -> Result<Stage, Fail> {
@@ -68,21 +76,25 @@ impl Stage {
         let open = OpenArgs {
             login_limit: terms.login_limit,
             end: terms.end,
+            connections_per_address: terms.connections_per_address,
         };
         Ok(Stage {
             vendor,
             ports,
             args,
             open,
+            addresses: args.addresses(rt.alloc())?,
             board: Counting::new(),
+            tally: Tally::new(),
+            meter: Meter::new(),
             let_go: AtomicU64::new(terms.let_go),
         })
     }
 }
 
-// What an open day leaves and writes, where the operator's pieces of input come as the client lets
-// them go.
-fn serve_open<
+/// What an open day leaves and writes, where the operator's pieces of input come as the client lets
+/// them go.
+pub fn serve_open<
     'x,
     R: Net<Listener = TcpListener, Stream = TcpStream> + Threads + Wait + Clock + Log + Sync,
 >(
@@ -98,20 +110,24 @@ fn serve_open<
         setup: &setup,
         is_standard: false,
         args: &stage.args,
+        addresses: &stage.addresses,
         gate: &Silent,
         board: &stage.board,
         open: Some(stage.open),
         times,
+        tally: &stage.tally,
+        meter: &stage.meter,
+        copies: &[],
     };
-    let doors = Doors::open(rt, &stage.args)?;
+    let doors = Doors::open(rt, &stage.addresses)?;
     let input = Lines::new(rt, pieces, &stage.let_go);
     let mut output = Vec::new(alloc);
     let day = serve_day(rt, alloc, &hosting, doors, Seed::Fixed, input, &mut output)?;
     Ok((day, output))
 }
 
-// Waits until so much was told.
-fn await_told<R: Clock>(rt: &R, count: &AtomicU64, wanted: u64) -> Result<(), Fail> {
+/// Waits until so much was told.
+pub fn await_told<R: Clock>(rt: &R, count: &AtomicU64, wanted: u64) -> Result<(), Fail> {
     for _ in 0..10_000 {
         if told(count) >= wanted {
             return Ok(());
@@ -121,8 +137,8 @@ fn await_told<R: Clock>(rt: &R, count: &AtomicU64, wanted: u64) -> Result<(), Fa
     Err(Fail::from("it was not told"))
 }
 
-// A member logs in, and out again.
-fn come_and_go<R: Net<Listener = TcpListener, Stream = TcpStream> + Clock + Abort>(
+/// A member logs in, and out again.
+pub fn come_and_go<R: Net<Listener = TcpListener, Stream = TcpStream> + Clock + Abort>(
     rt: &R,
     alloc: Global,
     port: u16,

@@ -14,7 +14,7 @@ use hx_engine::Journal;
 use hx_journal::{DeviceError, Head, HostFile, RawFile};
 use hx_members::{Seed, Setup};
 use hx_recovery::{Unwatched, recover};
-use hx_serve::{Beginning, Day, Doors, Hosting, ServeError, Silent, Times, serve_from};
+use hx_serve::{Beginning, Day, Doors, Fittings, Hosting, ServeError, Silent, Times, serve_from};
 use log::Log;
 use std::alloc::Global;
 use std::fs;
@@ -111,12 +111,16 @@ fn serve_over<
         setup: &setup,
         is_standard: false,
         args: &stage.args,
+        addresses: &stage.addresses,
         gate: &Silent,
         board: &stage.board,
         open: Some(stage.open),
         times,
+        tally: &stage.tally,
+        meter: &stage.meter,
+        copies: &[],
     };
-    let doors = Doors::open(rt, &stage.args)?;
+    let doors = Doors::open(rt, &stage.addresses)?;
     let input = Lines::new(rt, pieces, &stage.let_go);
     let mut output = Vec::new(alloc);
     serve_from(rt, alloc, &hosting, doors, beginning, input, &mut output)
@@ -154,6 +158,7 @@ fn serve_file<
         seed: Seed::Fixed,
         recovered,
         ahead: u64::MAX,
+        fittings: Fittings::none(),
     };
     serve_over(rt, stage, last, beginning, &[CLOSING])
 }

@@ -10,7 +10,7 @@ use hx_engine::{Entry, Exchange, Logs, Pass, Venue};
 use hx_journal::Unkept;
 use hx_members::Setup;
 use hx_serve::Silent;
-use hx_sessions::{Clock as Day, Ended, Part, serve_all};
+use hx_sessions::{Clock as Day, Ended, Logins, Part, serve_all};
 use std::alloc::Global;
 use std::marker::Brand;
 use std::net::{Ipv4Addr, Net, TcpListener, TcpStream};
@@ -83,7 +83,11 @@ fn serve_two<V: Venue + Send + Sync, R: Threads + Wait + Clock + Abort + Sync>(
     let mut parts = Vec::new(alloc);
     parts.push(connected(listener, first)?).ok()?;
     parts.push(connected(listener, second)?).ok()?;
-    let Ok(mut served) = serve_all(rt, alloc, exchange, &setup, parts, &Silent, 1_000_000) else {
+    let logins = Logins {
+        setup: &setup,
+        copies: &[],
+    };
+    let Ok(mut served) = serve_all(rt, alloc, exchange, &logins, parts, &Silent, 1_000_000) else {
         return None;
     };
     let (second, how) = served.pop()?;

@@ -10,7 +10,7 @@ use hx_engine::{Entry, Exchange, FinishError, Logs, Pass, Venue};
 use hx_journal::Unkept;
 use hx_market::{Bytes, Event};
 use hx_members::Setup;
-use hx_sessions::{Clock, Part, serve_all};
+use hx_sessions::{Clock, DropCopy, Logins, Part, serve_all};
 use hx_testing::memory::{Input, Output};
 use hx_units::NoMemory;
 use std::alloc::Global;
@@ -43,6 +43,8 @@ pub struct Day<'a> {
     pub clients: Vec<Client<'a>>,
     /// Those who come behind them.
     pub later: Vec<Client<'a>>,
+    /// The drop copies among them.
+    pub copies: Vec<DropCopy>,
     /// What is called round each submit.
     pub gate: Meeting,
     /// How many submits the sessions make, where the test says so.
@@ -63,6 +65,7 @@ impl<'a> Day<'a> {
             codes: &[],
             clients,
             later: Vec::new(alloc),
+            copies: Vec::new(alloc),
             gate: Meeting::of_nobody(),
             submits: None,
             at_once: None,
@@ -183,15 +186,20 @@ fn serve<V: Venue + Send + Sync, R: Threads + Wait + Timer + Abort + Sync>(
     rt: &R,
     stage: &mut Stage<V>,
     clients: Vec<Client>,
+    copies: &[DropCopy],
     gate: &Meeting,
     turns: u64,
 ) -> Result<(), Fail> {
     let (parts, wants) = parts_of(stage, clients)?;
+    let logins = Logins {
+        setup: &stage.setup,
+        copies,
+    };
     let served = serve_all(
         rt,
         stage.alloc,
         &stage.exchange,
-        &stage.setup,
+        &logins,
         parts,
         gate,
         turns,
@@ -235,6 +243,18 @@ fn play_at<V: Venue + Send + Sync, R: Threads + Wait + Timer + Abort + Sync>(
         reader,
         blank,
     } = ends;
+    let Day {
+        before,
+        codes,
+        clients,
+        later,
+        copies,
+        gate,
+        submits,
+        at_once,
+        turns,
+        left,
+    } = day;
     let own = setup.copy(alloc)?;
     let journal = Unkept::new();
     let (exchange, passes) = Exchange::<V, Unkept>::new(alloc, setup, logs, journal, blank, 3)?;
@@ -245,15 +265,15 @@ fn play_at<V: Venue + Send + Sync, R: Threads + Wait + Timer + Abort + Sync>(
         passes,
         reader,
     };
-    stage.open(rt, &day.before, day.codes)?;
-    serve(rt, &mut stage, day.clients, &day.gate, day.turns)?;
-    serve(rt, &mut stage, day.later, &day.gate, day.turns)?;
-    assert!(rt; day.gate.was_in_time());
-    let submits = day.gate.submits();
-    assert!(rt; submits.is_some());
-    assert!(rt; day.submits.is_none() || day.submits == submits);
-    assert!(rt; day.at_once.is_none() || day.at_once == Some(day.gate.at_once()));
-    match day.left {
+    stage.open(rt, &before, codes)?;
+    serve(rt, &mut stage, clients, &copies, &gate, turns)?;
+    serve(rt, &mut stage, later, &copies, &gate, turns)?;
+    assert!(rt; gate.was_in_time());
+    let made = gate.submits();
+    assert!(rt; made.is_some());
+    assert!(rt; submits.is_none() || submits == made);
+    assert!(rt; at_once.is_none() || at_once == Some(gate.at_once()));
+    match left {
         Some((entries, messages)) => stage.finish(rt, entries, messages),
         None => Ok(()),
     }

@@ -7,25 +7,34 @@ use Rattle.hx_sessions.specs.Asked.{AreMessages}
 use Rattle.hx_sessions.specs.Workers.{Gathers}
 use Rattle.hx_sessions.proofs.Taking.{has_at, upto_closed, upto_cut, upto_submit, upto_ignore, upto_none, messages_none, messages_more}
 use Rattle.hx_sessions.proofs.inbound.gather.Goals as goal
-use Rattle.hx_sessions.proofs.inbound.gather.Goals.{in-Submit+in-Ok, in-Ignore}
+use Rattle.hx_sessions.proofs.inbound.gather.Goals.{in-Submit+else-not-may_send+in-Ok, in-Ignore}
 
 pub loop-packet-init : goal.loop-packet-init
 loop-packet-init g c = record {
   live = refl;
+  silent = λ e. c.new-events.ensures.items;
   upto = ([], messages_none c.args.member c.new-events.result.items c.new-events.ensures.items, upto_none c.args.packets.now);
 }
 
-pub returns-in-Err : goal.returns-in-Err
-returns-in-Err g c =
+pub returns-in-Err-clause-gathers : goal.returns-in-Err-clause-gathers
+returns-in-Err-clause-gathers g c =
     let m = c.args.member in
     let packets = c.args.packets.now in
     let u = c.loop-packet.invariant.upto in
     let are = subst (λ l. AreMessages m l u.0) (sym c.in-Err.ensures.err) u.1 in
-    subst (λ (r : Gathered). Gathers m packets r.events.items r.stop) (sym c.until.ensures)
+    subst (λ (r : Gathered). Gathers m packets r.events.items r.stop) (sym c.until-in-Err.ensures)
     (u.0, are, inr (upto_cut packets c.loop-packet.packet-index u.0 u.2))
 
-pub returns-in-Logout : goal.returns-in-Logout
-returns-in-Logout g c =
+pub returns-then-not-may_send-clause-gathers : goal.returns-then-not-may_send-clause-gathers
+returns-then-not-may_send-clause-gathers g c =
+    let m = c.args.member in
+    let packets = c.args.packets.now in
+    let u = c.loop-packet.invariant.upto in
+    subst (λ (r : Gathered). Gathers m packets r.events.items r.stop) (sym c.until.ensures)
+    (u.0, u.1, inr (upto_cut packets c.loop-packet.packet-index u.0 u.2))
+
+pub returns-in-Logout-clause-gathers : goal.returns-in-Logout-clause-gathers
+returns-in-Logout-clause-gathers g c =
     let m = c.args.member in
     let packets = c.args.packets.now in
     let i = c.loop-packet.packet-index in
@@ -37,8 +46,8 @@ returns-in-Logout g c =
     subst (λ (r : Gathered). Gathers m packets r.events.items r.stop) (sym c.until-in-Logout.ensures)
     (u.0, u.1, (refl, has_at packets i p c.loop-packet-test.true c.packet-item.is acts, closed))
 
-pub returns-in-Login : goal.returns-in-Login
-returns-in-Login g c =
+pub returns-in-Login-clause-gathers : goal.returns-in-Login-clause-gathers
+returns-in-Login-clause-gathers g c =
     let m = c.args.member in
     let packets = c.args.packets.now in
     let u = c.loop-packet.invariant.upto in
@@ -55,11 +64,12 @@ loop-packet-preserved g c =
     let m = c.args.member in
     let before = c.loop-packet.events.items in
     elim c.match-packet.branch [
-      | in-Submit+in-Ok w ↦
+      | in-Submit+else-not-may_send+in-Ok w ↦
           let text : w.as_slice-text.result.now ≡ p.payload.items = w.as_slice-text.ensures.value in
           let is = w.in-Ok.ensures.ok ∙ ap (λ t. before ++ Message m w.now.result t ∷ []) text in
           let acts : later_action p ≡ action.Submit = sym (subst (λ x. Means x p c.packet.result) inv.live c.packet.ensures.means) ∙ w.in-Submit.is in record {
             live = c.packet.ensures.after ∙ (ap (λ a. then_at c.loop-packet.intake a) w.in-Submit.is ∙ inv.live);
+            silent = λ e. absurd (cc (rw e at w.if-not-may_send.false));
             upto = (
               u.0 ++ p.payload.items ∷ [],
               subst (λ k. AreMessages m k.items (u.0 ++ p.payload.items ∷ [])) (sym w.events-is) (messages_more m w.now.result p.payload.items before w.add_message.new.events.items u.0 u.1 is),
@@ -69,6 +79,7 @@ loop-packet-preserved g c =
       | in-Ignore w ↦
           let acts : later_action p ≡ action.Ignore = sym (subst (λ x. Means x p c.packet.result) inv.live c.packet.ensures.means) ∙ w.in-Ignore.is in record {
             live = c.packet.ensures.after ∙ (ap (λ a. then_at c.loop-packet.intake a) w.in-Ignore.is ∙ inv.live);
+            silent = λ e. ap (λ k. k.items) w.events-is ∙ inv.silent e;
             upto = (u.0, subst (λ k. AreMessages m k.items u.0) (sym w.events-is) u.1, upto_ignore packets i u.0 p u.2 c.loop-packet-test.true c.packet-item.is acts);
           }
     ]

@@ -1,4 +1,4 @@
-use Rattle.std.proofs.Common.{◌≡◌, ℕ, List}
+use Rattle.std.proofs.Common.{◌≡◌, ℕ, List, [], false}
 use Rattle.hx_session_core.specs.declared.intake.Intake.TheVariants as intakes
 use Rattle.hx_sessions.specs.Asked.{AreMessages}
 use Rattle.hx_sessions.proofs.Taking.{Upto}
@@ -6,6 +6,7 @@ use Rattle.hx_sessions.proofs.inbound.gather.Given as goal
 
 abbrev pub invariant-loop-packet : goal.invariant-loop-packet
 invariant-loop-packet g l = record {
+  silent : l.may_send ≡ false → l.events.items ≡ [];
   live : l.intake ≡ intakes.Open;
   upto : (texts : List (List ℕ)) × AreMessages l.member l.events.items texts × Upto l.packets l.packet-index texts;
 }

@@ -11,7 +11,7 @@ pub loop-init : goal.loop-init
 loop-init g c =
     let a = g.R.Read.remaining c.args.inbox.input in
     let s = c.args.inbox.sender.pass.sent in record {
-      pass = carries_none c.args.inbox.sender.pass;
+      pass = carries_none c.args.trader.now.may_send c.args.inbox.sender.pass;
       so_far = subst (λ (f : Option (List ℕ)). Receiving c.args.trader.now.member a a f s s) (sym c.new-framer.ensures) (receiving_none c.args.trader.now.member a s);
     }
 
@@ -40,7 +40,7 @@ returns-in-Err-take-clause-received g c =
     received_stop c.args.trader.now.member _ (g.R.Read.remaining c.loop.inbox.input) (g.R.Read.remaining c.read.new.self) c.loop.framer c.take.new.framer _ _ c.loop.inbox.sender.pass.sent _ c.in-Err-take.stop c.loop.invariant.so_far c.in-Ok.ensures.bytes.0 c.in-Err-take.ensures.takes
 
 pub returns-in-Err-take-clause-pass : goal.returns-in-Err-take-clause-pass
-returns-in-Err-take-clause-pass g c = carries_more c.args.inbox.sender.pass c.loop.inbox.sender.pass c.take.new.sender.pass c.loop.invariant.pass c.in-Err-take.ensures.pass
+returns-in-Err-take-clause-pass g c = carries_more c.args.trader.now.may_send c.args.inbox.sender.pass c.loop.inbox.sender.pass c.take.new.sender.pass c.loop.invariant.pass c.in-Err-take.ensures.pass
 
 pub loop-preserved : goal.loop-preserved
 loop-preserved g c =
@@ -50,7 +50,7 @@ loop-preserved g c =
     elim c.match-read.branch [
       | in-Ok+in-Ok-take w ↦
           let more = receiving_more c.args.trader.now.member a (g.R.Read.remaining c.loop.inbox.input) (g.R.Read.remaining c.read.new.self) c.loop.framer w.take.new.framer _ s c.loop.inbox.sender.pass.sent w.take.new.sender.pass.sent _ inv.so_far w.in-Ok.ensures.bytes.0 w.in-Ok-take.ensures.takes in
-          rw (w.inbox-is, w.framer-is) (record { pass = carries_more c.args.inbox.sender.pass c.loop.inbox.sender.pass w.take.new.sender.pass inv.pass w.in-Ok-take.ensures.pass; so_far = more })
+          rw (w.inbox-is, w.framer-is) (record { pass = carries_more c.args.trader.now.may_send c.args.inbox.sender.pass c.loop.inbox.sender.pass w.take.new.sender.pass inv.pass w.in-Ok-take.ensures.pass; so_far = more })
       | in-Err+else-not-is_passing+else-is_some w ↦
           let kept = receiving_kept c.args.trader.now.member a (g.R.Read.remaining c.loop.inbox.input) (g.R.Read.remaining c.read.new.self) c.loop.framer s c.loop.inbox.sender.pass.sent inv.so_far w.in-Err.ensures.bytes in
           rw (w.inbox-is, w.framer-is) (record { pass = inv.pass; so_far = kept })

@@ -10,4 +10,4 @@ returns-clause-received g c =
     received_here c.args.member _ _ _ _ _ (stops.Faulted faults.NoMemory) (receiving_none c.args.member left c.args.inbox.sender.pass.sent) (λ ps ds a. why_all left faults.NoMemory ps ds a)
 
 pub returns-clause-pass : goal.returns-clause-pass
-returns-clause-pass g c = carries_none c.args.inbox.sender.pass
+returns-clause-pass g c = carries_none c.args.may_send c.args.inbox.sender.pass

@@ -11,5 +11,5 @@ returns-clause-ok g c =
     let same : length news ≡ length items = c.serve_slots.ensures.len ∙ ap length c.deref_mut.ensures.value in
     let few : c.wait_all.new.slots.len ≡ length news = search rules in
     let count : length news ≡ length c.args.parts.items = same ∙ ap length c.wait_all.ensures ∙ length-map c.args.parts.items _ in
-    served_all _ _ _ (λ s. s.waiting) (λ s. s.served) g.V.Venue.setup c.args.setup.now c.args.parts.items _ news _ (λ p. refl) filled count
+    served_all _ _ _ (λ s. s.waiting) (λ s. s.served) g.V.Venue.setup c.args.logins.now.setup.now c.args.logins.now.copies.now c.args.parts.items _ news _ (λ p. refl) filled count
     (c.take_all.ensures ∙ ap (filter_map (λ s. s.served)) (all_written c.wait_all.new.slots.len news items same few)) c.serve_slots.ensures.each

@@ -34,4 +34,4 @@ for_each_mut-requires-clause-accepts g c κs within =
 pub returns-clause-each : goal.returns-clause-each
 returns-clause-each g c = λ i d less.
     let change = (c.for_each_mut.ensures i d less).1 in
-    served_there _ _ (λ s. s.waiting) (λ s. s.served) g.V.Venue.setup c.args.setup.now change.argument_is change.left change.call
+    served_there _ _ (λ s. s.waiting) (λ s. s.served) g.V.Venue.setup c.args.logins.now.setup.now c.args.logins.now.copies.now change.argument_is change.left change.call

@@ -75,7 +75,7 @@ finish-outbox-requires-clause-next g c =
     sent_bounds first replies lo.rest w.2.delivery (g.W.Write.contents c.args.outbox.output) (g.W.Write.contents w.2.output) lo.sent
 
 pub returns-in-Ok-clause-pass : goal.returns-in-Ok-clause-pass
-returns-in-Ok-clause-pass g c = subst (CarriesOn c.args.inbox.sender.pass) (sym c.receipt-receipt.ensures.same) c.work-inbox.ensures.pass
+returns-in-Ok-clause-pass g c = subst (CarriesOn c.args.trader.now.may_send c.args.inbox.sender.pass) (sym c.receipt-receipt.ensures.same) c.work-inbox.ensures.pass
 
 pub returns-in-Err-last-clause-pass : goal.returns-in-Err-last-clause-pass
-returns-in-Err-last-clause-pass g c = subst (CarriesOn c.args.inbox.sender.pass) (sym c.receipt-receipt.ensures.same) c.work-inbox.ensures.pass
+returns-in-Err-last-clause-pass g c = subst (CarriesOn c.args.trader.now.may_send c.args.inbox.sender.pass) (sym c.receipt-receipt.ensures.same) c.work-inbox.ensures.pass

@@ -1,16 +1,12 @@
-//! The sockets of a day.
-ghost use Rattle.std.specs.Prelude.{◌≤◌, IfOk, length};
+//! A member's connection.
 
-use crate::args::ServeArgs;
-use crate::fault::ServeError;
 use arrayvec::ArrayVec;
 use hx_members::Setup;
 use hx_soup::decode_login;
 use hx_units::MemberNo;
-use std::alloc::Global;
 use std::io;
 use std::io::{ErrorKind, Read, Write};
-use std::net::{Ipv4Addr, Net, Shutdown, SocketAddr, TcpListener, TcpStream, UdpSocket};
+use std::net::{Shutdown, SocketAddr, TcpStream};
 use std::time::Duration;
 
 // A member's input is looked at so often, in milliseconds, whether his session has ended meanwhile.
@@ -29,6 +25,12 @@ pub const LOGIN: usize = 49;
 
 const HEADER: usize = 3;
 
+/// The member whose login packet these bytes are.
+pub fn member_of(bytes: &[u8], setup: &Setup) -> Option<MemberNo> {
+    let login = decode_login(bytes.get(HEADER..)?)?;
+    setup.login(&login.user, &login.password)
+}
+
 /// The input of a session. It keeps the bytes of the login, of which some may have been read at the door.
 #[derive(Drop)]
 pub struct Inlet {
@@ -41,11 +43,7 @@ pub struct Inlet {
 impl Inlet {
     /// The member whose login these bytes are.
     pub fn member(&self, setup: &Setup) -> Option<MemberNo> {
-        if self.login.len() < LOGIN {
-            return None;
-        }
-        let login = decode_login(&self.login.as_slice()[HEADER..])?;
-        setup.login(&login.user, &login.password)
+        member_of(self.login.as_slice(), setup)
     }
 }
 
@@ -131,90 +129,4 @@ impl Connection {
             from,
         })
     }
-}
-
-fn fault_of(error: &io::Error) -> ServeError {
-    if error.kind() == ErrorKind::OutOfMemory {
-        return ServeError::NoMemory;
-    }
-    ServeError::Network
-}
-
-// The socket of the feed and of requests, which waits for nothing.
-fn bind_socket<T: Net>(rt: &T, port: u16) -> io::Result<UdpSocket> {
-    let socket = UdpSocket::bind(rt, (Ipv4Addr::new(127, 0, 0, 1), port))?;
-    socket.set_nonblocking(true)?;
-    Ok(socket)
-}
-
-/// Datagrams that go out and come in, without waiting.
-pub trait Datagrams {
-    /// Sends a datagram, and answers how many of its bytes went out.
-    fn send(&self, bytes: &[u8], to: SocketAddr) -> io::Result<usize>;
-
-    /// The next datagram, as far as there is room for it, and who sent it.
-    fn receive(&self, buffer: &mut [u8]) -> io::Result<(usize, SocketAddr)>
-        ensures { IfOk result (λ r. r.0 ≤ length buffer.old) };
-}
-
-impl Datagrams for UdpSocket {
-    fn send(&self, bytes: &[u8], to: SocketAddr) -> io::Result<usize> {
-        self.send_to(bytes, to)
-    }
-
-    fn receive(&self, buffer: &mut [u8]) -> io::Result<(usize, SocketAddr)> {
-        self.recv_from(buffer)
-    }
-}
-
-/// What a day listens to: members who connect, and requests.
-#[derive(Drop)]
-pub struct Doors<D> {
-    /// The socket that members connect to.
-    pub listener: TcpListener,
-    /// The socket that sends the feed and answers requests.
-    pub socket: D,
-}
-
-impl Doors<UdpSocket> {
-    /// Listens on the ports of the arguments, at 127.0.0.1.
-    pub fn open<T: Net<Listener = TcpListener, Stream = TcpStream>>(
-        rt: &T,
-        args: &ServeArgs,
-    ) -> Result<Doors<UdpSocket>, ServeError> {
-        let listener = match TcpListener::bind(rt, (Ipv4Addr::new(127, 0, 0, 1), args.port)) {
-            Ok(listener) => listener,
-            Err(error) => return Err(fault_of(&error)),
-        };
-        match bind_socket(rt, args.requests) {
-            Ok(socket) => Ok(Doors { listener, socket }),
-            Err(error) => Err(fault_of(&error)),
-        }
-    }
-}
-
-/// Takes so many connections. One that is gone before it is taken does not count.
-pub fn take(
-    alloc: Global,
-    listener: &TcpListener,
-    count: u16,
-) -> Result<Vec<Connection>, ServeError> {
-    let mut connections = Vec::new(alloc);
-    for _ in 0..u64::MAX {
-        if connections.len() >= count as usize {
-            break;
-        }
-        match listener.accept() {
-            Ok((stream, from)) => {
-                if let Ok(connection) = Connection::of(stream, from, ArrayVec::new()) {
-                    connections.push(connection)?;
-                }
-            }
-            Err(error) => match error.kind() {
-                ErrorKind::Interrupted | ErrorKind::ConnectionAborted => {}
-                _ => return Err(fault_of(&error)),
-            },
-        }
-    }
-    Ok(connections)
 }

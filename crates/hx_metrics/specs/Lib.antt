@@ -1,0 +1,4 @@
+pub mod Hours
+pub mod Rows
+pub mod Metrics
+pub mod Answers

@@ -1,0 +1,183 @@
+//! Those who ask: each by a connection of his own, none of whom can hold up another.
+
+use crate::answering::Page;
+use crate::watched::Watched;
+use http_server::{Config, Connection};
+use http1::Limits;
+use std::alloc::{AllocError, Global};
+use std::hash::RandomState;
+use std::io;
+use std::io::{ErrorKind, Read};
+use std::net::{Shutdown, TcpListener, TcpStream};
+use std::time::{Clock, Duration, Instant};
+
+// So many are there at most. One more, and the one that came first goes.
+const ROOM: usize = 16;
+
+// A connection is closed so many seconds behind its last request.
+const PATIENCE: u64 = 5;
+
+// How often a connection is read and written in one look at most.
+const TURNS: u32 = 16;
+
+// So many bytes that come behind a last answer are thrown away in one look.
+const THROWN: usize = 4096;
+
+// The limits of a connection.
+const CONFIG: Config = Config {
+    // A head, in bytes. Prometheus sends less than a thousand.
+    limits: Limits {
+        max_head_len: 8192,
+        max_extensions_len: 1024,
+        max_trailers_len: 1024,
+    },
+    // Nothing is done with a body.
+    max_body_len: 1024,
+    // While more bytes than this wait to be sent, no request is read.
+    max_pending: 8192,
+    read_size: 4096,
+};
+
+// What becomes of a guest.
+#[derive(Clone, Copy, PartialEq, Eq)]
+enum Stage {
+    // He may ask.
+    Asks,
+    // He has got his last answer, and was told that nothing more comes.
+    Leaves,
+    // He goes.
+    IsGone,
+}
+
+// One who asks.
+#[derive(Drop)]
+struct Guest {
+    stream: TcpStream,
+    connection: Connection,
+    // When he came, or when his last request was answered.
+    since: Instant,
+    stage: Stage,
+}
+
+// Whether something was moved; not where that would wait.
+fn has_moved(moving: io::Result<usize>) -> io::Result<bool> {
+    match moving {
+        Ok(_) => Ok(true),
+        Err(error) => match error.kind() {
+            ErrorKind::WouldBlock | ErrorKind::TimedOut | ErrorKind::Interrupted => Ok(false),
+            _ => Err(error),
+        },
+    }
+}
+
+impl Guest {
+    // Reads and writes once each, as far as that does not wait. Answers whether anything was moved.
+    fn exchange<W: Watched>(&mut self, page: &mut Page<'_, W>) -> io::Result<bool> {
+        let mut moved = false;
+        if self.connection.wants_read() {
+            moved = has_moved(self.connection.read_from(&mut self.stream))?;
+        }
+        self.connection.advance(page);
+        if self.connection.wants_write() {
+            moved |= has_moved(self.connection.write_to(&mut self.stream))?;
+        }
+        Ok(moved)
+    }
+
+    // Reads, answers and writes, until there is nothing to move, or the connection has ended.
+    fn converse<W: Watched>(&mut self, page: &mut Page<'_, W>) -> io::Result<Stage> {
+        for _ in 0..TURNS {
+            let moved = self.exchange(page)?;
+            if self.connection.is_done() {
+                self.stream.shutdown(Shutdown::Write)?;
+                return Ok(Stage::Leaves);
+            }
+            if !moved {
+                break;
+            }
+        }
+        Ok(Stage::Asks)
+    }
+
+    // Throws away what still comes: to close a line with unread bytes would take from the other
+    // side what it has not read.
+    fn leave(&mut self) -> Stage {
+        let mut thrown = [0; THROWN];
+        match self.stream.read(&mut thrown) {
+            Ok(0) => Stage::IsGone,
+            read => match has_moved(read) {
+                Ok(_) => Stage::Leaves,
+                Err(_) => Stage::IsGone,
+            },
+        }
+    }
+
+    // What becomes of him at this time.
+    fn attend<W: Watched>(&mut self, alloc: Global, watched: &W, now: Instant) {
+        let mut page = Page::new(alloc, watched);
+        self.stage = match self.stage {
+            Stage::Asks => self.converse(&mut page).unwrap_or(Stage::IsGone),
+            Stage::Leaves => self.leave(),
+            Stage::IsGone => Stage::IsGone,
+        };
+        if page.is_read {
+            self.since = now;
+        }
+        if now.saturating_duration_since(self.since) >= Duration::from_secs(PATIENCE) {
+            self.stage = Stage::IsGone;
+        }
+    }
+}
+
+/// Those who are there, who came first before the others.
+#[derive(Drop)]
+pub struct Guests {
+    alloc: Global,
+    keys: RandomState,
+    guests: Vec<Guest>,
+}
+
+impl Guests {
+    /// Nobody is there. The keys are secret: a peer chooses the names of its headers.
+    pub fn new(alloc: Global, keys: RandomState) -> Result<Guests, AllocError> {
+        Ok(Guests {
+            alloc,
+            keys,
+            guests: Vec::with_capacity(alloc, ROOM)?,
+        })
+    }
+
+    // Takes one in. Where too many are there, the one that came first goes.
+    fn enter(&mut self, stream: TcpStream, now: Instant) {
+        if stream.set_nonblocking(true).is_err() {
+            return;
+        }
+        if self.guests.len() >= ROOM {
+            self.guests.remove(0);
+        }
+        let _ = self.guests.push(Guest {
+            stream,
+            connection: Connection::new(self.alloc, self.keys, CONFIG),
+            since: now,
+            stage: Stage::Asks,
+        });
+    }
+
+    /// Takes in those who have come.
+    pub fn welcome(&mut self, listener: &TcpListener, now: Instant) {
+        for _ in 0..ROOM {
+            let Ok((stream, _)) = listener.accept() else {
+                return;
+            };
+            self.enter(stream, now);
+        }
+    }
+
+    /// Answers all that was asked. Those go who have ended, or who asked nothing for too long.
+    pub fn attend<W: Watched>(&mut self, watched: &W, now: Instant) {
+        for guest in self.guests.iter_mut() {
+            guest.attend(self.alloc, watched, now);
+        }
+        self.guests.retain(|guest| guest.stage != Stage::IsGone);
+    }
+}

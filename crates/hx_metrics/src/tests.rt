@@ -1,0 +1,6 @@
+//! The text, each answer, and the page on loopback.
+
+mod answers;
+mod loopback;
+mod texts;
+mod venue;

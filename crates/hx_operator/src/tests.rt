@@ -1,0 +1,3 @@
+mod schedules;
+mod sockets;
+mod words;

@@ -1,0 +1,282 @@
+//! The operator of an open day at his socket, and what the clock does for him: the hours of a schedule, and ticks.
+
+use crate::bulletin::Stage;
+use crate::clock::{DayClock, since_1970};
+use crate::floor::Floor;
+use crate::notices::{Board, Notice, Refusal};
+use crate::operating::refusal_of;
+use crate::status::write_status;
+use hx_engine::{Exchange, Journal, Pass, Venue};
+use hx_market::Event;
+use hx_operator::{Command, Directed, HELP, OperatorSocket, Schedule, events_of, read_command};
+use hx_units::MemberNo;
+use std::alloc::{AllocError, Global};
+use std::fmt::Write;
+use std::sync::Wait;
+use std::sync::atomic::{AtomicBool, Ordering};
+use std::thread;
+use std::time::{Clock, Duration};
+
+// The socket and the clock are looked at so often, in milliseconds.
+const LOOK_AGAIN: u64 = 20;
+
+// How many codes of the hours there are (ITCH 5.0, System Event Message).
+const CODES: u32 = 6;
+
+/// Who carries out what the operator says and what the clock asks for, by a pass of his own.
+#[derive(Drop)]
+pub struct Director<'a, V: Venue, J: Journal + Drop, B, T> {
+    /// The runtime.
+    pub rt: &'a T,
+    /// Where answers take memory from.
+    pub alloc: Global,
+    /// The exchange.
+    pub exchange: &'a Exchange<V, J>,
+    /// What the workers share.
+    pub floor: &'a Floor<'a, B>,
+    /// The times of what he records.
+    pub clock: DayClock<'a, T>,
+    /// His pass.
+    pub pass: Pass<V>,
+}
+
+/// What the clock asks for, and where the operator speaks.
+#[derive(Drop)]
+pub struct Duties {
+    /// His socket, where there is one.
+    pub socket: Option<OperatorSocket>,
+    /// The hours, where they go by the clock.
+    pub schedule: Option<Schedule>,
+    /// After how many milliseconds time passes for orders with seconds; 0 where it does not.
+    pub tick: u64,
+    /// How many seconds behind the day's end sessions have for what is theirs.
+    pub grace: u64,
+}
+
+// How long ago the last tick and the day's end are, and after how long what is to be done, in milliseconds; and how many
+// events were seen.
+#[derive(Clone, Copy, Drop)]
+struct Beat {
+    tick: u64,
+    since_tick: u64,
+    grace: u64,
+    since_end: u64,
+    seen: u64,
+}
+
+impl Beat {
+    // By the milliseconds between two ticks and the seconds behind the day's end.
+    fn of(tick: u64, grace: u64) -> Beat {
+        Beat {
+            tick,
+            since_tick: 0,
+            grace: grace.saturating_mul(1_000),
+            since_end: 0,
+            seen: 0,
+        }
+    }
+}
+
+// Puts a line behind an answer.
+fn say(answer: &mut Vec<u8>, words: &str) -> Result<(), AllocError> {
+    answer.extend_from_slice(words.as_bytes())?;
+    answer.push(b'\n')?;
+    Ok(())
+}
+
+// Refuses.
+fn refuse(answer: &mut Vec<u8>, why: &str) -> Result<(), AllocError> {
+    answer.extend_from_slice(b"no: ")?;
+    say(answer, why)
+}
+
+impl<'a, V: Venue, J: Journal + Drop, B: Board, T: Wait + Clock> Director<'a, V, J, B, T> {
+    // Records an event.
+    fn record(&mut self, event: &Event) -> Result<(), Refusal> {
+        match self.exchange.submit(self.rt, &mut self.pass, event) {
+            Ok(_) => {
+                self.floor.bulletin.note(self.floor.setup, event);
+                Ok(())
+            }
+            Err(error) => Err(refusal_of(error)),
+        }
+    }
+
+    // Records the events of a command that are not past, and answers.
+    fn carry_out(&mut self, events: &[Event], answer: &mut Vec<u8>) -> Result<(), AllocError> {
+        let mut is_done = false;
+        for event in events {
+            match self.floor.bulletin.stage(self.floor.setup, event) {
+                Stage::Past => continue,
+                Stage::TooEarly => return refuse(answer, "it is not the next code of the hours"),
+                Stage::NoStock => return refuse(answer, "no such stock"),
+                Stage::Now => {}
+            }
+            if let Err(why) = self.record(event) {
+                let mut words = String::new(self.alloc);
+                let _ = write!(words, "{why}");
+                return refuse(answer, &words);
+            }
+            is_done = true;
+        }
+        if !is_done {
+            return refuse(answer, "it is past already");
+        }
+        say(answer, "ok")
+    }
+
+    // Ends the sessions of a member.
+    fn disconnect(&mut self, member: MemberNo, answer: &mut Vec<u8>) -> Result<(), AllocError> {
+        let count = self.floor.seats.call_off(self.rt, member);
+        if count == 0 {
+            return refuse(answer, "he has no session");
+        }
+        let mut words = String::new(self.alloc);
+        let _ = write!(words, "ok\nsessions ended: {count}");
+        say(answer, &words)
+    }
+
+    // Lets a member log in, or not.
+    fn permit(
+        &mut self,
+        member: MemberNo,
+        may: bool,
+        answer: &mut Vec<u8>,
+    ) -> Result<(), AllocError> {
+        if self.floor.setup.member(member).is_none() {
+            return refuse(answer, "no such member");
+        }
+        self.floor.seats.permit(member, may);
+        say(answer, "ok")
+    }
+
+    // Carries a command out, and answers.
+    fn perform(&mut self, command: Command, answer: &mut Vec<u8>) -> Result<(), AllocError> {
+        match command {
+            Command::Status => {
+                say(answer, "ok")?;
+                write_status(self.rt, self.alloc, answer, self.exchange, self.floor)
+            }
+            Command::Help => {
+                say(answer, "ok")?;
+                answer.extend_from_slice(HELP.as_bytes())
+            }
+            Command::Disconnect(member) => self.disconnect(member, answer),
+            Command::Allow(member) => self.permit(member, true, answer),
+            Command::Refuse(member) => self.permit(member, false, answer),
+            Command::Start
+            | Command::Open
+            | Command::Close
+            | Command::End
+            | Command::Code(_)
+            | Command::Halt { .. }
+            | Command::Resume { .. }
+            | Command::Break { .. }
+            | Command::Tick => {
+                let events = events_of(self.alloc, command, self.clock.time_of_day())?;
+                self.carry_out(&events, answer)
+            }
+        }
+    }
+
+    // Records the codes of the schedule whose time has come. One that is past does nothing; another one that is not the
+    // next is told of.
+    fn keep_hours(&mut self, schedule: &mut Schedule) {
+        let time = self.clock.time_of_day();
+        for _ in 0..CODES {
+            let Some(code) = schedule.next_due(time) else {
+                return;
+            };
+            let event = Event::Hours { time, code };
+            match self.floor.bulletin.stage(self.floor.setup, &event) {
+                Stage::Past => {}
+                Stage::Now => {
+                    let why = self.record(&event).err();
+                    self.floor.board.post(Notice::Scheduled { code, why });
+                }
+                Stage::TooEarly | Stage::NoStock => {
+                    let why = Some(Refusal::Other);
+                    self.floor.board.post(Notice::Scheduled { code, why });
+                }
+            }
+        }
+    }
+
+    // Lets time pass, where the day has begun. Returns whether that is recorded.
+    fn tick(&mut self) -> bool {
+        let time = self.clock.time_of_day();
+        self.floor.bulletin.hours().is_some() && self.record(&Event::Tick { time }).is_ok()
+    }
+
+    // Looks whether there are more events than were seen, and notes when. Returns how many there are.
+    fn see(&self, seen: u64) -> u64 {
+        let recorded = self.exchange.counts(self.rt).recorded;
+        if recorded != seen {
+            let now = since_1970(self.rt);
+            self.floor.meter.last_event.store(now, Ordering::Relaxed);
+        }
+        recorded
+    }
+
+    // What the clock asks for: the codes of the schedule and ticks, and behind the day's end that sessions end.
+    fn keep_time(&mut self, beat: &mut Beat, schedule: &mut Option<Schedule>) {
+        beat.seen = self.see(beat.seen);
+        if self.exchange.is_closed(self.rt) {
+            beat.since_end = beat.since_end.saturating_add(LOOK_AGAIN);
+            if beat.since_end >= beat.grace {
+                self.floor.seats.hurry();
+            }
+            return;
+        }
+        if let Some(schedule) = schedule {
+            self.keep_hours(schedule);
+        }
+        beat.since_tick = beat.since_tick.saturating_add(LOOK_AGAIN);
+        if beat.tick != 0 && beat.since_tick >= beat.tick {
+            beat.since_tick = 0;
+            if self.tick() {
+                beat.seen = beat.seen.saturating_add(1);
+            }
+        }
+    }
+}
+
+impl<'a, V: Venue, J: Journal + Drop, B: Board, T: Wait + Clock> Director<'a, V, J, B, T> {
+    /// Hears the operator, and does what the clock asks for, until all sessions have ended. Gives the pass and the
+    /// socket back.
+    pub fn direct(self, duties: Duties, gone: &AtomicBool) -> (Pass<V>, Option<OperatorSocket>) {
+        let mut director = self;
+        let Duties {
+            mut socket,
+            mut schedule,
+            tick,
+            grace,
+        } = duties;
+        let mut beat = Beat::of(tick, grace);
+        for _ in 0..u64::MAX {
+            if gone.load(Ordering::SeqCst) {
+                break;
+            }
+            let (rt, alloc) = (director.rt, director.alloc);
+            if let Some(socket) = &mut socket {
+                socket.turn(rt, alloc, &mut director);
+            }
+            director.keep_time(&mut beat, &mut schedule);
+            thread::sleep(rt, Duration::from_millis(LOOK_AGAIN));
+        }
+        (director.pass, socket)
+    }
+}
+
+impl<V: Venue, J: Journal + Drop, B: Board, T: Wait + Clock> Directed for Director<'_, V, J, B, T> {
+    fn direct(&mut self, line: &[u8], answer: &mut Vec<u8>) -> Result<(), AllocError> {
+        match read_command(line) {
+            Ok(command) => self.perform(command, answer),
+            Err(error) => {
+                let mut words = String::new(self.alloc);
+                let _ = write!(words, "{error}");
+                refuse(answer, &words)
+            }
+        }
+    }
+}

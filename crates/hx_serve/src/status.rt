@@ -1,0 +1,102 @@
+//! How an open day stands, in lines for its operator.
+
+use crate::floor::Floor;
+use hx_engine::{Exchange, Journal, Venue};
+use hx_units::Symbol;
+use std::alloc::{AllocError, Global};
+use std::fmt::Write;
+use std::sync::Wait;
+use std::sync::atomic::Ordering;
+
+// A name without the spaces on its right.
+fn name_of(symbol: Symbol) -> [u8; 8] {
+    symbol.0
+}
+
+// Writes the part of the hours, and the halted stocks.
+fn write_market<B>(text: &mut Vec<u8>, floor: &Floor<'_, B>) -> Result<(), AllocError> {
+    text.extend_from_slice(b"hours ")?;
+    match floor.bulletin.hours() {
+        Some(code) => text.push(code)?,
+        None => text.extend_from_slice(b"not begun")?,
+    }
+    text.push(b'\n')?;
+    for (place, stock) in floor.setup.stocks().iter().enumerate() {
+        if floor.bulletin.is_halted(place) {
+            text.extend_from_slice(b"halted ")?;
+            text.extend_from_slice(name_of(stock.symbol).trim_ascii_end())?;
+            text.push(b'\n')?;
+        }
+    }
+    Ok(())
+}
+
+// Writes who is logged in, and who may not log in.
+fn write_sessions<B>(
+    rt: &impl Wait,
+    alloc: Global,
+    text: &mut Vec<u8>,
+    floor: &Floor<'_, B>,
+) -> Result<(), AllocError> {
+    let seats = floor.seats;
+    let mut lines = String::new(alloc);
+    let _ = write!(lines, "sessions {} of {}\n", seats.taken(rt), seats.len());
+    for seat in 0..seats.len() {
+        if let Some(sitter) = seats.sitter(rt, seat) {
+            let _ = write!(
+                lines,
+                "member {} from {}\n",
+                sitter.member.get(),
+                sitter.from
+            );
+        }
+    }
+    for member in floor.setup.members() {
+        if !seats.may_log_in(member.number) {
+            let _ = write!(lines, "member {} may not log in\n", member.number.get());
+        }
+    }
+    text.extend_from_slice(lines.as_bytes())
+}
+
+// Writes how far the exchange is.
+fn write_counts<V: Venue, J: Journal + Drop, B>(
+    rt: &impl Wait,
+    alloc: Global,
+    text: &mut Vec<u8>,
+    exchange: &Exchange<V, J>,
+    floor: &Floor<'_, B>,
+) -> Result<(), AllocError> {
+    let counts = exchange.counts(rt);
+    let waiting = counts.recorded.saturating_sub(counts.told);
+    let room = floor.capacity.saturating_sub(counts.feed);
+    let mut lines = String::new(alloc);
+    let _ = write!(
+        lines,
+        "events {}\nfeed {}, room for {room}\n",
+        counts.recorded, counts.feed
+    );
+    let journal = if exchange.failure(rt).is_some() {
+        "failed"
+    } else if floor.meter.waits.load(Ordering::SeqCst) {
+        "full"
+    } else {
+        "ready"
+    };
+    let _ = write!(lines, "journal {journal}, {waiting} waiting\n");
+    text.extend_from_slice(lines.as_bytes())
+}
+
+/// Writes how an open day stands: the part of the hours and the halted stocks, the sessions with their members and
+/// addresses, how many events and messages of the feed there are, and how the journal is. This is for the operator alone.
+pub fn write_status<V: Venue, J: Journal + Drop, B>(
+    rt: &impl Wait,
+    alloc: Global,
+    text: &mut Vec<u8>,
+    exchange: &Exchange<V, J>,
+    floor: &Floor<'_, B>,
+) -> Result<(), AllocError> {
+    write_market(text, floor)?;
+    write_counts(rt, alloc, text, exchange, floor)?;
+    write_sessions(rt, alloc, text, floor)
+}

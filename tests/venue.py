@@ -1,0 +1,201 @@
+"""A venue for scripts: a server with a journal, members' lines and a vendor, and what one replay of the day tells."""
+import os
+import random
+import signal
+import socket
+import struct
+import subprocess
+import threading
+import time
+
+import tapes
+
+HOST = "127.0.0.1"
+SESSION = "HX00000008"
+END_OF_SESSION = 65535
+# The codes of the hours that are left of a day that begins open.
+CLOSING = b"".join(b"%d 0 %s\n" % (86_399_999_000_000 + at, code) for at, code in enumerate((b"51", b"4d", b"45", b"43")))
+
+
+def setup_text(members):
+    lines = [f"session {SESSION}", "start open", "stock ABCD 5120000000644e435a20502020314e000000004e"]
+    lines += [f"member {n} {firm(n)} US{n:04d} PASS{n:04d} 10000000" for n in range(1, members + 1)]
+    return "\n".join(lines) + "\n"
+
+
+def firm(number):
+    return "F" + "".join(chr(65 + number // 26 ** at % 26) for at in (2, 1, 0))
+
+
+def free_port(kind):
+    with socket.socket(socket.AF_INET, kind) as found:
+        found.bind((HOST, 0))
+        return found.getsockname()[1]
+
+
+def frame(kind, payload=b""):
+    return struct.pack(">Hc", len(payload) + 1, kind) + payload
+
+
+class Server:
+    """A server with a journal, which can be killed and started again with the same words."""
+
+    def __init__(self, program, folder, journal, members, places=None, more=(), ticks=0):
+        self.program, self.journal = program, journal
+        self.setup = os.path.join(folder, "setup")
+        with open(self.setup, "w", encoding="ascii") as file:
+            file.write(setup_text(members))
+        self.port, self.requests = free_port(socket.SOCK_STREAM), free_port(socket.SOCK_DGRAM)
+        self.feed = free_port(socket.SOCK_DGRAM)
+        self.words = [program, "serve", "--open", "--end", "1", "--port", str(self.port), "--feed", str(self.feed),
+                      "--requests", str(self.requests), "--sessions", str(places or members), "--setup", self.setup,
+                      "--capacity", "1000000", "--answers", "100000", "--connections-per-address", "1000",
+                      "--tick", str(ticks), "--journal", journal, *more]
+        self.notices = []
+        self.process = None
+
+    def start(self, stdin=subprocess.PIPE):
+        self.process = subprocess.Popen(self.words, stdin=stdin, stdout=subprocess.PIPE, stderr=subprocess.PIPE)
+        self.reader = threading.Thread(target=self.listen, args=(self.process.stderr,), daemon=True)
+        self.reader.start()
+
+    def listen(self, stream):
+        for line in stream:
+            self.notices.append(line.decode().strip())
+
+    def kill(self):
+        self.process.send_signal(signal.SIGKILL)
+        self.process.wait()
+        self.reader.join()
+
+    def end(self):
+        """Ends the day: what was written, and the status."""
+        self.process.stdin.write(CLOSING)
+        self.process.stdin.flush()
+        output = self.process.stdout.read().decode().strip()
+        return output, self.process.wait()
+
+
+def packets_of(line):
+    """The packets that come on a line; None where for a while none came."""
+    kept = b""
+    while True:
+        while len(kept) >= 2 and len(kept) >= 2 + (size := struct.unpack(">H", kept[:2])[0]):
+            packet, kept = kept[2:2 + size], kept[2 + size:]
+            yield packet
+        try:
+            more = line.recv(65536)
+        except socket.timeout:
+            yield None
+            continue
+        except OSError:
+            return
+        if not more:
+            return
+        kept += more
+
+
+def login(number, first):
+    """The login of a member who expects this reply next."""
+    return frame(b"L", b"US%04d" % number + b"PASS%04d  " % number + b" " * 10 + b"%20d" % first)
+
+
+class Orders:
+    """Orders at random, with tokens of their own."""
+
+    def __init__(self, name, seed):
+        self.name, self.random, self.sent = name, random.Random(seed), 0
+
+    def token(self, number):
+        return f"{self.name}T{number:08d}"
+
+    def next(self):
+        self.sent += 1
+        token = self.token(self.sent)
+        kind = self.random.random()
+        price = 100_000 + 100 * self.random.randrange(-4, 5)
+        if kind < 0.7 or self.sent < 5:
+            return tapes.enter(token, self.random.choice("BS"), self.random.randrange(1, 500), "ABCD", price,
+                               display=self.random.choice("YN"))
+        other = self.token(self.random.randrange(max(1, self.sent - 20), self.sent))
+        if kind < 0.85:
+            return tapes.replace(other, token, self.random.randrange(1, 500), price, display=self.random.choice("YN"))
+        return tapes.cancel(other, self.random.randrange(0, 50))
+
+
+class Vendor(threading.Thread):
+    """Listens to the feed, and asks for what he misses."""
+
+    def __init__(self, server, seed):
+        super().__init__(daemon=True)
+        self.server, self.random = server, random.Random(seed)
+        self.socket = socket.socket(socket.AF_INET, socket.SOCK_DGRAM)
+        self.socket.setsockopt(socket.SOL_SOCKET, socket.SO_RCVBUF, 1 << 22)
+        self.socket.bind((HOST, server.feed))
+        self.socket.settimeout(0.5)
+        self.asking = socket.socket(socket.AF_INET, socket.SOCK_DGRAM)
+        self.asking.bind((HOST, 0))
+        self.asking.settimeout(0.05)
+        self.told, self.failure, self.asked = [], None, 0
+        self.ended = threading.Event()
+
+    def take(self, packet):
+        """Takes the messages of a packet: each is new, or as it was told before."""
+        sequence, count = struct.unpack_from(">QH", packet, 10)
+        if count in (0, END_OF_SESSION):
+            return
+        at, number = 20, sequence
+        while at < len(packet):
+            size, = struct.unpack_from(">H", packet, at)
+            message = packet[at + 2:at + 2 + size]
+            at += 2 + size
+            if number <= len(self.told):
+                if self.told[number - 1] != message:
+                    self.failure = f"vendor: message {number} was told otherwise before"
+            elif number == len(self.told) + 1:
+                self.told.append(message)
+            number += 1
+
+    def ask(self, first, count):
+        self.asked += 1
+        try:
+            self.asking.sendto(struct.pack(">10sQH", SESSION.encode(), first, count), (HOST, self.server.requests))
+            self.take(self.asking.recv(2000))
+        except OSError:
+            time.sleep(0.005)
+
+    def run(self):
+        while not self.ended.is_set():
+            try:
+                packet = self.socket.recv(2000)
+            except OSError:
+                continue
+            session, sequence, count = struct.unpack_from(">10sQH", packet)
+            if session != SESSION.encode():
+                self.failure = f"vendor: another session, {session!r}"
+            self.take(packet)
+            while len(self.told) + 1 < sequence and not self.ended.is_set():
+                self.ask(len(self.told) + 1, min(60_000, sequence - len(self.told) - 1))
+            if self.random.random() < 0.002 and self.told:
+                self.ask(self.random.randrange(1, len(self.told) + 1), 100)
+            if count == END_OF_SESSION and len(self.told) + 1 == sequence:
+                self.ended.set()
+
+
+def history_of(path):
+    with open(path, "rb") as file:
+        return b"".join(line + b"\n" for line in file.read().split(b"\n") if line and not line.startswith(b"#")
+                        and not line.startswith(b"\0"))
+
+
+def replayed(program, setup, tape):
+    """What a replay of a tape tells: the feed, and each member's replies."""
+    done = subprocess.run([program, "replay", "--setup", setup], input=tape, stdout=subprocess.PIPE, check=True)
+    feed, replies = [], {}
+    for line in done.stdout.split(b"\n"):
+        words = line.split()
+        if words[:1] == [b"F"]:
+            feed.append(bytes.fromhex(words[2].decode()))
+        elif words[:1] == [b"M"]:
+            replies.setdefault(int(words[1]), []).append(bytes.fromhex(words[3].decode()))
+    return feed, replies
