@@ -1,3 +1,4 @@
 pub mod Addresses
 pub mod Pauses
+pub mod Promises
 pub mod Sources

@@ -225,7 +225,11 @@ impl<'a> Door<'a> {
             self.pauses.fail(source, now);
         }
         match visitor.connection() {
-            Ok(connection) => lobby.enter(rt, connection, is_known),
+            Ok(connection) => {
+                if lobby.enter(rt, connection, is_known).is_some() {
+                    self.tell(board, from, Left::NoPlace);
+                }
+            }
             Err(_) => self.tell(board, from, Left::Gone),
         }
     }

@@ -1,8 +1,11 @@
 //! Where connections that have sent their login wait for a place.
+ghost use Rattle.std.specs.Prelude.{◌≡◌, ◌+◌, ◌<◌, ◌≤◌, ◌↔◌, IsNone, IsSome, IsTrue};
+ghost use Rattle.hx_doors.specs.Promises.{Promises, Keeps};
 
 use crate::connection::Connection;
 use crate::source::source_of;
 use std::alloc::Global;
+use std::marker::Model;
 use std::net::{IpAddr, SocketAddr};
 use std::sync::{Condvar, Mutex, Wait};
 
@@ -23,9 +26,67 @@ struct Waiting {
     closed: bool,
 }
 
+// No place is promised to two connections.
+impl Model for Waiting {
+    ghost use Rattle.std.specs.Prelude.{◌≤◌, length};
+    ghost use Rattle.hx_doors.specs.Promises.{Lobbied};
+
+    ghost Value = { Lobbied };
+
+    ghost view = { λ w. record { connections = length w.connections.items; places = w.places } };
+
+    ghost invariant = { λ w. length w.connections.items ≤ w.places };
+}
+
 impl Waiting {
-    fn has_place(&self) -> bool {
+    // Whether a place waits that is promised to no connection.
+    fn has_place(&self) -> bool
+        ensures { IsTrue result ↔ self.now.connections < self.now.places }
+    {
         (self.connections.len() as u64) < self.places
+    }
+
+    // Promises a place to a connection. Gives it back where no place waits, or there is no memory.
+    fn promise(&mut self, guest: Guest, connection: Connection) -> Option<Connection>
+        ensures ok { IsNone result → Promises self.old self.new }
+        ensures back { IsSome result → self.new ≡ self.old }
+    {
+        if !self.has_place() || self.guests.push(guest).is_err() {
+            return Some(connection);
+        }
+        if let Err(error) = self.connections.push(connection) {
+            let _ = self.guests.pop();
+            return Some(error.value);
+        }
+        None
+    }
+
+    // A place begins to wait.
+    fn wait(&mut self)
+        ensures connections { self.new.connections ≡ self.old.connections }
+        ensures places { self.new.places ≤ self.old.places + 1 }
+    {
+        self.places = self.places.saturating_add(1);
+    }
+
+    // Gives a connection to a place that has waited, where there is one.
+    fn keep(&mut self) -> Option<Connection>
+        ensures { Keeps self.old self.new }
+    {
+        let connection = self.connections.pop();
+        self.places = self.places.saturating_sub(1);
+        connection
+    }
+
+    // A connection that went to a place is there no longer.
+    fn forget(&mut self, from: SocketAddr)
+        ensures { self.new ≡ self.old }
+    {
+        if let Some(place) = self.guests.iter().position(|guest| guest.from == from)
+            && place < self.guests.len()
+        {
+            self.guests.remove(place);
+        }
     }
 }
 
@@ -72,41 +133,39 @@ impl Lobby {
             .count()
     }
 
-    /// Gives a connection to a place. Where there is no memory for it, it is closed.
-    pub fn enter(&self, rt: &impl Wait, connection: Connection, is_known: bool) {
+    /// Gives a connection to a place. Gives it back where no place waits that is promised to no other one, or where there
+    /// is no memory.
+    pub fn enter(
+        &self,
+        rt: &impl Wait,
+        connection: Connection,
+        is_known: bool,
+    ) -> Option<Connection> {
         let from = connection.from;
         let guest = Guest {
             from,
             source: source_of(from.ip()),
             is_known,
         };
-        let mut waiting = self.waiting.lock(rt);
-        if waiting.guests.push(guest).is_ok() && waiting.connections.push(connection).is_err() {
-            let _ = waiting.guests.pop();
-        }
-        drop(waiting);
+        let back = self.waiting.lock(rt).promise(guest, connection);
         self.came.notify_one();
+        back
     }
 
     /// The session of a connection has ended.
     pub fn leave(&self, rt: &impl Wait, from: SocketAddr) {
-        let mut waiting = self.waiting.lock(rt);
-        if let Some(place) = waiting.guests.iter().position(|guest| guest.from == from)
-            && place < waiting.guests.len()
-        {
-            waiting.guests.remove(place);
-        }
+        self.waiting.lock(rt).forget(from);
     }
 
     /// The next connection, once there is one; none once the lobby is closed.
     pub fn take(&self, rt: &impl Wait) -> Option<Connection> {
         let mut waiting = self.waiting.lock(rt);
-        waiting.places = waiting.places.saturating_add(1);
-        let mut waiting = self.came.wait_while(rt, waiting, |waiting| {
-            waiting.connections.is_empty() && !waiting.closed
-        });
-        waiting.places = waiting.places.saturating_sub(1);
-        waiting.connections.pop()
+        waiting.wait();
+        self.came
+            .wait_while(rt, waiting, |waiting| {
+                waiting.connections.is_empty() && !waiting.closed
+            })
+            .keep()
     }
 
     /// From now on no place waits any more.

@@ -1,2 +1,3 @@
 pub mod Conducting
 pub mod Histories
+pub mod Passes

@@ -9,7 +9,7 @@ use crate::fittings::Metrics;
 use crate::floor::Floor;
 use crate::notices::{Board, DoorNotices};
 use crate::operating::conduct;
-use crate::places::{Hall, Place, serve_places};
+use crate::places::{Hall, Places, serve_places};
 use crate::publishing::Publishing;
 use crate::watching::{Viewer, Watch};
 use hx_doors::{Datagrams, DayEnd, DoorRules, keep_door};
@@ -51,7 +51,7 @@ pub struct Desk<V: Venue, R> {
 #[derive(Drop)]
 pub struct Staff<V: Venue, R> {
     /// The places.
-    pub places: Vec<Place<V>>,
+    pub places: Places<V>,
     /// The socket that members connect to.
     pub listener: TcpListener,
     /// The operator's desk.
@@ -139,7 +139,7 @@ fn attend<
     alloc: Global,
     exchange: &'x Exchange<V, J>,
     hall: &'x Hall<'x, G, B>,
-    places: Vec<Place<V>>,
+    places: Places<V>,
     desk: Desk<V, R>,
 ) -> Closed<V> {
     let gone = AtomicBool::new(false);
@@ -170,7 +170,7 @@ fn trade<
     exchange: &'x Exchange<V, J>,
     hall: &'x Hall<'x, G, B>,
     open: OpenArgs,
-    writers: (TcpListener, Vec<Place<V>>, Desk<V, R>),
+    writers: (TcpListener, Places<V>, Desk<V, R>),
 ) -> Closed<V> {
     let (listener, places, desk) = writers;
     let (hosting, lobby) = (hall.hosting, hall.lobby);

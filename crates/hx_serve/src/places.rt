@@ -1,5 +1,7 @@
 //! The places of an open day: each serves one session after another, by one pass and one reader.
-ghost use Rattle.std.specs.Prelude.{◌≡◌};
+ghost use Rattle.std.specs.Prelude.{ℕ, ◌≡◌, ◌<◌, ◌≤◌, ◌+◌, ◌++◌, [], IfOk, filter_map, length, map, option_map, slice_index_or, vec_capacity, vec_len};
+ghost use Rattle.std.specs.List.{cons_option};
+ghost use Rattle.std.specs.Thread.{IsSend, IsSync};
 
 use crate::clock::DayClock;
 use crate::floor::Floor;
@@ -30,10 +32,20 @@ pub struct Place<V: Venue> {
     ghost belongs: { reader.log ≡ V.log },
 }
 
-// A place while its sessions are served, or none.
+// Where a place stands while its sessions are served.
 #[derive(Drop)]
 struct Slot<V: Venue> {
     place: Option<Place<V>>,
+}
+
+/// The places of an open day, before its sessions.
+#[derive(Drop)]
+pub struct Places<V: Venue> {
+    slots: Vec<Slot<V>>,
+    // Where the passes are put behind all sessions.
+    passes: Vec<Pass<V>>,
+    ghost empty: { passes.items ≡ [] },
+    ghost room: { vec_len slots ≤ vec_capacity passes },
 }
 
 /// What all places share.
@@ -122,25 +134,49 @@ impl<G, B: Board> Hall<'_, G, B> {
     }
 }
 
-/// A place for each of the passes that are left.
+/// A place for each of these passes, in their order.
 pub fn make_places<V: Venue>(
     alloc: Global,
     log: &Log<Entry>,
-    passes: &mut Vec<Pass<V>>,
+    passes: Vec<Pass<V>>,
     reader: &mut Reader<Entry>,
-) -> Result<Vec<Place<V>>, AllocError>
+) -> Result<Places<V>, AllocError>
     requires { (log.now ≡ V.log) × (reader.old.log ≡ V.log) }
-    ensures { reader.new.log ≡ V.log }
+    ensures reader { reader.new.log ≡ V.log }
+    ensures each { IfOk result (λ places.
+        filter_map (λ s. option_map (λ p. p.pass.number) s.place) places.slots.items
+        ≡ map (λ p. p.number) passes.items) }
 {
-    let mut places = Vec::with_capacity(alloc, passes.len())?;
-    for _ in 0..passes.len() {
-        let Some(pass) = passes.pop() else {
-            break;
-        };
+    let count = passes.len();
+    let mut slots = Vec::with_capacity(alloc, count)?;
+    let back = Vec::with_capacity(alloc, count)?;
+    stand_all(log, passes, reader, &mut slots);
+    Ok(Places {
+        slots,
+        passes: back,
+    })
+}
+
+// Puts a place for each pass into a slot of its own.
+fn stand_all<V: Venue>(
+    log: &Log<Entry>,
+    passes: Vec<Pass<V>>,
+    reader: &mut Reader<Entry>,
+    slots: &mut Vec<Slot<V>>,
+)
+    requires logs { (log.now ≡ V.log) × (reader.old.log ≡ V.log) }
+    requires empty { slots.old.items ≡ [] }
+    requires room { vec_len passes ≤ vec_capacity slots.old }
+    ensures reader { reader.new.log ≡ V.log }
+    ensures count { vec_len slots.new ≡ vec_len passes }
+    ensures each { filter_map (λ s. option_map (λ p. p.pass.number) s.place) slots.new.items
+        ≡ map (λ p. p.number) passes.items }
+{
+    for pass in passes {
         let reader = reader.split(log);
-        places.push(Place { pass, reader })?;
+        let place = Some(Place { pass, reader });
+        slots.push_reserved(Slot { place });
     }
-    Ok(places)
 }
 
 impl<V: Venue + Send + Sync> Place<V> {
@@ -159,7 +195,9 @@ impl<V: Venue + Send + Sync> Place<V> {
         hall: &'x Hall<'x, G, B>,
         seat: usize,
         connection: Connection,
-    ) -> Place<V> {
+    ) -> Place<V>
+        ensures { result.pass.number ≡ self.pass.number }
+    {
         let Connection {
             inlet,
             outlet,
@@ -213,7 +251,9 @@ impl<V: Venue + Send + Sync> Place<V> {
         exchange: &'x Exchange<V, J>,
         hall: &'x Hall<'x, G, B>,
         seat: usize,
-    ) -> Place<V> {
+    ) -> Place<V>
+        ensures { result.pass.number ≡ self.pass.number }
+    {
         let mut place = self;
         for _ in 0..u64::MAX {
             let Some(connection) = hall.lobby.take(rt) else {
@@ -229,7 +269,89 @@ impl<V: Venue + Send + Sync> Place<V> {
     }
 }
 
-/// Serves the connections of the lobby at all places at once, until it is closed, and gives the passes back.
+impl<V: Venue + Send + Sync> Slot<V> {
+    // Serves the connections of the lobby at the place that stands here.
+    fn serve<
+        'x,
+        J: Journal + Drop + Send,
+        G: Gate + Sync,
+        B: Board + Sync,
+        T: Threads + Wait + Clock + Sync,
+    >(
+        &mut self,
+        rt: &'x T,
+        alloc: Global,
+        exchange: &'x Exchange<V, J>,
+        hall: &'x Hall<'x, G, B>,
+        seat: usize,
+    )
+        ensures { option_map (λ p. p.pass.number) self.new.place
+            ≡ option_map (λ p. p.pass.number) self.old.place }
+    {
+        if let Some(place) = self.place.take() {
+            self.place = Some(place.serve_all(rt, alloc, exchange, hall, seat));
+        }
+    }
+}
+
+// Serves the connections of the lobby at the places in all slots at once.
+fn serve_slots<
+    'x,
+    V: Venue + Send + Sync,
+    J: Journal + Drop + Send,
+    G: Gate + Sync,
+    B: Board + Sync,
+    T: Threads + Wait + Clock + Sync,
+>(
+    rt: &'x T,
+    alloc: Global,
+    exchange: &'x Exchange<V, J>,
+    hall: &'x Hall<'x, G, B>,
+    slots: &mut [Slot<V>],
+)
+    requires { 0 < length slots.old }
+    ensures len { length slots.new ≡ length slots.old }
+    ensures each { (i : ℕ) (d : _) → i < length slots.old
+        → option_map (λ p. p.pass.number) (slice_index_or slots.new i d).place
+        ≡ option_map (λ p. p.pass.number) (slice_index_or slots.old i d).place }
+{
+    let count = slots.len();
+    let each = |seat: usize, slot: &mut Slot<V>|
+        requires { IsSend V.row × IsSend J.row × IsSync V.row × IsSync G.row × IsSync B.row
+            × IsSync T.row }
+        ensures { option_map (λ p. p.pass.number) slot.exit.now.place
+            ≡ option_map (λ p. p.pass.number) slot.entry.now.place }
+    { slot.serve(rt, alloc, exchange, hall, seat) };
+    for_each_mut(rt, slots, count, &each);
+}
+
+// Takes the passes out of all slots, in their order.
+fn take_all<V: Venue>(slots: Vec<Slot<V>>, passes: &mut Vec<Pass<V>>)
+    requires empty { passes.old.items ≡ [] }
+    requires room { vec_len slots ≤ vec_capacity passes.old }
+    ensures { map (λ p. p.number) passes.new.items
+        ≡ filter_map (λ s. option_map (λ p. p.pass.number) s.place) slots.items }
+{
+    for slot in slots {
+        put(passes, slot);
+    }
+}
+
+// Puts the pass of a slot behind the others.
+fn put<V: Venue>(passes: &mut Vec<Pass<V>>, slot: Slot<V>)
+    requires { vec_len passes.old < vec_capacity passes.old }
+    ensures numbers { map (λ p. p.number) passes.new.items ≡ map (λ p. p.number) passes.old.items
+        ++ cons_option (option_map (λ p. p.pass.number) slot.place) [] }
+    ensures few { vec_len passes.new ≤ vec_len passes.old + 1 }
+    ensures room { vec_capacity passes.new ≡ vec_capacity passes.old }
+{
+    if let Some(place) = slot.place {
+        passes.push_reserved(place.pass);
+    }
+}
+
+/// Serves the connections of the lobby at all places at once, until it is closed. The passes come back, each once and in
+/// the order of the places.
 pub fn serve_places<
     'x,
     V: Venue + Send + Sync,
@@ -242,31 +364,19 @@ pub fn serve_places<
     alloc: Global,
     exchange: &'x Exchange<V, J>,
     hall: &'x Hall<'x, G, B>,
-    places: Vec<Place<V>>,
-) -> Vec<Pass<V>> {
-    let mut passes = Vec::new(alloc);
-    let mut slots = Vec::new(alloc);
-    for place in places {
-        let _ = slots.push(Slot { place: Some(place) });
-    }
-    let count = slots.len();
-    if count == 0 {
+    places: Places<V>,
+) -> Vec<Pass<V>>
+    ensures { map (λ p. p.number) result.items
+        ≡ filter_map (λ s. option_map (λ p. p.pass.number) s.place) places.slots.items }
+{
+    let Places {
+        mut slots,
+        mut passes,
+    } = places;
+    if slots.is_empty() {
         return passes;
     }
-    for_each_mut(
-        rt,
-        &mut slots,
-        count,
-        &|seat, slot| {
-            if let Some(place) = slot.place.take() {
-                slot.place = Some(place.serve_all(rt, alloc, exchange, hall, seat));
-            }
-        },
-    );
-    for slot in slots {
-        if let Some(place) = slot.place {
-            let _ = passes.push(place.pass);
-        }
-    }
+    serve_slots(rt, alloc, exchange, hall, &mut slots);
+    take_all(slots, &mut passes);
     passes
 }

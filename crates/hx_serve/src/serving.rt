@@ -256,13 +256,14 @@ fn attend_open<
             .saturating_add(KEPT)
             .saturating_add(stocks),
     );
-    let places = make_places(alloc, log, &mut passes, &mut reader)?;
+    let count = passes.len();
+    let places = make_places(alloc, log, passes, &mut reader)?;
     let now = DayClock::of_clock(rt).time_of_day();
     let second = reader.split(log);
     let viewer = Viewer::new(reader.split(log));
     let session = *hosting.setup.session();
     let publishing = Publishing::new(session, hosting, log, reader, second, now);
-    let seats = Seats::new(alloc, places.len())?;
+    let seats = Seats::new(alloc, count)?;
     let lobby = Lobby::new(alloc);
     let floor = Floor {
         setup: hosting.setup,

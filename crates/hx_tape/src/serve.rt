@@ -248,7 +248,6 @@ fn begin<
 where
     R::Reader: Send,
 {
-    let alloc = rt.alloc();
     let Ok(keys) = RandomState::new(rt) else {
         return Err(Failure::Serve(ServeError::Read));
     };
