@@ -2,6 +2,7 @@
 //! from standard input to standard output.
 #![tactic(auto)]
 
+mod completions;
 mod fault;
 mod replay;
 mod running;

@@ -1,5 +1,6 @@
 //! What is run for each command over tapes.
 
+use crate::completions::write_completions;
 use crate::fault::RunError;
 use crate::replay::replay_input;
 use crate::show::show_input;
@@ -8,7 +9,7 @@ use clap::ArgMatches;
 use std::rt::Files;
 use std::thread::Threads;
 
-/// Runs the command over tapes that the command line names; `CommandLine` where it names none.
+/// Runs the command over tapes that the command line names, or writes completions; `CommandLine` where it names none.
 pub fn run_command<R: AllocGlobal + Input + Print + Files + Threads + Sync>(
     rt: &R,
     matches: &ArgMatches<'_>,
@@ -20,6 +21,7 @@ where
         Some(("replay", matches)) => replay_input(rt, matches),
         Some(("strike", matches)) => strike_input(rt, matches),
         Some(("show", matches)) => show_input(rt, matches),
+        Some(("completions", matches)) => write_completions(rt, matches),
         _ => Err(RunError::CommandLine),
     }
 }

@@ -6,6 +6,9 @@ use std::alloc::{AllocError, Global};
 // The program's name.
 const PROGRAM: &str = "hx_tape";
 
+// Its version, and what it is proved with, as `rt version` says.
+const VERSION: &str = "0.1.0, proved with rattle-kit-13f logic dac8208d650f15bf";
+
 /// The option that names the file of the setup, `--setup`.
 pub fn setup_file<'a>(alloc: Global) -> Arg<'a> {
     Arg::new(alloc, "setup")
@@ -61,13 +64,26 @@ fn show_command<'a>(alloc: Global) -> Result<Command<'a>, AllocError> {
         .group(which)
 }
 
-/// The command line of the commands over tapes: replay, strike and show. Its texts name the program `hx_tape`, whatever
-/// its file is called.
+fn completions_command<'a>(alloc: Global) -> Result<Command<'a>, AllocError> {
+    let shell = Arg::new(alloc, "shell")
+        .value_name("SHELL")
+        .required(true)
+        .value_parser(["bash", "zsh", "fish"].as_slice())
+        .help("The shell");
+    Command::new(alloc, "completions")
+        .about("Writes how a shell completes the words of this program")
+        .arg(shell)
+}
+
+/// The command line of the commands over tapes: replay, strike and show; and completions. Its texts name the program
+/// `hx_tape`, whatever its file is called.
 pub fn tape_command<'a>(alloc: Global) -> Result<Command<'a>, AllocError> {
     Command::new(alloc, PROGRAM)
+        .version(VERSION)
         .subcommand_required(true)
         .subcommand(replay_command(alloc)?)?
         .subcommand(strike_command(alloc)?)?
         .subcommand(show_command(alloc)?)?
+        .subcommand(completions_command(alloc)?)?
         .bin_name(PROGRAM)
 }

@@ -2,5 +2,7 @@
 #![tactic(auto)]
 
 mod commands;
+mod completions;
 
 pub use commands::{setup_file, tape_command};
+pub use completions::Shell;
