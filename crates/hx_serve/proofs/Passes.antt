@@ -1,5 +1,7 @@
 -- Passes that come back from their slots.
-use Rattle.std.proofs.Common.{◌≡◌, ◌<◌, ℕ, suc, List, [], ◌∷◌, length, Option, filter_map, refl, sym, ap, ◌∙◌, arith, slice_index_or}
+use Rattle.std.proofs.Common.{◌≡◌, ◌<◌, ℕ, suc, List, [], ◌∷◌, ◌++◌, length, map, take, drop, Option, Some, filter_map, refl, sym, ap, ◌∙◌, arith, append-nil, slice_index_or}
+use Rattle.std.proofs.lemmas.List.{map-append, take_all, drop_all}
+use Rattle.std.proofs.lemmas.List.Elements.{filter_map-append}
 use Rattle.std.specs.List.{cons_option}
 
 -- what is the same at each place gives the same list
@@ -17,3 +19,17 @@ same_in_all f (o ∷ os) (n ∷ ns) len each =
 -- what a call that was made with what stands in a slot, and left what stands there then, says of the slot
 pub same_there : {S X : Type 0} (f : S → Option X) {given left old new : S} → given ≡ old → left ≡ new → f left ≡ f given → f new ≡ f old
 same_there f same is e = sym (ap f is) ∙ e ∙ ap f same
+
+-- one more slot behind others, whose place has this number
+pub one_more : {S P : Type 0} (f : S → Option ℕ) (number : P → ℕ) (slots : List S) (s : S) (done : List P) (p : P) → f s ≡ Some (number p) → filter_map f slots ≡ map number done
+    → filter_map f (slots ++ s ∷ []) ≡ map number (done ++ p ∷ [])
+one_more f number slots s done p is so_far =
+    filter_map-append f slots (s ∷ [])
+    ∙ ap (λ o. filter_map f slots ++ cons_option o []) is
+    ∙ ap (λ l. l ++ number p ∷ []) so_far
+    ∙ sym (map-append number done (p ∷ []))
+
+-- what a list has where all of it was written
+pub all_written : {S : Type 0} (n : ℕ) (news items : List S) → length news ≡ length items → n ≡ length news → take n (news ++ drop (length news) items) ≡ news
+all_written n news items len is =
+    ap (λ l. take n (news ++ l)) (drop_all (length news) items (omega (arith, len))) ∙ ap (take n) (append-nil news) ∙ take_all n news (omega (arith, is))
