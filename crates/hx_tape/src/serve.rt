@@ -1,5 +1,8 @@
 //! The command that serves a day.
 ghost use Rattle.std.specs.Prelude.{◌≡◌, true};
+ghost use Rattle.hx_journal.specs.Calls.{seen_of};
+ghost use Rattle.hx_journal.specs.Files.{stored, appended};
+ghost use Rattle.hx_journal.specs.Records.{records_of};
 ghost use Rattle.hx_tape_lines.specs.Text.{record_of};
 ghost use Rattle.hx_desk.specs.Entries.{restored};
 ghost use Rattle.hx_engine.specs.Journals.{lines};
@@ -11,6 +14,7 @@ use crate::input::WakingInput;
 use clap::ArgMatches;
 use hx_day_journal::{Syncs, Wanted, day_of, digest_of, last_time, open_journal};
 use hx_engine::Journal;
+use hx_journal::{FileJournal, Noted, RawFile};
 use hx_members::{Seed, Setup};
 use hx_runs::{read_setup_text, setup_of};
 use hx_serve::{
@@ -134,6 +138,37 @@ fn host<
     }
 }
 
+// Serves a day from what its journal in a file keeps.
+fn host_kept<
+    R: AllocGlobal
+        + Print
+        + Files
+        + Log
+        + Net<Listener = TcpListener, Stream = TcpStream>
+        + Clock
+        + Threads
+        + Wait
+        + Sync,
+    G: Gate + Sync,
+    B: Board + Sync,
+    F: RawFile + Drop + Send,
+    I: Read + Send + Drop,
+>(
+    rt: &R,
+    matches: &ArgMatches<'_>,
+    hosting: &Hosting<'_, G, B>,
+    beginning: Beginning<FileJournal<Noted<F>>>,
+    input: I,
+) -> Result<(), Failure>
+    requires journal { records_of (appended (λ d. seen_of d.log.events) beginning.recovered.journal)
+        ≡ lines record_of (restored beginning.recovered.events.items) }
+    requires kept { records_of (stored (λ d. seen_of d.log.events) beginning.recovered.journal)
+        ≡ lines record_of (restored beginning.recovered.events.items) }
+    requires is_open { beginning.recovered.journal.is_open ≡ true }
+{
+    host(rt, matches, hosting, beginning, input)
+}
+
 // What a day starts with besides its journal.
 #[derive(Drop)]
 struct Start {
@@ -219,7 +254,7 @@ where
         ahead: matches.get_one::<u64>("ahead").unwrap_or(u64::MAX),
         fittings,
     };
-    host(rt, matches, hosting, beginning, input)
+    host_kept(rt, matches, hosting, beginning, input)
 }
 
 // Serves a day with a seed that is drawn: over its journal, where the command line names one.
