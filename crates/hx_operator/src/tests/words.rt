@@ -54,8 +54,14 @@ fn a_halt_has_a_stock_a_reason_and_a_note(rt: HostRuntime) {
 fn words_with_names_and_numbers(rt: HostRuntime) {
     let resumed = Command::Resume { stock: ABCD };
     assert_eq!(rt; read_command(b"resume ABCD"), Ok(resumed));
-    for (text, number) in [("break 17", 17), ("break 99999999999999", 99_999_999_999_999)] {
-        assert_eq!(rt; read_command(text.as_bytes()), Ok(Command::Break { number }));
+    for (text, number) in [
+        ("break 17", 17),
+        ("break 99999999999999", 99_999_999_999_999),
+    ] {
+        assert_eq!(rt;
+            read_command(text.as_bytes()),
+            Ok(Command::Break { number })
+        );
     }
     let dropped = Command::Disconnect(member(&rt, 3));
     assert_eq!(rt; read_command(b"drop 3"), Ok(dropped));
