@@ -78,7 +78,7 @@ class Day:
         self.port, self.requests = free_port(socket.SOCK_STREAM, listen), free_port(socket.SOCK_DGRAM, requests)
         self.told = tempfile.TemporaryFile('w+')
         feeds = feeds or [f'{HOST}:{free_port(socket.SOCK_DGRAM)}']
-        words = [PROGRAM, 'serve', '--open', '--end', '1', '--listen', self.at(listen, self.port),
+        words = [PROGRAM, 'serve', '--open', '--end', '1', '--tick', '0', '--listen', self.at(listen, self.port),
                  '--requests', self.at(requests, self.requests), '--sessions', str(sessions), '--setup', SETUP]
         words += [word for feed in feeds for word in ('--feed', feed)] + list(more)
         self.server = subprocess.Popen(words, stdin=subprocess.PIPE, stdout=subprocess.PIPE, stderr=self.told)
