@@ -40,14 +40,14 @@ def frame(kind, payload=b""):
 class Server:
     """A server with a journal, which can be killed and started again with the same words."""
 
-    def __init__(self, program, folder, journal, members, places=None, more=(), ticks=0):
+    def __init__(self, program, folder, journal, members, places=None, more=(), ticks=0, end=1):
         self.program, self.journal = program, journal
         self.setup = os.path.join(folder, "setup")
         with open(self.setup, "w", encoding="ascii") as file:
             file.write(setup_text(members))
         self.port, self.requests = free_port(socket.SOCK_STREAM), free_port(socket.SOCK_DGRAM)
         self.feed = free_port(socket.SOCK_DGRAM)
-        self.words = [program, "serve", "--open", "--end", "1", "--port", str(self.port), "--feed", str(self.feed),
+        self.words = [program, "serve", "--open", "--end", str(end), "--port", str(self.port), "--feed", str(self.feed),
                       "--requests", str(self.requests), "--sessions", str(places or members), "--setup", self.setup,
                       "--capacity", "1000000", "--answers", "100000", "--connections-per-address", "1000",
                       "--tick", str(ticks), "--journal", journal, *more]
