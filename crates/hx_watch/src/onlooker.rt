@@ -27,12 +27,7 @@ pub trait Onlooker {
     fn note(&mut self, message: &Feed, book: &FeedBook) -> Result<(), WatchError>;
 
     /// Hears how far the feed is.
-    fn hear(
-        &mut self,
-        screen: &Screen,
-        progress: Progress,
-        now: Instant,
-    ) -> Result<(), WatchError>;
+    fn hear(&mut self, screen: &Screen, progress: Progress, now: Instant) -> Result<(), WatchError>;
 }
 
 /// Nobody looks on.
@@ -97,8 +92,9 @@ impl<'a, R: Wait + Clock> Onlooker for OnPage<'a, R> {
         now: Instant,
     ) -> Result<(), WatchError> {
         let status = status_of(screen, progress);
-        Ok(self
-            .recorder
-            .tell(self.rt, self.post, status, &screen.book, now)?)
+        Ok(
+            self.recorder
+                .tell(self.rt, self.post, status, &screen.book, now)?,
+        )
     }
 }

@@ -289,7 +289,12 @@ pub fn watch<R: AllocGlobal + Net + Clock, W: Write>(
 /// before the first packet until a second behind the end at most. The keys are secret: a peer
 /// chooses the names of its headers.
 pub fn watch_on_page<
-    R: AllocGlobal + Net<Listener = TcpListener, Stream = TcpStream> + Clock + Threads + Wait + Sync,
+    R: AllocGlobal
+        + Net<Listener = TcpListener, Stream = TcpStream>
+        + Clock
+        + Threads
+        + Wait
+        + Sync,
     W: Write,
 >(
     rt: &R,
