@@ -2,8 +2,11 @@
 //! from standard input to standard output.
 #![tactic(auto)]
 
+mod audit;
 mod completions;
 mod fault;
+mod members;
+mod progress;
 mod replay;
 mod running;
 mod setups;

@@ -1,0 +1,6 @@
+pub mod Lines
+pub mod Sums
+pub mod Tapes
+pub mod Marking
+pub mod Striking
+pub mod Checking
