@@ -2,5 +2,5 @@ pub mod Lines
 pub mod Sums
 pub mod Tapes
 pub mod Marking
-pub mod Striking
+pub mod Struck
 pub mod Checking

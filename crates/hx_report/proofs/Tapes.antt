@@ -61,7 +61,7 @@ known_there (x ∷ xs) e ys k = known_there xs e ys k.1
 
 -- one line more
 pub goes_on : (es : List Entry) (rest text others : List ℕ) (Before After : List Entry → Type 0) → AllByRecursion IsKnown es → GoesOn es rest Before → rest ≡ text ++ 10 ∷ others → Lacks 10 text
-    → ((done : List Entry) (e : Entry) → IsKnown e → text ≡ line e → Before done → After (done ++ e ∷ [])) → GoesOn es others After
+    → ((done : List Entry) (e : Entry) (left : List Entry) → es ≡ done ++ e ∷ left → IsKnown e → text ≡ line e → Before done → After (done ++ e ∷ [])) → GoesOn es others After
 goes_on es rest text others Before After known g cut lacks step = at g.others g.all g.rest_is
   where
     at : (left : List Entry) → es ≡ g.done ++ left → rest ≡ tape left → GoesOn es others After
@@ -74,7 +74,7 @@ goes_on es rest text others Before After known g cut lacks step = at g.others g.
           others = left;
           all = all ∙ sym (append_assoc g.done (e ∷ []) left);
           rest_is = same.1;
-          so_far = step g.done e k same.0 g.so_far;
+          so_far = step g.done e left all k same.0 g.so_far;
         }
 
 -- where no line is left, all are taken

@@ -47,7 +47,7 @@ fn checked(alloc: Global, day: &Day, whose: Whose, look: Look) -> Result<Check, 
         → IsCheck day.now.setup es whose look check) }
 {
     let sieve = Sieve::of(alloc, look)?;
-    let struck = strike(alloc, &day.text, &day.marks, whose)?;
+    let struck = strike(alloc, &day.text, &day.marks, &whose)?;
     let output = output_of(alloc, &day.setup, &struck.text, day.output.len())?;
     Ok(Check {
         struck: struck.gone,

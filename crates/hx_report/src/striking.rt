@@ -30,9 +30,9 @@ pub(crate) struct Struck {
 
 impl Mark {
     // Whether the line is struck with these chains.
-    fn is_struck(&self, whose: Whose) -> bool
+    fn is_struck(&self, whose: &Whose) -> bool
         ensures { (market : Market) (event : Happening) → self.now ≡ mark_of market event
-            → result ≡ bears (choice_of whose market) event }
+            → result ≡ bears (choice_of whose.now market) event }
     {
         match whose {
             Whose::Of(member) => self.sender == member.get() && self.quiet,
@@ -53,17 +53,17 @@ impl Struck {
     }
 
     // Takes a line, with its line feed.
-    fn take(&mut self, line: &[u8], mark: Mark, whose: Whose) -> Result<(), NoMemory>
+    fn take(&mut self, line: &[u8], mark: &Mark, whose: &Whose) -> Result<(), NoMemory>
         ensures { OnOk result ((market : Market) (es : List Entry) (e : Entry)
-            → line.now ≡ line_of e ++ line_feed ∷ [] → mark ≡ mark_of market (event_of e)
-            → HasStruck (choice_of whose market) self.old es
-            → HasStruck (choice_of whose market) self.new (es ++ e ∷ [])) }
+            → line.now ≡ line_of e ++ line_feed ∷ [] → mark.now ≡ mark_of market (event_of e)
+            → HasStruck (choice_of whose.now market) self.old es
+            → HasStruck (choice_of whose.now market) self.new (es ++ e ∷ [])) }
     {
         if mark.is_struck(whose) {
             self.gone = self.gone.saturating_add(1);
-        } else {
-            self.text.extend_from_slice(line)?;
+            return Ok(());
         }
+        self.text.extend_from_slice(line)?;
         Ok(())
     }
 }
@@ -90,18 +90,18 @@ pub(crate) fn strike(
     alloc: Global,
     text: &[u8],
     marks: &[Mark],
-    whose: Whose,
+    whose: &Whose,
 ) -> Result<Struck, NoMemory>
     ensures { IfOk result (λ struck. (market : Market) (es : List Entry)
         → AllByRecursion IsKnown es → text.now ≡ tape es
         → marks.now ≡ map (λ e. mark_of market (event_of e)) es
-        → HasStruck (choice_of whose market) struck es) }
+        → HasStruck (choice_of whose.now market) struck es) }
 {
     let mut struck = Struck::new(alloc, text.len())?;
     let (mut rest, mut behind) = (text, marks);
     while let Some((line, others)) = split_once(rest, b'\n') {
         let (mark, more) = next_mark(behind);
-        struck.take(&rest[..line.len() + 1], mark, whose)?;
+        struck.take(&rest[..line.len() + 1], &mark, whose)?;
         (rest, behind) = (others, more);
     }
     Ok(struck)

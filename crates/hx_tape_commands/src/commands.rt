@@ -92,9 +92,8 @@ fn audit_command<'a>(alloc: Global) -> Result<Command<'a>, AllocError> {
         .arg(setup_file(alloc))
 }
 
-/// The command line of the commands over tapes: replay, strike, show, audit
-/// and completions. Its texts name the program `hx_tape`, whatever
-/// its file is called.
+/// The command line of the commands over tapes: replay, strike, show, audit and completions. Its texts name the program
+/// `hx_tape`, whatever its file is called.
 pub fn tape_command<'a>(alloc: Global) -> Result<Command<'a>, AllocError> {
     Command::new(alloc, PROGRAM)
         .version(VERSION)

@@ -2,6 +2,7 @@
 use Rattle.std.proofs.Common.{◌≡◌, ℕ, ◌+◌, ◌-◌, suc, Bool, true, false, cond, not, ◌&&◌, ◌||◌, eqb, List, [], ◌∷◌, ◌++◌, map, length, Option, Some, None, refl, sym, ap, ◌∙◌, subst, append-nil, append_assoc, length-append, arith}
 use Rattle.std.specs.Prelude.{◌^◌, min}
 use Rattle.std.specs.List.{filter}
+use Rattle.std.proofs.lemmas.List.{map-append}
 use Rattle.std.proofs.lemmas.List.Elements.{filter-append}
 use Rattle.hx_ouch.specs.declared.inbound.Inbound.{Inbound}
 use Rattle.hx_ouch.specs.declared.inbound.Inbound.TheVariants.{Enter, Replace, Cancel}
@@ -94,9 +95,30 @@ stays choice old new es e h free text gone = record {
       gone ∙ h.gone_is ∙ ap counted (sym more);
 }
 
--- what a tape's lines and their marks are so far
-pub record StruckSoFar (choice : Choice) (market : Market) (struck : Struck) (es : List Entry) (behind : List Mark) (whole : List Entry) : Type 0 where
-  pub has : HasStruck choice struck es
-  pub others : List Entry
-  pub all : whole ≡ es ++ others
-  pub marks : behind ≡ map (λ e. mark_of market (event_of e)) others
+-- ---- a whole tape
+
+-- the marks of these lines
+abbrev pub seen_so : Market → List Entry → List Mark
+seen_so market es = map (λ e. mark_of market (event_of e)) es
+
+-- what is struck so far, and the marks of the lines behind
+pub record StruckSoFar (market : Market) (whose : Whose) (struck : Struck) (behind : List Mark) (whole done : List Entry) : Type 0 where
+  pub has : HasStruck (choice_of whose market) struck done
+  pub marks : seen_so market whole ≡ seen_so market done ++ behind
+
+off : (a x y : List Mark) → a ++ x ≡ a ++ y → x ≡ y
+off [] x y e = e
+off (b ∷ a) x y e = off a x y (let z : b ∷ (a ++ x) ≡ b ∷ (a ++ y) = e in cc)
+
+-- the marks behind are those of the lines behind
+pub behind_is : (market : Market) (behind : List Mark) (whole done : List Entry) (e : Entry) (left : List Entry) → whole ≡ done ++ e ∷ left → seen_so market whole ≡ seen_so market done ++ behind
+    → behind ≡ mark_of market (event_of e) ∷ seen_so market left
+behind_is market behind whole done e left all is =
+    off (seen_so market done) behind (mark_of market (event_of e) ∷ seen_so market left)
+    (sym is ∙ ap (seen_so market) all ∙ map-append (λ x. mark_of market (event_of x)) done (e ∷ left))
+
+pub marks_more : (market : Market) (behind more : List Mark) (whole done : List Entry) (e : Entry) (left : List Entry) → whole ≡ done ++ e ∷ left → more ≡ seen_so market left
+    → seen_so market whole ≡ seen_so market (done ++ e ∷ []) ++ more
+marks_more market behind more whole done e left all is =
+    ap (seen_so market) (all ∙ sym (append_assoc done (e ∷ []) left)) ∙ map-append (λ x. mark_of market (event_of x)) (done ++ e ∷ []) left
+    ∙ ap (λ (l : List Mark). seen_so market (done ++ e ∷ []) ++ l) (sym is)
