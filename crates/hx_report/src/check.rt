@@ -26,12 +26,7 @@ pub struct Check {
 }
 
 // What a tape tells. It has room for as much as the whole day told.
-fn output_of(
-    alloc: Global,
-    setup: &Setup,
-    text: &[u8],
-    room: usize,
-) -> Result<Vec<u8>, TapeError>
+fn output_of(alloc: Global, setup: &Setup, text: &[u8], room: usize) -> Result<Vec<u8>, TapeError>
     ensures { IfOk result (λ output. (es : List Entry) → AreEvents (start setup.now) es
         → text.now ≡ tape es → output.items ≡ output_all (start setup.now) es) }
 {

@@ -11,10 +11,9 @@ mod report;
 mod rest;
 mod rows;
 mod striking;
-mod texts;
-
 #[cfg(test)]
 mod tests;
+mod texts;
 
 pub use check::{Check, check_all, check_member};
 pub use day::Day;

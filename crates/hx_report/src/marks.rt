@@ -88,11 +88,7 @@ fn take_lines(alloc: Global, setup: &Setup, text: &[u8]) -> Result<TakenLines, N
 }
 
 // What a strike sees of the lines.
-fn mark_lines(
-    alloc: Global,
-    auditor: &Auditor,
-    lines: &[TakenLine],
-) -> Result<Vec<Mark>, NoMemory>
+fn mark_lines(alloc: Global, auditor: &Auditor, lines: &[TakenLine]) -> Result<Vec<Mark>, NoMemory>
     ensures { IfOk result (λ marks. marks.items
         ≡ map (marked_by (choice_of auditor.now.whose auditor.now.market)) lines.now) }
 {
@@ -107,11 +103,7 @@ fn mark_lines(
 }
 
 /// What a strike sees of the lines of a tape that a replay has taken. Only memory can be wanting.
-pub(crate) fn marks_of(
-    alloc: Global,
-    setup: &Setup,
-    text: &[u8],
-) -> Result<Vec<Mark>, NoMemory>
+pub(crate) fn marks_of(alloc: Global, setup: &Setup, text: &[u8]) -> Result<Vec<Mark>, NoMemory>
     ensures { IfOk result (λ marks. (es : List Entry) → AreEvents (start setup.now) es
         → text.now ≡ tape es → marks.items ≡ marks_of setup.now es) }
 {

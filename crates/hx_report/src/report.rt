@@ -46,9 +46,12 @@ fn rows_of<R: Threads + Sync>(
     day: &Day,
     members: &[Member],
 ) -> Result<Vec<Result<Row, TapeError>>, NoMemory> {
-    Ok(thread::map_indices(rt, alloc, members.len(), &|i| {
-        row_of(alloc, day, &members[i])
-    })?)
+    Ok(thread::map_indices(
+        rt,
+        alloc,
+        members.len(),
+        &|i| { row_of(alloc, day, &members[i]) },
+    )?)
 }
 
 /// Audits a day.

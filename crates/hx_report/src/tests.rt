@@ -24,8 +24,18 @@ fn expect<R: AllocGlobal + Abort>(
 // The replies to the member himself may differ; those to one whose number begins alike may not.
 #[test]
 fn his_own_replies(rt: HostRuntime) -> Result<(), Fail> {
-    expect(&rt, b"F 1 aa\nM 1 1 bb\nM 2 1 cc\n", b"F 1 aa\nM 2 1 cc\n", true)?;
-    expect(&rt, b"M 1 1 bb\nF 1 aa\n", b"F 1 aa\nM 1 1 cc\nM 1 2 dd\n", true)?;
+    expect(
+        &rt,
+        b"F 1 aa\nM 1 1 bb\nM 2 1 cc\n",
+        b"F 1 aa\nM 2 1 cc\n",
+        true,
+    )?;
+    expect(
+        &rt,
+        b"M 1 1 bb\nF 1 aa\n",
+        b"F 1 aa\nM 1 1 cc\nM 1 2 dd\n",
+        true,
+    )?;
     expect(&rt, b"M 11 1 bb\nF 1 aa\n", b"F 1 aa\n", false)
 }
 

@@ -41,9 +41,5 @@ pub(crate) fn of_member(has_setup: bool) -> &'static str {
 
 /// The commands that repeat the check of all members at once.
 pub(crate) fn of_all(has_setup: bool) -> &'static str {
-    if has_setup {
-        OF_ALL_WITH_SETUP
-    } else {
-        OF_ALL
-    }
+    if has_setup { OF_ALL_WITH_SETUP } else { OF_ALL }
 }

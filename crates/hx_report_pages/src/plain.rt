@@ -19,7 +19,9 @@ fn put_day(text: &mut String, document: &Document<'_>) -> Result<(), AllocError>
 
 // A line for each member.
 fn put_rows(text: &mut String, document: &Document<'_>) -> Result<(), AllocError> {
-    text.push_str("member  firm     messages       chains        quiet  rested hidden       trades\n")?;
+    text.push_str(
+        "member  firm     messages       chains        quiet  rested hidden       trades\n",
+    )?;
     for (row, member) in document.report.rows.iter().zip(document.members) {
         let tally = &row.tally;
         writeln!(

@@ -1,7 +1,7 @@
 //! What a report says of worked days.
 
-use hx_report::{Day, Progress, Report, Tally, audit};
 use hx_replay::{Kind, TapeError};
+use hx_report::{Day, Progress, Report, Tally, audit};
 use hx_report_pages::{Document, write_html, write_json, write_plain};
 use hx_testing::setups::standard;
 use hx_testing::{Day as Worked, worked};
@@ -72,7 +72,11 @@ fn a_quiet_order(rt: HostRuntime) -> Result<(), Fail> {
     expect(
         &rt,
         worked::HIDDEN_THEN_DISPLAYED,
-        [tally(1, 1, 1, 100, 0), tally(1, 1, 0, 0, 0), tally(0, 0, 0, 0, 0)],
+        [
+            tally(1, 1, 1, 100, 0),
+            tally(1, 1, 0, 0, 0),
+            tally(0, 0, 0, 0, 0),
+        ],
         [1, 0, 0, 1],
     )
 }
@@ -83,7 +87,11 @@ fn hidden_orders_that_trade(rt: HostRuntime) -> Result<(), Fail> {
     expect(
         &rt,
         worked::HIDDEN_EXECUTIONS_ON_BOTH_SIDES,
-        [tally(2, 2, 0, 150, 2), tally(2, 2, 0, 0, 2), tally(0, 0, 0, 0, 0)],
+        [
+            tally(2, 2, 0, 150, 2),
+            tally(2, 2, 0, 0, 2),
+            tally(0, 0, 0, 0, 0),
+        ],
         [0, 0, 0, 0],
     )
 }
@@ -94,7 +102,11 @@ fn an_order_that_is_passed_over(rt: HostRuntime) -> Result<(), Fail> {
     expect(
         &rt,
         worked::MINIMUM_PASSED_OVER,
-        [tally(1, 1, 1, 200, 0), tally(1, 1, 0, 500, 1), tally(1, 1, 0, 0, 1)],
+        [
+            tally(1, 1, 1, 200, 0),
+            tally(1, 1, 0, 500, 1),
+            tally(1, 1, 0, 0, 1),
+        ],
         [1, 0, 0, 1],
     )
 }
@@ -106,22 +118,19 @@ fn digests(rt: HostRuntime) -> Result<(), Fail> {
     let first = &report.rows[0].check.comparison;
     assert_eq!(rt; first.day.lines, 2);
     let digest = hex::encode(rt.alloc(), first.day.digest.as_slice())?;
-    assert_eq!(
-        rt;
+    assert_eq!(rt;
         digest.as_str(),
         "6ce7f5288577a61a0d951fd2c801f70243a049dc5d822f072d5b6ee842b180e7"
     );
     let second = &report.rows[1].check.comparison;
     let digest = hex::encode(rt.alloc(), second.day.digest.as_slice())?;
-    assert_eq!(
-        rt;
+    assert_eq!(rt;
         digest.as_str(),
         "c2c25c58d1849b53ee8264fe05ba51870a7a9eac87b54e9a02ddede5a3c937a5"
     );
     assert_eq!(rt; report.all.comparison.day.lines, 1);
     let digest = hex::encode(rt.alloc(), report.all.comparison.day.digest.as_slice())?;
-    assert_eq!(
-        rt;
+    assert_eq!(rt;
         digest.as_str(),
         "708c416b6b9b64ee20d6908813f4ffeb22cb23ef4ee6f40165c0d48b7570d415"
     );
@@ -134,10 +143,12 @@ fn a_bad_line(rt: HostRuntime) -> Result<(), Fail> {
     let alloc = rt.alloc();
     let text = Vec::from_slice(alloc, b"10 0 4b\n20 9 58\n")?;
     match Day::of(alloc, &standard(alloc)?, text) {
-        Err(TapeError::Line {
-            line: 2,
-            kind: Kind::Member,
-        }) => Ok(()),
+        Err(
+            TapeError::Line {
+                line: 2,
+                kind: Kind::Member,
+            },
+        ) => Ok(()),
         _ => Err("another answer".into()),
     }
 }
@@ -159,12 +170,26 @@ fn pages(rt: HostRuntime) -> Result<(), Fail> {
         has_setup: false,
     };
     let plain = write_plain(alloc, &document)?;
-    assert!(rt; has_line(&plain, "A day of 2 events, 1 messages of the feed and 2 replies."));
+    assert!(rt;
+        has_line(
+            &plain,
+            "A day of 2 events, 1 messages of the feed and 2 replies."
+        )
+    );
     assert!(rt; has_line(&plain, "member 1: same, 1 lines struck"));
     assert!(rt; has_line(&plain, "hx_tape strike --all < day.tape > struck.tape"));
     let json = write_json(alloc, &document)?;
-    assert!(rt; json.starts_with("{\"events\":2,\"feed\":1,\"replies\":2,\"members\":[{\"member\":1,\"firm\":\"FMA1\""));
+    assert!(rt;
+        json.starts_with(
+            "{\"events\":2,\"feed\":1,\"replies\":2,\"members\":[{\"member\":1,\"firm\":\"FMA1\""
+        )
+    );
     let html = write_html(alloc, &document)?;
-    assert!(rt; has_line(&html, "hx_tape strike --member $N &lt; day.tape &gt; struck.tape"));
+    assert!(rt;
+        has_line(
+            &html,
+            "hx_tape strike --member $N &lt; day.tape &gt; struck.tape"
+        )
+    );
     Ok(())
 }

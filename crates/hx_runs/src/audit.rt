@@ -9,11 +9,10 @@ use hx_replay::TapeError;
 use hx_report::{Day, audit};
 use hx_report_pages::{Document, write_html, write_json, write_plain};
 use std::alloc::Global;
-use std::fs;
-use std::io;
 use std::io::{Read, Write};
 use std::rt::Files;
 use std::thread::Threads;
+use std::{fs, io};
 
 // All of the input.
 fn read_input<R: Input + Eprint + Files>(rt: &R, alloc: Global) -> Result<Vec<u8>, RunError> {

@@ -1,9 +1,8 @@
 //! How far a long run is: told on standard error, where that is a terminal.
 
-use std::fs;
-use std::io;
 use std::io::Read;
 use std::rt::Files;
+use std::{fs, io};
 
 // The name of standard input as a file.
 const INPUT: &str = "/dev/stdin";
