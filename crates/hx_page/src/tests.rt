@@ -1,6 +1,0 @@
-//! Tests.
-
-mod answers;
-mod boards;
-mod browsers;
-mod texts;
