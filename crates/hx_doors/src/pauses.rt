@@ -5,17 +5,17 @@ ghost use Rattle.hx_doors.specs.Pauses.{pause_after};
 use std::alloc::{AllocError, Global};
 use std::net::IpAddr;
 
-// The failed logins of so many addresses are known. Those of one more, and those of the address that failed the longest
+// The failed logins of 1,024 addresses are known. Those of one more, and those of the address that failed the longest
 // time ago are forgotten.
 const ROOM: usize = 1_024;
 
-// Behind so many milliseconds without another one the failed logins of an address are forgotten.
+// After this number of milliseconds without another one the failed logins of an address are forgotten.
 const FORGOTTEN: u64 = 300_000;
 
 // Milliseconds of a second.
 const SECOND: u64 = 1_000;
 
-/// How long the next login of an address waits behind so many failed ones, in seconds.
+/// How long the next login of an address waits after n failed ones, in seconds.
 pub fn pause_after(failures: u32) -> u64
     ensures { result ≡ pause_after failures }
 {

@@ -26,7 +26,7 @@ pub fn make_room(listener: &TcpListener) {
     net::listen(listener.as_raw_fd(), MOST);
 }
 
-/// Waits for a connection for so many milliseconds at most, and not at all where there may be one.
+/// Waits for a connection for `limit` milliseconds at most, and not at all if there may be one.
 pub fn await_next<T: Clock>(rt: &T, listener: &TcpListener, queue: Queue, limit: u16) {
     let mut wanted = [pollfd {
         fd: listener.as_raw_fd(),

@@ -137,7 +137,7 @@ impl Doors<Sockets> {
     }
 }
 
-/// Takes so many connections. One that is gone before it is taken does not count.
+/// Takes `count` connections. One that is gone before it is taken does not count.
 pub fn take(
     alloc: Global,
     listener: &TcpListener,

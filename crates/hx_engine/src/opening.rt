@@ -44,7 +44,7 @@ pub struct Recovered<J: Journal> {
 }
 
 impl<V: Venue, J: Journal + Drop> Exchange<V, J> {
-    /// An exchange over new logs and an empty journal, with so many passes, 1 to 1,024, and the fixed seed. What it was
+    /// An exchange over new logs and an empty journal, with n passes, 1 to 1,024, and the fixed seed. What it was
     /// given is gone after `NoMemory`.
     pub fn new(
         alloc: Global,
@@ -68,7 +68,7 @@ impl<V: Venue, J: Journal + Drop> Exchange<V, J> {
         Exchange::seeded(alloc, setup, logs, journal, blank, passes, Seed::Fixed)
     }
 
-    /// An exchange over new logs and an empty journal, with so many passes, 1 to 1,024, whose table of tokens has this
+    /// An exchange over new logs and an empty journal, with n passes, 1 to 1,024, whose table of tokens has this
     /// seed: members choose their tokens, so where strangers trade it should be drawn. What it was given is gone after
     /// `NoMemory`.
     pub fn seeded(

@@ -14,7 +14,7 @@ use std::time::{Clock, Duration, Instant};
 // So many are there at most. One more, and the one that came first goes.
 const ROOM: usize = 16;
 
-// A connection is closed so many seconds behind its last request.
+// A connection is closed this number of seconds after its last request.
 const PATIENCE: u64 = 5;
 
 // How often a connection is read and written in one look at most.
@@ -71,7 +71,7 @@ fn has_moved(moving: io::Result<usize>) -> io::Result<bool> {
 }
 
 impl Guest {
-    // Reads and writes once each, as far as that does not wait. Answers whether anything was moved.
+    // Reads and writes once each, as far as that does not wait. Returns whether anything was moved.
     fn exchange<W: Watched>(&mut self, page: &mut Page<'_, W>) -> io::Result<bool> {
         let mut moved = false;
         if self.connection.wants_read() {

@@ -20,8 +20,8 @@ pub enum Hours {
 }
 
 impl Hours {
-    /// The last of so many codes, which come in their order; none before the first, and none where
-    /// there are not so many.
+    /// The last of n codes, which come in their order; none before the first, and none where
+    /// there are fewer.
     pub fn last_of(codes: u8) -> Option<Hours>
         ensures { result ≡ last_of codes }
     {

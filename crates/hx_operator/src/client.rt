@@ -10,7 +10,7 @@ use std::os::unix::net::UnixStream;
 use std::time::Duration;
 use thiserror::Error;
 
-// An answer, and each part of it, is waited for so many seconds.
+// An answer, and each part of it, is waited for this number of seconds.
 const PATIENCE: u64 = 10;
 
 // The most bytes of an answer.
@@ -134,7 +134,7 @@ fn read_all(alloc: Global, stream: &mut UnixStream) -> Result<Vec<u8>, OperateEr
 }
 
 /// Says these words to the server that listens on a path, and copies its answer to the output.
-/// Answers whether it was `ok`; else the words were refused, and the answer says why.
+/// Returns whether it was `ok`; else the words were refused, and the answer says why.
 ///
 /// A server answers within a second or so. It is waited for 10 seconds.
 ///

@@ -19,7 +19,7 @@ fn are_capitals_or_digits(text: &[u8]) -> bool
     text.iter().all(|b| matches!(b, b'0'..=b'9' | b'A'..=b'Z'))
 }
 
-// Whether a text has 1 to so many characters.
+// Whether a text has 1 to n characters.
 fn is_short(text: &[u8], most: usize) -> bool
     ensures { result ≡ is_short most text.now }
 {

@@ -63,7 +63,7 @@ impl Schedule {
         Some(self.left.remove(0).code)
     }
 
-    /// Passes over the first codes of the day, so many of O, S, Q, M, E and C: they are past.
+    /// Passes over the first n codes of the day, of O, S, Q, M, E and C: they are past.
     pub fn skip(&mut self, past: u8)
         ensures { self.new ≡ behind_past past self.old }
     {

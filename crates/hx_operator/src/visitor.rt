@@ -13,7 +13,7 @@ pub const LONGEST: usize = 1024;
 // A line and its line feed.
 const ROOM: usize = LONGEST + 1;
 
-// A connection has so many seconds.
+// A connection has this number of seconds.
 const LIMIT: u64 = 5;
 
 // So many writes at most are made at once.
@@ -30,7 +30,7 @@ pub trait Directed {
 enum Heard {
     // No whole line.
     Part,
-    // A line of so many bytes.
+    // A line of this number of bytes.
     Line(usize),
     // A line that is too long.
     TooMuch,
@@ -129,7 +129,7 @@ impl Visitor {
     }
 
     /// Reads, has the line carried out, and writes, as far as that can be done without waiting.
-    /// Answers whether the connection stays.
+    /// Returns whether the connection stays.
     pub fn attend<R: Clock, D: Directed>(&mut self, rt: &R, directed: &mut D) -> bool {
         if !self.is_young(rt) {
             return false;

@@ -38,7 +38,7 @@ impl<'a> Feeds<'a> {
         }
     }
 
-    /// Sends a packet to each address, whether another one failed or not. Answers whether none did.
+    /// Sends a packet to each address, whether another one failed or not. Returns whether none did.
     pub fn send<T: Clock, D: Datagrams>(&mut self, rt: &T, socket: &D, packet: &[u8]) -> bool {
         let mut all = true;
         for (to, trouble) in self.to.iter().zip(self.troubles.iter_mut()) {

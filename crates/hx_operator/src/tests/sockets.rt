@@ -180,7 +180,7 @@ fn a_path_that_no_socket_may_have_is_refused(rt: HostRuntime) {
     assert_eq!(rt; nowhere, Some(SocketError::Failed));
 }
 
-// What a peer reads until the other side closes, in so many turns of the socket.
+// What a peer reads until the other side closes, in n turns of the socket.
 fn read_in_turns(
     rt: &HostRuntime,
     socket: &mut OperatorSocket,
