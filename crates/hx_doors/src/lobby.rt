@@ -1,5 +1,5 @@
 //! Where connections that have sent their login wait for a place.
-ghost use Rattle.std.specs.Prelude.{◌≡◌, ◌+◌, ◌<◌, ◌≤◌, ◌↔◌, IsNone, IsSome, IsTrue};
+ghost use Rattle.std.specs.Prelude.{◌≡◌, ◌+◌, ◌<◌, ◌^◌, ◌↔◌, IsNone, IsSome, IsTrue};
 ghost use Rattle.hx_doors.specs.Promises.{Promises, Keeps};
 
 use crate::connection::Connection;
@@ -64,14 +64,15 @@ impl Waiting {
     // A place begins to wait.
     fn wait(&mut self)
         ensures connections { self.new.connections ≡ self.old.connections }
-        ensures places { self.new.places ≤ self.old.places + 1 }
+        ensures places { self.old.places + 1 < 2 ^ 64 → self.new.places ≡ self.old.places + 1 }
     {
         self.places = self.places.saturating_add(1);
     }
 
     // Gives a connection to a place that has waited, where there is one.
     fn keep(&mut self) -> Option<Connection>
-        ensures { Keeps self.old self.new }
+        ensures keeps { Keeps self.old self.new }
+        ensures given { IsSome result ↔ 0 < self.old.connections }
     {
         let connection = self.connections.pop();
         self.places = self.places.saturating_sub(1);
