@@ -3,3 +3,4 @@ pub mod RowLaws
 pub mod Growth
 pub mod Standing
 pub mod NoSecrets
+pub mod Answered

@@ -14,6 +14,13 @@ use Rattle.hx_desk.specs.Entries.{events_of, ledger}
 abbrev pub replies_after : Setup → (member : ℕ) → List Entry → List (List ℕ)
 replies_after setup member history = replies_spelled (replies setup member (events_of history))
 
+-- the members of the replies that came between two places of a history, each as often as he got one
+abbrev pub AreAnswered : Setup → (before after : List Entry) → (members : List ℕ) → Type 0
+AreAnswered setup before after members =
+    (m : ℕ) → m < row_count
+    → length (replies_after setup m before) + times m members
+    ≡ length (replies_after setup m after)
+
 -- The mark of a place in a history: how many entries are before it, how many messages of the feed they
 -- give, and how many of the hours codes are past after them.
 pub record IsMark (setup : Setup) (history : List Entry) (mark : Mark) : Type 0 where

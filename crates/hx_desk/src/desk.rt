@@ -5,7 +5,7 @@ ghost use Rattle.hx_blog.specs.Feed.{feed};
 ghost use Rattle.hx_units.specs.Fields.{texts};
 ghost use Rattle.hx_desk.specs.Rows.{row_of, from_number, page};
 ghost use Rattle.hx_desk.specs.Entries.{entry_of, ledger};
-ghost use Rattle.hx_desk.specs.InStep.{IsMark};
+ghost use Rattle.hx_desk.specs.InStep.{IsMark, AreAnswered};
 ghost use Rattle.hx_desk.specs.Desks.{AreRepliesAt, IsStanding, TellsNoSecret, Grows, Releases, Restores, IsResumed, Faults, kept_from, start_of, is_over, told_of, told_market};
 ghost use Rattle.hx_desk.specs.Known.{CatchesUp};
 
@@ -315,6 +315,22 @@ impl Desk {
             Ok(_) => DeskError::NoMemory,
             Err(error) => DeskError::from(error),
         }
+    }
+
+    /// The members of the replies to what waits to be sealed, each as often as he gets one.
+    pub fn waiting_members(&self) -> &[MemberNo]
+        ensures { AreAnswered self.now.setup (take self.now.sealed self.now.history)
+            self.now.history result.now }
+    {
+        &self.waiting
+    }
+
+    /// The members of the replies to what is in flight, each as often as he gets one.
+    pub fn flying_members(&self) -> &[MemberNo]
+        ensures { AreAnswered self.now.setup (take self.now.told self.now.history)
+            (take self.now.sealed self.now.history) result.now }
+    {
+        &self.flying
     }
 
     /// How many replies a member was told.

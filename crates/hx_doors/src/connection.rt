@@ -1,6 +1,7 @@
 //! A member's connection.
 
 use arrayvec::ArrayVec;
+use hx_bells::{Bell, Source};
 use hx_members::Setup;
 use hx_soup::decode_login;
 use hx_units::MemberNo;
@@ -9,7 +10,7 @@ use std::io::{ErrorKind, Read, Write};
 use std::net::{Shutdown, SocketAddr, TcpStream};
 use std::time::Duration;
 
-// A member's input is looked at so often, in milliseconds, whether his session has ended meanwhile.
+// Before his login a member's input is waited for in steps of so many milliseconds: the day may end meanwhile.
 const READ_LIMIT: u64 = 50;
 
 // A member who takes nothing for so many seconds has his session ended.
@@ -61,6 +62,12 @@ impl Read for Inlet {
         let _ = self.login.try_extend_from_slice(&buffer[..count.min(room)]);
         self.taken = self.login.len();
         Ok(count)
+    }
+}
+
+impl Source for Inlet {
+    fn wait(&self, bell: &Bell, limit: Duration) -> bool {
+        self.taken < self.login.len() || bell.wait(&self.stream, limit)
     }
 }
 

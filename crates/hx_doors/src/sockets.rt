@@ -5,10 +5,12 @@ use crate::addresses::{Addresses, reaches};
 use crate::connection::Connection;
 use crate::fault::DoorsError;
 use arrayvec::ArrayVec;
+use hx_bells::Bell;
 use std::alloc::Global;
 use std::io;
 use std::io::ErrorKind;
 use std::net::{Ipv4Addr, Ipv6Addr, Net, SocketAddr, TcpListener, TcpStream, UdpSocket};
+use std::time::Duration;
 
 /// Datagrams that go out and come in, without waiting.
 pub trait Datagrams {
@@ -18,6 +20,10 @@ pub trait Datagrams {
     /// The next datagram, as far as there is room for it, and who sent it.
     fn receive(&self, buffer: &mut [u8]) -> io::Result<(usize, SocketAddr)>
         ensures { IfOk result (λ r. r.0 ≤ length buffer.old) };
+
+    /// Sleeps until a datagram has come, or the bell rings, or this time is over: whether one has come. It may end before
+    /// that.
+    fn wait(&self, bell: &Bell, limit: Duration) -> bool;
 }
 
 impl Datagrams for UdpSocket {
@@ -27,6 +33,10 @@ impl Datagrams for UdpSocket {
 
     fn receive(&self, buffer: &mut [u8]) -> io::Result<(usize, SocketAddr)> {
         self.recv_from(buffer)
+    }
+
+    fn wait(&self, bell: &Bell, limit: Duration) -> bool {
+        bell.wait(self, limit)
     }
 }
 
@@ -108,6 +118,10 @@ impl Datagrams for Sockets {
 
     fn receive(&self, buffer: &mut [u8]) -> io::Result<(usize, SocketAddr)> {
         self.requests.recv_from(buffer)
+    }
+
+    fn wait(&self, bell: &Bell, limit: Duration) -> bool {
+        bell.wait(&self.requests, limit)
     }
 }
 

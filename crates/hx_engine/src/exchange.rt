@@ -17,6 +17,7 @@ use crate::keeper::Keeper;
 use crate::pass::Pass;
 use crate::pass_count::PassCount;
 use crate::venue::Venue;
+use hx_bells::{Bell, Bells};
 use hx_blog::{Log, Reader, Receipt};
 use hx_desk::Entry;
 use hx_journal::{Journal, JournalError};
@@ -35,6 +36,9 @@ pub struct Exchange<V: Venue, J: Journal> {
     pub(crate) desk: Mutex<Held<V, J>>,
     // Told of each batch that is told, and of a journal that failed.
     pub(crate) recorded: Condvar,
+    // Those of the passes' sessions, and that of the publisher of the feed.
+    pub(crate) bells: Bells,
+    pub(crate) feed_bell: Bell,
     pub(crate) passes: PassCount<V>,
     // How many events may be admitted and not yet told.
     pub(crate) ahead: u64,
@@ -108,6 +112,8 @@ impl<V: Venue, J: Journal + Drop> Exchange<V, J> {
             kept: _,
             desk,
             recorded: _,
+            bells: _,
+            feed_bell: _,
             passes: _,
             ahead: _,
             alloc: _,
@@ -148,6 +154,8 @@ impl<V: Venue, J: Journal + Drop> Exchange<V, J> {
             kept: _,
             desk,
             recorded: _,
+            bells: _,
+            feed_bell: _,
             passes: _,
             ahead: _,
             alloc: _,

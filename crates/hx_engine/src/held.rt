@@ -1,7 +1,8 @@
 //! What lies under the lock.
-ghost use Rattle.std.specs.Prelude.{◌≡◌, ◌+◌, ◌<◌, [], ◌∷◌, ◌++◌, length, map, take, drop, Some, None, Err, IfOk, IfErr, IfSome, OnOk, OnErr, MatchBool};
+ghost use Rattle.std.specs.Prelude.{◌≡◌, ◌+◌, ◌<◌, [], ◌∷◌, ◌++◌, length, map, nat_lt, take, drop, Some, None, Err, IfOk, IfErr, IfSome, OnOk, OnErr, MatchBool};
 ghost use Rattle.hx_tape_lines.specs.Text.{record_of};
 ghost use mathlib.Core.List.{IsPrefix};
+ghost use Rattle.hx_blog.specs.Feed.{feed};
 ghost use Rattle.hx_desk.specs.Entries.{entry_of, restored};
 ghost use Rattle.std.proofs.Props.{props};
 ghost use Rattle.hx_desk.specs.Desks.{Grows, Faults, IsResumed};
@@ -51,6 +52,25 @@ impl Entered {
             },
             refused: Some(error),
             told: None,
+        }
+    }
+}
+
+/// Who has news besides the members that were answered.
+#[derive(Clone, Copy)]
+pub struct ToldNews {
+    /// The publisher: messages of the feed were published.
+    pub is_feed: bool,
+    /// Everybody: nothing more is told, since the day is over or the journal has failed.
+    pub is_last: bool,
+}
+
+impl ToldNews {
+    /// Everybody has, where the journal has failed.
+    pub fn last() -> ToldNews {
+        ToldNews {
+            is_feed: true,
+            is_last: true,
         }
     }
 }
@@ -145,6 +165,21 @@ impl<V: Venue, J: Journal + Drop> Held<V, J> {
             keeper: Some(keeper),
             failed: None,
             alloc,
+        }
+    }
+
+    /// Whether the journal is there and touches no disk.
+    pub fn is_quick(&self) -> bool {
+        self.keeper.as_ref().is_some_and(|keeper| keeper.is_quick())
+    }
+
+    /// Who has news since `seen` messages of the feed were published.
+    pub fn news_since(&self, seen: u64) -> ToldNews
+        ensures { result.is_feed ≡ nat_lt seen (length (feed self.now.desk.published)) }
+    {
+        ToldNews {
+            is_feed: self.desk.feed_count() > seen,
+            is_last: self.desk.ended() || self.failed.is_some(),
         }
     }
 
@@ -421,7 +456,7 @@ impl<V: Venue, J: Journal + Drop> Held<V, J> {
             × Settles V.setup place entered.old.known knows.old.known r.known) }
         ensures same { (knows.new ≡ knows.old) × (entered.new ≡ entered.old) }
     {
-        if !self.keeper.as_ref().is_some_and(|keeper| keeper.is_quick()) {
+        if !self.is_quick() {
             return None;
         }
         self.lead_at_once(log, admitted, kept);

@@ -12,6 +12,7 @@ use crate::keeper::{Keeper, write_before};
 use crate::pass::{Pass, make_passes};
 use crate::pass_count::PassCount;
 use crate::venue::Venue;
+use hx_bells::{Bell, Bells};
 use hx_blog::{Log, Writer};
 use hx_desk::{Desk, DeskError, Entry};
 use hx_journal::Journal;
@@ -142,6 +143,7 @@ impl<V: Venue, J: Journal + Drop> Exchange<V, J> {
             &mut spare,
             passes,
         )?;
+        let bells = Bells::new(alloc, passes).map_err(|_| NoMemory)?;
         let desk = Desk::resume(alloc, setup, writer, seed, &log, &events)?;
         write_before::<Brand>(&mut register, &admitted, &events);
         let mut keeper = Keeper::open(&kept, pen, journal, &events);
@@ -152,6 +154,8 @@ impl<V: Venue, J: Journal + Drop> Exchange<V, J> {
             kept,
             desk: Mutex::new(Held::open(alloc, desk, book, spare, register, receipt, keeper)),
             recorded: Condvar::new(),
+            bells,
+            feed_bell: Bell::new(),
             passes: PassCount::of(passes),
             ahead: u64::MAX,
             alloc,

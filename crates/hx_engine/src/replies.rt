@@ -9,14 +9,15 @@ ghost use Rattle.hx_engine.specs.Exchanges.{AreKnownReplies, IsNews};
 use crate::answers::{Counts, News};
 use crate::exchange::Exchange;
 use crate::held::Held;
+use crate::pass::Pass;
 use crate::venue::Venue;
 use arrayvec::ArrayVec;
+use hx_bells::Bell;
 use hx_blog::{Log, Reader};
 use hx_desk::Entry;
 use hx_journal::Journal;
 use hx_units::{MemberNo, NoMemory};
-use std::sync::{CondvarTimeouts, Wait};
-use std::time::{Clock, Duration};
+use std::sync::Wait;
 
 // The reader knows from now on all that is published: how much stands then for a member.
 fn tell<V: Venue, J: Journal + Drop>(
@@ -66,31 +67,6 @@ impl<V: Venue, J: Journal + Drop> Exchange<V, J> {
         ensures reader { CatchesUp reader.old reader.new }
     {
         let mut held = self.desk.lock(rt);
-        let held = &mut *held;
-        tell(held, &self.log, reader, member)
-    }
-
-    /// The same, once the member has more than `seen` replies or the day is over, or once this time has passed. It
-    /// sleeps until then, and holds the lock only while it looks.
-    pub fn wait_for_news<R: Wait + Clock>(
-        &self,
-        rt: &R,
-        reader: &mut Reader<Entry>,
-        member: MemberNo,
-        seen: u64,
-        limit: Duration,
-    ) -> News
-        requires { reader.old.log ≡ V.log }
-        ensures news { IsNews V.setup member reader.new.known result }
-        ensures whole { IsWhole V.setup reader.new.known }
-        ensures reader { CatchesUp reader.old reader.new }
-    {
-        let mut held = self
-            .recorded
-            .wait_timeout_while(rt, self.desk.lock(rt), limit, |held| {
-                held.desk.reply_count(member) <= seen && !held.desk.ended()
-            })
-            .0;
         let held = &mut *held;
         tell(held, &self.log, reader, member)
     }
@@ -170,16 +146,29 @@ impl<V: Venue, J: Journal + Drop> Exchange<V, J> {
         held.desk.ended() || held.failed.is_some()
     }
 
-    /// Sleeps until more than `seen` messages of the feed are published, or until this time has passed, and returns how many
-    /// there are. No clause says what the log was then: its readers know.
-    pub fn wait_for_feed<R: Wait + Clock>(&self, rt: &R, seen: u64, limit: Duration) -> u64 {
-        self.recorded
-            .wait_timeout_while(rt, self.desk.lock(rt), limit, |held| {
-                held.desk.feed_count() <= seen
-            })
-            .0
-            .desk
-            .feed_count()
+    /// The bell of the publisher of the feed: it rings where messages are published, and at the end of the day.
+    pub fn feed_bell(&self) -> &Bell {
+        &self.feed_bell
+    }
+
+    /// The bell of a pass's session.
+    pub fn bell(&self, pass: &Pass<V>) -> &Bell {
+        self.bells.bell(pass.number)
+    }
+
+    /// The bell of a pass's session rings from now on where a member has news; it rings for nobody else.
+    pub fn listen(&self, rt: &impl Wait, pass: &Pass<V>, member: MemberNo) {
+        self.bells.listen(rt, pass.number, member);
+    }
+
+    /// The bell of a pass's session, which rang for a member, rings for nobody.
+    pub fn leave(&self, rt: &impl Wait, pass: &Pass<V>, member: MemberNo) {
+        self.bells.leave(rt, pass.number, member);
+    }
+
+    /// Rings the bells of all sessions: each looks whether it is to end.
+    pub fn ring_all(&self) {
+        self.bells.ring_all();
     }
 
     /// How far the exchange has come.

@@ -13,7 +13,7 @@ ghost use Rattle.hx_engine.specs.Exchanges.{Sends, SendsAll, SendsFirst, Enters,
 use crate::answers::SubmitError;
 use crate::exchange::Exchange;
 use crate::flight::Flight;
-use crate::held::Entered;
+use crate::held::{Entered, Held, ToldNews};
 use crate::pass::Pass;
 use crate::venue::Venue;
 use hx_blog::Receipt;
@@ -267,16 +267,34 @@ impl<V: Venue, J: Journal + Drop> Exchange<V, J> {
         let mut made = held.enter_all(&self.log, &self.admitted, number, share, events, written);
         held.note(&self.admitted, entered);
         let (log, admitted, kept) = (&self.log, &self.admitted, &self.kept);
+        let seen = held.desk.feed_count();
+        self.ring_at_once(rt, held);
         made.told = held.tell_at_once(log, admitted, kept, knows, entered, made.last.place);
+        let news = held.news_since(seen);
         drop(lock);
-        self.wake(made.told.is_some());
+        self.wake(made.told.is_some(), news);
         made
     }
 
-    // Wakes who waits, where there is news.
-    fn wake(&self, is_news: bool) {
-        if is_news {
-            self.recorded.notify_all();
+    // Rings for the members whose replies are told at once, where they are.
+    fn ring_at_once(&self, rt: &impl Wait, held: &Held<V, J>) {
+        if held.is_quick() {
+            self.bells.ring(rt, held.desk.waiting_members());
+        }
+    }
+
+    // Wakes those who wait for a batch, and whoever else has news. There is no news where nothing is told, unless nothing
+    // more is.
+    fn wake(&self, is_told: bool, news: ToldNews) {
+        if !is_told && !news.is_last {
+            return;
+        }
+        self.recorded.notify_all();
+        if news.is_feed {
+            self.feed_bell.ring();
+        }
+        if news.is_last {
+            self.bells.ring_all();
         }
     }
 
@@ -345,16 +363,20 @@ impl<V: Venue, J: Journal + Drop> Exchange<V, J> {
 
     // Keeps a batch without the lock, then tells it under the lock, and wakes who waits.
     fn lead(&self, rt: &impl Wait, flight: Flight<V, J>) {
-        match flight.fly(&self.kept) {
+        let news = match flight.fly(&self.kept) {
             Ok(landed) => {
                 let mut held = self.desk.lock(rt);
+                let seen = held.desk.feed_count();
+                self.bells.ring(rt, held.desk.flying_members());
                 held.land(&self.log, &self.admitted, &self.kept, landed);
+                held.news_since(seen)
             }
             Err((_journal, error)) => {
                 let mut held = self.desk.lock(rt);
                 held.failed = Some(error);
+                ToldNews::last()
             }
-        }
-        self.recorded.notify_all();
+        };
+        self.wake(true, news);
     }
 }

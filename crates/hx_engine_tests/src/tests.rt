@@ -6,3 +6,4 @@ mod exchanges;
 mod refusing;
 mod scenario;
 mod two_sessions;
+mod waking;

@@ -131,6 +131,7 @@ impl<'a, V: Venue, J: Journal + Drop, B: Board, T: Wait + Clock> Director<'a, V,
         if count == 0 {
             return refuse(answer, "he has no session");
         }
+        self.exchange.ring_all();
         let mut words = String::new(self.alloc);
         let _ = write!(words, "ok\nsessions ended: {count}");
         say(answer, &words)

@@ -266,10 +266,11 @@ pub fn work_open<
     let (flag, board) = (&ended, hall.hosting.board);
     join(
         rt,
-        move || publishing.work(rt, socket, board, flag),
+        move || publishing.work(rt, socket, board, exchange.feed_bell(), flag),
         move || {
             let closed = trade_watched(rt, alloc, exchange, hall, staff);
             flag.store(true, Ordering::SeqCst);
+            exchange.feed_bell().ring();
             closed
         },
     )

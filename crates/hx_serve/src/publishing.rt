@@ -8,8 +8,8 @@ use crate::feeds::Feeds;
 use crate::hosting::Hosting;
 use crate::meter::Meter;
 use crate::notices::{Board, Notice};
-use crate::rest::Rest;
 use crate::sending::send;
+use hx_bells::Bell;
 use hx_blog::{Log, Reader, Receipt};
 use hx_doors::{Datagrams, Rate, count};
 use hx_engine::{Entry, Venue};
@@ -18,13 +18,19 @@ use std::io::ErrorKind;
 use std::marker::PhantomData;
 use std::net::SocketAddr;
 use std::sync::atomic::{AtomicBool, Ordering};
-use std::time::{Clock, Instant};
+use std::time::{Clock, Duration, Instant};
 
 // An answer that finds no room is tried again so often.
 const ANSWER_TRIES: u32 = 100;
 
 // Once all who write have ended and all is sent, so many datagrams are looked at, whatever comes.
 const LAST_ANSWERS: u32 = 1_000;
+
+// So many packets go out at most before it is looked whether there is a request.
+const BURST: u32 = 64;
+
+// A heartbeat is due after so many nanoseconds without a packet.
+const SILENCE: u64 = 1_000_000_000;
 
 // A request has 20 bytes; what is longer is none.
 const REQUEST: usize = 64;
@@ -36,6 +42,8 @@ pub struct Publishing<'a, V: Venue> {
     server: Server<LogMessages<'a, Entry>>,
     // Where the feed goes.
     feeds: Feeds<'a>,
+    // When the last packet went out, by the time of day in nanoseconds.
+    last: u64,
     // How often requests are answered, and what is counted of that.
     rate: Rate,
     meter: &'a Meter,
@@ -64,6 +72,7 @@ impl<'a, V: Venue> Publishing<'a, V> {
             publisher: Publisher::going_on(session, LogMessages::new(log, first), now),
             server: Server::new(session, LogMessages::new(log, second)),
             feeds: Feeds::new(&hosting.addresses.feeds, hosting.open.is_some()),
+            last: now,
             rate: Rate::of(hosting.args.answers),
             meter: hosting.meter,
             failed: false,
@@ -91,8 +100,32 @@ impl<'a, V: Venue> Publishing<'a, V> {
         let Some(packet) = self.publisher.turn(now) else {
             return false;
         };
+        self.last = now;
         self.send_feed(rt, socket, packet.as_slice());
         true
+    }
+
+    // Sends packets while there are any, up to a limit. Answers whether there may be more.
+    fn publish_some<T: Clock, D: Datagrams>(&mut self, rt: &T, socket: &D, now: u64) -> bool {
+        for _ in 0..BURST {
+            if !self.publish(rt, socket, now) {
+                return false;
+            }
+        }
+        true
+    }
+
+    // Tells of each address that failed, once.
+    fn tell_failures<B: Board>(&mut self, board: &B)
+        ensures { self.new.publisher ≡ self.old.publisher }
+    {
+        self.feeds.tell(board);
+    }
+
+    // How long there is nothing to do, if nothing comes: until a heartbeat is due.
+    fn patience(&self, now: u64) -> Duration {
+        let silent = now.saturating_sub(self.last);
+        Duration::from_nanos(SILENCE.saturating_sub(silent))
     }
 
     // Answers the next request, where there is one. Answers whether there was any datagram. An answer that cannot be
@@ -135,35 +168,40 @@ impl<'a, V: Venue> Publishing<'a, V> {
         }
     }
 
-    /// Publishes and answers by turns, without waiting for a request, until all who write have ended and a turn has
-    /// found nothing, or so many datagrams have come behind that. It takes neither a lock nor memory.
+    /// Publishes and answers by turns, until all who write have ended and a turn has found nothing, or so many datagrams
+    /// have come behind that. It arms the bell before it looks for messages, and sleeps where there are none until it rings,
+    /// or a request comes, or a heartbeat is due. It takes neither a lock nor memory.
     pub fn work<T: Clock, D: Datagrams, B: Board>(
         self,
         rt: &T,
         socket: &D,
         board: &B,
+        bell: &Bell,
         ended: &AtomicBool,
     ) -> Publishing<'a, V> {
         let mut publishing = self;
         let clock = DayClock::of_clock(rt);
-        let mut rest = Rest::new();
         let mut late = 0;
         for _ in 0..u64::MAX {
             let last = ended.load(Ordering::SeqCst);
+            bell.arm();
             let now = clock.time_of_day();
-            let sent = publishing.publish(rt, socket, now);
-            publishing.feeds.tell(board);
-            let answered = publishing.answer(rt, socket, board, now);
-            if last && !sent && (!answered || late >= LAST_ANSWERS) {
-                break;
-            }
-            if last && !sent {
-                late += 1;
-            }
-            if sent || answered {
-                rest = Rest::new();
+            let more = publishing.publish_some(rt, socket, now);
+            publishing.tell_failures(board);
+            let limit = if more || last {
+                Duration::from_nanos(0)
             } else {
-                rest.sleep(rt);
+                publishing.patience(now)
+            };
+            let asked = socket.wait(bell, limit);
+            if asked {
+                publishing.answer(rt, socket, board, now);
+            }
+            if last && !more {
+                if !asked || late >= LAST_ANSWERS {
+                    break;
+                }
+                late += 1;
             }
         }
         publishing
@@ -218,28 +256,31 @@ impl<'a, V: Venue> Publishing<'a, V> {
         rt: &T,
         socket: &D,
         board: &B,
+        bell: &Bell,
         seconds: u32,
     ) {
         let clock = DayClock::of_clock(rt);
-        let mut rest = Rest::new();
         for _ in 0..seconds {
             let Ok(start) = Instant::now(rt) else {
                 return;
             };
             for _ in 0..u64::MAX {
-                if start.elapsed(rt).is_ok_and(|time| time.as_secs() == 0) {
-                    if self.answer(rt, socket, board, clock.time_of_day()) {
-                        rest = Rest::new();
-                    } else {
-                        rest.sleep(rt);
+                let left = match start.elapsed(rt) {
+                    Ok(time) if time.as_secs() == 0 => {
+                        SILENCE.saturating_sub(u64::from(time.subsec_nanos()))
                     }
-                } else {
+                    _ => 0,
+                };
+                if left == 0 {
                     break;
+                }
+                if socket.wait(bell, Duration::from_nanos(left)) {
+                    self.answer(rt, socket, board, clock.time_of_day());
                 }
             }
             let packet = self.publisher.end();
             self.send_feed(rt, socket, packet.as_slice());
-            self.feeds.tell(board);
+            self.tell_failures(board);
         }
     }
 }

@@ -1,9 +1,11 @@
 //! The two directions of a session at a seat.
 
 use crate::seats::Seats;
+use hx_bells::{Bell, Source};
 use hx_doors::{Inlet, Outlet};
 use std::io;
 use std::io::{ErrorKind, Read, Write};
+use std::time::Duration;
 
 /// What a member sends. It ends where the operator calls his session off.
 #[derive(Drop)]
@@ -21,6 +23,14 @@ impl<'a> Read for SeatInput<'a> {
             return Ok(0);
         }
         self.inlet.read(buffer)
+    }
+}
+
+impl<'a> Source for SeatInput<'a> {
+    fn wait(&self, bell: &Bell, limit: Duration) -> bool {
+        self.seats.is_called(self.seat)
+            || self.inlet.wait(bell, limit)
+            || self.seats.is_called(self.seat)
     }
 }
 

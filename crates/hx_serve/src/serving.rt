@@ -301,7 +301,8 @@ fn attend_open<
     let stopped = exchange.failure(rt).is_some();
     let sent = stopped || publishing.finish(rt, &datagrams);
     if !stopped {
-        publishing.linger(rt, &datagrams, hosting.board, open.end);
+        let bell = exchange.feed_bell();
+        publishing.linger(rt, &datagrams, hosting.board, bell, open.end);
     }
     Ok(Outcome {
         passes,

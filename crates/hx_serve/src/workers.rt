@@ -1,4 +1,4 @@
-//! The workers of a day, all at once: the publisher, the operator, and two for each session.
+//! The workers of a day, all at once: the publisher, the operator, and one for each session.
 use crate::crew::{Member, Served};
 use crate::fault::ServeError;
 use crate::hosting::Hosting;
@@ -86,10 +86,11 @@ pub fn work<
     let (flag, board) = (&ended, hosting.board);
     join(
         rt,
-        move || publishing.work(rt, socket, board, flag),
+        move || publishing.work(rt, socket, board, exchange.feed_bell(), flag),
         move || {
             let traded = trade(rt, alloc, exchange, hosting, writers);
             flag.store(true, Ordering::SeqCst);
+            exchange.feed_bell().ring();
             traded
         },
     )

@@ -1,7 +1,8 @@
 -- What goes out to a client, one turn after another (SoupBinTCP 3.00, Logical Packets Sent by a SoupBinTCP
 -- Server).
-use Rattle.std.specs.Prelude.{ℕ, ◌≡◌, ◌⊎◌, ◌+◌, List, [], ◌∷◌, Bool, true, false, MatchBool}
+use Rattle.std.specs.Prelude.{ℕ, ◌≡◌, ◌⊎◌, ◌+◌, ◌-◌, List, [], ◌∷◌, Bool, true, false, MatchBool}
 use Rattle.hx_units.specs.Heartbeats.{is_due}
+use Rattle.hx_units.specs.Limits.{silence}
 use Rattle.hx_soup.specs.Kinds.{sequenced_data, server_heartbeat, end_of_session}
 use Rattle.hx_soup.specs.Packets.{framed}
 use Rattle.hx_session_core.specs.declared.delivery.Turn.{Turn}
@@ -14,6 +15,15 @@ pub record Delivery : Type 0 where
   pub last : ℕ
   -- whether the end of the session has gone out
   pub over : Bool
+
+-- what is left of a second since the last packet, unless a heartbeat is due
+abbrev pub left_unless : (due : Bool) → (last now : ℕ) → ℕ
+left_unless true last now = 0
+left_unless false last now = (last + silence) - now
+
+-- the nanoseconds to the next heartbeat
+abbrev pub until_heartbeat : (last now : ℕ) → ℕ
+until_heartbeat last now = left_unless (is_due last now) last now
 
 -- the turn gives the packet of this type and payload
 abbrev pub IsFrame : (type : ℕ) → (payload : List ℕ) → Turn → Type 0

@@ -7,6 +7,9 @@ use hx_soup::frame;
 use hx_units::is_heartbeat_due;
 use std::marker::Model;
 
+// A heartbeat is due after so many nanoseconds without a packet.
+const SILENCE: u64 = 1_000_000_000;
+
 /// What a turn gives.
 #[derive(Debug, Drop)]
 pub enum Turn {
@@ -38,7 +41,7 @@ impl Model for Delivery {
 }
 
 impl Delivery {
-    ghost use Rattle.hx_session_core.specs.Deliveries.{TurnGives};
+    ghost use Rattle.hx_session_core.specs.Deliveries.{TurnGives, until_heartbeat};
 
     /// A delivery that begins with the reply of number `first`. The time `now` counts as that of a packet.
     pub fn new(first: u64, now: u64) -> Self
@@ -56,6 +59,16 @@ impl Delivery {
         ensures { result ≡ self.now.next }
     {
         self.next
+    }
+
+    /// How many nanoseconds there are at the time `now` to the next heartbeat, if nothing else goes out.
+    pub fn until_heartbeat(&self, now: u64) -> u64
+        ensures { result ≡ until_heartbeat self.now.last now }
+    {
+        if is_heartbeat_due(self.last, now) {
+            return 0;
+        }
+        SILENCE - (now - self.last)
     }
 
     /// What goes out at the time `now`, in nanoseconds, where `rows` are the replies from number `next` on: the

@@ -22,7 +22,7 @@ use Rattle.hx_sessions.specs.declared.ending.Fault.{Fault}
 use Rattle.hx_sessions.specs.declared.ending.Fault.TheVariants as fault
 use Rattle.hx_sessions.specs.declared.ending.Stop.{Stop}
 use Rattle.hx_sessions.specs.declared.ending.Stop.TheVariants as stop
-use Rattle.hx_sessions.specs.Workers.{Acting, Closed, Cut, ActedUntil, AsksUntil, Gathers, Receiving, Received, Why, Takes, Acted}
+use Rattle.hx_sessions.specs.Workers.{Acting, Closed, Cut, ActedUntil, AsksUntil, Gathers, Receiving, Received, Why, Takes, TakesMore, Acted}
 
 -- ---- what was sent
 
@@ -318,6 +318,11 @@ received_end member a b c f none s t r e read end = record {
   submits = r.submits;
   why = (acting_all r.packets r.done r.acting, end);
 }
+
+-- a piece was read, and what it brought was taken in
+pub more_taken : (member : ℕ) (b c f g : Option (List ℕ)) (piece : List ℕ) (t u : List (ℕ × Event)) (r : Result (Unit {0}) Stop) → Consumes b c piece → Takes member f g piece t u r → TakesMore member b c f g t u r
+more_taken member b c f g piece t u (Ok x) read takes = λ a s so_far. receiving_more member a b c f g piece s t u x so_far read takes
+more_taken member b c f g piece t u (Err w) read takes = λ a s so_far. received_stop member a b c f g piece s t u w so_far read takes
 
 -- packets and what stays behind them
 pub takes_ok : (member : ℕ) (old new : Option (List ℕ)) (piece : List ℕ) (before after : List (ℕ × Event)) (packets : List SoupPacket) (r : Result (Unit {0}) Stop) → Gives old new piece packets → Acted member before after packets r → Takes member old new piece before after r

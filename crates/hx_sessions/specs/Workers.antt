@@ -1,4 +1,4 @@
--- What the two workers of a session leave.
+-- What the two directions of a session leave.
 use Rattle.std.specs.Prelude.{ℕ, ◌≡◌, ◌⊎◌, List, [], ◌++◌, Option, Some, None, Bool, true, false, Result, Ok, Err}
 use Rattle.std.specs.Io.KnownBytes.{Consumes, IsAtEnd}
 use mathlib.Core.List.{IsPrefix}
@@ -35,7 +35,7 @@ SentRound first replies d old new moved =
     (d.over ≡ false) × (rest : List (List ℕ)) × Sent first replies rest d old new
     × (moved ≡ false → rest ≡ [])
 
--- By why the worker stopped: some replies may be left; none at the end of the day, which comes only once it is past; and
+-- By why it stopped: some replies may be left; none at the end of the day, which comes only once it is past; and
 -- where the output failed a beginning of the bytes was written.
 abbrev pub SentUntil :
     (past : Bool) → ℕ → List (List ℕ) → Delivery → Option (List ℕ) → Option (List ℕ) → Stop
@@ -57,7 +57,7 @@ SendsMore rows old new before after =
     → Sent first replies (rows ++ behind) old start (Some before)
     → Sent first replies behind new start (Some after)
 
--- The same, until the worker stops: some of them have gone out.
+-- The same, until it stops: some of them have gone out.
 abbrev pub StopsIn : List (List ℕ) → (old new : Delivery) → (before after : List ℕ) → Stop → Type 0
 StopsIn rows old new before after s =
     (past : Bool) (first : ℕ) (replies behind : List (List ℕ)) (start : Option (List ℕ))
@@ -85,7 +85,7 @@ ActedUntil packets done (stop.Ended e) =
 ActedUntil packets done (stop.Faulted f) =
     ((f ≡ fault.Framing) × Closed packets done) ⊎ Cut packets done
 
--- Behind the texts that packets ask to submit either nothing is wrong so far, or the worker stops.
+-- Behind the texts that packets ask to submit either nothing is wrong so far, or it stops.
 abbrev pub AsksUntil : List SoupPacket → List (List ℕ) → Option Stop → Type 0
 AsksUntil packets texts None = Acting packets texts
 AsksUntil packets texts (Some s) = ActedUntil packets texts s
@@ -124,7 +124,7 @@ Why left packets done (stop.Ended ended.ReaderEnd) = (done ≡ asked packets) ×
 Why left packets done (stop.Ended ended.DayEnd) = ⊥
 Why left packets done (stop.Faulted f) = IsPrefix done (asked packets)
 
--- What a worker has taken in when it stops. `lost` are bytes that were read and not taken apart for want of memory.
+-- What was taken in when it stops. `lost` are bytes that were read and not taken apart for want of memory.
 pub record Received (member : ℕ) (old new : Option (List ℕ)) (before after : List (ℕ × Event))
     (s : Stop) : Type 0 where
   pub bytes : List ℕ
@@ -136,6 +136,17 @@ pub record Received (member : ℕ) (old new : Option (List ℕ)) (before after :
   pub stream : IsStream bytes packets
   pub submits : Submits member before after done
   pub why : Why new packets done s
+
+-- Whatever was taken in before: a turn takes in more, and then it goes on or stops so.
+abbrev pub TakesMore :
+    ℕ → (old new : Option (List ℕ)) → (framer after : Option (List ℕ))
+    → (before sent : List (ℕ × Event)) → Result (Unit {0}) Stop → Type 0
+TakesMore member old new framer after before sent (Ok u) =
+    (start : Option (List ℕ)) (first : List (ℕ × Event))
+    → Receiving member start old framer first before → Receiving member start new after first sent
+TakesMore member old new framer after before sent (Err s) =
+    (start : Option (List ℕ)) (first : List (ℕ × Event))
+    → Receiving member start old framer first before → Received member start new first sent s
 
 -- What becomes of a piece of the stream: the packets that are whole with it are acted on.
 abbrev pub Takes :

@@ -36,10 +36,10 @@ pub enum Fault {
     Stopped,
 }
 
-/// Why a worker stopped.
+/// Why a direction stopped.
 #[derive(Drop)]
 pub enum Stop {
-    /// The other worker has ended.
+    /// The other direction has ended.
     Told,
     /// It ended by itself.
     Ended(Ended),

@@ -1,14 +1,15 @@
-//! The worker that takes messages in.
+//! The direction of a session that takes messages in.
 ghost use Rattle.std.specs.Prelude.{ℕ, List, ◌≡◌, ◌⊎◌, ◌+◌, ◌++◌, [], ◌∷◌, OnOk, OnErr, Some, IsSome, false};
 ghost use Rattle.hx_session_core.specs.declared.intake.Intake.TheVariants as intakes;
 ghost use Rattle.hx_rules.specs.declared.event.Event.TheVariants.{Message};
 ghost use Rattle.hx_sessions.specs.Asked.{CarriesOn, Submits, SendsOn, SendsSome};
-ghost use Rattle.hx_sessions.specs.Workers.{ActedUntil, Acted, Gathers, Takes, Received};
+ghost use Rattle.hx_sessions.specs.Workers.{ActedUntil, Acted, Gathers, Takes, TakesMore};
 ghost use Rattle.hx_sessions.specs.declared.ending.Fault.TheVariants as faults;
 ghost use Rattle.hx_sessions.specs.declared.ending.Stop.TheVariants as stops;
 
 use crate::ending::{Ended, Fault, Stop};
 use crate::ports::{Clock, Gate};
+use hx_bells::Source;
 use hx_engine::{DeskError, Exchange, Journal, Pass, SubmitError, Venue};
 use hx_market::{Bytes, Event};
 use hx_session_core::{Action, Intake};
@@ -17,7 +18,7 @@ use hx_units::{MemberNo, NoMemory};
 use std::alloc::Global;
 use std::io::{Error, ErrorKind, Read};
 use std::sync::Wait;
-use std::sync::atomic::{AtomicBool, Ordering};
+use std::time::Duration;
 
 /// Who is logged in: the exchange that his messages go to, who is called round each of them, whose replies he gets, and
 /// whether he may send messages. A drop copy may not.
@@ -37,7 +38,7 @@ pub struct Sender<V: Venue, C> {
     pub number: u64,
 }
 
-/// What the worker has, and gives back.
+/// What it has, and gives back.
 #[derive(Drop)]
 pub struct Inbox<V: Venue, R, C> {
     pub input: R,
@@ -53,7 +54,7 @@ fn fault_of(error: SubmitError) -> Fault {
     }
 }
 
-// What packets ask for: messages to submit, and why the worker stops behind them, if it does.
+// What packets ask for: messages to submit, and why it stops behind them, if it does.
 #[derive(Drop)]
 struct Gathered {
     events: Vec<Event>,
@@ -61,7 +62,7 @@ struct Gathered {
 }
 
 impl Gathered {
-    // These, and behind them the worker stops.
+    // These, and behind them it stops.
     fn until(events: Vec<Event>, stop: Stop) -> Gathered
         ensures { result ≡ record { events = events; stop = Some stop } }
     {
@@ -199,7 +200,7 @@ fn act<V: Venue, J: Journal + Drop, C: Clock, G: Gate, T: Wait>(
     }
 }
 
-// Acts on the packets before a fault of the stream, and says why the worker stops.
+// Acts on the packets before a fault of the stream, and says why it stops.
 fn act_last<V: Venue, J: Journal + Drop, C: Clock, G: Gate, T: Wait>(
     rt: &T,
     alloc: Global,
@@ -254,44 +255,41 @@ pub fn is_passing(error: &Error) -> bool {
     )
 }
 
-/// Takes the packets behind the login in and acts on them, until the client logs out, the input ends, the other
-/// worker has ended, or a fault.
-pub fn receive<V: Venue, J: Journal + Drop, R: Read, C: Clock, G: Gate, T: Wait>(
+/// Sleeps until there is something to do, for so long at most, and takes a piece of the stream in where one has come:
+/// the packets that are whole with it are acted on.
+pub fn receive<V: Venue, J: Journal + Drop, R: Read + Source, C: Clock, G: Gate, T: Wait>(
     rt: &T,
     alloc: Global,
     trader: &Trader<'_, V, J, G>,
-    mut inbox: Inbox<V, R, C>,
-    told: &AtomicBool,
-    turns: u64,
-) -> (Inbox<V, R, C>, Stop)
-    ensures pass { CarriesOn trader.now.may_send inbox.sender.pass result.0.sender.pass }
-    ensures received { Received trader.now.member (R.remaining inbox.input)
-        (R.remaining result.0.input) inbox.sender.pass.sent result.0.sender.pass.sent result.1 }
+    inbox: &mut Inbox<V, R, C>,
+    framer: &mut Framer,
+    limit: Duration,
+) -> Result<(), Stop>
+    requires { IsSome framer.old }
+    ensures pass { CarriesOn trader.now.may_send inbox.old.sender.pass inbox.new.sender.pass }
+    ensures more { TakesMore trader.now.member
+        (R.remaining inbox.old.input) (R.remaining inbox.new.input) framer.old framer.new
+        inbox.old.sender.pass.sent inbox.new.sender.pass.sent result }
 {
-    let mut framer = Framer::new();
-    let mut buffer = [0; 4096];
-    for _ in 0..turns {
-        if told.load(Ordering::SeqCst) {
-            return (inbox, Stop::Told);
+    let bell = trader.exchange.bell(&inbox.sender.pass);
+    if !inbox.input.wait(bell, limit) {
+        if trader.exchange.failure(rt).is_some() {
+            return Err(Stop::Faulted(Fault::Stopped));
         }
-        match inbox.input.read(&mut buffer) {
-            Ok(0) => return (inbox, Stop::Ended(Ended::ReaderEnd)),
-            Ok(count) => {
-                let piece = &buffer[..count];
-                match take(rt, alloc, trader, &mut inbox.sender, &mut framer, piece) {
-                    Ok(()) => {}
-                    Err(stop) => return (inbox, stop),
-                }
+        return Ok(());
+    }
+    let mut buffer = [0; 4096];
+    match inbox.input.read(&mut buffer) {
+        Ok(0) => Err(Stop::Ended(Ended::ReaderEnd)),
+        Ok(count) => {
+            let piece = &buffer[..count];
+            take(rt, alloc, trader, &mut inbox.sender, framer, piece)
+        }
+        Err(error) => {
+            if !is_passing(&error) {
+                return Err(Stop::Faulted(Fault::Read));
             }
-            Err(error) => {
-                if !is_passing(&error) {
-                    return (inbox, Stop::Faulted(Fault::Read));
-                }
-                if trader.exchange.failure(rt).is_some() {
-                    return (inbox, Stop::Faulted(Fault::Stopped));
-                }
-            }
+            Ok(())
         }
     }
-    (inbox, Stop::Faulted(Fault::Turns))
 }

@@ -1,5 +1,5 @@
-//! Sessions of members that run (SoupBinTCP 3.00): one worker takes the client's packets in and submits their
-//! messages, another sends the member's replies, at the same time.
+//! Sessions of members that run (SoupBinTCP 3.00), each in one thread: it takes the client's packets in and submits
+//! their messages, sends the member's replies, and sleeps where there is nothing to do.
 #![tactic(auto)]
 
 mod copies;

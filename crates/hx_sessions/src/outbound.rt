@@ -1,4 +1,4 @@
-//! The worker that sends replies.
+//! The direction of a session that sends replies.
 ghost use Rattle.std.specs.Prelude.{ℕ, List, ◌≡◌, ◌⊎◌, ◌+◌, ◌<◌, ◌≤◌, ◌^◌, ◌++◌, [], length, drop, true, false, IfOk, IfErr, OnErr, OnOk};
 ghost use mathlib.Core.List.{IsPrefix};
 ghost use Rattle.hx_units.specs.Fields.{texts};
@@ -16,8 +16,6 @@ use hx_session_core::{Delivery, Turn};
 use hx_units::MemberNo;
 use std::io::Write;
 use std::sync::Wait;
-use std::sync::atomic::{AtomicBool, Ordering};
-use std::time::{Clock as Timer, Duration};
 
 // The most replies that are taken from the exchange at once.
 const PAGE: u64 = 64;
@@ -25,11 +23,7 @@ const PAGE: u64 = 64;
 // Room for a page of replies, each behind the three bytes of its packet's head.
 const BATCH: usize = 64 * 83;
 
-// With nothing to send, a worker looks after so many milliseconds at the latest whether the other one has ended, and
-// whether a heartbeat is due.
-const LOOK_AGAIN: u64 = 20;
-
-/// What the worker has, and gives back.
+/// What it has, and gives back.
 #[derive(Drop)]
 pub struct Outbox<W, C> {
     pub output: W,
@@ -69,12 +63,11 @@ fn send<W: Write>(
     }
 }
 
-// Puts the packets of replies, which are the next ones, into a batch, until the worker stops.
+// Puts the packets of replies, which are the next ones, into a batch, as long as there are turns left.
 fn fill<C: Clock>(
     clock: &mut C,
     delivery: &mut Delivery,
     rows: &[ArrayVec<u8, 80>],
-    told: &AtomicBool,
     left: &mut u64,
     batch: &mut ArrayVec<u8, BATCH>,
 ) -> Result<(), Stop>
@@ -87,9 +80,6 @@ fn fill<C: Clock>(
         batch.old.items batch.new.items) }
 {
     for i in 0..rows.len() {
-        if told.load(Ordering::SeqCst) {
-            return Err(Stop::Told);
-        }
         if *left == 0 {
             return Err(Stop::Faulted(Fault::Turns));
         }
@@ -113,7 +103,6 @@ impl<W: Write, C: Clock> Outbox<W, C> {
         exchange: &Exchange<V, J>,
         member: MemberNo,
         ended: bool,
-        told: &AtomicBool,
         left: &mut u64,
     ) -> Result<bool, Stop>
         requires log { self.old.reader.log ≡ V.log }
@@ -154,7 +143,7 @@ impl<W: Write, C: Clock> Outbox<W, C> {
         }
         let mut batch = ArrayVec::<u8, BATCH>::new();
         let clock = &mut self.clock;
-        let filled = fill(clock, &mut self.delivery, &rows, told, left, &mut batch);
+        let filled = fill(clock, &mut self.delivery, &rows, left, &mut batch);
         match write_whole(&mut self.output, batch.as_slice()) {
             Ok(()) => {}
             Err(Broken) => return Err(Stop::Faulted(Fault::Write)),
@@ -166,39 +155,41 @@ impl<W: Write, C: Clock> Outbox<W, C> {
     }
 }
 
-/// Sends the replies to a member until the other worker has ended, the day has, or the output fails.
-pub fn deliver<V: Venue, J: Journal + Drop, W: Write, C: Clock, T: Wait + Timer>(
+/// Sends all replies to a member that are there, and behind the last of the day the end of the session; where none is there
+/// a heartbeat, if one is due. It takes one of the turns that are left for each packet, and one where there is nothing to
+/// send.
+pub fn deliver<V: Venue, J: Journal + Drop, W: Write, C: Clock, T: Wait>(
     rt: &T,
     exchange: &Exchange<V, J>,
     member: MemberNo,
     mut outbox: Outbox<W, C>,
-    told: &AtomicBool,
-    turns: u64,
-) -> (Outbox<W, C>, Stop)
+    left: &mut u64,
+) -> (Outbox<W, C>, Result<(), Stop>)
     requires log { outbox.reader.log ≡ V.log }
     requires live { outbox.delivery.over ≡ false }
     requires next { IsNextOf (known_replies V.setup member outbox.reader.known)
         outbox.delivery.next }
     ensures log { result.0.reader.log ≡ V.log }
     ensures known { IsPrefix outbox.reader.known result.0.reader.known }
-    ensures sent { SentUntil (day_over V.setup result.0.reader.known) outbox.delivery.next
+    ensures ok { OnOk result.1 (
+        (result.0.delivery.over ≡ false)
+        × Sent outbox.delivery.next
+        (known_replies V.setup member result.0.reader.known) [] result.0.delivery
+        (W.contents outbox.output) (W.contents result.0.output)) }
+    ensures err { IfErr result.1 (SentUntil (day_over V.setup result.0.reader.known)
+        outbox.delivery.next
         (known_replies V.setup member result.0.reader.known) result.0.delivery
-        (W.contents outbox.output) (W.contents result.0.output) result.1 }
+        (W.contents outbox.output) (W.contents result.0.output)) }
 {
-    let mut left = turns;
-    let limit = Duration::from_millis(LOOK_AGAIN);
     for _ in 0..u64::MAX {
-        if told.load(Ordering::SeqCst) {
-            return (outbox, Stop::Told);
-        }
-        let sent = outbox.delivery.next() - 1;
-        let news = exchange.wait_for_news(rt, &mut outbox.reader, member, sent, limit);
-        match outbox.round(rt, exchange, member, news.ended, told, &mut left) {
-            Ok(_) => {}
-            Err(stop) => return (outbox, stop),
+        let news = exchange.news(rt, &mut outbox.reader, member);
+        match outbox.round(rt, exchange, member, news.ended, left) {
+            Ok(true) => {}
+            Ok(false) => return (outbox, Ok(())),
+            Err(stop) => return (outbox, Err(stop)),
         }
     }
-    (outbox, Stop::Faulted(Fault::Turns))
+    (outbox, Err(Stop::Faulted(Fault::Turns)))
 }
 
 /// Sends the replies so far after a logout: all that the receipt knows of are among them.
@@ -228,15 +219,6 @@ pub fn finish<V: Venue, J: Journal + Drop, W: Write, C: Clock, T: Wait>(
         (W.contents outbox.output) (W.contents result.0.output)) }
 {
     outbox.reader.learn(exchange.feed_log(), receipt);
-    let never = AtomicBool::new(false);
     let mut left = u64::MAX;
-    for _ in 0..u64::MAX {
-        let news = exchange.news(rt, &mut outbox.reader, member);
-        match outbox.round(rt, exchange, member, news.ended, &never, &mut left) {
-            Ok(true) => {}
-            Ok(false) => return (outbox, Ok(())),
-            Err(stop) => return (outbox, Err(stop)),
-        }
-    }
-    (outbox, Err(Stop::Faulted(Fault::Turns)))
+    deliver(rt, exchange, member, outbox, &mut left)
 }

@@ -11,9 +11,9 @@ pub struct Part<V: Venue, R, W, C> {
     pub input: R,
     /// The output.
     pub output: W,
-    /// The clock of the worker that takes messages in.
+    /// The clock of the messages that are taken in.
     pub inbound: C,
-    /// The clock of the worker that sends replies.
+    /// The clock of the packets that go out.
     pub outbound: C,
     /// The pass by which messages are submitted.
     pub pass: Pass<V>,

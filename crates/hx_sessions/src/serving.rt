@@ -9,6 +9,7 @@ use crate::ending::{Ended, Fault};
 use crate::part::Part;
 use crate::ports::{Clock, Gate};
 use crate::session::Session;
+use hx_bells::Source;
 use hx_engine::{Exchange, Journal, Venue};
 use std::alloc::Global;
 use std::io::{Read, Write};
@@ -30,7 +31,7 @@ struct Slot<V: Venue, R, W, C> {
 fn serve<
     V: Venue + Send + Sync,
     J: Journal + Drop + Send,
-    R: Read + Send + Drop,
+    R: Read + Source + Send + Drop,
     W: Write + Send + Drop,
     C: Clock + Send + Drop,
     G: Gate + Sync,
@@ -71,7 +72,7 @@ fn serve<
 fn serve_slots<
     V: Venue + Send + Sync,
     J: Journal + Drop + Send,
-    R: Read + Send + Drop,
+    R: Read + Source + Send + Drop,
     W: Write + Send + Drop,
     C: Clock + Send + Drop,
     G: Gate + Sync,
@@ -182,7 +183,7 @@ fn take_all<V: Venue, R: Drop, W: Drop, C: Drop>(
 pub fn serve_all<
     V: Venue + Send + Sync,
     J: Journal + Drop + Send,
-    R: Read + Send + Drop,
+    R: Read + Source + Send + Drop,
     W: Write + Send + Drop,
     C: Clock + Send + Drop,
     G: Gate + Sync,

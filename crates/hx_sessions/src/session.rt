@@ -15,6 +15,7 @@ use crate::outbound::{Outbox, finish};
 use crate::pair::work;
 use crate::part::Part;
 use crate::ports::{Clock, Gate};
+use hx_bells::Source;
 use hx_blog::Reader;
 use hx_engine::{Entry, Exchange, Journal, Pass, Venue};
 use hx_session_core::Delivery;
@@ -22,10 +23,8 @@ use hx_units::MemberNo;
 use std::alloc::Global;
 use std::io::{Read, Write};
 use std::sync::Wait;
-use std::thread::Threads;
-use std::time::Clock as Timer;
 
-/// How both workers ended, as one: a fault before an ending, the inbound fault first, and the end of the day before
+/// How both directions ended, as one: a fault before an ending, the inbound fault first, and the end of the day before
 /// the other endings. Where neither ended by itself there was no session, as for want of memory.
 pub fn both(inbound: Stop, outbound: Stop) -> Result<Ended, Fault>
     ensures { result ≡ both_of inbound outbound }
@@ -49,16 +48,16 @@ pub fn both(inbound: Stop, outbound: Stop) -> Result<Ended, Fault>
 pub struct Session;
 
 impl Session {
-    /// Runs a session: the login, then one worker for each direction at once. The part always comes back. A drop copy gets
+    /// Runs a session in this thread: the login, then both directions by turns. The part always comes back. A drop copy gets
     /// the replies to another member; its session ends at the first message that it sends, which goes nowhere.
     pub fn run<
-        V: Venue + Send + Sync,
-        J: Journal + Drop + Send,
-        R: Read + Send + Drop,
-        W: Write + Send + Drop,
-        C: Clock + Send + Drop,
-        G: Gate + Sync,
-        T: Threads + Wait + Timer + Sync,
+        V: Venue,
+        J: Journal + Drop,
+        R: Read + Source + Drop,
+        W: Write + Drop,
+        C: Clock + Drop,
+        G: Gate,
+        T: Wait,
     >(
         rt: &T,
         alloc: Global,
@@ -109,6 +108,8 @@ impl Session {
             }
             Ok((begun, left)) => {
                 gate.opened(begun.member);
+                let member = read_by(logins.copies, begun.member);
+                exchange.listen(rt, &pass, member);
                 let now = outbound.now();
                 let inbox = Inbox {
                     input,
@@ -127,12 +128,13 @@ impl Session {
                 let trader = Trader {
                     exchange,
                     gate,
-                    member: read_by(logins.copies, begun.member),
+                    member,
                     may_send: may_send(logins.copies, begun.member),
                 };
                 let (inbox, mut outbox, result) = converse(
                     rt, alloc, &trader, inbox, outbox, left, turns,
                 );
+                exchange.leave(rt, &inbox.sender.pass, member);
                 let _ = outbox.output.flush();
                 let part = Part {
                     input: inbox.input,
@@ -148,15 +150,15 @@ impl Session {
     }
 }
 
-// A session behind its login: both workers at once, and after a logout the replies so far.
+// A session behind its login: both directions, and after a logout the replies so far.
 fn converse<
-    V: Venue + Send + Sync,
-    J: Journal + Drop + Send,
-    R: Read + Send + Drop,
-    W: Write + Send + Drop,
-    C: Clock + Send + Drop,
-    G: Gate + Sync,
-    T: Threads + Wait + Timer + Sync,
+    V: Venue,
+    J: Journal + Drop,
+    R: Read + Source + Drop,
+    W: Write + Drop,
+    C: Clock + Drop,
+    G: Gate,
+    T: Wait,
 >(
     rt: &T,
     alloc: Global,

@@ -74,7 +74,28 @@ impl<V: Venue> Client<V> {
         member: MemberNo,
         limit: Duration,
     ) -> News {
-        exchange.wait_for_news(rt, &mut self.reader, member, 1, limit)
+        exchange.listen(rt, &self.pass, member);
+        let news = self.listen_for(rt, exchange, member, limit);
+        exchange.leave(rt, &self.pass, member);
+        news
+    }
+
+    // Sleeps at the bell until there is more than one reply, or until a ring is too late.
+    fn listen_for<R: Wait + Clock>(
+        &mut self,
+        rt: &R,
+        exchange: &Exchange<V, Memory>,
+        member: MemberNo,
+        limit: Duration,
+    ) -> News {
+        let bell = exchange.bell(&self.pass);
+        bell.arm();
+        let news = exchange.news(rt, &mut self.reader, member);
+        if news.replies > 1 {
+            return news;
+        }
+        bell.sleep(limit);
+        exchange.news(rt, &mut self.reader, member)
     }
 
     // Whether an event is recorded.
@@ -285,10 +306,8 @@ fn expect_traded<V: Venue, R: Wait + Clock + Abort>(
         ended: false,
     };
     assert_eq!(rt; news, traded);
-    let soon = Duration::from_millis(1);
     let reader = &mut client.reader;
     assert_eq!(rt; exchange.news(rt, reader, member), traded);
-    assert_eq!(rt; exchange.wait_for_news(rt, reader, member, 2, soon), traded);
     let page = exchange.replies_page(rt, reader, member, 2, 5)?;
     assert_eq!(rt; page.len(), 1);
     Ok(())

@@ -3,6 +3,7 @@
 use super::boards::{Counting, told};
 use super::client::{Client, free_ports};
 use super::days::args_of;
+use hx_bells::Bell;
 use hx_members::{Seed, Setup};
 use hx_serve::{Datagrams, Doors, Hosting, Meter, Silent, Tally, Times, serve_day, today};
 use log::Log;
@@ -54,6 +55,10 @@ impl<'a> Datagrams for Flood<'a> {
         let count = REQUEST.len().min(buffer.len());
         buffer[..count].copy_from_slice(&REQUEST[..count]);
         Ok((count, self.source))
+    }
+
+    fn wait(&self, _bell: &Bell, _limit: Duration) -> bool {
+        true
     }
 }
 

@@ -5,22 +5,25 @@ ghost use Rattle.hx_engine.specs.Opening.{IsNewLog};
 use super::client::{Client, Want};
 use super::overlap::Meeting;
 use super::packets::{Order, enter};
+use hx_bells::{Bell, Source};
 use hx_blog::{Log, Reader};
 use hx_engine::{Entry, Exchange, FinishError, Logs, Pass, Venue};
 use hx_journal::Unkept;
 use hx_market::{Bytes, Event};
 use hx_members::Setup;
 use hx_sessions::{Clock, DropCopy, Logins, Part, serve_all};
-use hx_testing::memory::{Input, Output};
+use hx_testing::memory::{Behind, Input, Output};
 use hx_units::NoMemory;
 use std::alloc::Global;
+use std::io::{self, Read};
 use std::marker::Brand;
 use std::process::Abort;
 use std::sync::Wait;
+use std::sync::atomic::Ordering;
 use std::sync::ledger::Blank;
 use std::test::*;
 use std::thread::Threads;
-use std::time::Clock as Timer;
+use std::time::{Clock as Timer, Duration};
 
 /// The time of day is always the same.
 #[derive(Drop)]
@@ -75,8 +78,34 @@ impl<'a> Day<'a> {
     }
 }
 
+// An input in memory, where a session sleeps until its last bytes are let go.
+#[derive(Drop)]
+struct Line<'a> {
+    input: Input<'a>,
+}
+
+impl<'a> Read for Line<'a> {
+    fn read(&mut self, buf: &mut [u8]) -> io::Result<usize> {
+        self.input.read(buf)
+    }
+}
+
+impl<'a> Source for Line<'a> {
+    fn wait(&self, bell: &Bell, _limit: Duration) -> bool {
+        match self.input.behind {
+            Behind::Waits { count, wanted, .. } if self.input.bytes.is_empty() => {
+                if count.load(Ordering::SeqCst) < wanted {
+                    bell.sleep(Duration::from_millis(1));
+                }
+                count.load(Ordering::SeqCst) >= wanted
+            }
+            _ => true,
+        }
+    }
+}
+
 // What a client's session is made of.
-type OwnPart<'a, V> = Part<V, Input<'a>, Output<'a>, Still>;
+type OwnPart<'a, V> = Part<V, Line<'a>, Output<'a>, Still>;
 
 // An exchange with its setup, the passes that are left, and a reader of its log.
 #[derive(Drop)]
@@ -129,7 +158,7 @@ impl<V: Venue> Stage<V> {
         let pass = self.passes.pop()?;
         let reader = self.reader.split(self.exchange.feed_log());
         Some(Part {
-            input,
+            input: Line { input },
             output,
             inbound: Still,
             outbound: Still,

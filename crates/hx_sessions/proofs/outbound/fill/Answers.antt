@@ -13,11 +13,6 @@ loop-i-init g c = record {
   sent = λ first replies behind start s. s;
 }
 
-pub returns-then-load-clause-err : goal.returns-then-load-clause-err
-returns-then-load-clause-err g c = λ past first replies behind start s.
-    let inv = c.loop-i.invariant in
-    (inv.live, drop c.loop-i.i (texts c.args.rows.now) ++ behind, inv.sent first replies behind start s)
-
 pub returns-then-left-eq0-clause-err : goal.returns-then-left-eq0-clause-err
 returns-then-left-eq0-clause-err g c = λ past first replies behind start s.
     let inv = c.loop-i.invariant in

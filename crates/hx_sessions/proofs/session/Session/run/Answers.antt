@@ -24,14 +24,14 @@ returns-in-Ok g c =
     let old : Side = record { input = left; output = out; pass = pass; reader = c.admit-begun.new.reader } in
     opened setup c.args.logins.now.setup.now c.args.logins.now.copies.now _ left (g.W.Write.contents c.args.part.output) out pass c.args.part.reader c.admit-begun.new.reader c.in-Ok.begun c.new.result.next new (g.W.Write.contents c.flush-in-Ok.new.self) made.2
     (c.converse-inbox.ensures.log ∙ sym c.args.part.belongs) c.admit-begun.ensures.known (subst (λ b. CarriesOn b pass made.0.sender.pass) c.may_send.ensures c.converse-inbox.ensures.pass) c.in-Ok.ensures.ok next c.converse-inbox.ensures.known
-    (subst (λ m. Converses setup m c.new.result.next [] old new made.2) c.read_by.ensures c.converse-inbox.ensures.converses) c.flush-in-Ok.ensures.bytes
+    (subst (λ m. Converses setup m c.new.result.next [] old new made.2) c.read_by-member.ensures c.converse-inbox.ensures.converses) c.flush-in-Ok.ensures.bytes
 
 pub converse-inbox-requires-clause-next : goal.converse-inbox-requires-clause-next
-converse-inbox-requires-clause-next g c κs within =
+converse-inbox-requires-clause-next g c =
     let a = c.in-Ok.ensures.ok in
     let begun = c.in-Ok.begun in
     let known = c.admit-begun.new.reader.known in
     let copies = c.args.logins.now.copies.now in
     let next : c.new.result.next ≡ begun.first = ap (λ (d : Delivery). d.next) c.new.ensures in
-    subst (λ m. IsNextOf (known_replies g.V.Venue.setup m known) c.new.result.next) (sym c.read_by.ensures)
+    subst (λ m. IsNextOf (known_replies g.V.Venue.setup m known) c.new.result.next) (sym c.read_by-member.ensures)
     (subst (IsNextOf (known_replies g.V.Venue.setup (_) known)) (sym next) (opens_within g.V.Venue.setup c.args.logins.now.setup.now copies a.login known begun a.opens))

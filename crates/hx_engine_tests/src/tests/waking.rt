@@ -1,0 +1,158 @@
+//! Who is woken by what is told: only who has news.
+ghost use Rattle.std.specs.Prelude.{◌≡◌, []};
+ghost use Rattle.hx_engine.specs.Opening.{IsNewLog};
+
+use super::exchanges::ends;
+use hx_bells::Bell;
+use hx_blog::{Log, Reader};
+use hx_engine::{Entry, Exchange, Logs, Pass, Venue};
+use hx_engine_testing::ground::logs_of;
+use hx_engine_testing::memory::Memory;
+use hx_members::Setup;
+use hx_testing::sending::{BUY, Order, SELL, enter};
+use hx_units::MemberNo;
+use std::alloc::Global;
+use std::marker::Brand;
+use std::process::Abort;
+use std::sync::Wait;
+use std::sync::ledger::Blank;
+use std::test::*;
+use std::time::{Clock, Duration, Instant};
+
+// How long it is waited for a ring, in milliseconds.
+const SHORT: u64 = 5;
+
+// Whether a bell that was armed has rung.
+fn has_rung(clock: &impl Clock, bell: &Bell) -> Result<bool, Fail> {
+    let short = Duration::from_millis(SHORT);
+    let start = Instant::now(clock)?;
+    bell.sleep(short);
+    Ok(start.elapsed(clock)? < short)
+}
+
+// Two sessions, of the first two members, and the exchange that they are at.
+#[derive(Drop)]
+struct Room<V: Venue> {
+    alloc: Global,
+    exchange: Exchange<V, Memory>,
+    first: Pass<V>,
+    second: Pass<V>,
+}
+
+impl<V: Venue> Room<V> {
+    // Who is woken by an order of the first pass: the first member's session, the second's, and the publisher.
+    fn woken<R: Wait + Clock + Abort>(&mut self, rt: &R, order: &Order) -> Result<[bool; 3], Fail> {
+        let event = enter(self.alloc, order)?;
+        self.exchange.bell(&self.first).arm();
+        self.exchange.bell(&self.second).arm();
+        self.exchange.feed_bell().arm();
+        assert!(rt; self.exchange.submit(rt, &mut self.first, &event).is_ok());
+        Ok([
+            has_rung(rt, self.exchange.bell(&self.first))?,
+            has_rung(rt, self.exchange.bell(&self.second))?,
+            has_rung(rt, self.exchange.feed_bell())?,
+        ])
+    }
+}
+
+// Both sessions listen, each to its member.
+fn room_of<V: Venue, R: Wait>(
+    rt: &R,
+    alloc: Global,
+    exchange: Exchange<V, Memory>,
+    mut passes: Vec<Pass<V>>,
+) -> Result<Room<V>, Fail> {
+    let second = passes.pop().ok_or("a pass")?;
+    let first = passes.pop().ok_or("a pass")?;
+    exchange.listen(rt, &first, MemberNo::of(1).ok_or("a member")?);
+    exchange.listen(rt, &second, MemberNo::of(2).ok_or("a member")?);
+    Ok(Room {
+        alloc,
+        exchange,
+        first,
+        second,
+    })
+}
+
+// Orders that nobody sees wake their member alone, and those that are seen the publisher too.
+fn own_orders<V: Venue, R: Wait + Clock + Abort>(rt: &R, room: &mut Room<V>) -> Result<(), Fail> {
+    let hidden = Order {
+        token: *b"H1",
+        display: b'N',
+        ..BUY
+    };
+    let others = Order {
+        member: 2,
+        token: *b"H2",
+        price: 90_000,
+        ..hidden
+    };
+    let woken = room.woken(rt, &hidden)?;
+    assert!(rt; woken == [true, false, false]);
+    let woken = room.woken(rt, &BUY)?;
+    assert!(rt; woken == [true, false, true]);
+    let woken = room.woken(rt, &others)?;
+    assert!(rt; woken == [false, true, false]);
+    Ok(())
+}
+
+// An execution wakes both, and who has left is not woken.
+fn an_execution<V: Venue, R: Wait + Clock + Abort>(rt: &R, room: &mut Room<V>) -> Result<(), Fail> {
+    let crossing = Order {
+        member: 2,
+        token: *b"S1",
+        ..SELL
+    };
+    let later = Order {
+        token: *b"T2",
+        ..BUY
+    };
+    let woken = room.woken(rt, &crossing)?;
+    assert!(rt; woken == [true, true, true]);
+    let member = MemberNo::of(1).ok_or("a member")?;
+    room.exchange.leave(rt, &room.first, member);
+    let woken = room.woken(rt, &later)?;
+    assert!(rt; woken == [false, false, true]);
+    Ok(())
+}
+
+fn wake<V: Venue, R: Wait + Clock + Abort>(
+    rt: &R,
+    alloc: Global,
+    setup: Setup,
+    logs: Logs,
+    blank: Blank,
+    mut reader: Reader<Entry>,
+) -> Result<(), Fail>
+    requires feed { IsNewLog V.log logs.feed }
+    requires admitted { IsNewLog V.admitted logs.admitted }
+    requires kept { IsNewLog V.kept logs.kept }
+    requires of_setup { setup ≡ V.setup }
+    requires before { V.before ≡ [] }
+    requires reader { reader.log ≡ V.log }
+    requires blank { (blank.name ≡ V.name) × (blank.parts ≡ V.parts) × (V.parts ≡ 2) }
+{
+    let (exchange, passes) = Exchange::<V, Memory>::new(
+        alloc,
+        setup,
+        logs,
+        Memory::new(alloc, 10_000),
+        blank,
+        2,
+    )?;
+    assert_eq!(rt; reader.look(exchange.feed_log()), 0);
+    let mut room = room_of(rt, alloc, exchange, passes)?;
+    own_orders(rt, &mut room)?;
+    an_execution(rt, &mut room)?;
+    let passes = vec![in alloc; room.first, room.second]?;
+    ends(rt, room.exchange, passes, 5, 3)
+}
+
+#[test]
+fn only_who_has_news_is_woken(rt: HostRuntime) -> Result<(), Fail> {
+    let alloc = rt.alloc();
+    let setup = Setup::standard(alloc)?;
+    let (log, writer, reader) = Log::<Entry>::new(alloc, 100)?;
+    let logs = logs_of(alloc, log, writer)?;
+    wake::<Brand, _>(&rt, alloc, setup, logs, Blank::new(2), reader)
+}
