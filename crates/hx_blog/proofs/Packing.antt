@@ -11,37 +11,8 @@ use lib.ListN.{get_or-append, length-replicate}
 use Rattle.hx_blog.specs.Packed.{IsMessage, padded, word_at, packed, words_of}
 use Rattle.hx_blog.proofs.Feeds.{word_of}
 
--- n elements of xs from the k-th on
-reads : ℕ → List ℕ → ℕ → List ℕ
-reads zero xs k = []
-reads (suc n) xs k = get_or xs k 0 ∷ reads n xs (k + 1)
-
-take_drop : (n : ℕ) (xs : List ℕ) (k : ℕ) → k + n ≤ length xs → take n (drop k xs) ≡ reads n xs k
-unfolding reads
-take_drop zero xs k h = refl
-take_drop (suc n) xs k h = ap (take (suc n)) (drop_more xs k 0 (omega arith)) ∙ ap (λ t. get_or xs k 0 ∷ t) (take_drop n xs (k + 1) (omega arith))
-
 pub length-padded : (m : List ℕ) → length m ≤ 44 → length (padded m) ≡ 48
 length-padded m h = omega (arith, length-append m (replicate (47 - length m) 0), length-replicate {A = ℕ} (47 - length m) 0)
-
--- a word by its eight bytes
-pub word_by : (m : List ℕ) (k a0 a1 a2 a3 a4 a5 a6 a7 n : ℕ) → length m ≤ 44 → k ≤ 40
-    → a0 ≡ get_or (padded m) k 0 → a1 ≡ get_or (padded m) (k + 1) 0 → a2 ≡ get_or (padded m) (k + 2) 0 → a3 ≡ get_or (padded m) (k + 3) 0
-    → a4 ≡ get_or (padded m) (k + 4) 0 → a5 ≡ get_or (padded m) (k + 5) 0 → a6 ≡ get_or (padded m) (k + 6) 0 → a7 ≡ get_or (padded m) (k + 7) 0
-    → n ≡ from_be_bytes w64 (a0 ∷ a1 ∷ a2 ∷ a3 ∷ a4 ∷ a5 ∷ a6 ∷ a7 ∷ []) → n ≡ word_at (padded m) k
-unfolding word_at reads
-word_by m k a0 a1 a2 a3 a4 a5 a6 a7 n h l e0 e1 e2 e3 e4 e5 e6 e7 is =
-    let xs = padded m in
-    let at : (i j : ℕ) → i ≡ j → get_or xs i 0 ≡ get_or xs j 0 = λ i j e. ap (λ z. get_or xs z 0) e in
-    let f1 = e1 in
-    let f2 = e2 ∙ at (k + 2) (k + 1 + 1) (omega arith) in
-    let f3 = e3 ∙ at (k + 3) (k + 1 + 1 + 1) (omega arith) in
-    let f4 = e4 ∙ at (k + 4) (k + 1 + 1 + 1 + 1) (omega arith) in
-    let f5 = e5 ∙ at (k + 5) (k + 1 + 1 + 1 + 1 + 1) (omega arith) in
-    let f6 = e6 ∙ at (k + 6) (k + 1 + 1 + 1 + 1 + 1 + 1) (omega arith) in
-    let f7 = e7 ∙ at (k + 7) (k + 1 + 1 + 1 + 1 + 1 + 1 + 1) (omega arith) in
-    let bytes : a0 ∷ a1 ∷ a2 ∷ a3 ∷ a4 ∷ a5 ∷ a6 ∷ a7 ∷ [] ≡ reads 8 xs k = λ i. e0 i ∷ f1 i ∷ f2 i ∷ f3 i ∷ f4 i ∷ f5 i ∷ f6 i ∷ f7 i ∷ [] in
-    is ∙ ap (from_be_bytes w64) (bytes ∙ sym (take_drop 8 xs k (omega (arith, length-padded m h))))
 
 -- a byte of the 48
 pub padded_bytes : (m : List ℕ) (k : ℕ) → IsMessage m → get_or (padded m) k 0 < 256

@@ -3,36 +3,25 @@ ghost use Rattle.std.specs.Prelude.{◌≡◌, ℕ, ◌+◌, ◌*◌, ◌<◌, �
 ghost use Rattle.hx_blog.specs.Packed.{longest, IsMessage, padded, packed, word_at};
 
 use arrayvec::ArrayVec;
+use hx_units::fields::array_at;
 
-// Byte k of the 48 that stand for the message.
-fn padded_byte(message: &[u8], k: usize) -> u8
-    requires { (k < 48) × (length message.now ≤ longest) }
-    ensures { result ≡ slice_index (padded message.now) k }
+// The 48 bytes that stand for a message.
+fn padded(message: &[u8]) -> [u8; 48]
+    requires { length message.now ≤ longest }
+    ensures { result ≡ padded message.now }
 {
-    if k == 0 {
-        message.len() as u8
-    } else if k <= message.len() {
-        message[k - 1]
-    } else {
-        0
-    }
+    let mut bytes = [0; 48];
+    bytes[0] = message.len() as u8;
+    bytes[1..1 + message.len()].copy_from_slice(message);
+    bytes
 }
 
 // The word of the eight bytes from byte k on.
-fn padded_word(message: &[u8], k: usize) -> u64
-    requires { (k ≤ 40) × (length message.now ≤ longest) }
-    ensures { result ≡ word_at (padded message.now) k }
+fn word_at(bytes: &[u8; 48], k: usize) -> u64
+    requires { k ≤ 40 }
+    ensures { result ≡ word_at bytes.now k }
 {
-    u64::from_be_bytes([
-        padded_byte(message, k),
-        padded_byte(message, k + 1),
-        padded_byte(message, k + 2),
-        padded_byte(message, k + 3),
-        padded_byte(message, k + 4),
-        padded_byte(message, k + 5),
-        padded_byte(message, k + 6),
-        padded_byte(message, k + 7),
-    ])
+    u64::from_be_bytes(array_at(bytes, k))
 }
 
 /// The six words that stand for a message.
@@ -41,13 +30,14 @@ pub(crate) fn pack(message: &[u8]) -> [u64; 6]
     ensures words { result ≡ packed message.now }
     ensures message { IsMessage message.now }
 {
+    let bytes = padded(message);
     [
-        padded_word(message, 0),
-        padded_word(message, 8),
-        padded_word(message, 16),
-        padded_word(message, 24),
-        padded_word(message, 32),
-        padded_word(message, 40),
+        word_at(&bytes, 0),
+        word_at(&bytes, 8),
+        word_at(&bytes, 16),
+        word_at(&bytes, 24),
+        word_at(&bytes, 32),
+        word_at(&bytes, 40),
     ]
 }
 

@@ -79,7 +79,7 @@ fn later_action(packet: &SoupPacket) -> Action
     ensures { result ≡ later_action packet.now }
 {
     match packet.kind {
-        b'U' if packet.payload.is_empty() => Action::Ignore,
+        b'U' if packet.payload.as_slice().is_empty() => Action::Ignore,
         b'U' => Action::Submit,
         b'R' | b'+' => Action::Ignore,
         b'O' => Action::Logout,

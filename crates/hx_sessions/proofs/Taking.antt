@@ -87,20 +87,20 @@ at : (packets : List SoupPacket) (i : ℕ) (p : SoupPacket) → i < length packe
 at packets i p h is = drop_more packets i p h ∙ ap (λ x. x ∷ drop (i + 1) packets) (sym is)
 
 step : (packets : List SoupPacket) (i : ℕ) (done : List (List ℕ)) (p : SoupPacket) (a : Action) → Upto packets i done → i < length packets → p ≡ get_or packets i p → later_action p ≡ a
-    → (later : List SoupPacket) → asked (packets ++ later) ≡ done ++ asked_by a p.payload.items (asked (drop (i + 1) packets ++ later))
+    → (later : List SoupPacket) → asked (packets ++ later) ≡ done ++ asked_by a p.payload (asked (drop (i + 1) packets ++ later))
 step packets i done p a u h is acts later =
-    u.asks later ∙ ap (λ l. done ++ asked (l ++ later)) (at packets i p h is) ∙ ap (λ x. done ++ asked_by x p.payload.items (asked (drop (i + 1) packets ++ later))) acts
+    u.asks later ∙ ap (λ l. done ++ asked (l ++ later)) (at packets i p h is) ∙ ap (λ x. done ++ asked_by x p.payload (asked (drop (i + 1) packets ++ later))) acts
 
-pub upto_submit : (packets : List SoupPacket) (i : ℕ) (done : List (List ℕ)) (p : SoupPacket) → Upto packets i done → i < length packets → p ≡ get_or packets i p → later_action p ≡ action.Submit → Upto packets (i + 1) (done ++ p.payload.items ∷ [])
+pub upto_submit : (packets : List SoupPacket) (i : ℕ) (done : List (List ℕ)) (p : SoupPacket) → Upto packets i done → i < length packets → p ≡ get_or packets i p → later_action p ≡ action.Submit → Upto packets (i + 1) (done ++ p.payload ∷ [])
 upto_submit packets i done p u h is acts =
-    record { asks = λ later. step packets i done p action.Submit u h is acts later ∙ sym (append_assoc done (p.payload.items ∷ []) (asked (drop (i + 1) packets ++ later))) }
+    record { asks = λ later. step packets i done p action.Submit u h is acts later ∙ sym (append_assoc done (p.payload ∷ []) (asked (drop (i + 1) packets ++ later))) }
 
 pub upto_ignore : (packets : List SoupPacket) (i : ℕ) (done : List (List ℕ)) (p : SoupPacket) → Upto packets i done → i < length packets → p ≡ get_or packets i p → later_action p ≡ action.Ignore → Upto packets (i + 1) done
 upto_ignore packets i done p u h is acts = record { asks = λ later. step packets i done p action.Ignore u h is acts later }
 
 pub upto_closed : (packets : List SoupPacket) (i : ℕ) (done : List (List ℕ)) (p : SoupPacket) (a : Action) → Upto packets i done → i < length packets → p ≡ get_or packets i p → later_action p ≡ a
     → ((text : List ℕ) (more : List (List ℕ)) → asked_by a text more ≡ []) → Closed packets done
-upto_closed packets i done p a u h is acts none = record { asks = λ later. step packets i done p a u h is acts later ∙ (ap (λ l. done ++ l) (none p.payload.items (asked (drop (i + 1) packets ++ later))) ∙ append-nil done) }
+upto_closed packets i done p a u h is acts none = record { asks = λ later. step packets i done p a u h is acts later ∙ (ap (λ l. done ++ l) (none p.payload (asked (drop (i + 1) packets ++ later))) ∙ append-nil done) }
 
 pub has_at : (packets : List SoupPacket) (i : ℕ) (p : SoupPacket) → i < length packets → p ≡ get_or packets i p → later_action p ≡ action.Logout → HasLogout packets
 has_at packets i p h is acts = record {

@@ -1,14 +1,17 @@
 -- A stream that grows by a byte.
-use Rattle.std.proofs.Common.{◌≡◌, ◌≢◌, ℕ, ◌+◌, ◌<◌, ◌≤◌, List, [], ◌∷◌, ◌++◌, length, take, drop, get_or, refl, sym, ap, ◌∙◌, append_assoc, add-one, drop-cons, arith}
+use Rattle.std.proofs.Common.{◌≡◌, ◌≢◌, ℕ, ◌+◌, ◌<◌, ◌≤◌, List, [], ◌∷◌, ◌++◌, length, take, drop, get_or, refl, sym, ap, ◌∙◌, append_assoc, subst, arith}
 use Rattle.std.specs.List.{All, AllByRecursion}
-use Rattle.std.proofs.lemmas.List.{length-append, append-nil, take_more, take-append-drop}
+use Rattle.std.proofs.lemmas.List.{length-append, append-nil, take_more, take-append-drop, length-drop}
+use Rattle.std.proofs.Math.Seq.{take-add}
 use Rattle.std.proofs.lemmas.Grind.{flat_map-append, common_steps}
 use Rattle.std.proofs.lemmas.List.Elements.{All-append, recursion_from_All}
 use Rattle.hx_units.specs.Fields.{number, number_at, byte_at, spelled, AreBytes}
 use Rattle.hx_units.proofs.FieldLaws.{spelled_at_2}
 use Rattle.hx_soup.specs.declared.packet.SoupPacket.{SoupPacket}
 use Rattle.hx_soup.specs.Packets.{framed, packet_bytes, stream_of, IsPacket, IsUnfinished, HasPacket, Cuts, HasFault}
-use Rattle.hx_soup.specs.Steps.{IsFault}
+use Rattle.hx_soup.specs.declared.step.Step.{Step}
+use Rattle.hx_soup.specs.declared.step.Step.TheVariants as step
+use Rattle.hx_soup.specs.Steps.{IsFault, Reads, Adds, Steps}
 
 -- bytes as many as their length counts are a packet
 pub exact : (bytes : List ℕ) → AreBytes bytes → length bytes ≡ number_at 0 2 bytes + 2 → 0 < number_at 0 2 bytes → bytes ≡ framed (byte_at 2 bytes) (drop 3 bytes)
@@ -19,6 +22,63 @@ exact (a ∷ b ∷ kind ∷ payload) fits len some =
     let n : length payload + 1 ≡ number_at 0 2 (a ∷ b ∷ kind ∷ payload) = omega arith in
     let head : spelled 2 (length payload + 1) ≡ a ∷ b ∷ [] = ap (spelled 2) n ∙ spelled_at_2 0 (a ∷ b ∷ kind ∷ payload) (omega arith) fits in
     sym (ap (λ (h : List ℕ). h ++ kind ∷ payload) head)
+
+-- the packet that bytes are
+abbrev pub packet_of : List ℕ → SoupPacket
+packet_of bytes = record { kind = byte_at 2 bytes; payload = drop 3 bytes }
+
+-- bytes as many as their length counts are their packet
+pub reads_whole : (bytes payload : List ℕ) (count : ℕ) → AreBytes bytes → length bytes ≡ number_at 0 2 bytes + 2 → 3 ≤ length bytes → length bytes ≤ 1026 → payload ≡ drop 3 bytes
+    → Reads bytes count (step.Whole (record { kind = byte_at 2 bytes; payload = payload }) count)
+reads_whole bytes payload count fits len some most is =
+    rw is (exact bytes fits len (omega (arith, len, some)), (omega arith, omega (arith, most, length-drop 3 bytes)), refl)
+
+-- they begin with it, where there is no memory for it
+pub reads_none : (bytes : List ℕ) → AreBytes bytes → length bytes ≡ number_at 0 2 bytes + 2 → 3 ≤ length bytes → length bytes ≤ 1026 → HasPacket bytes
+reads_none bytes fits len some most = record {
+  packet = packet_of bytes;
+  more = [];
+  whole = exact bytes fits len (omega (arith, len, some)) ∙ sym (append-nil (packet_bytes (packet_of bytes)));
+  fits = (omega arith, omega (arith, most, length-drop 3 bytes));
+}
+
+-- unfinished bytes and one more that are read
+pub adds_read : (bytes old new : List ℕ) (byte : ℕ) (s : Step) → bytes ≡ old ++ byte ∷ [] → new ≡ [] → Reads bytes 1 s → Adds old new byte s
+adds_read bytes old new byte (step.Whole packet n) is none reads = (sym is ∙ reads.0, reads.1, reads.2, none)
+adds_read bytes old new byte step.NoMemory is none reads = subst HasPacket is reads
+adds_read bytes old new byte step.More is none reads = absurd reads
+adds_read bytes old new byte (step.Fault bad) is none reads = absurd reads
+
+pub none_kept : (kept : List ℕ) → length kept ≡ 0 → kept ≡ []
+none_kept [] is = refl
+none_kept (b ∷ kept) is = absurd (omega (arith, is))
+
+-- bytes in front of a piece that are read, where nothing was kept
+pub steps_read : (old piece : List ℕ) (n : ℕ) (s : Step) → old ≡ [] → 0 < n → n ≤ length piece → Reads (take n piece) n s → Steps old old piece s
+steps_read old piece n (step.Whole packet m) none some room reads =
+    rw (reads.2, none) (reads.0, reads.1, refl, some, room)
+steps_read old piece n step.NoMemory none some room reads = rw none (record {
+  packet = reads.packet;
+  more = reads.more ++ drop n piece;
+  whole = sym (take-append-drop n piece) ∙ ap (λ (x : List ℕ). x ++ drop n piece) reads.whole ∙ append_assoc (packet_bytes reads.packet) reads.more (drop n piece);
+  fits = reads.fits;
+})
+steps_read old piece n step.More none some room reads = absurd reads
+steps_read old piece n (step.Fault bad) none some room reads = absurd reads
+
+-- the first byte of a piece behind unfinished bytes
+pub steps_added : (old new piece : List ℕ) (byte : ℕ) (s : Step) → 0 < length piece → byte ≡ get_or piece 0 0 → Adds old new byte s → Steps old new piece s
+steps_added old new [] byte s some is adds = absurd (omega (arith, some))
+steps_added old new (b ∷ piece) byte (step.Whole packet n) some is adds =
+    (ap (λ (m : ℕ). old ++ take m (b ∷ piece)) adds.2 ∙ ap (λ (a : ℕ). old ++ a ∷ []) (sym is) ∙ adds.0, adds.1, adds.3, omega (arith, adds.2), omega (arith, adds.2))
+steps_added old new (b ∷ piece) byte step.More some is adds = (adds.0 ∙ ap (λ (a : ℕ). old ++ a ∷ []) is, adds.1)
+steps_added old new (b ∷ piece) byte (step.Fault bad) some is adds = subst (λ (a : ℕ). IsFault (old ++ a ∷ []) bad) is adds
+steps_added old new (b ∷ piece) byte step.NoMemory some is adds = record {
+  packet = adds.packet;
+  more = adds.more ++ piece;
+  whole = ap (λ (a : ℕ). old ++ a ∷ piece) (sym is) ∙ sym (append_assoc old (byte ∷ []) piece) ∙ ap (λ (x : List ℕ). x ++ piece) adds.whole ∙ append_assoc (packet_bytes adds.packet) adds.more piece;
+  fits = adds.fits;
+}
 
 -- an unfinished packet that is whole with one byte more has just as many bytes as its length counts
 pub whole_len : (old bytes : List ℕ) (byte n : ℕ) → IsUnfinished old → bytes ≡ old ++ byte ∷ [] → 2 ≤ length bytes → n ≡ number_at 0 2 bytes → n ≢ 0 → n ≤ 1024 → n + 2 ≤ length bytes
@@ -36,56 +96,65 @@ All-one p fits = search (arith, common_steps)
 pub cuts_none : (kept : List ℕ) → IsUnfinished kept → Cuts kept [] kept
 cuts_none kept unfinished = record { whole = refl; each = search arith; unfinished = unfinished }
 
--- the byte leaves the packet unfinished
-pub cuts_more : (stream kept new : List ℕ) (byte : ℕ) (packets others : List SoupPacket) → Cuts stream packets kept → (new ≡ kept ++ byte ∷ []) × IsUnfinished new → others ≡ packets → Cuts (stream ++ byte ∷ []) others new
-cuts_more stream kept new byte packets others c adds same = rw same (record {
-  whole = ap (λ (x : List ℕ). x ++ byte ∷ []) c.whole ∙ append_assoc (stream_of packets) kept (byte ∷ []) ∙ ap (λ (x : List ℕ). stream_of packets ++ x) (sym adds.0);
+-- the bytes leave the packet unfinished
+pub cuts_more : (stream kept new x : List ℕ) (packets others : List SoupPacket) → Cuts stream packets kept → (new ≡ kept ++ x) × IsUnfinished new → others ≡ packets → Cuts (stream ++ x) others new
+cuts_more stream kept new x packets others c adds same = rw same (record {
+  whole = ap (λ (s : List ℕ). s ++ x) c.whole ∙ append_assoc (stream_of packets) kept x ∙ ap (λ (s : List ℕ). stream_of packets ++ s) (sym adds.0);
   each = c.each;
   unfinished = adds.1;
 })
 
--- the byte makes the packet whole
-pub cuts_whole : (stream kept new : List ℕ) (byte : ℕ) (packets others : List SoupPacket) (p : SoupPacket) → Cuts stream packets kept → (kept ++ byte ∷ [] ≡ packet_bytes p) × IsPacket p × (new ≡ []) → others ≡ packets ++ p ∷ [] → Cuts (stream ++ byte ∷ []) others new
-cuts_whole stream kept new byte packets others p c adds same = rw (same, adds.2) (record {
-  whole = ap (λ (x : List ℕ). x ++ byte ∷ []) c.whole ∙ append_assoc (stream_of packets) kept (byte ∷ [])
-      ∙ ap (λ (x : List ℕ). stream_of packets ++ x) (adds.0 ∙ sym (append-nil (packet_bytes p)))
+-- the bytes make the packet whole
+pub cuts_whole : (stream kept new x : List ℕ) (packets others : List SoupPacket) (p : SoupPacket) → Cuts stream packets kept → kept ++ x ≡ packet_bytes p → IsPacket p → new ≡ [] → others ≡ packets ++ p ∷ [] → Cuts (stream ++ x) others new
+cuts_whole stream kept new x packets others p c is fits none same = rw (same, none) (record {
+  whole = ap (λ (s : List ℕ). s ++ x) c.whole ∙ append_assoc (stream_of packets) kept x
+      ∙ ap (λ (s : List ℕ). stream_of packets ++ s) (is ∙ sym (append-nil (packet_bytes p)))
       ∙ sym (flat_map-append packet_bytes packets (p ∷ [])) ∙ sym (append-nil (stream_of (packets ++ p ∷ [])));
-  each = All-append IsPacket packets (p ∷ []) c.each (All-one p adds.1);
+  each = All-append IsPacket packets (p ∷ []) c.each (All-one p fits);
   unfinished = tt;
 })
 
--- the byte makes a length that no packet has
-pub has_fault : (stream kept more : List ℕ) (byte bad : ℕ) (packets : List SoupPacket) → Cuts stream packets kept → IsFault (kept ++ byte ∷ []) bad → HasFault (stream ++ byte ∷ more) packets bad
-has_fault stream kept more byte bad packets c f = record {
+-- the bytes make a length that no packet has
+pub has_fault : (stream kept x more : List ℕ) (bad : ℕ) (packets : List SoupPacket) → Cuts stream packets kept → IsFault (kept ++ x) bad → HasFault (stream ++ (x ++ more)) packets bad
+has_fault stream kept x more bad packets c f = record {
   high = f.high;
   low = f.low;
   more = more;
-  whole = ap (λ (x : List ℕ). x ++ byte ∷ more) c.whole ∙ append_assoc (stream_of packets) kept (byte ∷ more)
-      ∙ ap (λ (x : List ℕ). stream_of packets ++ x) (sym (append_assoc kept (byte ∷ []) more) ∙ ap (λ (x : List ℕ). x ++ more) f.whole);
+  whole = ap (λ (s : List ℕ). s ++ (x ++ more)) c.whole ∙ append_assoc (stream_of packets) kept (x ++ more)
+      ∙ ap (λ (s : List ℕ). stream_of packets ++ s) (sym (append_assoc kept x more) ∙ ap (λ (s : List ℕ). s ++ more) f.whole);
   each = c.each;
   is = f.is;
   is_bad = f.is_bad;
 }
 
-pub stream_more : (k piece : List ℕ) (i : ℕ) → i < length piece → k ++ take (i + 1) piece ≡ (k ++ take i piece) ++ get_or piece i 0 ∷ []
-stream_more k piece i h = ap (λ (x : List ℕ). k ++ x) (take_more piece i 0 h) ∙ sym (append_assoc k (take i piece) (get_or piece i 0 ∷ []))
+-- a piece, and a part of what is left of it
+pub stream_more : (k piece left : List ℕ) (i n : ℕ) → left ≡ drop i piece → k ++ take (i + n) piece ≡ (k ++ take i piece) ++ take n left
+stream_more k piece left i n is = rw is (ap (λ (x : List ℕ). k ++ x) (take-add i n piece) ∙ sym (append_assoc k (take i piece) (take n (drop i piece))))
 
-pub stream_split : (k piece : List ℕ) (i : ℕ) → i < length piece → k ++ piece ≡ (k ++ take i piece) ++ get_or piece i 0 ∷ drop (i + 1) piece
-stream_split k piece i h = ap (λ (x : List ℕ). k ++ x) (sym (take-append-drop i piece) ∙ ap (λ (x : List ℕ). take i piece ++ x) (rw (add-one, drop-cons piece i 0) refl))
-    ∙ sym (append_assoc k (take i piece) (get_or piece i 0 ∷ drop (i + 1) piece))
+pub stream_split : (k piece left : List ℕ) (i n : ℕ) → left ≡ drop i piece → k ++ piece ≡ (k ++ take i piece) ++ (take n left ++ drop n left)
+stream_split k piece left i n is = rw is (ap (λ (x : List ℕ). k ++ x) (sym (take-append-drop i piece) ∙ ap (λ (x : List ℕ). take i piece ++ x) (sym (take-append-drop n (drop i piece))))
+    ∙ sym (append_assoc k (take i piece) (take n (drop i piece) ++ drop n (drop i piece))))
 
--- packets, and one more behind them: the first of them begins the stream
-pub has_packet : (stream kept more : List ℕ) (byte : ℕ) (packets : List SoupPacket) (p : SoupPacket) → Cuts stream packets kept → (kept ++ byte ∷ [] ≡ packet_bytes p) × IsPacket p → HasPacket (stream ++ byte ∷ more)
-has_packet stream kept more byte packets p c adds =
+-- packets, and bytes behind them that begin with one more: the first of them begins the stream
+pub has_packet : (stream kept rest : List ℕ) (packets : List SoupPacket) → Cuts stream packets kept → HasPacket (kept ++ rest) → HasPacket (stream ++ rest)
+has_packet stream kept rest packets c h =
     first packets (recursion_from_All IsPacket packets c.each)
-    (ap (λ (x : List ℕ). x ++ byte ∷ more) c.whole ∙ append_assoc (stream_of packets) kept (byte ∷ more)
-    ∙ ap (λ (x : List ℕ). stream_of packets ++ x) (sym (append_assoc kept (byte ∷ []) more) ∙ ap (λ (x : List ℕ). x ++ more) adds.0))
+    (ap (λ (x : List ℕ). x ++ rest) c.whole ∙ append_assoc (stream_of packets) kept rest ∙ ap (λ (x : List ℕ). stream_of packets ++ x) h.whole)
   where
-    first : (ps : List SoupPacket) → AllByRecursion IsPacket ps → stream ++ byte ∷ more ≡ stream_of ps ++ (packet_bytes p ++ more) → HasPacket (stream ++ byte ∷ more)
-    first [] each e = record { packet = p; more = more; whole = e; fits = adds.1 }
+    first : (ps : List SoupPacket) → AllByRecursion IsPacket ps → stream ++ rest ≡ stream_of ps ++ (packet_bytes h.packet ++ h.more) → HasPacket (stream ++ rest)
+    first [] each e = record { packet = h.packet; more = h.more; whole = e; fits = h.fits }
     first (q ∷ ps) each e = record {
       packet = q;
-      more = stream_of ps ++ (packet_bytes p ++ more);
-      whole = e ∙ append_assoc (packet_bytes q) (stream_of ps) (packet_bytes p ++ more);
+      more = stream_of ps ++ (packet_bytes h.packet ++ h.more);
+      whole = e ∙ append_assoc (packet_bytes q) (stream_of ps) (packet_bytes h.packet ++ h.more);
       fits = each.0;
     }
+
+-- a part of what is left that makes a packet whole
+pub part_has_packet : (kept rest : List ℕ) (n : ℕ) (p : SoupPacket) → kept ++ take n rest ≡ packet_bytes p → IsPacket p → HasPacket (kept ++ rest)
+part_has_packet kept rest n p is fits = record {
+  packet = p;
+  more = drop n rest;
+  whole = ap (λ (x : List ℕ). kept ++ x) (sym (take-append-drop n rest)) ∙ sym (append_assoc kept (take n rest) (drop n rest)) ∙ ap (λ (x : List ℕ). x ++ drop n rest) is;
+  fits = fits;
+}

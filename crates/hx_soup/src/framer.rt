@@ -5,7 +5,7 @@ ghost use Rattle.hx_soup.specs.Framers.{Takes, Fails};
 ghost use Rattle.hx_soup.specs.Steps.{Ends};
 
 use crate::packet::SoupPacket;
-use crate::step::{Step, add};
+use crate::step::{Step, advance};
 use arrayvec::ArrayVec;
 use hx_units::fields::put;
 use std::alloc::Global;
@@ -94,13 +94,15 @@ fn take_piece(
     ensures err { IfErr result (Ends (kept.old.items ++ piece.now)) }
 {
     let mut packets = Vec::new(alloc);
-    for &byte in piece {
-        match add(kept, byte) {
-            Step::More => {}
-            Step::Whole(packet) => {
+    let mut at = 0;
+    while at < piece.len() {
+        match advance(alloc, kept, &piece[at..]) {
+            Step::More => at += 1,
+            Step::Whole(packet, count) => {
                 let Ok(()) = packets.push(packet) else {
                     return Err(FramerError::NoMemory);
                 };
+                at += count;
             }
             Step::Fault(0) => return Err(FramerError::Empty { before: packets }),
             Step::Fault(length) => {
@@ -109,6 +111,7 @@ fn take_piece(
                     before: packets,
                 });
             }
+            Step::NoMemory => return Err(FramerError::NoMemory),
         }
     }
     Ok(packets)

@@ -1,6 +1,6 @@
 //! SoupBinTCP 3.00: packets out of a stream and into it, and logins.
 //!
-//! Only `Framer::feed` takes memory.
+//! Only `Framer::feed` takes memory: that of the packets it gives.
 #![tactic(auto)]
 
 mod answer;
@@ -8,6 +8,7 @@ mod framer;
 pub mod laws;
 mod login;
 mod packet;
+mod payload;
 mod step;
 
 pub use answer::{NOT_AUTHORIZED, SESSION_NOT_AVAILABLE, accepted, rejected};
@@ -15,3 +16,4 @@ pub use framer::{Framer, FramerError};
 pub use hx_text::trimmed;
 pub use login::{LoginRequest, decode_login};
 pub use packet::{SoupPacket, frame};
+pub use payload::Payload;

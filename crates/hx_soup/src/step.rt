@@ -1,29 +1,63 @@
-//! A packet that grows byte by byte.
-ghost use Rattle.std.specs.Prelude.{◌≡◌, ◌≤◌, ◌+◌, length};
+//! A packet that grows by the bytes of a piece.
+ghost use Rattle.std.specs.Prelude.{◌≡◌, ◌≤◌, ◌<◌, ◌+◌, length, IfSome};
 ghost use Rattle.hx_units.specs.Fields.{number_at};
-ghost use Rattle.hx_soup.specs.Packets.{packet_bytes, IsPacket, IsUnfinished};
-ghost use Rattle.hx_soup.specs.Steps.{Adds};
+ghost use Rattle.hx_soup.specs.Packets.{longest, IsUnfinished};
+ghost use Rattle.hx_soup.specs.Steps.{Adds, Reads, Steps};
 
 use crate::packet::SoupPacket;
+use crate::payload::Payload;
 use arrayvec::ArrayVec;
-use hx_units::fields::{put, u16_at};
+use hx_units::fields::u16_at;
+use std::alloc::Global;
 
 // The greatest length of a packet.
 const LONGEST: u16 = 1024;
 
-/// What one more byte makes of the bytes of an unfinished packet.
+/// What the next bytes of a piece make of the bytes of an unfinished packet.
 #[derive(Drop)]
 pub(crate) enum Step {
-    /// They are still unfinished.
+    /// With one byte more they are still unfinished.
     More,
-    /// They were this packet.
-    Whole(SoupPacket),
-    /// They are a length that no packet has.
+    /// With this number of bytes more they are this packet.
+    Whole(SoupPacket, usize),
+    /// With one byte more they are a length that no packet has.
     Fault(u16),
+    /// With some bytes more they are a packet, for which there is no memory.
+    NoMemory,
 }
 
-/// Adds a byte to those of an unfinished packet. Behind a whole packet nothing is kept.
-pub(crate) fn add(kept: &mut ArrayVec<u8, 1026>, byte: u8) -> Step
+/// Takes bytes of a piece, at least one of them, behind those of an unfinished packet. A packet that stands whole in the
+/// piece is taken at once. Behind a whole packet nothing is kept.
+pub(crate) fn advance(alloc: Global, kept: &mut ArrayVec<u8, 1026>, piece: &[u8]) -> Step
+    requires some { 0 < length piece.now }
+    requires unfinished { IsUnfinished kept.old.items }
+    ensures { Steps kept.old.items kept.new.items piece.now result }
+{
+    if kept.is_empty() {
+        if let Some(size) = whole_size(piece) {
+            return read_packet(alloc, &piece[..size], size);
+        }
+    }
+    add(alloc, kept, piece[0])
+}
+
+// The size of the packet that stands whole in front.
+fn whole_size(bytes: &[u8]) -> Option<usize>
+    ensures { IfSome result (λ n. (n ≡ number_at 0 2 bytes.now + 2)
+        × (3 ≤ n) × (n ≤ longest + 2) × (n ≤ length bytes.now)) }
+{
+    if bytes.len() < 3 {
+        return None;
+    }
+    let length = u16_at(bytes, 0);
+    if length == 0 || length > LONGEST || bytes.len() < length as usize + 2 {
+        return None;
+    }
+    Some(length as usize + 2)
+}
+
+// Adds a byte to those of an unfinished packet.
+fn add(alloc: Global, kept: &mut ArrayVec<u8, 1026>, byte: u8) -> Step
     requires { IsUnfinished kept.old.items }
     ensures { Adds kept.old.items kept.new.items byte result }
 {
@@ -39,23 +73,24 @@ pub(crate) fn add(kept: &mut ArrayVec<u8, 1026>, byte: u8) -> Step
     if bytes.len() < length as usize + 2 {
         return Step::More;
     }
-    let packet = read_packet(bytes);
+    let packet = read_packet(alloc, bytes, 1);
     kept.clear();
-    Step::Whole(packet)
+    packet
 }
 
-// The packet that the bytes are.
-fn read_packet(bytes: &[u8]) -> SoupPacket
+// The packet that the bytes are, of which this number came last.
+fn read_packet(alloc: Global, bytes: &[u8], count: usize) -> Step
     requires len { length bytes.now ≡ number_at 0 2 bytes.now + 2 }
     requires some { 3 ≤ length bytes.now }
-    requires most { length bytes.now ≤ 1026 }
-    ensures bytes { packet_bytes result ≡ bytes.now }
-    ensures fits { IsPacket result }
+    requires most { length bytes.now ≤ longest + 2 }
+    ensures { Reads bytes.now count result }
 {
-    let mut payload = ArrayVec::new();
-    put(&mut payload, &bytes[3..]);
-    SoupPacket {
+    let Ok(payload) = Vec::from_slice(alloc, &bytes[3..]) else {
+        return Step::NoMemory;
+    };
+    let packet = SoupPacket {
         kind: bytes[2],
-        payload,
-    }
+        payload: Payload::of(payload),
+    };
+    Step::Whole(packet, count)
 }

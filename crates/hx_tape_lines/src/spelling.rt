@@ -1,19 +1,38 @@
 //! The lines of events.
 ghost use Rattle.std.specs.Prelude.{◌≡◌, ◌++◌, ◌∷◌, [], true, OnOk, OnErr};
+ghost use Rattle.hex.specs.Hex.{encode_lower};
 ghost use Rattle.hx_rules.specs.OperatorMessages.{halt_bytes, break_bytes};
 ghost use Rattle.hx_tape_lines.specs.Text.{line, entry_of_event, is_held, record_of, HasGrown};
 
 use crate::decimal::write_number;
+use crate::hexadecimal::write_bytes;
 use arrayvec::ArrayVec;
 use hx_rules::Event;
 use hx_units::Symbol;
 use hx_units::fields::{put, u64_bytes};
 use std::alloc::{AllocError, Global};
 
+// The most bytes of a short message: an Enter Order has 49.
+const SHORT: usize = 64;
+
 // The numbers of a line are such as its fields hold. It does nothing.
 fn holds(_time: u64, _member: u16, _bytes: &[u8])
     ensures { is_held (record { time = _time; member = _member; bytes = _bytes.now }) ≡ true }
 {}
+
+// Appends the digits of some bytes, or none of them. Those of a short message take no memory of their own.
+fn write_digits(alloc: Global, text: &mut Vec<u8>, bytes: &[u8]) -> Result<(), AllocError>
+    ensures ok { OnOk result (text.new.items ≡ text.old.items ++ encode_lower bytes.now) }
+    ensures err { OnErr result (text.new.items ≡ text.old.items) }
+{
+    if bytes.len() > SHORT {
+        let digits = hex::encode(alloc, bytes)?;
+        return text.extend_from_slice(digits.as_bytes());
+    }
+    let mut digits = [0; 2 * SHORT];
+    let start = write_bytes(bytes, &mut digits, 2 * SHORT);
+    text.extend_from_slice(&digits[start..])
+}
 
 // Appends a line of a member, or of the operator, without its line feed, or a beginning of it.
 fn write_line(
@@ -34,8 +53,7 @@ fn write_line(
     text.push(b' ')?;
     write_number(text, u64::from(member))?;
     text.push(b' ')?;
-    let digits = hex::encode(alloc, bytes)?;
-    text.extend_from_slice(digits.as_bytes())?;
+    write_digits(alloc, text, bytes)?;
     Ok(())
 }
 

@@ -2,17 +2,23 @@
 use arrayvec::ArrayVec;
 use hx_members::Setup;
 use hx_session_core::{Action, Delivery, Intake, Turn, start};
-use hx_soup::{LoginRequest, SoupPacket, accepted};
+use hx_soup::{LoginRequest, Payload, SoupPacket, accepted};
 use hx_units::MemberNo;
+use std::alloc::{AllocError, Global};
 use std::test::Fail;
 
-fn packet(kind: u8, payload: &[u8]) -> SoupPacket {
-    let mut copy = ArrayVec::new();
-    let _ = copy.try_extend_from_slice(payload);
-    SoupPacket {
+// What a packet asks for.
+fn asked(
+    alloc: Global,
+    intake: &mut Intake,
+    kind: u8,
+    payload: &[u8],
+) -> Result<Action, AllocError> {
+    let packet = SoupPacket {
         kind,
-        payload: copy,
-    }
+        payload: Payload::of(Vec::from_slice(alloc, payload)?),
+    };
+    Ok(intake.packet(&packet))
 }
 
 // A reply of one byte.
@@ -37,7 +43,7 @@ const LOGIN: LoginRequest = LoginRequest {
 fn a_login_for_the_third_reply(rt: HostRuntime) -> Result<(), Fail> {
     let setup = Setup::standard(rt.alloc())?;
     assert_eq!(rt;
-        Intake::new().packet(&packet(b'L', PAYLOAD)),
+        asked(rt.alloc(), &mut Intake::new(), b'L', PAYLOAD)?,
         Action::Login(LOGIN)
     );
     let start = start(&setup, &LOGIN, 5).map_err(|_| "accepted")?;
@@ -100,30 +106,41 @@ fn letters_of_rejected_logins(rt: HostRuntime) -> Result<(), Fail> {
 }
 
 #[test]
-fn packets_of_a_client(rt: HostRuntime) {
+fn packets_of_a_client(rt: HostRuntime) -> Result<(), Fail> {
+    let alloc = rt.alloc();
     let mut intake = Intake::new();
-    assert_eq!(rt; intake.packet(&packet(b'L', PAYLOAD)), Action::Login(LOGIN));
-    assert_eq!(rt; intake.packet(&packet(b'U', b"O")), Action::Submit);
-    for ignored in [packet(b'U', b""), packet(b'R', b"x"), packet(b'+', b"")] {
-        assert_eq!(rt; intake.packet(&ignored), Action::Ignore);
+    assert_eq!(rt;
+        asked(alloc, &mut intake, b'L', PAYLOAD)?,
+        Action::Login(LOGIN)
+    );
+    assert_eq!(rt; asked(alloc, &mut intake, b'U', b"O")?, Action::Submit);
+    let ignored: [(u8, &[u8]); 3] = [(b'U', b""), (b'R', b"x"), (b'+', b"")];
+    for (kind, payload) in ignored {
+        assert_eq!(rt; asked(alloc, &mut intake, kind, payload)?, Action::Ignore);
     }
-    assert_eq!(rt; intake.packet(&packet(b'O', b"x")), Action::Logout);
-    assert_eq!(rt; intake.packet(&packet(b'U', b"O")), Action::Ignore);
+    assert_eq!(rt; asked(alloc, &mut intake, b'O', b"x")?, Action::Logout);
+    assert_eq!(rt; asked(alloc, &mut intake, b'U', b"O")?, Action::Ignore);
+    Ok(())
 }
 
 #[test]
-fn packets_that_are_faults(rt: HostRuntime) {
+fn packets_that_are_faults(rt: HostRuntime) -> Result<(), Fail> {
+    let alloc = rt.alloc();
     assert_eq!(rt;
-        Intake::new().packet(&packet(b'L', &PAYLOAD[..45])),
+        asked(alloc, &mut Intake::new(), b'L', &PAYLOAD[..45])?,
         Action::Fault
     );
-    assert_eq!(rt; Intake::new().packet(&packet(b'R', b"")), Action::Fault);
+    assert_eq!(rt; asked(alloc, &mut Intake::new(), b'R', b"")?, Action::Fault);
     let mut intake = Intake::new();
-    assert_eq!(rt; intake.packet(&packet(b'L', PAYLOAD)), Action::Login(LOGIN));
-    assert_eq!(rt; intake.packet(&packet(b'L', PAYLOAD)), Action::Fault);
-    assert_eq!(rt; intake.packet(&packet(b'L', PAYLOAD)), Action::Ignore);
+    assert_eq!(rt;
+        asked(alloc, &mut intake, b'L', PAYLOAD)?,
+        Action::Login(LOGIN)
+    );
+    assert_eq!(rt; asked(alloc, &mut intake, b'L', PAYLOAD)?, Action::Fault);
+    assert_eq!(rt; asked(alloc, &mut intake, b'L', PAYLOAD)?, Action::Ignore);
     let mut intake = Intake::Open;
-    assert_eq!(rt; intake.packet(&packet(b'S', b"O")), Action::Fault);
+    assert_eq!(rt; asked(alloc, &mut intake, b'S', b"O")?, Action::Fault);
+    Ok(())
 }
 
 #[test]

@@ -6,7 +6,7 @@ use super::packets::{
 };
 use super::stage::{Day, play};
 use arrayvec::ArrayVec;
-use hx_soup::SoupPacket;
+use hx_soup::{Payload, SoupPacket};
 use hx_testing::memory::{Behind, Input, Output};
 use std::sync::atomic::AtomicU64;
 use std::test::Fail;
@@ -231,11 +231,9 @@ fn packets_that_ask_for_nothing(rt: HostRuntime) -> Result<(), Fail> {
 
 #[test]
 fn no_password_in_a_printed_packet(rt: HostRuntime) -> Result<(), Fail> {
-    let mut payload = ArrayVec::new();
-    let _ = payload.try_extend_from_slice(&ALPHA[3..]);
     let packet = SoupPacket {
         kind: b'L',
-        payload,
+        payload: Payload::of(Vec::from_slice(rt.alloc(), &ALPHA[3..])?),
     };
     let text = format!(in rt.alloc(); "{packet:?}")?;
     assert_eq!(rt; text.as_str(), "SoupPacket { kind: 76, .. }");

@@ -26,18 +26,10 @@ returns-in_err-push-2-clause-err c =
     let member = c.in_ok-write_number-2.ensures.ok ∙ ap (λ (n : ℕ). c.push.new.self.items ++ decimal n) c.from.ensures in
     rw p.1 (has_grown _ _ _ _ _ (wrote_member _ _ _ _ _ _ _ second (c.in_err-push-2.ensures.items ∙ member)))
 
-pub returns-in_err-digits-clause-err : goal.returns-in_err-digits-clause-err
-returns-in_err-digits-clause-err c =
-    let p = err_from_is_err_and c.from_residual-in_err-digits.result c.from_residual-in_err-digits.ensures.1 in
+pub returns-in_err-write_digits-clause-err : goal.returns-in_err-write_digits-clause-err
+returns-in_err-write_digits-clause-err c =
+    let p = err_from_is_err_and c.from_residual-in_err-write_digits.result c.from_residual-in_err-write_digits.ensures.1 in
     let second = wrote_space _ _ _ _ _ c.in_ok-write_number.ensures.ok c.in_ok-push.ensures.items in
     let member = c.in_ok-write_number-2.ensures.ok ∙ ap (λ (n : ℕ). c.push.new.self.items ++ decimal n) c.from.ensures in
     let third = wrote_member _ _ _ _ _ _ _ second member in
-    rw p.1 (has_grown _ _ _ _ _ (wrote_second_space _ _ _ _ _ _ third c.in_ok-push-2.ensures.items))
-
-pub returns-in_err-extend_from_slice-clause-err : goal.returns-in_err-extend_from_slice-clause-err
-returns-in_err-extend_from_slice-clause-err c =
-    let p = err_from_is_err_and c.from_residual-in_err-extend_from_slice.result c.from_residual-in_err-extend_from_slice.ensures.1 in
-    let second = wrote_space _ _ _ _ _ c.in_ok-write_number.ensures.ok c.in_ok-push.ensures.items in
-    let member = c.in_ok-write_number-2.ensures.ok ∙ ap (λ (n : ℕ). c.push.new.self.items ++ decimal n) c.from.ensures in
-    let third = wrote_member _ _ _ _ _ _ _ second member in
-    rw p.1 (has_grown _ _ _ _ _ (wrote_second_space _ _ _ _ _ _ third (c.in_err-extend_from_slice.ensures.items ∙ c.in_ok-push-2.ensures.items)))
+    rw p.1 (has_grown _ _ _ _ _ (wrote_second_space _ _ _ _ _ _ third (c.in_err-write_digits.ensures.err ∙ c.in_ok-push-2.ensures.items)))
