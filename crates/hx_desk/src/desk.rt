@@ -167,6 +167,13 @@ impl Desk {
         let _ = &self.history;
     }
 
+    /// Looks at what the first sixteen of coming events are about, so that the memory which they need is at hand when they
+    /// are admitted (`Market::glance`). Nothing is promised of the answer, which has no other use than that it was looked
+    /// for.
+    pub fn glance(&self, events: &[Event]) -> u64 {
+        self.market.glance(events)
+    }
+
     // Records an event: all growths are made before anything changes.
     fn record(&mut self, log: &Log<Entry>, pass: u16, event: &Event) -> Result<Done, DeskError>
         requires { self.old.log ≡ log.now }

@@ -1,5 +1,5 @@
 //! What lies under the lock.
-ghost use Rattle.std.specs.Prelude.{◌≡◌, ◌+◌, ◌<◌, [], ◌∷◌, ◌++◌, length, map, nat_lt, take, drop, Some, None, Err, IfOk, IfErr, IfSome, OnOk, OnErr, MatchBool};
+ghost use Rattle.std.specs.Prelude.{◌≡◌, ◌+◌, ◌<◌, ◌≤◌, [], ◌∷◌, ◌++◌, length, map, nat_lt, take, drop, Some, None, Err, IfOk, IfErr, IfSome, OnOk, OnErr, MatchBool};
 ghost use Rattle.hx_tape_lines.specs.Text.{record_of};
 ghost use mathlib.Core.List.{IsPrefix};
 ghost use Rattle.hx_blog.specs.Feed.{feed};
@@ -56,6 +56,9 @@ impl Entered {
     }
 }
 
+// How many events are looked at before the first of them is admitted.
+const AT_ONCE: usize = 16;
+
 /// Who has news besides the members that were answered.
 #[derive(Clone, Copy)]
 pub struct ToldNews {
@@ -92,6 +95,8 @@ pub struct Held<V: Venue, J: Journal> {
     pub keeper: Option<Keeper<V, J>>,
     // Why the journal failed, where it did.
     pub failed: Option<JournalError>,
+    // What was looked for: nobody reads it.
+    pub glanced: u64,
     pub alloc: Global,
     pub ghost named: { desk.log ≡ V.log },
     pub ghost of_setup: { desk.setup ≡ V.setup },
@@ -164,6 +169,7 @@ impl<V: Venue, J: Journal + Drop> Held<V, J> {
             records: Vec::new(alloc),
             keeper: Some(keeper),
             failed: None,
+            glanced: 0,
             alloc,
         }
     }
@@ -265,6 +271,19 @@ impl<V: Venue, J: Journal + Drop> Held<V, J> {
         refused(self.desk.refuse(event), stopped || self.failed.is_some())
     }
 
+    // Looks at what the events from a place on are about, so that their memory is at hand, if those looked at before are
+    // all admitted.
+    fn glance(&mut self, events: &[Event], place: usize)
+        requires { place ≤ length events.now }
+        ensures { self.new.desk ≡ self.old.desk }
+    {
+        if place % AT_ONCE == 0 {
+            self.glanced = self
+                .glanced
+                .wrapping_add(self.desk.glance(&events[place..]));
+        }
+    }
+
     /// Admits events for a pass, with their records, one after another, up to the first that is refused.
     pub fn enter_all(
         &mut self,
@@ -296,6 +315,7 @@ impl<V: Venue, J: Journal + Drop> Held<V, J> {
             count: 0,
         };
         for i in 0..events.len() {
+            self.glance(events, i);
             let text = replace(&mut written[i], Vec::new(self.alloc));
             match self.enter(log, admitted, pass, share, &events[i], text) {
                 Ok(done) => last = done,

@@ -27,6 +27,9 @@ use std::mem::replace;
 use std::sync::Wait;
 use std::sync::ledger::Share;
 
+// Room for the record of an Enter Order: a time, a member's number, two spaces, and twice 49 digits.
+const USUAL_RECORD: usize = 128;
+
 // Whether a refusal rests on events that were recorded: that of a member's limit, and that of a full log.
 fn rests_on_others(error: SubmitError) -> bool
     ensures bad_time { OnTrue result (error ≢ Refused BadTime) }
@@ -53,7 +56,7 @@ fn spell_all(alloc: Global, events: &[Event]) -> Result<Vec<Vec<u8>>, NoMemory>
 {
     let mut written = Vec::with_capacity(alloc, events.len())?;
     for event in events {
-        let mut record = Vec::new(alloc);
+        let mut record = Vec::with_capacity(alloc, USUAL_RECORD)?;
         write_record(alloc, &mut record, event)?;
         written.push(record)?;
     }

@@ -168,9 +168,9 @@ impl<'a, V: Venue> Publishing<'a, V> {
         }
     }
 
-    /// Publishes and answers by turns, until all who write have ended and a turn has found nothing, or so many datagrams
-    /// have come behind that. It arms the bell before it looks for messages, and sleeps where there are none until it rings,
-    /// or a request comes, or a heartbeat is due. It takes neither a lock nor memory.
+    /// Publishes and answers by turns, until all who write have ended and a turn has found nothing, or `LAST_ANSWERS` datagrams
+    /// have come behind that. It arms the bell before it looks for messages. If there are none it sleeps until the bell
+    /// rings, a request comes, or a heartbeat is due. It takes neither a lock nor memory.
     pub fn work<T: Clock, D: Datagrams, B: Board>(
         self,
         rt: &T,

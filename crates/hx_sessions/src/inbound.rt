@@ -96,7 +96,7 @@ fn add_message(
 }
 
 // Gathers the messages of packets behind the login, up to a logout or a fault, and where nothing may be sent up to the
-// first of them. Each bears the time at which it is read.
+// first of them. They bear the time at which they are read.
 fn gather<C: Clock>(
     alloc: Global,
     member: MemberNo,
@@ -109,6 +109,7 @@ fn gather<C: Clock>(
 {
     let mut events = Vec::new(alloc);
     let mut intake = Intake::Open;
+    let time = clock.now();
     for packet in packets {
         match intake.packet(packet) {
             Action::Submit => {
@@ -116,7 +117,7 @@ fn gather<C: Clock>(
                     return Gathered::until(events, Stop::Faulted(Fault::Framing));
                 }
                 let text = packet.payload.as_slice();
-                match add_message(alloc, &mut events, member, clock.now(), text) {
+                match add_message(alloc, &mut events, member, time, text) {
                     Ok(()) => {}
                     Err(_) => return Gathered::until(events, Stop::Faulted(Fault::NoMemory)),
                 }

@@ -79,12 +79,12 @@ fn fill<C: Clock>(
     ensures err { IfErr result (StopsIn (texts rows.now) delivery.old delivery.new
         batch.old.items batch.new.items) }
 {
+    let now = clock.now();
     for i in 0..rows.len() {
         if *left == 0 {
             return Err(Stop::Faulted(Fault::Turns));
         }
         *left -= 1;
-        let now = clock.now();
         let next = &rows[i..];
         match send(batch, delivery, next, false, now) {
             Ok(()) => {}

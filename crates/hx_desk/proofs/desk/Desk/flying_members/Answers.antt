@@ -6,4 +6,5 @@ use Rattle.hx_desk.proofs.desk.Desk.flying_members.Goals as goal
 pub returns : goal.returns
 returns c =
     let i = c.self.inside in
-    subst (λ d. AreAnswered d.setup (take d.told d.history) (take d.sealed d.history) i.flying.items) c.self.view_is (flying_answered _ _ _ _ i.history.items _ _ i.told i.sealed i.flying.items i.waiting.items c.self.invariant)
+    rw c.deref.ensures.value
+    (subst (λ d. AreAnswered d.setup (take d.told d.history) (take d.sealed d.history) i.flying.items) c.self.view_is (flying_answered _ _ _ _ i.history.items _ _ i.told i.sealed i.flying.items i.waiting.items c.self.invariant))

@@ -6,4 +6,5 @@ use Rattle.hx_desk.proofs.desk.Desk.waiting_members.Goals as goal
 pub returns : goal.returns
 returns c =
     let i = c.self.inside in
-    subst (λ d. AreAnswered d.setup (take d.sealed d.history) d.history i.waiting.items) c.self.view_is (waiting_answered _ _ _ _ i.history.items _ _ i.told i.sealed i.flying.items i.waiting.items c.self.invariant)
+    rw c.deref.ensures.value
+    (subst (λ d. AreAnswered d.setup (take d.sealed d.history) d.history i.waiting.items) c.self.view_is (waiting_answered _ _ _ _ i.history.items _ _ i.told i.sealed i.flying.items i.waiting.items c.self.invariant))

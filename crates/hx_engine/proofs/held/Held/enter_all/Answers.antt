@@ -1,7 +1,8 @@
-use Rattle.std.proofs.Common.{◌≡◌, ◌∙◌, ◌<◌, List, length, take, get_or, ap, sym, arith, length-append}
+use Rattle.std.proofs.Common.{◌≡◌, ◌∙◌, ◌<◌, List, [], ◌∷◌, ◌++◌, length, take, get_or, ap, sym, subst, arith, length-append}
 use Rattle.std.proofs.lemmas.List.{length-map, length-set, length-take-le}
 use Rattle.hx_desk.specs.Entries.{entry_of}
 use Rattle.hx_engine.specs.Passes.{sent_by}
+use Rattle.hx_engine.specs.Exchanges.{DoneAt}
 use Rattle.hx_rules.specs.declared.event.Event.{Event}
 use Rattle.hx_desk.specs.declared.entry.Entry.{Entry}
 use Rattle.hx_engine.proofs.Refusing.{text_at, texts_behind, one_last, one_history, in_order, all_one_more, refused_at}
@@ -32,10 +33,13 @@ loop-i-preserved g c =
     let e = c.in-Ok.ensures in
     let before : List Entry = c.args.self.now.desk.history in
     let now : List Entry = c.loop-i.self.desk.history in
+    let seen : c.glance.new.self.desk.history ≡ now = ap (λ d. d.history) c.glance.ensures in
+    let history = e.history ∙ ap (λ (h : List Entry). h ++ entry_of c.args.pass event ∷ []) seen in
+    let done = subst (λ (h : List Entry). DoneAt g.V.Venue.setup h event c.in-Ok.done) seen e.done in
     record {
-      history = one_history c.args.pass before now c.enter.new.self.desk.history events i event l c.index-events-i.is inv.history e.history;
-      place = λ _. omega (arith, e.done.place, ap (λ (h : List Entry). length h) inv.history, length-append before (sent_by c.args.pass (take i events)), length-map (take i events) (entry_of c.args.pass), length-take-le i events (omega (arith, l)));
-      last = one_last g.V.Venue.setup c.args.pass before now events i event c.in-Ok.done l c.index-events-i.is inv.history e.done;
+      history = one_history c.args.pass before now c.enter.new.self.desk.history events i event l c.index-events-i.is inv.history history;
+      place = λ _. omega (arith, done.place, ap (λ (h : List Entry). length h) inv.history, length-append before (sent_by c.args.pass (take i events)), length-map (take i events) (entry_of c.args.pass), length-take-le i events (omega (arith, l)));
+      last = one_last g.V.Venue.setup c.args.pass before now events i event c.in-Ok.done l c.index-events-i.is inv.history done;
       counted = omega (arith, e.counted, inv.counted);
       parts = e.parts ∙ inv.parts;
       spelled = texts_behind c.loop-i.written.items _ i _ inv.spelled;
