@@ -62,7 +62,19 @@ impl<'a> Datagrams for Flood<'a> {
     }
 }
 
-// A day beside such a socket, where two requests of a source are answered a second. Nothing of the day may be missing.
+// Whether a packet goes out soon: in ten seconds.
+fn comes(rt: &impl Clock, packets: &AtomicU64) -> bool {
+    for _ in 0..1_000 {
+        if told(packets) > 0 {
+            return true;
+        }
+        thread::sleep(rt, Duration::from_millis(10));
+    }
+    false
+}
+
+// A day beside such a socket, where two requests of a source are answered a second. Nothing of the day may be missing, and
+// the feed's first packet goes out while the day goes on.
 fn serve_beside<
     R: Net<Listener = TcpListener, Stream = TcpStream>
         + AllocGlobal
@@ -109,19 +121,20 @@ fn serve_beside<
         || serve_day(rt, alloc, &hosting, doors, Seed::Fixed, line, &mut output),
         || {
             let mut client = Client::connect(rt, ports.0)?;
+            let is_early = comes(rt, &sent.packets);
             thread::sleep(rt, Duration::from_millis(300));
             client.send_bytes(b"\0")?;
-            Ok::<(), Fail>(())
+            Ok::<bool, Fail>(is_early)
         },
     );
-    hung_up?;
+    assert!(rt; hung_up?);
     let Ok(day) = served else {
         return Err(Fail::from("no day"));
     };
     assert!(rt; day.fault.is_none());
     assert!(rt; output.as_slice() == b"events 1 feed 1\n".as_slice());
-    // The message, and the end of the session.
-    assert_eq!(rt; told(&sent.packets), 2);
+    // The message and the end of the session, and on a slow machine heartbeats between them.
+    assert!(rt; told(&sent.packets) >= 2);
     Ok(())
 }
 

@@ -66,13 +66,13 @@ loop-packet-preserved g c =
     elim c.match-packet.branch [
       | in-Submit+else-not-may_send+in-Ok w ↦
           let text : w.as_slice-text.result.now ≡ p.payload = w.as_slice-text.ensures in
-          let is = w.in-Ok.ensures.ok ∙ ap (λ t. before ++ Message m w.now.result t ∷ []) text in
+          let is = w.in-Ok.ensures.ok ∙ ap (λ t. before ++ Message m c.now-time.result t ∷ []) text in
           let acts : later_action p ≡ action.Submit = sym (subst (λ x. Means x p c.packet.result) inv.live c.packet.ensures.means) ∙ w.in-Submit.is in record {
             live = c.packet.ensures.after ∙ (ap (λ a. then_at c.loop-packet.intake a) w.in-Submit.is ∙ inv.live);
             silent = λ e. absurd (cc (rw e at w.if-not-may_send.false));
             upto = (
               u.0 ++ p.payload ∷ [],
-              subst (λ k. AreMessages m k.items (u.0 ++ p.payload ∷ [])) (sym w.events-is) (messages_more m w.now.result p.payload before w.add_message.new.events.items u.0 u.1 is),
+              subst (λ k. AreMessages m k.items (u.0 ++ p.payload ∷ [])) (sym w.events-is) (messages_more m c.now-time.result p.payload before w.add_message.new.events.items u.0 u.1 is),
               upto_submit packets i u.0 p u.2 c.loop-packet-test.true c.packet-item.is acts,
             );
           }
