@@ -194,7 +194,9 @@ fn expect_kept<V: Venue, R: Abort>(
     let Ok(finished) = exchange.finish(passes) else {
         return Err("all passes are there".into());
     };
-    let journal = finished.journal.ok_or("a journal")?;
+    let Some(journal) = &finished.journal else {
+        return Err("a journal".into());
+    };
     assert_eq!(rt; finished.history.len() as u64, count);
     assert_eq!(rt; finished.feed, count);
     assert_eq!(rt; journal.memory.synced as u64, count);
