@@ -12,5 +12,4 @@ mod packets;
 mod parting;
 mod refusing;
 mod resuming;
-mod sleeping;
 mod stage;

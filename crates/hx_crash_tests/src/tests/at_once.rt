@@ -191,9 +191,7 @@ fn expect_kept<V: Venue, R: Abort>(
     count: u64,
     least: u64,
 ) -> Result<(), Fail> {
-    let Ok(finished) = exchange.finish(passes) else {
-        return Err("all passes are there".into());
-    };
+    let finished = exchange.finish(passes).ok().ok_or("all passes are there")?;
     let Some(journal) = &finished.journal else {
         return Err("a journal".into());
     };

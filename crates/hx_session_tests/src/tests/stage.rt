@@ -15,58 +15,23 @@ use hx_sessions::{Clock, DropCopy, Logins, Part, serve_all};
 use hx_testing::memory::{Behind, Input, Output};
 use hx_units::NoMemory;
 use std::alloc::Global;
-use std::io::{self, Error, ErrorKind, Read};
+use std::io::{self, Read};
 use std::marker::Brand;
 use std::process::Abort;
 use std::sync::Wait;
-use std::sync::atomic::{AtomicU64, Ordering};
+use std::sync::atomic::Ordering;
 use std::sync::ledger::Blank;
 use std::test::*;
 use std::thread::Threads;
 use std::time::{Clock as Timer, Duration};
 
-// A second, in nanoseconds.
-const SECOND: u64 = 1_000_000_000;
-
-/// What sleeps of a session are: no time of the machine's, but nanoseconds that are counted, until its input ends.
-#[derive(Clone, Copy)]
-pub struct Rest<'a> {
-    /// How long it slept.
-    pub slept: &'a AtomicU64,
-    /// How often.
-    pub sleeps: &'a AtomicU64,
-    /// When its input ends.
-    pub until: u64,
-}
-
-impl Rest<'_> {
-    // Whether the input has ended.
-    fn is_over(&self) -> bool {
-        self.slept.load(Ordering::SeqCst) >= self.until
-    }
-
-    // Sleeps for so long, or until the input ends: whether it has ended.
-    fn sleep(&self, limit: Duration) -> bool {
-        let left = self.until.saturating_sub(self.slept.load(Ordering::SeqCst));
-        let asked = limit.as_secs().saturating_mul(SECOND) + u64::from(limit.subsec_nanos());
-        self.sleeps.fetch_add(1, Ordering::SeqCst);
-        self.slept.fetch_add(asked.min(left), Ordering::SeqCst);
-        asked >= left
-    }
-}
-
-/// The time of day: the same, but for what was slept.
+/// The time of day is always the same.
 #[derive(Drop)]
-pub struct Told<'a> {
-    rest: Option<Rest<'a>>,
-}
+pub struct Still;
 
-impl Clock for Told<'_> {
+impl Clock for Still {
     fn now(&mut self) -> u64 {
-        match self.rest {
-            Some(rest) => rest.slept.load(Ordering::SeqCst).saturating_add(1000),
-            None => 1000,
-        }
+        1000
     }
 }
 
@@ -91,8 +56,6 @@ pub struct Day<'a> {
     pub at_once: Option<u64>,
     /// The turns that each session has.
     pub turns: u64,
-    /// What the sleeps of its sessions are, where the test says so.
-    pub rest: Option<Rest<'a>>,
     /// How many events and how many messages of the feed there are at the end, where the test says so.
     pub left: Option<(usize, u64)>,
 }
@@ -110,7 +73,6 @@ impl<'a> Day<'a> {
             submits: None,
             at_once: None,
             turns: 1_000_000,
-            rest: None,
             left: None,
         }
     }
@@ -120,25 +82,16 @@ impl<'a> Day<'a> {
 #[derive(Drop)]
 struct Line<'a> {
     input: Input<'a>,
-    rest: Option<Rest<'a>>,
 }
 
 impl<'a> Read for Line<'a> {
     fn read(&mut self, buf: &mut [u8]) -> io::Result<usize> {
-        match self.rest {
-            Some(rest) if self.input.bytes.is_empty() && !rest.is_over() => {
-                Err(Error::from(ErrorKind::WouldBlock))
-            }
-            _ => self.input.read(buf),
-        }
+        self.input.read(buf)
     }
 }
 
 impl<'a> Source for Line<'a> {
-    fn wait(&self, bell: &Bell, limit: Duration) -> bool {
-        if let Some(rest) = self.rest {
-            return !self.input.bytes.is_empty() || rest.sleep(limit);
-        }
+    fn wait(&self, bell: &Bell, _limit: Duration) -> bool {
         match self.input.behind {
             Behind::Waits { count, wanted, .. } if self.input.bytes.is_empty() => {
                 if count.load(Ordering::SeqCst) < wanted {
@@ -152,7 +105,7 @@ impl<'a> Source for Line<'a> {
 }
 
 // What a client's session is made of.
-type OwnPart<'a, V> = Part<V, Line<'a>, Output<'a>, Told<'a>>;
+type OwnPart<'a, V> = Part<V, Line<'a>, Output<'a>, Still>;
 
 // An exchange with its setup, the passes that are left, and a reader of its log.
 #[derive(Drop)]
@@ -201,19 +154,14 @@ impl<V: Venue> Stage<V> {
     }
 
     // A part for a client, with the last of the passes that are left.
-    fn part<'a>(
-        &mut self,
-        input: Input<'a>,
-        output: Output<'a>,
-        rest: Option<Rest<'a>>,
-    ) -> Option<OwnPart<'a, V>> {
+    fn part<'a>(&mut self, input: Input<'a>, output: Output<'a>) -> Option<OwnPart<'a, V>> {
         let pass = self.passes.pop()?;
         let reader = self.reader.split(self.exchange.feed_log());
         Some(Part {
-            input: Line { input, rest },
+            input: Line { input },
             output,
-            inbound: Told { rest },
-            outbound: Told { rest },
+            inbound: Still,
+            outbound: Still,
             pass,
             reader,
         })
@@ -247,7 +195,6 @@ impl<V: Venue> Stage<V> {
 fn parts_of<'a, V: Venue>(
     stage: &mut Stage<V>,
     clients: Vec<Client<'a>>,
-    rest: Option<Rest<'a>>,
 ) -> Result<(Vec<OwnPart<'a, V>>, Vec<Want<'a>>), Fail> {
     let mut parts = Vec::new(stage.alloc);
     let mut wants = Vec::new(stage.alloc);
@@ -257,23 +204,22 @@ fn parts_of<'a, V: Venue>(
             output,
             want,
         } = client;
-        parts.push(stage.part(input, output, rest).ok_or("a pass")?)?;
+        parts.push(stage.part(input, output).ok_or("a pass")?)?;
         wants.push(want)?;
     }
     Ok((parts, wants))
 }
 
 // Serves these clients at once, and looks at what came of it. Their passes are there again then.
-fn serve<'a, V: Venue + Send + Sync, R: Threads + Wait + Timer + Abort + Sync>(
+fn serve<V: Venue + Send + Sync, R: Threads + Wait + Timer + Abort + Sync>(
     rt: &R,
     stage: &mut Stage<V>,
-    clients: Vec<Client<'a>>,
+    clients: Vec<Client>,
     copies: &[DropCopy],
     gate: &Meeting,
     turns: u64,
-    rest: Option<Rest<'a>>,
 ) -> Result<(), Fail> {
-    let (parts, wants) = parts_of(stage, clients, rest)?;
+    let (parts, wants) = parts_of(stage, clients)?;
     let logins = Logins {
         setup: &stage.setup,
         copies,
@@ -336,7 +282,6 @@ fn play_at<V: Venue + Send + Sync, R: Threads + Wait + Timer + Abort + Sync>(
         submits,
         at_once,
         turns,
-        rest,
         left,
     } = day;
     let own = setup.copy(alloc)?;
@@ -350,8 +295,8 @@ fn play_at<V: Venue + Send + Sync, R: Threads + Wait + Timer + Abort + Sync>(
         reader,
     };
     stage.open(rt, &before, codes)?;
-    serve(rt, &mut stage, clients, &copies, &gate, turns, rest)?;
-    serve(rt, &mut stage, later, &copies, &gate, turns, rest)?;
+    serve(rt, &mut stage, clients, &copies, &gate, turns)?;
+    serve(rt, &mut stage, later, &copies, &gate, turns)?;
     assert!(rt; gate.was_in_time());
     let made = gate.submits();
     assert!(rt; made.is_some());
