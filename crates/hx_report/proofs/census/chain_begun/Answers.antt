@@ -6,9 +6,9 @@ use Rattle.hx_report.proofs.census.chain_begun.Goals as goal
 pub returns-then-is_some-clause-none : goal.returns-then-is_some-clause-none
 returns-then-is_some-clause-none c =
     λ _. begun_not c.args.market.now.market c.args.event.now c.in_ok-member.member c.in-Message.member c.in-Message.time _ c.in-Some-Enter.enter c.in-Message.is
-        (sym c.decode_in.ensures.exact ∙ c.in-Some-Enter.is) c.in_ok-member.ensures.value (ap is_some (sym c.chain.ensures) ∙ sym c.is_some.ensures ∙ c.if-is_some.true)
+        (ap inbound_of (sym c.as_slice.ensures) ∙ sym c.decode_in.ensures.exact ∙ c.in-Some-Enter.is) c.in_ok-member.ensures.value (ap is_some (sym c.chain.ensures) ∙ sym c.is_some.ensures ∙ c.if-is_some.true)
 
 pub returns-clause-some : goal.returns-clause-some
 returns-clause-some c =
     begun_new c.args.market.now.market c.args.event.now c.in_ok-member.member c.in-Message.member c.in-Message.time _ c.in-Some-Enter.enter c.in-Message.is
-    (sym c.decode_in.ensures.exact ∙ c.in-Some-Enter.is) c.in_ok-member.ensures.value (ap is_some (sym c.chain.ensures) ∙ sym c.is_some.ensures ∙ c.if-is_some.false)
+    (ap inbound_of (sym c.as_slice.ensures) ∙ sym c.decode_in.ensures.exact ∙ c.in-Some-Enter.is) c.in_ok-member.ensures.value (ap is_some (sym c.chain.ensures) ∙ sym c.is_some.ensures ∙ c.if-is_some.false)
