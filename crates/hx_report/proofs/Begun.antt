@@ -1,5 +1,5 @@
 -- The chains that a day begins are those that are listed of its market.
-use Rattle.std.proofs.Common.{◌≡◌, ℕ, Bool, true, false, cond, eqb, not, ◌&&◌, ◌||◌, refl, sym, ap, ◌∙◌, subst, List, [], ◌∷◌, ◌++◌, map, append-nil, Option, Some, None, is_some}
+use Rattle.std.proofs.Common.{◌≡◌, ℕ, Bool, true, false, cond, eqb, not, ◌||◌, refl, sym, ap, ◌∙◌, subst, List, [], ◌∷◌, ◌++◌, map, append-nil, Option, Some, None, is_some}
 use Rattle.std.specs.Prelude.{IfSome, IfNone}
 use Rattle.std.specs.List.{filter, find, list_any, cons_option, AllByRecursion}
 use Rattle.std.specs.Map.{lookup}
@@ -29,10 +29,9 @@ use Rattle.hx_market.specs.Replace.{is_order_halted}
 use Rattle.hx_laws.proofs.History.CoherentSteps.{Coherent, used_last}
 use Rattle.hx_laws.proofs.History.EventMoves.{called_used}
 use Rattle.hx_audit.specs.Facts.{AreOfMembers}
-use Rattle.hx_audit.specs.Finding.{named, named_by, AreTold}
+use Rattle.hx_audit.specs.Finding.{named_by, AreTold}
 use Rattle.hx_audit.specs.Listing.{Use, use_of, uses_of, tokens_in, each_once, grouped}
 use Rattle.hx_audit.proofs.Goes.{joined_if, event_uses, step_goes}
-use Rattle.hx_audit.proofs.Grouping.{token_flip}
 use Rattle.hx_audit.proofs.Uses.{Lists, step_lists, lookup_uses, some_told}
 use Rattle.hx_report.specs.declared.census.Begun.{Begun}
 use Rattle.hx_report.specs.Noted.{entered_by, begun_by, begun_by_message, entered_among}

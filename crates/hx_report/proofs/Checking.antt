@@ -1,5 +1,6 @@
 -- What a replay of a known tape writes.
-use Rattle.std.proofs.Common.{◌≡◌, ℕ, List, [], ◌∷◌, ◌++◌, map, Option, Some, None, refl, sym, ap, ◌∙◌, subst, append-nil}
+use Rattle.std.proofs.Common.{◌≡◌, ℕ, true, false, List, [], ◌∷◌, ◌++◌, Some, Result, Ok, Err, sym, ap, ◌∙◌, subst, append-nil}
+use Rattle.std.specs.Prelude.{IfOk, is_err}
 use Rattle.std.specs.List.{AllByRecursion}
 use Rattle.hx_members.specs.Setups.{Setup}
 use Rattle.hx_audit.specs.declared.auditor.Whose.{Whose}
@@ -26,6 +27,14 @@ replayed setup counts text rest output es r h is =
     let same : r.events ≡ es =
     tape_same r.events es (entries r.events (all_known (start setup) r.events r.are_events)) (entries es (all_known (start setup) es h)) (sym whole ∙ is) in
     r.wrote ∙ ap (output_all (start setup)) same
+
+-- the same where the replay told no error
+pub output_is : {E : Type 0} (r : Result Counts E) (setup : Setup) (text rest empty output : List ℕ) → is_err r ≡ false
+    → IfOk r (λ counts. ReplaysAll setup counts (Some text) (Some rest) (Some empty) (Some output)) → empty ≡ []
+    → (es : List Entry) → AreEvents (start setup) es → text ≡ tape es → output ≡ output_all (start setup) es
+output_is (Ok counts) setup text rest empty output passed all none es are is =
+    replayed setup counts text rest output es (subst (λ (x : List ℕ). ReplaysAll setup counts (Some text) (Some rest) (Some x) (Some output)) none all) are is
+output_is (Err e) setup text rest empty output passed all none es are is = absurd (let z : true ≡ false = passed in cc)
 
 -- what is left of a day is a day
 pub left_events : (setup : Setup) (whose : Whose) (es : List Entry) → AreEvents (start setup) es → AreEvents (start setup) (left_by setup whose es)

@@ -1,5 +1,5 @@
 -- What is counted of what was noted is what the definitions count.
-use Rattle.std.proofs.Common.{◌≡◌, ℕ, ◌+◌, Bool, true, false, cond, eqb, not, ◌&&◌, refl, sym, ap, ◌∙◌, subst, List, [], ◌∷◌, ◌++◌, map, length, Option, Some, None, arith}
+use Rattle.std.proofs.Common.{◌≡◌, ℕ, ◌+◌, Bool, true, false, cond, eqb, not, ◌&&◌, refl, sym, ap, ◌∙◌, List, [], ◌∷◌, map, length, Option, Some, None, arith}
 use Rattle.std.specs.Prelude.{sum_by, count_by}
 use Rattle.std.specs.List.{filter, flat_map}
 use Rattle.std.proofs.lemmas.Bool.Decides.{Decides-eqb}
@@ -24,7 +24,7 @@ use Rattle.hx_report.specs.declared.rest.Hidden.{Hidden}
 use Rattle.hx_report.specs.declared.rows.Tally.{Tally}
 use Rattle.hx_report.specs.Marks.{mark_of, marks_of}
 use Rattle.hx_report.specs.Sums.{counted}
-use Rattle.hx_report.specs.Counts.{messages_by, chains_by, quiet_chains_by, is_execution, trades_of, hidden_in, left_by, rested_by, rested_in, rested_of, IsTally}
+use Rattle.hx_report.specs.Counts.{messages_by, chains_by, quiet_chains_by, is_execution, trades_of, hidden_in, left_by, rested_by, rested_in, IsTally}
 use Rattle.hx_report.specs.Noted.{traders_in, traders_of, rest_of, rests_among, rests_of, quiet_among, AreChains}
 use Rattle.hx_report.specs.Days.{IsDay}
 

@@ -1,5 +1,5 @@
 -- A line that is cut off with its line feed.
-use Rattle.std.proofs.Common.{◌≡◌, ℕ, ◌+◌, List, [], ◌∷◌, ◌++◌, length, take, refl, sym, ap, ◌∙◌, append_assoc, length-append, arith}
+use Rattle.std.proofs.Common.{◌≡◌, ℕ, ◌+◌, List, [], ◌∷◌, ◌++◌, length, take, sym, ap, ◌∙◌, append_assoc, length-append, arith}
 use Rattle.std.proofs.lemmas.List.{take-append-le, take_all}
 
 -- what a line feed cuts off

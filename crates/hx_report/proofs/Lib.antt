@@ -5,6 +5,7 @@ pub mod Tapes
 pub mod Marking
 pub mod Struck
 pub mod Checking
+pub mod Days
 pub mod Begun
 pub mod Noting
 pub mod Counting

@@ -1,13 +1,13 @@
 -- The lines of a text, cut off one by one.
-use Rattle.std.proofs.Common.{◌≡◌, ◌≢◌, ℕ, suc, Bool, true, false, cond, not, ◌&&◌, eqb, List, [], ◌∷◌, ◌++◌, length, take, refl, sym, ap, ◌∙◌, subst, append-nil, append_assoc}
+use Rattle.std.proofs.Common.{◌≡◌, ◌≢◌, ℕ, Bool, true, false, cond, not, ◌&&◌, eqb, List, [], ◌∷◌, ◌++◌, refl, sym, ap, ◌∙◌, subst, append-nil, append_assoc}
 use Rattle.std.specs.List.{concat, filter, starts_with}
 use Rattle.std.specs.Cmp.Lexicographic.{pointwise}
-use Rattle.std.proofs.lemmas.Bool.{eqb-true, eq-eqb}
+use Rattle.std.proofs.lemmas.Bool.{eqb-true}
 use Rattle.std.proofs.lemmas.List.Elements.{All-head, All-tail}
 use Rattle.std.proofs.lemmas.Slice.Eq.{bytes_eq-Decides}
 use Rattle.hx_text.specs.Cuts.{Lacks}
 use Rattle.hx_text.proofs.Splits.{same_split, none_split}
-use Rattle.hx_replay.specs.Grep.{lines_in, in_front, begins_with}
+use Rattle.hx_replay.specs.Grep.{lines_in, begins_with}
 use Rattle.hx_report.specs.Looks.{Pick, is_seen, seen_lines, seen_text}
 use Rattle.hx_report.specs.Comparing.{Ends, EndsSo, FirstLine, NextLine}
 use Rattle.hx_report.specs.Comparing.Ends.{ByFeed, WithText}

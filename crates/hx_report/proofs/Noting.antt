@@ -1,38 +1,35 @@
 -- What is noted of a day, event by event.
-use Rattle.std.proofs.Common.{◌≡◌, ℕ, ◌+◌, Bool, true, false, cond, eqb, not, ◌&&◌, refl, sym, ap, ◌∙◌, subst, List, [], ◌∷◌, ◌++◌, map, length, append-nil, append_assoc, Option, Some, None, arith}
-use Rattle.std.specs.Prelude.{sum_by, count_by}
+use Rattle.std.proofs.Common.{◌≡◌, ℕ, Bool, true, false, Result, cond, eqb, not, refl, sym, ap, ◌∙◌, subst, List, [], ◌∷◌, ◌++◌, map, append-nil, Option, Some, None}
+use Rattle.std.specs.Prelude.{OnOk, is_err}
 use Rattle.std.specs.Option.{option_map_or}
-use Rattle.std.specs.List.{filter, cons_option, flat_map, AllByRecursion}
+use Rattle.std.specs.List.{filter, cons_option, AllByRecursion}
 use Rattle.std.proofs.lemmas.Grind.{flat_map-append}
 use Rattle.std.proofs.lemmas.List.{map-append}
 use Rattle.std.proofs.lemmas.List.Elements.{filter-append}
-use Rattle.std.proofs.lemmas.List.Sums.{sum_by-append, sum_by-cons, length-filter}
 use Rattle.hx_units.specs.declared.names.Token.{Token}
 use Rattle.hx_members.specs.Setups.{Setup}
 use Rattle.hx_members.specs.Tokens.{facts_of}
-use Rattle.hx_ouch.specs.declared.outbound.Outbound.{Outbound}
 use Rattle.hx_rules.specs.declared.event.Event.{Event}
 use Rattle.hx_market.specs.Markets.{Market, opening}
 use Rattle.hx_market.specs.MarketModel.{chain_facts}
 use Rattle.hx_market.specs.Outputs.{Reply, Told}
 use Rattle.hx_market.specs.Refusals.{refusal}
-use Rattle.hx_market.specs.Steps.{step, run, market_after, told, told_from, sender, replies, replies_of, replies_among}
+use Rattle.hx_market.specs.Steps.{step, run, market_after, told, told_from}
 use Rattle.hx_laws.proofs.History.EventMoves.{coherent_run}
 use Rattle.hx_audit.specs.Facts.{are_loud}
-use Rattle.hx_audit.specs.Finding.{AreTold}
-use Rattle.hx_audit.specs.Listing.{Use, uses_of, tokens_in, grouped, told_chain, chains_of, entered_in}
+use Rattle.hx_audit.specs.Listing.{Use, uses_of, tokens_in, told_chain, entered_in}
 use Rattle.hx_audit.specs.Recording.{AreRecorded}
 use Rattle.hx_audit.proofs.Recorded.{one_more}
 use Rattle.hx_audit.proofs.Rooted.{told_run, none_listed}
 use Rattle.hx_audit.proofs.Strangers.{users_are_members}
 use Rattle.hx_report.specs.declared.census.Begun.{Begun}
+use Rattle.hx_report.specs.declared.census.Census.{Census}
 use Rattle.hx_report.specs.declared.census.ChainMark.{ChainMark}
 use Rattle.hx_report.specs.declared.census.Notes.{Notes}
 use Rattle.hx_report.specs.declared.rest.Rested.{Rested}
-use Rattle.hx_report.specs.declared.rest.Hidden.{Hidden}
-use Rattle.hx_report.specs.Counts.{is_execution, trades_of, hidden_in, left_by, rested_by, rested_in, rested_of, chains_by, quiet_chains_by}
-use Rattle.hx_report.specs.Noted.{traders_in, traders_of, rest_of, rests_among, rests_of, entered_by, entered_among, quiet_among, is_quiet_chain, chain_mark, HasNoted, AreChains}
+use Rattle.hx_report.specs.Noted.{traders_in, traders_of, rests_among, rests_of, entered_by, entered_among, quiet_among, is_quiet_chain, chain_mark, HasNoted, AreChains, IsCensus}
 use Rattle.hx_report.proofs.Begun.{Begins, goes_on}
+use Rattle.hx_report.proofs.Tapes.{on_ok}
 
 -- ---- one event more
 
@@ -119,6 +116,26 @@ more_noted setup events x old new o h passes same market begins begun rested tra
     one_trade ts t =
         ap (λ (l : List ℕ). traders_of ts ++ l) (sym (append-nil (traders_in t.replies))) ∙ sym (flat_map-append (λ (u : Told). traders_in u.replies) ts (t ∷ []))
 
+-- the same of an event that the market has played, into lists that were empty
+pub played : {T E : Type 0} (setup : Setup) (events : List Event) (x : Event) (old new : Notes) (o : Option Begun) (r : Result T E) (empty filled one other : List Reply) → HasNoted old setup events
+    → is_err r ≡ false
+    → OnOk r (refusal old.market.setup old.market.market.recorded x ≡ None)
+    → new.market.setup ≡ old.market.setup
+    → OnOk r (new.market.market ≡ (step old.market.setup old.market.market x).market)
+    → Begins old.market.market x o
+    → empty ≡ [] → OnOk r (filled ≡ empty ++ (step old.market.setup old.market.market x).told.replies) → one ≡ filled → other ≡ filled
+    → new.begun.items ≡ old.begun.items ++ cons_option o []
+    → new.traded.items ≡ old.traded.items ++ traders_in one
+    → new.rested.items ≡ old.rested.items ++ rests_among other other
+    → HasNoted new setup (events ++ x ∷ [])
+played setup events x old new o r empty filled one other h passed passes same market begins none fills first second begun traded rested =
+    more_noted setup events x old new o h (on_ok r _ passed passes) same (on_ok r _ passed market) begins begun
+    (rested ∙ ap (λ (l : List Reply). old.rested.items ++ rests_among l l) (second ∙ all))
+    (traded ∙ ap (λ (l : List Reply). old.traded.items ++ traders_in l) (first ∙ all))
+  where
+    all : filled ≡ (step old.market.setup old.market.market x).told.replies
+    all = on_ok r _ passed fills ∙ ap (λ (l : List Reply). l ++ (step old.market.setup old.market.market x).told.replies) none
+
 -- ---- the whole day
 
 -- a chain of the list is told of
@@ -150,3 +167,11 @@ chains_noted setup events notes h m =
     ∙ marks_among (run setup events) m notes.begun.items
     ∙ ap (map (λ (e : Token). is_quiet_chain (run setup events) (record { member = m; entered = e }))) (h.begun_are m)
     ∙ marks_told (run setup events) m (uses_of (run setup events).tokens m) (entered_in (uses_of (run setup events).tokens m)) (told_run setup events m)
+
+pub census_noted : (setup : Setup) (events : List Event) (notes : Notes) (census : Census) (begun : List Begun) → HasNoted notes setup events → begun ≡ notes.begun.items
+    → census.chains.items ≡ map (chain_mark notes.market.market) begun → census.rested.items ≡ notes.rested.items → census.traded.items ≡ notes.traded.items → IsCensus census setup events
+census_noted setup events notes census begun h its chains rested traded = record {
+  chains_are = λ m. ap (quiet_among m) (chains ∙ ap (map (chain_mark notes.market.market)) its) ∙ chains_noted setup events notes h m;
+  rested_are = rested ∙ h.rested_are;
+  traded_are = traded ∙ h.traded_are;
+}

@@ -1,5 +1,5 @@
 -- The lines of a tape, taken one after the other.
-use Rattle.std.proofs.Common.{◌≡◌, ℕ, Bool, true, false, cond, List, [], ◌∷◌, ◌++◌, map, Option, Some, None, refl, sym, ap, ◌∙◌, subst, append-nil, append_assoc}
+use Rattle.std.proofs.Common.{◌≡◌, ℕ, Bool, true, false, cond, List, [], ◌∷◌, ◌++◌, map, Some, None, Result, Ok, Err, OnOk, is_err, refl, sym, ap, ◌∙◌, subst, append-nil, append_assoc}
 use Rattle.std.specs.List.{AllByRecursion}
 use Rattle.std.proofs.lemmas.List.{map-append}
 use Rattle.hx_text.specs.Cuts.{Lacks}
@@ -8,10 +8,15 @@ use Rattle.hx_rules.specs.declared.event.Event.{Event}
 use Rattle.hx_market.specs.Refusals.{refusal}
 use Rattle.hx_tape_lines.specs.Text.{Entry, IsEntry, line}
 use Rattle.hx_tape_lines.specs.Events.{event_of, is_unknown, IsKnown, IsLineOf}
-use Rattle.hx_replay.specs.declared.fault.Kind.{Kind}
 use Rattle.hx_replay.specs.declared.fault.Kind.TheVariants as kind
 use Rattle.hx_replay.specs.Run.{Progress, tape, kind_of, check_of, after, IsEvent, AreEvents}
 use Rattle.hx_replay.proofs.OneReading.{tape_same, tape-cons, line_no_feed}
+
+-- ---- what is so where no error was told
+
+pub on_ok : {T E : Type 0} (r : Result T E) (P : Type 0) → is_err r ≡ false → OnOk r P → P
+on_ok (Ok x) P f h = h
+on_ok (Err e) P f h = absurd (let z : true ≡ false = f in cc)
 
 -- ---- what a line says
 

@@ -3,7 +3,7 @@ use Rattle.std.specs.Prelude.{◌≡◌, ◌≢◌, ℕ, List, [], ◌∷◌, �
 use Rattle.hx_units.specs.Letters.{line_feed}
 use Rattle.hx_text.specs.Cuts.{Lacks}
 use Rattle.hx_replay.specs.Grep.{lines_in}
-use Rattle.hx_report.specs.Looks.{Pick, seen_lines, seen_text}
+use Rattle.hx_report.specs.Looks.{Pick, seen_lines}
 
 -- how a line ends: by its line feed, or with the text
 pub data Ends : Type 0 where

@@ -1,5 +1,5 @@
 -- What a report counts of a member's day.
-use Rattle.std.specs.Prelude.{◌≡◌, ℕ, ◌-◌, ◌==◌, Bool, true, false, not, if◌then◌else◌, List, [], ◌∷◌, length, sum_by, count_by, Option, Some, None}
+use Rattle.std.specs.Prelude.{◌≡◌, ℕ, ◌-◌, ◌==◌, Bool, true, false, not, if◌then◌else◌, List, length, sum_by, count_by, Option, Some, None}
 use Rattle.std.specs.Option.{option_map_or}
 use Rattle.hx_units.specs.Letters.{letter}
 use Rattle.hx_units.specs.Names.{is_token}

@@ -1,12 +1,11 @@
 -- A day: its tape, what it told, and what a strike sees of its lines.
-use Rattle.std.specs.Prelude.{◌≡◌, ℕ, Bool, ⊤, List, map, length, Option, Some}
+use Rattle.std.specs.Prelude.{◌≡◌, ℕ, ⊤, List, map, length, Option, Some}
 use Rattle.hx_members.specs.Setups.{Setup}
 use Rattle.hx_market.specs.Steps.{run, told}
 use Rattle.hx_audit.specs.Auditing.{choice_of}
 use Rattle.hx_audit.specs.declared.auditor.Whose.{Whose}
 use Rattle.hx_tape_lines.specs.Text.{Entry}
 use Rattle.hx_tape_lines.specs.Events.{event_of}
-use Rattle.hx_replay.specs.declared.fault.Kind.{Kind}
 use Rattle.hx_replay.specs.declared.fault.TapeError.{TapeError}
 use Rattle.hx_replay.specs.declared.fault.TapeError.TheVariants as fault
 use Rattle.hx_replay.specs.Run.{start, tape, after_all, output_all, counts_of, AreEvents}

@@ -1,14 +1,9 @@
 -- What others get of an output text, as `grep` chooses its lines.
 use Rattle.std.specs.Prelude.{ℕ, Bool, true, false, not, if◌then◌else◌, List}
 use Rattle.std.specs.List.{concat, filter}
-use Rattle.hx_replay.specs.Grep.{lines_in, begins_with, of_feed, of_member, lines_except, lines_of_feed}
+use Rattle.hx_replay.specs.Grep.{lines_in, begins_with, of_feed, of_member}
 pub use Rattle.hx_report.specs.declared.looks.Look.{Look}
 use Rattle.hx_report.specs.declared.looks.Look.TheVariants.{AllBut, Feed}
-
--- what someone gets of an output text: all lines but the replies to a member, or the feed's alone
-abbrev pub seen_by : Look → List ℕ → List ℕ
-seen_by (AllBut m) text = lines_except m text
-seen_by Feed text = lines_of_feed text
 
 -- how the lines begin by which that is chosen
 abbrev pub beginning_of : Look → List ℕ

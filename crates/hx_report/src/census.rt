@@ -93,10 +93,7 @@ fn is_execution(reply: &Outbound) -> bool
 }
 
 // Notes who traded by an event, once for each execution.
-fn note_traded(
-    traded: &mut Vec<MemberNo>,
-    replies: &[(MemberNo, Outbound)],
-) -> Result<(), NoMemory>
+fn note_traded(traded: &mut Vec<MemberNo>, replies: &[(MemberNo, Outbound)]) -> Result<(), NoMemory>
     ensures { OnOk result (traded.new.items ≡ traded.old.items ++ traders_in replies.now) }
 {
     for (member, reply) in replies {

@@ -64,7 +64,7 @@ fn add_rows<R: Threads + Sync>(
     ensures rows { OnOk result ((es : List Entry) → IsDay day.now es
         → AllZip (IsRow day.now.setup es) (take (length rows.old.items) members.now) rows.old.items
         → AllZip (IsRow day.now.setup es) (take (length rows.new.items) members.now)
-            rows.new.items) }
+        rows.new.items) }
 {
     let from = rows.len();
     let count = AT_ONCE.min(members.len() - from);

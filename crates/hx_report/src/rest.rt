@@ -41,7 +41,11 @@ fn hidden_in(reply: &Outbound) -> Option<Hidden>
 {
     match reply {
         Outbound::Accepted(order) => hidden_if(order.display, order.token, order.shares),
-        Outbound::Replaced(order) => hidden_if(order.display, order.replacement_token, order.shares),
+        Outbound::Replaced(order) => hidden_if(
+            order.display,
+            order.replacement_token,
+            order.shares,
+        ),
         _ => None,
     }
 }

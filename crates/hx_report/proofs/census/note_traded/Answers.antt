@@ -1,4 +1,4 @@
-use Rattle.std.proofs.Common.{ℕ, List, sym, ap, ◌∙◌, true, false, append-nil}
+use Rattle.std.proofs.Common.{sym, ◌∙◌, true, false, append-nil}
 use Rattle.hx_report.proofs.Resting.{traders_more}
 use Rattle.hx_report.proofs.census.note_traded.Goals as goal
 use Rattle.hx_report.proofs.census.note_traded.Goals.{then-is_execution+in_ok-push, else-is_execution}

@@ -1,4 +1,4 @@
-use Rattle.std.proofs.Common.{◌≡◌, ℕ, ◌+◌, ◌<◌, List, ap, sym, ◌∙◌, subst, [], ◌∷◌, length, length-append, get_or, arith, rules}
+use Rattle.std.proofs.Common.{◌≡◌, ◌+◌, ◌<◌, List, ap, sym, ◌∙◌, subst, [], ◌∷◌, length, length-append, get_or, arith, rules}
 use Rattle.std.specs.Prelude.{Result, IfOk}
 use Rattle.std.specs.List.{slice_index_or}
 use Rattle.hx_units.specs.declared.memory.NoMemory.{NoMemory}

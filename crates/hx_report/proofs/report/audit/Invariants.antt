@@ -1,4 +1,4 @@
-use Rattle.std.proofs.Common.{◌≡◌, ◌≤◌, ◌-◌, List, length, take}
+use Rattle.std.proofs.Common.{◌≤◌, ◌-◌, List, length, take}
 use Rattle.std.specs.List.{AllZip}
 use Rattle.hx_tape_lines.specs.Text.{Entry}
 use Rattle.hx_report.specs.Days.{IsDay}

@@ -1,4 +1,4 @@
-use Rattle.std.proofs.Common.{◌≡◌, List, [], ◌∷◌, ◌++◌, ℕ, ap, sym, ◌∙◌}
+use Rattle.std.proofs.Common.{List, [], ◌∷◌, ◌++◌, ℕ, ap, sym, ◌∙◌}
 use Rattle.hx_audit.specs.Auditing.{choice_of}
 use Rattle.hx_tape_lines.specs.Events.{event_of}
 use Rattle.hx_report.specs.Marks.{mark_of}

@@ -14,6 +14,6 @@ returns-in-Some-clause-some c =
 pub returns-in-None-clause-some : goal.returns-in-None-clause-some
 returns-in-None-clause-some c =
     let some : c.args.text.now ≢ [] = λ e.
-        let z : false ≡ true = sym c.if-is_empty.false ∙ c.is_empty.ensures ∙ ap (λ (l : List ℕ). length l == 0) e in
-        absurd (let y : false ≡ true = z in cc) in
+    let z : false ≡ true = sym c.if-is_empty.false ∙ c.is_empty.ensures ∙ ap (λ (l : List ℕ). length l == 0) e in
+    absurd (let y : false ≡ true = z in cc) in
     last_first c.args.text.now some c.in-None.ensures.none

@@ -1,4 +1,3 @@
-use Rattle.std.proofs.Common.{sym}
 use Rattle.hx_market.specs.Markets.{Market}
 use Rattle.hx_rules.specs.declared.event.Event.{Event}
 use Rattle.hx_report.proofs.Struck.{struck_of_him, struck_of_another}
