@@ -30,11 +30,10 @@ pub fn show_input<R: AllocGlobal + Input + Print + Eprint + Files>(
     matches: &ArgMatches<'_>,
 ) -> Result<(), RunError> {
     let alloc = rt.alloc();
-    let mut input = WatchedInput::new(rt);
-    let Ok(mut reader) = BufReader::with_capacity(alloc, BUFFER, &mut input) else {
+    let Ok(mut reader) = BufReader::with_capacity(alloc, BUFFER, WatchedInput::new(rt)) else {
         return Err(RunError::Tape(TapeError::NoMemory));
     };
     let shown = show(alloc, &mut reader, &mut io::writer(rt), choice_of(matches));
-    input.end();
+    reader.into_inner().end();
     Ok(shown?)
 }
