@@ -7,8 +7,9 @@ use hx_reader::FeedBook;
 use hx_units::Symbol;
 use std::alloc::Global;
 use std::process::Abort;
+use std::sync::Wait;
 use std::test::Fail;
-use std::time::{Duration, Instant};
+use std::time::{Clock, Duration, Instant};
 
 pub const ABCD: Symbol = Symbol(*b"ABCD    ");
 
@@ -69,6 +70,40 @@ pub fn news_of(alloc: Global, text: &'static str, from: u64, count: u64) -> Resu
     Ok(news)
 }
 
+// A message is applied to the book, and seen.
+fn see(recorder: &mut Recorder, book: &mut FeedBook, message: &Feed) -> Result<(), Fail> {
+    recorder.look(message, book);
+    book.apply(message)?;
+    recorder.note(message, book)?;
+    Ok(())
+}
+
+// What is new is told at a time, and taken.
+fn pass_on<R: Wait + Clock>(
+    rt: &R,
+    recorder: &mut Recorder,
+    post: &Post,
+    book: &FeedBook,
+    board: &mut Board,
+    now: Instant,
+) -> Result<(), Fail> {
+    recorder.tell(rt, post, STATUS, book, now)?;
+    board.take(post.take(rt))?;
+    Ok(())
+}
+
+// The text of the stock begins so, and so many changes of its prices were told.
+fn shows(board: &Board, beginning: &str, quotes: usize) -> bool {
+    match board.sheet(1) {
+        Some(sheet) => sheet.text.as_str().starts_with(beginning) && sheet.quotes.len() == quotes,
+        None => false,
+    }
+}
+
+const TRADING: &str = r#"{"stock":"ABCD","locate":1,"halted":false"#;
+
+const HALTED: &str = r#"{"stock":"ABCD","locate":1,"halted":true"#;
+
 #[test]
 fn what_is_new_is_told_once(rt: HostRuntime) -> Result<(), Fail> {
     let alloc = rt.alloc();
@@ -76,12 +111,11 @@ fn what_is_new_is_told_once(rt: HostRuntime) -> Result<(), Fail> {
     let mut recorder = Recorder::new(alloc);
     let mut book = FeedBook::new(alloc);
     let mut board = Board::new(alloc);
-    for message in [add(1, b'B', 99_900), add(2, b'S', 100_100)] {
-        book.apply(&message)?;
-        recorder.note(&message, &book)?;
-    }
+    see(&mut recorder, &mut book, &add(1, b'B', 99_900))?;
+    see(&mut recorder, &mut book, &add(2, b'S', 100_100))?;
     let now = Instant::now(&rt)?;
-    recorder.tell(&rt, &post, STATUS, &book, now)?;
+    pass_on(&rt, &mut recorder, &post, &book, &mut board, now)?;
+    assert!(rt; shows(&board, TRADING, 2) && board.changes == 1);
     // Nothing more is told within the twentieth part of a second.
     let halted = Feed::StockTradingAction(StockTradingAction {
         locate: 1,
@@ -90,37 +124,23 @@ fn what_is_new_is_told_once(rt: HostRuntime) -> Result<(), Fail> {
         trading_state: b'H',
         reason: *b"T1  ",
     });
-    recorder.note(&halted, &book)?;
-    recorder.tell(&rt, &post, STATUS, &book, now)?;
-    board.take(post.take(&rt))?;
-    assert_eq!(rt; board.changes, 1);
-    let Some(sheet) = board.sheet(1) else {
-        panic!(rt; "no stock");
-    };
-    assert!(rt;
-        sheet
-            .text
-            .as_str()
-            .starts_with(r#"{"stock":"ABCD","locate":1,"halted":false"#)
-    );
-    assert_eq!(rt; sheet.quotes.len(), 2);
+    see(&mut recorder, &mut book, &halted)?;
+    pass_on(&rt, &mut recorder, &post, &book, &mut board, now)?;
+    assert!(rt; shows(&board, TRADING, 2) && board.changes == 1);
     let later = now + Duration::from_secs(1);
-    recorder.tell(&rt, &post, STATUS, &book, later)?;
-    board.take(post.take(&rt))?;
-    board.take(post.take(&rt))?;
-    assert_eq!(rt; board.changes, 2);
-    let Some(sheet) = board.sheet(1) else {
-        panic!(rt; "no stock");
-    };
-    assert!(rt;
-        sheet
-            .text
-            .as_str()
-            .starts_with(r#"{"stock":"ABCD","locate":1,"halted":true"#)
-    );
-    assert_eq!(rt; sheet.quotes.len(), 2);
+    pass_on(&rt, &mut recorder, &post, &book, &mut board, later)?;
+    pass_on(&rt, &mut recorder, &post, &book, &mut board, later)?;
+    assert!(rt; shows(&board, HALTED, 2) && board.changes == 2);
     assert!(rt; board.sheet(2).is_none());
     Ok(())
+}
+
+// The only execution of the stock.
+fn only_trade(board: &Board) -> Option<Trade> {
+    match board.sheet(1)?.trades.as_slice() {
+        [trade] => Some(*trade),
+        _ => None,
+    }
 }
 
 #[test]
@@ -138,25 +158,27 @@ fn a_broken_execution_is_marked(rt: HostRuntime) -> Result<(), Fail> {
         price: 100_000,
         match_number: 4,
     });
-    recorder.look(&trade, &book);
-    book.apply(&trade)?;
-    recorder.note(&trade, &book)?;
+    let mut told = Trade {
+        match_number: 4,
+        time: 7,
+        price: 100_000,
+        shares: 20,
+        is_broken: false,
+    };
+    see(&mut recorder, &mut book, &trade)?;
     let now = Instant::now(&rt)?;
-    recorder.tell(&rt, &post, STATUS, &book, now)?;
-    board.take(post.take(&rt))?;
+    pass_on(&rt, &mut recorder, &post, &book, &mut board, now)?;
+    assert_eq!(rt; only_trade(&board), Some(told));
     let broken = Feed::BrokenTrade(BrokenTrade {
         locate: 1,
         time: 8,
         match_number: 4,
     });
-    recorder.note(&broken, &book)?;
-    recorder.tell(&rt, &post, STATUS, &book, now + Duration::from_secs(1))?;
-    board.take(post.take(&rt))?;
-    let Some(sheet) = board.sheet(1) else {
-        panic!(rt; "no stock");
-    };
-    assert!(rt; sheet.trades.len() == 1);
-    assert!(rt; sheet.trades.first().map(|trade| trade.is_broken) == Some(true));
+    see(&mut recorder, &mut book, &broken)?;
+    let later = now + Duration::from_secs(1);
+    pass_on(&rt, &mut recorder, &post, &book, &mut board, later)?;
+    told.is_broken = true;
+    assert_eq!(rt; only_trade(&board), Some(told));
     Ok(())
 }
 
