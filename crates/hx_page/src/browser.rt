@@ -133,15 +133,15 @@ impl Browser {
         }
     }
 
-    // Tells all that has changed since it was told last.
+    // Tells all that has changed since it was told last, and at the end how far the feed is.
     fn tell(&mut self, board: &Board) -> Result<(), Error> {
-        if board.feed_change > self.seen {
-            self.say(&board.feed)?;
-        }
         for sheet in &board.sheets {
             if sheet.change > self.seen {
                 self.say(&sheet.text)?;
             }
+        }
+        if board.feed_change > self.seen {
+            self.say(&board.feed)?;
         }
         self.seen = board.changes;
         Ok(())

@@ -92,15 +92,19 @@ function drawChart(stock) {
     const times = chart.trades.concat(chart.quotes).map((point) => point.time);
     const start = times.reduce((a, b) => Math.min(a, b));
     const end = Math.max(times.reduce((a, b) => Math.max(a, b)), feed?.time ?? 0, start + 1);
-    const x = (time) => (90 + 690 * (time - start) / (end - start)).toFixed(1);
-    const height = (price) => high === low ? 120 : 220 - 200 * (price - low) / (high - low);
+    const [left, foot] = svg.clientWidth < 500 ? [130, 440] : [90, 230];
+    const x = (time) => (left + (780 - left) * (time - start) / (end - start)).toFixed(1);
+    const part = (price) => high === low ? 0.5 : (price - low) / (high - low);
+    const height = (price) => foot - 10 - (foot - 30) * part(price);
     const y = (price) => height(price).toFixed(1);
     const marks = [low, high]
         .map((price) => draw("text", { x: 4, y: height(price) + 4 }, dollars(price)));
     const hours = [[start, "start"], [end, "end"]].map(([time, anchor]) =>
-        draw("text", { x: x(time), y: 252, "text-anchor": anchor }, clock(time)));
+        draw("text", { x: x(time), y: foot + 26, "text-anchor": anchor }, clock(time)));
+    svg.setAttribute("viewBox", `0 0 800 ${foot + 36}`);
     svg.replaceChildren(
-        draw("path", { d: "M90 10V230H790", class: "rule", fill: "none" }), ...marks, ...hours,
+        draw("path", { d: `M${left} 10V${foot}H790`, class: "rule", fill: "none" }),
+        ...marks, ...hours,
         draw("path", { d: steps(chart.quotes, "bid", x, y, end), class: "bid" }),
         draw("path", { d: steps(chart.quotes, "offer", x, y, end), class: "offer" }),
         ...chart.trades.map((trade) => point(trade, Number(x(trade.time)), height(trade.price))));

@@ -31,10 +31,9 @@ pub const PAGE: &str = r##"<!doctype html>
 <main>
 <section aria-labelledby="all-title">
 <h2 id="all-title">Stocks</h2>
+<p id="all-text">The best bid and offer of each stock. Choose a stock by its name.</p>
 <div class="wide" tabindex="0" role="region" aria-labelledby="all-title">
-<table id="stocks">
-<caption class="quiet">The best bid and offer of each stock.
-Choose a stock by its name.</caption>
+<table id="stocks" aria-labelledby="all-title" aria-describedby="all-text">
 <thead>
 <tr><th scope="col">Stock</th><th scope="col">State</th>
 <th scope="col">Bid shares</th><th scope="col">Bid</th>
@@ -67,10 +66,11 @@ Choose a stock by its name.</caption>
 </table>
 </div>
 <figure>
-<svg id="chart" role="img" aria-labelledby="chart-text" viewBox="0 0 800 260"></svg>
+<svg id="chart" role="img" aria-labelledby="chart-text" viewBox="0 0 800 266"></svg>
 <figcaption>
 <span id="chart-text">No prices yet.</span>
-<span class="key">Bid: solid line. Offer: dashed line. Execution: dot; broken: cross.</span></figcaption>
+<span class="key">Bid: solid line. Offer: dashed line. Execution: dot; broken: cross.</span>
+</figcaption>
 </figure>
 <table id="trades">
 <caption>Last executions, <span id="trades-count">0</span> in all</caption>

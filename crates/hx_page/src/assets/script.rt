@@ -16,6 +16,8 @@ let feed = null;
 let feedRate = rateOf();
 let chosen = null;
 let heard = 0;
+let coming = [];
+let isNew = true;
 let isOpen = false;
 let isDrawn = true;
 
@@ -194,25 +196,30 @@ function tellLine() {
     isDrawn = false;
 }
 
-// Another session has begun: nothing of the one before is so any more.
-function forget() {
-    stocks.clear();
-    charts.clear();
-    feedRate = rateOf();
-    chosen = null;
+function takeStock(message) {
+    message.rate = stocks.get(message.locate)?.rate ?? rateOf();
+    stocks.set(message.locate, message);
+    extendChart(message);
 }
 
+// The feed's text is the last of a telling: what came before it is shown with it, and not earlier.
+// The first telling of a connection is of all stocks, and nothing of before it is kept.
 function take(message) {
     heard = performance.now();
-    if (message.session !== undefined) {
-        if (feed !== null && feed.session !== message.session) forget();
-        feed = message;
-    } else {
-        message.rate = stocks.get(message.locate)?.rate ?? rateOf();
-        stocks.set(message.locate, message);
-        extendChart(message);
-        if (chosen === null) chosen = message.locate;
+    if (message.session === undefined) {
+        coming.push(message);
+        return;
     }
+    if (isNew) {
+        stocks.clear();
+        charts.clear();
+        feedRate = rateOf();
+        isNew = false;
+    }
+    feed = message;
+    coming.forEach(takeStock);
+    coming = [];
+    if (!stocks.has(chosen)) chosen = stocks.keys().next().value ?? null;
     isDrawn = false;
 }
 
@@ -220,8 +227,9 @@ function connect() {
     const socket = new WebSocket("ws://" + location.host + "/live");
     socket.onopen = () => {
         isOpen = true;
+        isNew = true;
+        coming = [];
         heard = performance.now();
-        for (const chart of charts.values()) chart.isWhole = false;
         tellLine();
     };
     socket.onmessage = (event) => take(JSON.parse(event.data));

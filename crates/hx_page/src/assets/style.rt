@@ -30,7 +30,7 @@ h2 { font-size: 1.1rem; margin: 1.25rem 0 0.5rem; }
 .wide { overflow-x: auto; }
 table { border-collapse: collapse; width: 100%; font-variant-numeric: tabular-nums; }
 caption { text-align: left; padding: 0.25rem 0; font-weight: bold; }
-caption.quiet { font-weight: normal; color: var(--quiet); }
+#all-text { margin: 0.25rem 0; color: var(--quiet); }
 th, td {
     padding: 0.2rem 0.5rem; text-align: right; border-bottom: 1px solid var(--rule);
     white-space: nowrap;
@@ -70,7 +70,7 @@ figcaption { color: var(--quiet); font-size: 0.9rem; }
     #depth { grid-template-columns: 1fr; gap: 0.5rem; }
     th, td { padding: 0.2rem 0.3rem; }
     td.bars { width: 30%; }
-    svg text { font-size: 20px; }
+    svg text { font-size: 28px; }
 }
 @media (forced-colors: active) {
     .bar { border: 1px solid; }

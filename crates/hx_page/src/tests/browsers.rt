@@ -51,17 +51,17 @@ fn two_browsers<R: Net<Listener = TcpListener, Stream = TcpStream> + Clock + Wai
     let mut first = browse(rt, port)?;
     let second = browse(rt, port)?;
     post.leave(rt, news_of(alloc, "1", 1, 1)?)?;
-    expect(rt, &mut first, b"\x81\x02{}\x81\x011")?;
+    expect(rt, &mut first, b"\x81\x011\x81\x02{}")?;
     drop(second);
     post.leave(rt, news_of(alloc, "2", 2, 1)?)?;
-    expect(rt, &mut first, b"\x81\x02{}\x81\x012")?;
+    expect(rt, &mut first, b"\x81\x012\x81\x02{}")?;
     post.leave(rt, news_of(alloc, "4", 4, 1)?)?;
-    expect(rt, &mut first, b"\x81\x02{}\x81\x014")?;
+    expect(rt, &mut first, b"\x81\x014\x81\x02{}")?;
     // A ping is answered (RFC 6455, section 5.5.2), with the mask of zeros.
     first.write_all(b"\x89\x82\0\0\0\0hi")?;
     expect(rt, &mut first, b"\x8a\x02hi")?;
     let mut late = browse(rt, port)?;
-    expect(rt, &mut late, b"\x81\x02{}\x81\x014")?;
+    expect(rt, &mut late, b"\x81\x014\x81\x02{}")?;
     post.end(rt);
     expect(rt, &mut first, b"\x88\0")?;
     expect(rt, &mut late, b"\x88\0")?;
@@ -99,7 +99,7 @@ fn a_slow_one<R: Net<Listener = TcpListener, Stream = TcpStream> + Clock + Wait 
     let mut quick = browse(rt, port)?;
     for _ in 0..5 {
         post.leave(rt, news_of(alloc, "x", 1, 1)?)?;
-        expect(rt, &mut quick, b"\x81\x02{}\x81\x01x")?;
+        expect(rt, &mut quick, b"\x81\x01x\x81\x02{}")?;
         thread::sleep(rt, Duration::from_millis(60));
     }
     drop(slow);
