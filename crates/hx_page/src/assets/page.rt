@@ -53,13 +53,13 @@ pub const PAGE: &str = r##"<!doctype html>
 </fieldset>
 <div id="depth">
 <table id="bids">
-<caption>Bids: <span id="bids-count">0</span> prices</caption>
+<caption>Bids: <span id="bids-count">0 prices</span></caption>
 <thead><tr><th scope="col">Price</th><th scope="col">Shares</th><th scope="col">Orders</th>
 <th scope="col" class="bars">Share of the largest</th></tr></thead>
 <tbody></tbody>
 </table>
 <table id="offers">
-<caption>Offers: <span id="offers-count">0</span> prices</caption>
+<caption>Offers: <span id="offers-count">0 prices</span></caption>
 <thead><tr><th scope="col">Price</th><th scope="col">Shares</th><th scope="col">Orders</th>
 <th scope="col" class="bars">Share of the largest</th></tr></thead>
 <tbody></tbody>

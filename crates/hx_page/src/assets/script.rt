@@ -108,7 +108,8 @@ function drawSide(id, levels, largest) {
     const isAll = document.querySelector("#choice input:checked").value === "all";
     const shown = isAll ? levels : levels.slice(0, 5);
     const part = shown.length < levels.length ? shown.length + " of " : "";
-    set(at(id + "-count"), part + levels.length);
+    const unit = levels.length === 1 ? " price" : " prices";
+    set(at(id + "-count"), part + levels.length + unit);
     const rows = rowsOf(table.tBodies[0], shown.length, (row) => {
         row.append(headOf());
         cells(row, 3);

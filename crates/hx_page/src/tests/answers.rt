@@ -75,7 +75,7 @@ fn the_page_is_given(rt: HostRuntime) -> Result<(), Fail> {
         assert!(rt; output.starts_with(b"HTTP/1.1 200 OK\r\ncontent-type: text/"));
         assert!(rt;
             output
-                .windows(beginning.len())
+                .windows(beginning.len().max(1))
                 .any(|part| part == beginning)
         );
         assert!(rt;

@@ -127,7 +127,7 @@ fn what_is_new_is_told_once(rt: HostRuntime) -> Result<(), Fail> {
     see(&mut recorder, &mut book, &halted)?;
     pass_on(&rt, &mut recorder, &post, &book, &mut board, now)?;
     assert!(rt; shows(&board, TRADING, 2) && board.changes == 1);
-    let later = now + Duration::from_secs(1);
+    let later = now.checked_add(Duration::from_secs(1)).unwrap_or(now);
     pass_on(&rt, &mut recorder, &post, &book, &mut board, later)?;
     pass_on(&rt, &mut recorder, &post, &book, &mut board, later)?;
     assert!(rt; shows(&board, HALTED, 2) && board.changes == 2);
@@ -175,7 +175,7 @@ fn a_broken_execution_is_marked(rt: HostRuntime) -> Result<(), Fail> {
         match_number: 4,
     });
     see(&mut recorder, &mut book, &broken)?;
-    let later = now + Duration::from_secs(1);
+    let later = now.checked_add(Duration::from_secs(1)).unwrap_or(now);
     pass_on(&rt, &mut recorder, &post, &book, &mut board, later)?;
     told.is_broken = true;
     assert_eq!(rt; only_trade(&board), Some(told));
