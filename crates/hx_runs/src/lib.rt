@@ -1,9 +1,12 @@
-//! The commands over tapes: a tape is replayed, written without quiet chains, or shown in words,
-//! from standard input to standard output.
+//! The commands over tapes: a tape is replayed, written without quiet chains, shown in words, or reported to an
+//! auditor, from standard input to standard output; and how far a long run is.
 #![tactic(auto)]
 
+mod audit;
 mod completions;
 mod fault;
+mod members;
+mod progress;
 mod replay;
 mod running;
 mod setups;

@@ -1,6 +1,7 @@
 //! The command that replays a tape.
 
 use crate::fault::RunError;
+use crate::progress::WatchedInput;
 use crate::setups::read_setup;
 use clap::ArgMatches;
 use hx_replay::{Counts, TapeError, replay_ahead};
@@ -22,7 +23,7 @@ fn ended(run: Result<Counts, TapeError>, written: io::Result<()>) -> Result<(), 
 }
 
 /// Replays the input. What was written before a fault is written out as well.
-pub fn replay_input<R: AllocGlobal + Input + Print + Files + Threads + Sync>(
+pub fn replay_input<R: AllocGlobal + Input + Print + Eprint + Files + Threads + Sync>(
     rt: &R,
     matches: &ArgMatches<'_>,
 ) -> Result<(), RunError>
@@ -34,6 +35,8 @@ where
     let Ok(mut writer) = BufWriter::with_capacity(alloc, BUFFER, io::writer(rt)) else {
         return Err(RunError::Tape(TapeError::NoMemory));
     };
-    let run = replay_ahead(rt, alloc, &setup, &mut rt.reader(), &mut writer);
+    let mut input = WatchedInput::new(rt);
+    let run = replay_ahead(rt, alloc, &setup, &mut input, &mut writer);
+    input.end();
     ended(run, writer.flush())
 }

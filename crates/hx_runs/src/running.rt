@@ -1,5 +1,6 @@
 //! What is run for each command over tapes.
 
+use crate::audit::audit_input;
 use crate::completions::write_completions;
 use crate::fault::RunError;
 use crate::replay::replay_input;
@@ -10,7 +11,7 @@ use std::rt::Files;
 use std::thread::Threads;
 
 /// Runs the command over tapes that the command line names, or writes completions; `CommandLine` where it names none.
-pub fn run_command<R: AllocGlobal + Input + Print + Files + Threads + Sync>(
+pub fn run_command<R: AllocGlobal + Input + Print + Eprint + Files + Threads + Sync>(
     rt: &R,
     matches: &ArgMatches<'_>,
 ) -> Result<(), RunError>
@@ -22,6 +23,7 @@ where
         Some(("strike", matches)) => strike_input(rt, matches),
         Some(("show", matches)) => show_input(rt, matches),
         Some(("completions", matches)) => write_completions(rt, matches),
+        Some(("audit", matches)) => audit_input(rt, matches),
         _ => Err(RunError::CommandLine),
     }
 }

@@ -1,5 +1,5 @@
-//! Replays a tape, writes it without quiet chains, or shows it in words, from standard input to standard output; or
-//! serves a day, speaks to one that is served, or watches the feed of one.
+//! Replays a tape, writes it without quiet chains, shows it in words, or reports it to an auditor, from standard input
+//! to standard output; or serves a day, speaks to one that is served, or watches the feed of one.
 #![tactic(auto)]
 
 mod addresses;

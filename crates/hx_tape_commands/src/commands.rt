@@ -75,7 +75,24 @@ fn completions_command<'a>(alloc: Global) -> Result<Command<'a>, AllocError> {
         .arg(shell)
 }
 
-/// The command line of the commands over tapes: replay, strike and show; and completions. Its texts name the program
+// Where the report goes, and in which form.
+fn audit_command<'a>(alloc: Global) -> Result<Command<'a>, AllocError> {
+    let json = Arg::new(alloc, "json")
+        .long("json")
+        .action(ArgAction::SetTrue)
+        .help("Writes one object of JSON, in place of a text");
+    let html = Arg::new(alloc, "html")
+        .long("html")
+        .value_name("FILE")
+        .help("Writes a page of HTML to this file as well");
+    Command::new(alloc, "audit")
+        .about("Reports a tape's day: its quiet chains, and that others get the same without them")
+        .arg(json)?
+        .arg(html)?
+        .arg(setup_file(alloc))
+}
+
+/// The command line of the commands over tapes: replay, strike, show, audit and completions. Its texts name the program
 /// `hx_tape`, whatever its file is called.
 pub fn tape_command<'a>(alloc: Global) -> Result<Command<'a>, AllocError> {
     Command::new(alloc, PROGRAM)
@@ -85,5 +102,6 @@ pub fn tape_command<'a>(alloc: Global) -> Result<Command<'a>, AllocError> {
         .subcommand(strike_command(alloc)?)?
         .subcommand(show_command(alloc)?)?
         .subcommand(completions_command(alloc)?)?
+        .subcommand(audit_command(alloc)?)?
         .bin_name(PROGRAM)
 }

@@ -1,5 +1,5 @@
-//! Replays a tape, writes it without quiet chains, or shows it in words, from standard input to
-//! standard output: the part of `hx_tape` that needs no sockets.
+//! Replays a tape, writes it without quiet chains, shows it in words, or reports it to an auditor, from standard
+//! input to standard output: the part of `hx_tape` that needs no sockets.
 #![tactic(auto)]
 
 use hx_runs::{RunError, read_words, refuse, run_command};

@@ -1,0 +1,13 @@
+pub mod Cuts
+pub mod Lines
+pub mod Sums
+pub mod Tapes
+pub mod Marking
+pub mod Struck
+pub mod Checking
+pub mod Days
+pub mod Begun
+pub mod Noting
+pub mod Counting
+pub mod Resting
+pub mod Adding

@@ -1,0 +1,9 @@
+pub mod Looks
+pub mod Sums
+pub mod Comparing
+pub mod Marks
+pub mod Struck
+pub mod Counts
+pub mod Noted
+pub mod Days
+pub mod Reports

@@ -1,0 +1,23 @@
+//! The report of an audit: of each member what he sent on a day, which of his chains are quiet, and whether the others
+//! get the same texts without these: both days are replayed, and their texts are compared byte for byte.
+#![tactic(auto)]
+
+mod census;
+mod check;
+mod day;
+mod looks;
+mod marks;
+mod report;
+mod rest;
+mod rows;
+mod striking;
+#[cfg(test)]
+mod tests;
+mod texts;
+
+pub use check::{Check, check_all, check_member};
+pub use day::Day;
+pub use looks::Look;
+pub use report::{Progress, Report, audit};
+pub use rows::{Row, Tally};
+pub use texts::{Comparison, TextSum};
