@@ -1,4 +1,5 @@
 //! Words that the pages share.
+ghost use Rattle.std.specs.Prelude.{◌≡◌, codes, true, false};
 
 use hx_report::{Check, Report};
 use hx_units::Firm;
@@ -36,8 +37,11 @@ impl Display for FirmName {
     }
 }
 
-/// What a comparison says.
-pub(crate) fn verdict(check: &Check) -> &'static str {
+/// What a comparison says: `same` if both texts are equal, and `DIFFERS` if not.
+pub(crate) fn verdict(check: &Check) -> &'static str
+    ensures same { check.now.comparison.same ≡ true → result.now ≡ codes "same" }
+    ensures differs { check.now.comparison.same ≡ false → result.now ≡ codes "DIFFERS" }
+{
     if check.comparison.same {
         "same"
     } else {
