@@ -18,7 +18,7 @@ use std::thread::Threads;
 
 /// Who is told how far a report is.
 pub trait Progress {
-    /// So many members of so many are done.
+    /// This number of members is done, of all that there are.
     fn tell(&mut self, done: usize, of: usize);
 }
 
