@@ -1,0 +1,6 @@
+//! Tests.
+
+mod answers;
+mod boards;
+mod browsers;
+mod texts;
