@@ -8,13 +8,13 @@ use Rattle.http_server.specs.Response.{IsResponse}
 use Rattle.http1.specs.Fields.{Header}
 use Rattle.hx_page.specs.declared.asked.Asked.{Asked}
 use Rattle.hx_page.specs.declared.asked.Asked.TheVariants as asked
-use Rattle.hx_page.specs.declared.board.Board.{Board}
-use Rattle.hx_page.specs.declared.board.Sheet.{Sheet}
+use Rattle.hx_board.specs.declared.board.Board.{Board}
+use Rattle.hx_board.specs.declared.board.Sheet.{Sheet}
 use Rattle.hx_page.specs.declared.assets.page.TheConstants.{PAGE}
 use Rattle.hx_page.specs.declared.assets.style.TheConstants.{STYLE}
 use Rattle.hx_page.specs.declared.assets.script.TheConstants.{SCRIPT}
 use Rattle.hx_page.specs.declared.assets.chart.TheConstants.{CHART}
-use Rattle.hx_page.specs.Texts.{string_member, number_member, trades_member, array_member, chart_tokens}
+use Rattle.hx_board.specs.Texts.{string_member, number_member, trades_member, array_member, chart_tokens}
 use Rattle.hx_page.specs.Handshakes.{Headers, Accepts, is_local}
 
 -- ---- what is asked

@@ -4,17 +4,16 @@ ghost use Rattle.http_header.specs.FieldValue.{is_visible_text};
 ghost use Rattle.http_server.specs.Response.{IsBlank, IsResponse, fields_of};
 ghost use Rattle.json.specs.Print.{print};
 ghost use Rattle.hx_page.specs.Answers.{closed, discreet, safe, Gives, Refuses, GivesChart, GoesOver, Answers, book_text, joined, sheet_tokens, trades_tokens, chart_path, charted};
-ghost use Rattle.hx_page.specs.Texts.{Adds, array_member};
+ghost use Rattle.hx_board.specs.Texts.{Adds, array_member};
 
 use crate::asked::Asked;
 use crate::assets::{CHART, PAGE, SCRIPT, STYLE};
-use crate::board::{Board, Sheet};
 use crate::handshake::{accepted, is_local};
-use crate::text::{write_name, write_number, write_trades};
 use bytes::{BufMut, Bytes};
 use http::header::{HeaderMap, HeaderName};
 use http::{HeaderValue, Request, StatusCode, header};
 use http_server::{Response, Service};
+use hx_board::{Board, Sheet, write_name, write_number, write_trades};
 use json::Writer;
 use std::alloc::{AllocError, Global};
 
@@ -133,7 +132,7 @@ fn write_sheet(writer: &mut Writer, sheet: &Sheet) -> Result<(), AllocError>
     writer.end_object()
 }
 
-#[tactic(auto, unfolding(crate::specs::Texts::array_member))]
+#[tactic(auto, unfolding(hx_board::specs::Texts::array_member))]
 fn write_sheets(writer: &mut Writer, sheets: &[Sheet]) -> Result<(), AllocError>
     ensures { Adds result writer.old writer.new
         (array_member (codes "stocks") sheet_tokens sheets.now) }

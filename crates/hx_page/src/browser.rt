@@ -1,9 +1,8 @@
 //! A browser that is told of what changes, by a WebSocket (RFC 6455).
 
-use crate::board::Board;
-use crate::pace::PACE;
 use bytes::{Buf, ByteStr, BytesMut};
 use http_server::Rope;
+use hx_board::{Board, PACE};
 use std::alloc::Global;
 use std::io;
 use std::io::{ErrorKind, Write};

@@ -1,10 +1,10 @@
 //! Those who read the page: each by a connection of his own, none of whom can hold up another.
 
 use crate::answering::Page;
-use crate::board::Board;
 use crate::browser::Browser;
 use http_server::{Config, Connection, State};
 use http1::Limits;
+use hx_board::Board;
 use std::alloc::{AllocError, Global};
 use std::hash::RandomState;
 use std::io::{ErrorKind, Read};

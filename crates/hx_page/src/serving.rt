@@ -1,8 +1,7 @@
 //! The page over sockets.
 
-use crate::board::Board;
 use crate::guests::Guests;
-use crate::news::Post;
+use hx_board::{Board, Post};
 use std::alloc::Global;
 use std::hash::RandomState;
 use std::net::TcpListener;

@@ -1,6 +1,5 @@
 //! Tests.
 
 mod answers;
-mod boards;
 mod browsers;
-mod texts;
+mod news;

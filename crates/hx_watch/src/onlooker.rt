@@ -1,8 +1,8 @@
 //! Who looks on while a feed is watched: nobody, or the page.
 
 use crate::fault::WatchError;
+use hx_board::{Post, Recorder, Status};
 use hx_itch::{Feed, decode};
-use hx_page::{Post, Recorder, Status};
 use hx_reader::{FeedBook, Screen};
 use std::sync::Wait;
 use std::time::{Clock, Instant};

@@ -1,7 +1,8 @@
 //! What each request gets, over memory.
 
-use super::boards::news_of;
-use crate::{Board, Page};
+use super::news::news_of;
+use crate::Page;
+use hx_board::Board;
 use http_server::{Config, Connection, State};
 use std::hash::RandomState;
 use std::process::Abort;
@@ -21,7 +22,7 @@ fn answers<R: AllocGlobal + RandomSource>(
 ) -> Result<(State, Vec<u8>), Fail> {
     let alloc = rt.alloc();
     let mut board = Board::new(alloc);
-    board.take(news_of(alloc, r#"{"stock":"ABCD"}"#, 7, 1)?)?;
+    board.take(news_of(alloc, r#"{"stock":"ABCD"}"#, 7)?)?;
     let mut page = Page::new(alloc, &board);
     let mut connection = Connection::new(alloc, RandomState::new(rt)?, Config::default());
     let mut output = Vec::new(alloc);

@@ -1,7 +1,8 @@
 //! The page on loopback: browsers that are told, one that is slow, one that vanishes, and the end.
 
-use super::boards::news_of;
-use crate::{Post, serve_page};
+use super::news::news_of;
+use crate::serve_page;
+use hx_board::Post;
 use std::alloc::Global;
 use std::hash::RandomState;
 use std::io::{Read, Write};
@@ -50,12 +51,12 @@ fn two_browsers<R: Net<Listener = TcpListener, Stream = TcpStream> + Clock + Wai
 ) -> Result<(), Fail> {
     let mut first = browse(rt, port)?;
     let second = browse(rt, port)?;
-    post.leave(rt, news_of(alloc, "1", 1, 1)?)?;
+    post.leave(rt, news_of(alloc, "1", 1)?)?;
     expect(rt, &mut first, b"\x81\x011\x81\x02{}")?;
     drop(second);
-    post.leave(rt, news_of(alloc, "2", 2, 1)?)?;
+    post.leave(rt, news_of(alloc, "2", 2)?)?;
     expect(rt, &mut first, b"\x81\x012\x81\x02{}")?;
-    post.leave(rt, news_of(alloc, "4", 4, 1)?)?;
+    post.leave(rt, news_of(alloc, "4", 4)?)?;
     expect(rt, &mut first, b"\x81\x014\x81\x02{}")?;
     // A ping is answered (RFC 6455, section 5.5.2), with the mask of zeros.
     first.write_all(b"\x89\x82\0\0\0\0hi")?;
@@ -98,7 +99,7 @@ fn a_slow_one<R: Net<Listener = TcpListener, Stream = TcpStream> + Clock + Wait 
     let slow = browse(rt, port)?;
     let mut quick = browse(rt, port)?;
     for _ in 0..5 {
-        post.leave(rt, news_of(alloc, "x", 1, 1)?)?;
+        post.leave(rt, news_of(alloc, "x", 1)?)?;
         expect(rt, &mut quick, b"\x81\x01x\x81\x02{}")?;
         thread::sleep(rt, Duration::from_millis(60));
     }
