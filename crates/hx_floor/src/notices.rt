@@ -1,6 +1,6 @@
 //! What the operator is told as it happens.
 ghost use Rattle.std.specs.Prelude.{◌≡◌};
-ghost use Rattle.hx_serve.specs.Faults.{fault_number};
+ghost use Rattle.hx_floor.specs.Faults.{fault_number};
 
 use hx_doors::{DoorBoard, Left};
 use hx_sessions::{Ended, Fault, Gate};
@@ -31,7 +31,7 @@ pub enum Notice {
     },
     /// A session has ended with a fault.
     Faulted {
-        /// The number of the fault, 1 to 7.
+        /// The number of the fault, 1 to 8.
         fault: u8,
         /// Whose, where he had logged in.
         member: Option<MemberNo>,

@@ -2,7 +2,7 @@
 ghost use Rattle.std.specs.Prelude.{◌↔◌, ◌≡◌, IfOk, IfSome, IsSome};
 ghost use Rattle.std.specs.Net.Socket.{socket_port};
 ghost use Rattle.hx_doors.specs.Addresses.{AreLoopback, IsLoopback};
-ghost use Rattle.hx_serve.specs.Arguments.{AreInRange, AreWithin, IsWithin, most_answers, most_places};
+ghost use Rattle.hx_floor.specs.Arguments.{AreInRange, AreWithin, IsWithin, most_answers, most_places};
 
 use hx_doors::Addresses;
 use std::alloc::{AllocError, Global};
@@ -41,7 +41,7 @@ pub struct OpenArgs {
 }
 
 impl ServeArgs {
-    ghost use Rattle.hx_serve.specs.Given.{AreAtPorts, AreThese, usual_answers};
+    ghost use Rattle.hx_floor.specs.Given.{AreAtPorts, AreThese, usual_answers};
 
     /// These arguments, or none where one of the numbers is out of its range, or the feed would go to the port of
     /// requests. 1,000 requests of a source are answered a second.

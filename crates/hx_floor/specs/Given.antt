@@ -2,7 +2,7 @@
 use Rattle.std.specs.Prelude.{ℕ, ◌≡◌, [], ◌∷◌, map}
 use Rattle.std.specs.Net.Socket.{socket_port}
 use Rattle.hx_doors.specs.declared.addresses.Addresses.{Addresses}
-use Rattle.hx_serve.specs.declared.args.ServeArgs.{ServeArgs}
+use Rattle.hx_floor.specs.declared.args.ServeArgs.{ServeArgs}
 
 -- how many requests of a source are answered a second unless it is said
 abbrev pub usual_answers : ℕ
