@@ -1,9 +1,10 @@
 """Runs the program of crates/hx_rates, which measures parts of the exchange, and reads what it prints."""
-import argparse, os, statistics, subprocess, sys
+import os, statistics, subprocess, sys
 
-TOP = os.path.dirname(os.path.dirname(os.path.abspath(__file__)))
+import measuring
+from measuring import TOP
+
 CRATE = os.path.join(TOP, 'crates', 'hx_rates')
-sys.path.insert(0, os.path.join(TOP, 'tests'))
 
 
 def built():
@@ -16,14 +17,10 @@ def built():
 
 def asked(text, *more):
     """What the command line asks for: a program, how often it is run, and whether a little is enough."""
-    parser = argparse.ArgumentParser(description=text, formatter_class=argparse.RawDescriptionHelpFormatter)
-    parser.add_argument('program', nargs='?', help='a built hx_rates; unless it is given, it is proved and built first')
-    parser.add_argument('--runs', type=int, default=3, help='how often each thing is measured (3)')
-    parser.add_argument('--small', action='store_true', help='a little of each, once: the rates say nothing')
-    for name, words in more:
-        parser.add_argument(name, **words)
-    words = parser.parse_args()
-    words.program = os.path.abspath(words.program) if words.program else built()
+    runs = ('--runs', {'type': int, 'default': 3, 'help': 'how often each thing is measured (3)'})
+    words = measuring.asked(text, runs, *more, program=None,
+                            which='a built hx_rates; unless it is given, it is proved and built first')
+    words.program = words.program or built()
     words.runs = 1 if words.small else words.runs
     return words
 
