@@ -31,8 +31,8 @@ pub use fittings::{Fittings, Metrics};
 pub use history::write_history;
 pub use hx_doors::{Addresses, Datagrams, Doors, Left, Rate, Sockets, Tally, address_of};
 pub use hx_floor::{
-    Board, Bulletin, DayClock, Hosting, Json, JsonNotices, Meter, Metered, Notice, Notices, OpenArgs,
-    Refusal, Seats, ServeArgs, Silent, Sitter, Stage, Times, today,
+    Board, Bulletin, DayClock, Hosting, Json, JsonNotices, Meter, Metered, Notice, Notices,
+    OpenArgs, Refusal, Seats, ServeArgs, Silent, Sitter, Stage, Times, today,
 };
 pub use kept_day::{keep_history, new_history, serve_kept};
 pub use operator::operate;

@@ -6,7 +6,9 @@ ghost use Rattle.std.specs.Thread.{IsSend, IsSync};
 use hx_blog::{Log, Reader};
 use hx_doors::{Connection, Lobby, count};
 use hx_engine::{Entry, Exchange, Journal, Pass, Venue};
-use hx_floor::{Board, DayClock, Floor, Hosting, Notice, SeatInput, SeatOutput, Sitter, notice_of_end};
+use hx_floor::{
+    Board, DayClock, Floor, Hosting, Notice, SeatInput, SeatOutput, Sitter, notice_of_end,
+};
 use hx_sessions::{Ended, Fault, Gate, Logins, Part, Session};
 use hx_soup::rejected;
 use hx_units::MemberNo;

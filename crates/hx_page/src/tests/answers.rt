@@ -2,8 +2,8 @@
 
 use super::news::news_of;
 use crate::Page;
-use hx_board::Board;
 use http_server::{Config, Connection, State};
+use hx_board::Board;
 use std::hash::RandomState;
 use std::process::Abort;
 use std::random::RandomSource;
