@@ -29,7 +29,11 @@ impl<V: Venue> Sender<V> {
         match events.as_slice() {
             [] => true,
             [event] => exchange.submit(rt, &mut self.pass, event).is_ok(),
-            _ => exchange.submit_all(rt, &mut self.pass, events).is_ok(),
+            _ => {
+                let done = exchange.submit_all(rt, &mut self.pass, events).is_ok();
+                exchange.ring_feed();
+                done
+            }
         }
     }
 

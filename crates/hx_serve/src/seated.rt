@@ -32,6 +32,10 @@ impl<'a> Source for SeatInput<'a> {
             || self.inlet.wait(bell, limit)
             || self.seats.is_called(self.seat)
     }
+
+    fn takes_at_once(&self) -> bool {
+        self.inlet.takes_at_once()
+    }
 }
 
 /// What goes to a member. It fails where the time of the sessions behind the day's end is over.
