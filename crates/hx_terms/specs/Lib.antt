@@ -1,0 +1,5 @@
+pub mod Records
+pub mod Lines
+pub mod Inside
+pub mod Terms
+pub mod Laws
