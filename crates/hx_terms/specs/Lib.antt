@@ -3,3 +3,4 @@ pub mod Lines
 pub mod Inside
 pub mod Terms
 pub mod Laws
+pub mod Texts

@@ -7,7 +7,7 @@ use Rattle.hx_journal.specs.Records.{IsRecord}
 use Rattle.hx_terms.specs.declared.head.Head.{Head}
 use Rattle.hx_terms.specs.declared.record.RecordError.{RecordError}
 use Rattle.hx_terms.specs.declared.record.RecordError.TheVariants.{Number, Line, Unended}
-use Rattle.hx_terms.specs.Records.{IsHead}
+use Rattle.hx_terms.specs.Records.{Record, IsHead}
 
 -- each line is one of a tape: as a record of a journal, it has no zero and no line feed, and does
 -- not begin with '#'
@@ -62,3 +62,9 @@ IsRecordFault head text Number =
     (count : ℕ) → IsHead head → AreTheLines text count → HasPlaces head count → ⊥
 IsRecordFault head text (Line number) = IsHead head × IsBadLine text number
 IsRecordFault head text Unended = IsHead head × IsUnended text
+
+-- a record may stand in a log
+pub record IsOfLog (r : Record) : Type 0 where
+  pub head : IsHead r.head
+  pub lines : AreTapeLines r.lines
+  pub places : HasPlaces r.head (length r.lines)

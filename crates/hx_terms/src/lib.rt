@@ -11,7 +11,12 @@ pub mod laws;
 mod lines;
 mod reading;
 mod record;
+mod text;
 
 pub use head::Head;
 pub use reading::{Reading, Verdict};
 pub use record::{LogRecord, RecordError};
+pub use text::{TextError, read_record};
+
+#[cfg(test)]
+mod tests;

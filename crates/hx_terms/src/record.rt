@@ -1,8 +1,7 @@
 //! The records of a log.
-ghost use Rattle.std.specs.Prelude.{◌≡◌, ◌+◌, ◌≤◌, ◌^◌, length, IfOk, IfErr};
+ghost use Rattle.std.specs.Prelude.{◌≡◌, length, IfOk, IfErr};
 ghost use Rattle.hx_journal.specs.Lines.{text_of};
-ghost use Rattle.hx_terms.specs.Records.{IsHead};
-ghost use Rattle.hx_terms.specs.Lines.{AreTapeLines, IsRecordFault};
+ghost use Rattle.hx_terms.specs.Lines.{IsOfLog, IsRecordFault};
 
 use crate::Head;
 use crate::head::NUMBER_END;
@@ -51,6 +50,7 @@ impl LogRecord {
     pub fn new(head: Head, text: Vec<u8>) -> Result<LogRecord, RecordError>
         ensures head { IfOk result (λ r. r.head ≡ head) }
         ensures lines { IfOk result (λ r. text.items ≡ text_of r.lines) }
+        ensures of_log { IfOk result (λ r. IsOfLog r) }
         ensures err { IfErr result (IsRecordFault head text.items) }
     {
         if !head.is_of_log() {
@@ -66,23 +66,21 @@ impl LogRecord {
     /// Who appended it, and where it stands.
     pub fn head(&self) -> Head
         ensures head { result ≡ self.now.head }
-        ensures range { IsHead result }
+        ensures of_log { IsOfLog self.now }
     {
         self.head
     }
 
     /// Its lines, each with a line feed behind it: a part of a tape.
     pub fn text(&self) -> &[u8]
-        ensures text { result.now ≡ text_of self.now.lines }
-        ensures lines { AreTapeLines self.now.lines }
+        ensures { result.now ≡ text_of self.now.lines }
     {
         &self.text
     }
 
     /// How many lines it has.
     pub fn count(&self) -> u64
-        ensures count { result ≡ length self.now.lines }
-        ensures places { self.now.head.place + result ≤ 10 ^ 14 }
+        ensures { result ≡ length self.now.lines }
     {
         self.count
     }
