@@ -3,6 +3,9 @@ use std::alloc::Global;
 use std::process::Abort;
 use std::test::Fail;
 
+// The lines that count of the log below.
+const TAPE: &[u8] = b"one\ntwo\nthree\n";
+
 // The log in which writer 8 took over while two records of writer 7 were on their way, and what a reader makes of
 // each record.
 const LOG: &[(&[u8], Verdict)] = &[
@@ -34,7 +37,7 @@ fn a_takeover_passes_over_what_is_late(rt: HostRuntime) -> Result<(), Fail> {
         }
         assert_eq!(rt; record.spelled(alloc)?.as_slice(), *text);
     }
-    assert_eq!(rt; tape.as_slice(), b"one\ntwo\nthree\n");
+    assert_eq!(rt; tape.as_slice(), TAPE);
     let next = Head {
         number: 9,
         term: 2,
