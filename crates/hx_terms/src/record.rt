@@ -6,6 +6,8 @@ ghost use Rattle.hx_terms.specs.Lines.{IsOfLog, IsRecordFault};
 use crate::Head;
 use crate::head::NUMBER_END;
 use crate::lines::count_lines;
+use hx_units::NoMemory;
+use std::alloc::Global;
 use std::marker::Model;
 
 /// Why there is no such record.
@@ -61,6 +63,17 @@ impl LogRecord {
             return Err(RecordError::Number);
         }
         Ok(LogRecord { head, text, count })
+    }
+
+    /// An equal record.
+    pub fn copy(&self, alloc: Global) -> Result<LogRecord, NoMemory>
+        ensures { IfOk result (λ r. r ≡ self.now) }
+    {
+        Ok(LogRecord {
+            head: self.head,
+            text: Vec::from_slice(alloc, &self.text)?,
+            count: self.count,
+        })
     }
 
     /// Who appended it, and where it stands.
