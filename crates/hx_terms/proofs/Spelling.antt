@@ -135,6 +135,7 @@ no_bad_line lines number good h = at (behind_front h.stands.front lines (h.line 
     among (l ∷ more) fine e =
         let same = same_split 10 h.line h.behind l (text_of more) h.ends (line_lacks l fine.0.0) e in
         h.bad (subst IsRecord (sym same.0) fine.0)
+
     at : Behind (h.line ++ 10 ∷ h.behind) → ⊥
     at b = among b.lines b.good b.is
 
@@ -144,6 +145,7 @@ no_unended lines good h = at (behind_front h.stands.front lines h.rest h.stands.
     among : (more : List (List ℕ)) → h.rest ≡ text_of more → ⊥
     among [] e = h.some e
     among (l ∷ more) e = none_split 10 l (text_of more) (subst (Lacks 10) e h.ends)
+
     at : Behind h.rest → ⊥
     at b = among b.lines b.is
 
@@ -178,8 +180,10 @@ bad_lines error text r h good is = by_error error (subst (λ (l : List ℕ). IsR
   where
     cut : Cut text (head_line h.head) (head_line r.head) h.behind (text_of r.lines)
     cut = first_line text (head_line h.head) (head_line r.head) h.behind (text_of r.lines) h.is is (head_lacks h.head h.good) (head_lacks r.head good.head)
+
     same : h.head ≡ r.head
     same = same_head (head_line h.head) h.head r.head h.good good.head refl cut.front
+
     by_error : (e : RecordError) → IsRecordFault h.head (text_of r.lines) e → ⊥
     by_error Number bad = bad (length r.lines) h.good (are_the_lines r.lines good.lines) (subst (λ (k : Head). HasPlaces k (length r.lines)) (sym same) good.places)
     by_error (Line number) bad = no_bad_line r.lines number good.lines bad.1

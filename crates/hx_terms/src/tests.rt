@@ -81,9 +81,18 @@ const FAULTS: &[(&[u8], TextError)] = &[
     (b"#1 0 7 1\n", TextError::Head),
     (b"#1 1 7 100000000000000\n", TextError::Head),
     (b"#1 1 7 1\none", TextError::Lines(RecordError::Unended)),
-    (b"#1 1 7 1\none\n#two\n", TextError::Lines(RecordError::Line { number: 2 })),
-    (b"#1 1 7 1\no\0ne\n", TextError::Lines(RecordError::Line { number: 1 })),
-    (b"#1 1 7 99999999999999\none\ntwo\n", TextError::Lines(RecordError::Number)),
+    (
+        b"#1 1 7 1\none\n#two\n",
+        TextError::Lines(RecordError::Line { number: 2 }),
+    ),
+    (
+        b"#1 1 7 1\no\0ne\n",
+        TextError::Lines(RecordError::Line { number: 1 }),
+    ),
+    (
+        b"#1 1 7 99999999999999\none\ntwo\n",
+        TextError::Lines(RecordError::Number),
+    ),
 ];
 
 fn fault_of(rt: &impl Abort, alloc: Global, text: &[u8], fault: TextError) {
