@@ -94,7 +94,8 @@ impl Reading {
     /// The head of the record by which a writer takes over: of the next term, at the next place. None where no record of
     /// a log may have it: for writer 0, or where the numbers are used up.
     pub fn takeover(&self, writer: u64) -> Option<Head>
-        ensures { SomeIff result (IsHead (takeover_of writer self.now)) (takeover_of writer self.now) }
+        ensures { SomeIff result
+            (IsHead (takeover_of writer self.now)) (takeover_of writer self.now) }
     {
         let head = Head {
             number: self.number,

@@ -119,8 +119,10 @@ fn behind_mark(line: &[u8]) -> Option<&[u8]>
 
 // The number in front of the first space, and what stands behind it.
 fn read_word(text: &[u8]) -> Option<(u64, &[u8])>
-    ensures some { IfSome result (λ p. (p.0 < 10 ^ 14) × (text.now ≡ decimal p.0 ++ (space ∷ p.1.now))) }
-    ensures none { IfNone result ((n : ℕ) (rest : List ℕ) → n < 10 ^ 14 → text.now ≢ decimal n ++ (space ∷ rest)) }
+    ensures some { IfSome result (λ p.
+        (p.0 < 10 ^ 14) × (text.now ≡ decimal p.0 ++ (space ∷ p.1.now))) }
+    ensures none { IfNone result ((n : ℕ) (rest : List ℕ)
+        → n < 10 ^ 14 → text.now ≢ decimal n ++ (space ∷ rest)) }
 {
     let (digits, rest) = split_once(text, b' ')?;
     Some((read_number(digits)?, rest))
