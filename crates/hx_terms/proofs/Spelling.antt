@@ -1,6 +1,6 @@
 -- What texts of records are read as.
 use Rattle.std.specs.Prelude.{◌≢◌, Result, Ok, Err, IfOk, IfErr}
-use Rattle.std.proofs.Common.{◌≡◌, ℕ, zero, suc, ◌+◌, ◌<◌, ◌^◌, List, [], ◌∷◌, ◌++◌, length, refl, sym, ap, ◌∙◌, subst, arith, append_assoc, length-append}
+use Rattle.std.proofs.Common.{◌≡◌, ℕ, ◌<◌, ◌^◌, List, [], ◌∷◌, ◌++◌, length, refl, sym, ap, ◌∙◌, subst, arith, append_assoc, length-append}
 use Rattle.std.specs.Fmt.{decimal}
 use Rattle.std.proofs.lemmas.Fmt.{decimal_injective}
 use Rattle.std.proofs.lemmas.List.Elements.{All-append, All-cons, All-nil}
@@ -16,8 +16,8 @@ use Rattle.hx_terms.specs.declared.record.RecordError.TheVariants.{Number, Line,
 use Rattle.hx_terms.specs.declared.text.TextError.{TextError}
 use Rattle.hx_terms.specs.declared.text.TextError.TheVariants as fault
 use Rattle.hx_terms.specs.Records.{Record, IsHead}
-use Rattle.hx_terms.specs.Lines.{AreTapeLines, AreTheLines, StandInFront, IsBadLine, IsUnended, HasPlaces, IsRecordFault, IsOfLog}
-use Rattle.hx_terms.specs.Texts.{head_line, spelled, HasNoHead, HasBadLines, IsTextFault, IsReadAs}
+use Rattle.hx_terms.specs.Lines.{AreTapeLines, AreTheLines, IsBadLine, IsUnended, HasPlaces, IsRecordFault, IsOfLog}
+use Rattle.hx_terms.specs.Texts.{head_line, spelled, HasBadLines, IsTextFault, IsReadAs}
 use Rattle.hx_terms.proofs.Fronts.{are_lines}
 
 -- ---- words

@@ -1,10 +1,10 @@
 -- What is taken of a longer log, and who stands behind a record that counts.
-use Rattle.std.proofs.Common.{◌≡◌, ◌⊎◌, inl, inr, ℕ, ◌+◌, ◌<◌, ◌≤◌, List, [], ◌∷◌, ◌++◌, length, Bool, true, false, cond, refl, sym, ap, ◌∙◌, arith, append_assoc, ◌&&◌, ◌||◌, eqb, eqb-true, eq-eqb, ltb, ltb-true}
+use Rattle.std.proofs.Common.{◌≡◌, ◌⊎◌, inl, inr, ℕ, ◌+◌, ◌≤◌, List, [], ◌∷◌, ◌++◌, Bool, true, false, cond, refl, sym, ap, ◌∙◌, arith, append_assoc, ◌&&◌, ◌||◌, eqb, eqb-true, eq-eqb, ltb, ltb-true}
 use mathlib.Core.List.{IsPrefix}
 use Rattle.hx_terms.specs.declared.head.Head.{Head}
 use Rattle.hx_terms.specs.declared.reading.Reading.{Reading}
 use Rattle.hx_terms.specs.Records.{Record}
-use Rattle.hx_terms.specs.Terms.{counts, is_later, is_by_who_stands, after, after_all, taking, passing, taken, next_of, takeover_of}
+use Rattle.hx_terms.specs.Terms.{counts, is_later, is_by_who_stands, after, after_all, taking, passing, taken, takeover_of}
 use Rattle.hx_terms.specs.Laws.{OneBeginsOther, TakenGrows, DeposedDoNotCount, OneIsAhead, OneWriterATerm, NextCounts, TakeoverCounts, TakeoverAddsNothing}
 
 lines_of : Reading → Record → List (List ℕ)

@@ -1,7 +1,6 @@
 -- The laws of logs.
 use Rattle.std.specs.Prelude.{◌≡◌, ◌⊎◌, ℕ, ◌<◌, true, false, List, [], ◌∷◌}
 use mathlib.Core.List.{IsPrefix}
-use Rattle.hx_terms.specs.declared.head.Head.{Head}
 use Rattle.hx_terms.specs.declared.reading.Reading.{Reading}
 use Rattle.hx_terms.specs.Records.{Record}
 use Rattle.hx_terms.specs.Terms.{counts, after, after_all, taken, next_of, takeover_of}

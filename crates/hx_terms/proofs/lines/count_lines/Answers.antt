@@ -1,4 +1,4 @@
-use Rattle.std.proofs.Common.{◌≡◌, ◌≤◌, ◌+◌, ◌∷◌, ◌++◌, length, arith, sym, ap, ◌∙◌, length-append, rules}
+use Rattle.std.proofs.Common.{◌≡◌, ◌+◌, ◌∷◌, length, arith, sym, ap, ◌∙◌, length-append, rules}
 use Rattle.hx_terms.proofs.Fronts.{one_more, all_read, few_read, nothing_left}
 use Rattle.hx_terms.proofs.lines.count_lines.Goals as goal
 
