@@ -1,4 +1,5 @@
 """Tapes in words, for scripts: the lines of the members and of the operator as `replay` reads them (OUCH 4.2)."""
+import random
 
 DAY, MARKET, NOW = 99_999, 99_998, 0
 
@@ -79,3 +80,71 @@ def day_in_turns(rounds):
                    (10 * i + 1, 2, enter('S%d' % i, 'S', 40, 'ABCD', 100_000, NOW, 'N')),
                    (10 * i + 2, 3, enter('H%d' % i, 'B', 100, 'ABCD', 99_900, display='N'))]
     return tape(*events)
+
+
+# The two stocks of `market_day`.
+TWO_STOCKS = ('ABCD', 'WXYZ')
+
+
+class Walker:
+    """Makes the messages of a day: prices walk, and each member has orders at rest."""
+
+    def __init__(self, members, seed):
+        self.rng, self.used = random.Random(seed), 0
+        self.middle = dict.fromkeys(TWO_STOCKS, 1_000_000)
+        self.resting = {member: [] for member in range(1, members + 1)}
+
+    def token(self):
+        self.used += 1
+        return '%014d' % self.used
+
+    def shares(self):
+        return 100 * self.rng.randrange(1, 10)
+
+    def away(self, stock, buys):
+        """A price behind the middle, mostly by a few cents."""
+        distance = 100 * (1 + min(int(self.rng.expovariate(0.08)), 400))
+        return self.middle[stock] - distance if buys else self.middle[stock] + distance
+
+    def across(self, stock, buys):
+        return self.middle[stock] + 300 if buys else self.middle[stock] - 300
+
+    def entered(self, member):
+        """An eighth of the orders cross, and a seventh are hidden; most others rest for the day."""
+        rng, stock = self.rng, self.rng.choice(TWO_STOCKS)
+        if rng.random() < 0.05:
+            self.middle[stock] += rng.choice([-100, 100])
+        buys, crosses, hidden = rng.random() < 0.5, rng.random() < 0.12, rng.random() < 0.15
+        life = NOW if crosses and rng.random() < 0.6 else DAY
+        price = self.across(stock, buys) if crosses else self.away(stock, buys)
+        token = self.token()
+        if life:
+            self.resting[member].append((token, stock, buys))
+        minimum = 100 if hidden and rng.random() < 0.3 else 0
+        return enter(token, 'B' if buys else 'S', self.shares(), stock, price, life, 'N' if hidden else 'Y', minimum)
+
+    def changed(self, member, is_cancel):
+        """A cancel or a replace of an order that was at rest, unless it has traded since; mostly of a new one."""
+        orders, rng = self.resting[member], self.rng
+        newest = len(orders) - 1
+        place = rng.randrange(len(orders)) if rng.random() < 0.5 else max(0, newest - int(rng.expovariate(0.2)))
+        token, stock, buys = orders[place]
+        if is_cancel:
+            orders[place] = orders[newest]
+            orders.pop()
+            return cancel(token)
+        new = self.token()
+        orders[place] = (new, stock, buys)
+        return replace(token, new, self.shares(), self.away(stock, buys))
+
+
+def market_day(lines, members, seed=1):
+    """A day as markets have them: half of the messages enter orders, most of the others cancel them, some replace them."""
+    walker, time = Walker(members, seed), 34_200_000_000_000
+    for _ in range(lines):
+        time += walker.rng.randrange(1, 40_000)
+        member, kind = walker.rng.randrange(1, members + 1), walker.rng.random()
+        if kind < 0.48 or len(walker.resting[member]) < 3:
+            yield line(time, member, walker.entered(member))
+        else:
+            yield line(time, member, walker.changed(member, kind < 0.88))

@@ -214,11 +214,17 @@ fn watch_command<'a>(alloc: Global) -> Result<Command<'a>, AllocError> {
         .long("stock")
         .value_name("NAME")
         .help("The one stock whose depth is written, in place of the best prices of all");
+    let web = port(
+        alloc,
+        "web",
+        "The TCP port, at 127.0.0.1, of a page for browsers that shows all of it",
+    );
     Command::new(alloc, "watch")
         .about("Writes the best bid and offer of each stock as the feed of a day changes them")
         .arg(port(alloc, "feed", "The UDP port that the feed comes to"))?
         .arg(port(alloc, "requests", "The UDP port of requests"))?
-        .arg(stock)
+        .arg(stock)?
+        .arg(web.required(false))
 }
 
 fn operate_command<'a>(alloc: Global) -> Result<Command<'a>, AllocError> {

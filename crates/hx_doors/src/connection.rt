@@ -69,6 +69,10 @@ impl Source for Inlet {
     fn wait(&self, bell: &Bell, limit: Duration) -> bool {
         self.taken < self.login.len() || bell.wait(&self.stream, limit)
     }
+
+    fn takes_at_once(&self) -> bool {
+        self.stream.takes_at_once()
+    }
 }
 
 /// The output of a session. To flush it ends the connection, which a session does once, at its end: the member is told

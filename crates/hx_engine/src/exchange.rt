@@ -23,6 +23,7 @@ use hx_desk::Entry;
 use hx_journal::{Journal, JournalError};
 use hx_units::NoMemory;
 use std::alloc::Global;
+use std::sync::atomic::AtomicBool;
 use std::sync::{Condvar, Mutex, Wait};
 
 /// A desk behind a lock, with the log that everybody may read, and a journal: nothing is told before the journal keeps
@@ -39,6 +40,8 @@ pub struct Exchange<V: Venue, J: Journal> {
     // Those of the passes' sessions, and that of the publisher of the feed.
     pub(crate) bells: Bells,
     pub(crate) feed_bell: Bell,
+    // Whether the publisher has news for which its bell has not been rung.
+    pub(crate) is_feed_due: AtomicBool,
     pub(crate) passes: PassCount<V>,
     // How many events may be admitted and not yet told.
     pub(crate) ahead: u64,
@@ -114,6 +117,7 @@ impl<V: Venue, J: Journal + Drop> Exchange<V, J> {
             recorded: _,
             bells: _,
             feed_bell: _,
+            is_feed_due: _,
             passes: _,
             ahead: _,
             alloc: _,
@@ -156,6 +160,7 @@ impl<V: Venue, J: Journal + Drop> Exchange<V, J> {
             recorded: _,
             bells: _,
             feed_bell: _,
+            is_feed_due: _,
             passes: _,
             ahead: _,
             alloc: _,

@@ -21,6 +21,7 @@ use hx_members::{Seed, Setup};
 use hx_units::NoMemory;
 use std::alloc::Global;
 use std::marker::Brand;
+use std::sync::atomic::AtomicBool;
 use std::sync::ledger::Blank;
 use std::sync::{Condvar, Mutex};
 
@@ -156,6 +157,7 @@ impl<V: Venue, J: Journal + Drop> Exchange<V, J> {
             recorded: Condvar::new(),
             bells,
             feed_bell: Bell::new(),
+            is_feed_due: AtomicBool::new(false),
             passes: PassCount::of(passes),
             ahead: u64::MAX,
             alloc,

@@ -18,6 +18,7 @@ use hx_desk::Entry;
 use hx_journal::Journal;
 use hx_units::{MemberNo, NoMemory};
 use std::sync::Wait;
+use std::sync::atomic::Ordering;
 
 // The reader knows from now on all that is published: how much stands then for a member.
 fn tell<V: Venue, J: Journal + Drop>(
@@ -134,6 +135,33 @@ impl<V: Venue, J: Journal + Drop> Exchange<V, J> {
         held.desk.replies_page(member, from, most)
     }
 
+    /// The same, beside how much stands for the member then: both by one look.
+    pub fn news_page(
+        &self,
+        rt: &impl Wait,
+        reader: &mut Reader<Entry>,
+        member: MemberNo,
+        from: u64,
+        most: u64,
+    ) -> (News, Result<Vec<ArrayVec<u8, 80>>, NoMemory>)
+        requires { reader.old.log ≡ V.log }
+        ensures news { IsNews V.setup member reader.new.known result.0 }
+        ensures replies { IfOk result.1 (λ rows.
+            AreKnownReplies V.setup member reader.new.known (page from most) (texts rows.items)) }
+        ensures memory { IfErr result.1 (λ _.
+            0 < length (page from most (known_replies V.setup member reader.new.known))) }
+        ensures whole { IsWhole V.setup reader.new.known }
+        ensures reader { CatchesUp reader.old reader.new }
+    {
+        let mut held = self.desk.lock(rt);
+        let held = &mut *held;
+        held.desk.inform(&self.log, reader);
+        held.desk.stands();
+        let (replies, ended) = (held.desk.reply_count(member), held.desk.ended());
+        let news = News { replies, ended };
+        (news, held.desk.replies_page(member, from, most))
+    }
+
     /// Whether hours code `C` is past. No clause says what the market was when it was asked: `is_over` does.
     pub fn ended(&self, rt: &impl Wait) -> bool {
         self.desk.lock(rt).desk.ended()
@@ -149,6 +177,15 @@ impl<V: Venue, J: Journal + Drop> Exchange<V, J> {
     /// The bell of the publisher of the feed: it rings where messages are published, and at the end of the day.
     pub fn feed_bell(&self) -> &Bell {
         &self.feed_bell
+    }
+
+    /// Rings for the publisher of the feed, where a `submit_all` has left that to its caller.
+    pub fn ring_feed(&self) {
+        if self.is_feed_due.load(Ordering::SeqCst)
+            && self.is_feed_due.swap(false, Ordering::SeqCst)
+        {
+            self.feed_bell.ring();
+        }
     }
 
     /// The bell of a pass's session.

@@ -25,6 +25,7 @@ use hx_units::NoMemory;
 use std::alloc::Global;
 use std::mem::replace;
 use std::sync::Wait;
+use std::sync::atomic::Ordering;
 use std::sync::ledger::Share;
 
 // Room for the record of an Enter Order: a time, a member's number, two spaces, and twice 49 digits.
@@ -98,7 +99,9 @@ impl<V: Venue, J: Journal + Drop> Exchange<V, J> {
         let Ok(events) = one(self.alloc, copy) else {
             return Err(self.refuse(rt, &mut pass.knows, &mut pass.entered, event, false));
         };
-        match self.submit_all(rt, pass, events) {
+        let done = self.submit_all(rt, pass, events);
+        self.ring_feed();
+        match done {
             Ok(done) => Ok(done),
             Err((error, _)) => Err(error),
         }
@@ -108,6 +111,9 @@ impl<V: Venue, J: Journal + Drop> Exchange<V, J> {
     /// `submit`, up to the first that is refused, but with one wait for all. Their records are spelled before the lock.
     /// An error says why the next one is refused, and how many are recorded before it. Where the journal fails no event is
     /// told, and they wait for good: such a pass submits nothing more.
+    ///
+    /// Whoever calls it calls `ring_feed` soon after it, and before he waits for anybody: where the events are told under
+    /// the lock, the publisher of the feed is not woken before that, so that a reply may go out first.
     pub fn submit_all(
         &self,
         rt: &impl Wait,
@@ -286,17 +292,18 @@ impl<V: Venue, J: Journal + Drop> Exchange<V, J> {
         }
     }
 
-    // Wakes those who wait for a batch, and whoever else has news. There is no news where nothing is told, unless nothing
-    // more is.
+    // Wakes those who wait for a batch, and whoever else has news, but for the publisher: its ring is due from then on,
+    // unless nothing more is told. There is no news where nothing is told, unless nothing more is.
     fn wake(&self, is_told: bool, news: ToldNews) {
         if !is_told && !news.is_last {
             return;
         }
         self.recorded.notify_all();
         if news.is_feed {
-            self.feed_bell.ring();
+            self.is_feed_due.store(true, Ordering::SeqCst);
         }
         if news.is_last {
+            self.ring_feed();
             self.bells.ring_all();
         }
     }
@@ -364,7 +371,8 @@ impl<V: Venue, J: Journal + Drop> Exchange<V, J> {
         }
     }
 
-    // Keeps a batch without the lock, then tells it under the lock, and wakes who waits.
+    // Keeps a batch without the lock, then tells it under the lock, and wakes who waits, the publisher too: others wait
+    // for the batch, and their replies are no more urgent than the feed.
     fn lead(&self, rt: &impl Wait, flight: Flight<V, J>) {
         let news = match flight.fly(&self.kept) {
             Ok(landed) => {
@@ -381,5 +389,6 @@ impl<V: Venue, J: Journal + Drop> Exchange<V, J> {
             }
         };
         self.wake(true, news);
+        self.ring_feed();
     }
 }

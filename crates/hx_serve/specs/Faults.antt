@@ -1,24 +1,11 @@
--- The faults of a day: by which numbers those of sessions are told, and which one is answered in the end.
+-- The faults of a day: that of an operator's line, and which one is answered in the end.
 use Rattle.std.specs.Prelude.{ℕ, Bool, true, false, Option, Some, None}
-use Rattle.hx_sessions.specs.declared.ending.Fault.{Fault}
-use Rattle.hx_sessions.specs.declared.ending.Fault.TheVariants as fault
 use Rattle.hx_engine.specs.declared.answers.SubmitError.{SubmitError}
 use Rattle.hx_engine.specs.declared.answers.SubmitError.TheVariants.{Refused, Stopped}
 use Rattle.hx_desk.specs.declared.fault.DeskError.TheVariants as refused
 use Rattle.hx_replay.specs.declared.fault.Kind.TheVariants as kind
 use Rattle.hx_serve.specs.declared.fault.ServeError.{ServeError}
 use Rattle.hx_serve.specs.declared.fault.ServeError.TheVariants as failure
-
--- the number by which the operator is told of a session's fault
-abbrev pub fault_number : Fault → ℕ
-fault_number fault.Read = 1
-fault_number fault.Write = 2
-fault_number fault.Framing = 3
-fault_number (fault.NotAuthorized reason) = 4
-fault_number fault.NoMemory = 5
-fault_number fault.Turns = 6
-fault_number (fault.Refused error) = 7
-fault_number fault.Stopped = 8
 
 -- the fault of line n of the operator where the exchange refuses its event, or its journal has failed
 abbrev pub line_fault : ℕ → SubmitError → ServeError

@@ -1,12 +1,11 @@
 //! The parts of a day's sessions: how they are made of connections and passes, and what comes back of them.
 ghost use Rattle.std.specs.Prelude.{◌≡◌};
 
-use crate::clock::{DayClock, Times};
 use crate::fault::ServeError;
-use crate::notices::tell_end;
 use hx_blog::{Log, Reader};
 use hx_doors::{Connection, Inlet, Outlet};
 use hx_engine::{Entry, Pass, Venue};
+use hx_floor::{DayClock, Times, tell_end};
 use hx_members::Setup;
 use hx_sessions::{Ended, Fault, Part};
 use log::Log as Logs;

@@ -1,12 +1,8 @@
 //! The operator of an open day at his socket, and what the clock does for him: the hours of a schedule, and ticks.
 
-use crate::bulletin::Stage;
-use crate::clock::{DayClock, since_1970};
-use crate::floor::Floor;
-use crate::notices::{Board, Notice, Refusal};
 use crate::operating::refusal_of;
-use crate::status::write_status;
 use hx_engine::{Exchange, Journal, Pass, Venue};
+use hx_floor::{Board, DayClock, Floor, Notice, Refusal, Stage, since_1970, write_status};
 use hx_market::Event;
 use hx_operator::{Command, Directed, HELP, OperatorSocket, Schedule, events_of, read_command};
 use hx_units::MemberNo;

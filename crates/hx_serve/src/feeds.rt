@@ -1,8 +1,8 @@
 //! Where the feed goes: each packet to each address.
 
-use crate::notices::{Board, Notice};
 use crate::sending::send;
 use hx_doors::{Datagrams, MOST_FEEDS};
+use hx_floor::{Board, Notice};
 use std::net::SocketAddr;
 use std::time::Clock;
 

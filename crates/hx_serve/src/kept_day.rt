@@ -4,13 +4,13 @@ ghost use Rattle.hx_tape_lines.specs.Text.{record_of};
 ghost use Rattle.hx_desk.specs.Entries.{restored};
 ghost use Rattle.hx_engine.specs.Journals.{lines};
 
+use crate::beginning::{Beginning, Day};
 use crate::fault::ServeError;
 use crate::history::write_history;
-use crate::hosting::Hosting;
-use crate::notices::{Board, Notice};
-use crate::serving::{Beginning, Day, serve_from};
+use crate::serving::serve_from;
 use hx_doors::Doors;
 use hx_engine::Journal;
+use hx_floor::{Board, Hosting, Notice};
 use hx_sessions::Gate;
 use log::Log as Logs;
 use std::alloc::Global;

@@ -1,19 +1,16 @@
 //! The workers of an open day, all at once: the publisher, the door, the places, and the operator.
 ghost use Rattle.std.specs.Prelude.{◌≡◌};
 
-use crate::args::OpenArgs;
-use crate::clock::{DayClock, Times};
 use crate::director::{Director, Duties};
 use crate::fault::ServeError;
 use crate::fittings::Metrics;
-use crate::floor::Floor;
-use crate::notices::{Board, DoorNotices};
 use crate::operating::conduct;
 use crate::places::{Hall, Places, serve_places};
 use crate::publishing::Publishing;
 use crate::watching::{Viewer, Watch};
 use hx_doors::{Datagrams, DayEnd, DoorRules, keep_door};
 use hx_engine::{Exchange, Journal, Pass, Venue};
+use hx_floor::{Board, DayClock, DoorNotices, Floor, OpenArgs, Times};
 use hx_metrics::serve_metrics;
 use hx_operator::OperatorSocket;
 use hx_sessions::Gate;

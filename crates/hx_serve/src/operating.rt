@@ -1,11 +1,9 @@
 //! The operator of an open day: a line that is bad or refused is told of, and the next one is read.
 
-use crate::clock::{DayClock, Times};
 use crate::fault::ServeError;
-use crate::floor::Floor;
-use crate::notices::{Board, Notice, Refusal};
 use crate::operator::LONGEST;
 use hx_engine::{DeskError, Exchange, Journal, Pass, SubmitError, Venue};
+use hx_floor::{Board, DayClock, Floor, Notice, Refusal, Times};
 use hx_market::Event;
 use hx_replay::read_operator_line;
 use hx_text::split_once;

@@ -3,15 +3,12 @@ ghost use Rattle.std.specs.Prelude.{ℕ, ◌≡◌, ◌<◌, ◌≤◌, ◌+◌,
 ghost use Rattle.std.specs.List.{cons_option};
 ghost use Rattle.std.specs.Thread.{IsSend, IsSync};
 
-use crate::clock::DayClock;
-use crate::floor::Floor;
-use crate::hosting::Hosting;
-use crate::notices::{Board, Notice, notice_of_end};
-use crate::seated::{SeatInput, SeatOutput};
-use crate::seats::Sitter;
 use hx_blog::{Log, Reader};
 use hx_doors::{Connection, Lobby, count};
 use hx_engine::{Entry, Exchange, Journal, Pass, Venue};
+use hx_floor::{
+    Board, DayClock, Floor, Hosting, Notice, SeatInput, SeatOutput, Sitter, notice_of_end,
+};
 use hx_sessions::{Ended, Fault, Gate, Logins, Part, Session};
 use hx_soup::rejected;
 use hx_units::MemberNo;

@@ -3,16 +3,13 @@ ghost use Rattle.std.specs.Prelude.{◌≡◌, false, true};
 ghost use mathlib.Core.List.{IsPrefix};
 ghost use Rattle.hx_serve.specs.Publishing.{KnowsNoMore};
 
-use crate::clock::DayClock;
 use crate::feeds::Feeds;
-use crate::hosting::Hosting;
-use crate::meter::Meter;
-use crate::notices::{Board, Notice};
 use crate::sending::send;
 use hx_bells::Bell;
 use hx_blog::{Log, Reader, Receipt};
 use hx_doors::{Datagrams, Rate, count};
 use hx_engine::{Entry, Venue};
+use hx_floor::{Board, DayClock, Hosting, Meter, Notice};
 use hx_retransmit::{LogMessages, Publisher, Server};
 use std::io::ErrorKind;
 use std::marker::PhantomData;

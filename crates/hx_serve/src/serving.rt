@@ -2,7 +2,6 @@
 ghost use Rattle.std.specs.Prelude.{◌≡◌, ◌+◌, [], length, None, true, IfOk};
 ghost use mathlib.Core.List.{IsPrefix};
 ghost use Rattle.std.specs.Io.KnownBytes.{Appends};
-ghost use Rattle.hx_journal.specs.Unkept.{appended_in, kept_in};
 ghost use Rattle.hx_tape_lines.specs.Text.{record_of};
 ghost use Rattle.hx_desk.specs.Entries.{restored};
 ghost use Rattle.hx_engine.specs.Journals.{lines};
@@ -10,21 +9,14 @@ ghost use Rattle.hx_engine.specs.Opening.{IsNewLog};
 ghost use Rattle.hx_serve.specs.Days.{IsServed};
 ghost use Rattle.hx_serve.specs.LastLine.{last_line};
 
-use crate::args::ServeArgs;
-use crate::bulletin::Bulletin;
-use crate::clock::{DayClock, Times};
+use crate::beginning::{Beginning, Day};
 use crate::crew::{dismiss, hire};
 use crate::ending::{fault_of_day, write_last_line};
 use crate::fault::ServeError;
 use crate::fittings::Fittings;
-use crate::floor::Floor;
-use crate::hosting::Hosting;
-use crate::meter::Meter;
-use crate::notices::{Board, Notice, Notices};
 use crate::open_day::{Desk, Page, Staff, work_open};
 use crate::places::{Hall, make_places};
 use crate::publishing::Publishing;
-use crate::seats::Seats;
 use crate::watching::Viewer;
 use crate::workers::{Writers, work};
 use hx_blog::{Log, Reader};
@@ -32,7 +24,9 @@ use hx_doors::{Datagrams, Doors, Lobby, Tally, take};
 use hx_engine::{
     DeskError, Entry, Exchange, FinishError, Finished, Journal, Logs, Pass, Recovered, Venue,
 };
-use hx_journal::Unkept;
+use hx_floor::{
+    Board, Bulletin, DayClock, Floor, Hosting, Meter, Notice, Notices, Seats, ServeArgs, Times,
+};
 use hx_members::{Seed, Setup};
 use hx_operator::OperatorSocket;
 use hx_sessions::Gate;
@@ -48,19 +42,6 @@ use std::time::Clock;
 
 // Of an open day's log so many slots more than half are kept for the codes of the hours, besides two for each stock.
 const KEPT: u64 = 8;
-
-/// What a day leaves.
-#[derive(Drop)]
-pub struct Day {
-    /// Its history.
-    pub history: Vec<Entry>,
-    /// How many messages of the feed it gave.
-    pub feed: u64,
-    /// The fault that is answered, if there was one.
-    pub fault: Option<ServeError>,
-    /// The operator's socket, whose file is there until it is closed.
-    pub socket: Option<OperatorSocket>,
-}
 
 // What is left when all workers have ended.
 #[derive(Drop)]
@@ -84,39 +65,6 @@ struct Crew<V: Venue> {
     fittings: Fittings,
     bulletin: Bulletin,
     ghost belongs: { reader.log ≡ V.log },
-}
-
-/// What a day begins with: the seed of its table of tokens, and what its journal keeps.
-#[derive(Drop)]
-pub struct Beginning<J: Journal> {
-    /// The seed, which is drawn where strangers trade.
-    pub seed: Seed,
-    /// The journal and the events of the day before a crash, of which there may be none.
-    pub recovered: Recovered<J>,
-    /// How many events may wait for the journal, at least one: where more would, nobody's next one is recorded.
-    pub ahead: u64,
-    /// What an open day has besides its doors.
-    pub fittings: Fittings,
-}
-
-impl Beginning<Unkept> {
-    /// That of a new day, which no journal keeps.
-    pub fn unkept(alloc: Global, seed: Seed) -> Beginning<Unkept>
-        ensures events { result.recovered.events.items ≡ [] }
-        ensures appended { appended_in result.recovered.journal.log.events ≡ [] }
-        ensures kept { kept_in result.recovered.journal.log.events ≡ [] }
-    {
-        let recovered = Recovered {
-            journal: Unkept::new(),
-            events: Vec::new(alloc),
-        };
-        Beginning {
-            seed,
-            recovered,
-            ahead: u64::MAX,
-            fittings: Fittings::none(),
-        }
-    }
 }
 
 // What an exchange is made of: a copy of the setup, its logs and a reader of the feed's, its ledger, and what it goes on

@@ -1,11 +1,10 @@
 //! What a venue shows of itself while it works.
 ghost use Rattle.std.specs.Prelude.{◌≡◌};
 
-use crate::clock::since_1970;
-use crate::floor::Floor;
 use hx_blog::Reader;
 use hx_doors::{Left, Tally};
 use hx_engine::{Entry, Exchange, Journal, Venue};
+use hx_floor::{Floor, since_1970};
 use hx_metrics::{Figures, Health, Hours, Watched};
 use std::marker::PhantomData;
 use std::sync::atomic::{AtomicBool, AtomicU64, Ordering};

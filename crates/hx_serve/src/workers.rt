@@ -1,12 +1,11 @@
 //! The workers of a day, all at once: the publisher, the operator, and one for each session.
 use crate::crew::{Member, Served};
 use crate::fault::ServeError;
-use crate::hosting::Hosting;
-use crate::notices::Board;
 use crate::operator::operate;
 use crate::publishing::Publishing;
 use hx_doors::Datagrams;
 use hx_engine::{Exchange, Journal, Pass, Venue};
+use hx_floor::{Board, Hosting};
 use hx_sessions::{Clock, Gate, Logins, serve_all};
 use std::alloc::Global;
 use std::io::Read;

@@ -12,4 +12,5 @@ mod packets;
 mod parting;
 mod refusing;
 mod resuming;
+mod sleeping;
 mod stage;

@@ -11,7 +11,7 @@ use Rattle.arrayvec.specs.ArrayVec.{ArrayVec}
 use Rattle.hx_session_core.specs.declared.delivery.Turn.TheVariants as turn
 use Rattle.hx_units.specs.Fields.{texts}
 use Rattle.hx_session_core.specs.Deliveries.{Delivery, TurnGives, Goes}
-use Rattle.std.proofs.lemmas.List.{take_all, drop-drop}
+use Rattle.std.proofs.lemmas.List.{take_all, drop-drop, drop_all}
 use Rattle.hx_blog.specs.Feed.{Entries}
 use Rattle.hx_desk.specs.declared.entry.Entry.{Entry}
 use Rattle.hx_desk.specs.Known.{known_replies}
@@ -241,6 +241,10 @@ page_all xs page is = ap (λ l. l ++ drop 64 xs) is ∙ take-append-drop 64 xs
 pub page_none : (xs page : List (List ℕ)) → page ≡ take 64 xs → page ≡ [] → page ≡ xs
 page_none [] page is none = is
 page_none (x ∷ xs) page is none = absurd (cc (is, none))
+
+-- a page that is not full is all
+pub page_short : (xs page : List (List ℕ)) → page ≡ take 64 xs → length page < 64 → drop 64 xs ≡ []
+page_short xs page is few = drop_all 64 xs (omega (arith, few, ap (λ (l : List (List ℕ)). length l) is, length-take 64 xs))
 
 -- what goes out behind what has gone out, until a worker stops
 pub until_join : (setup : Setup) (member first : ℕ) (known longer : Entries Entry) (rest : List (List ℕ)) (d e : Delivery) (a b c : Option (List ℕ)) (s : Stop) → IsPrefix known longer → Sent first (known_replies setup member known) rest d a b → d.over ≡ false

@@ -96,20 +96,18 @@ fn fill<C: Clock>(
 
 impl<W: Write, C: Clock> Outbox<W, C> {
     // Sends a page of the replies from the next one on, by one write, or else what a turn without replies gives. Answers
-    // whether replies went out: more may be left then.
+    // whether there may be more to send: the page was full, or the day is over.
     fn round<V: Venue, J: Journal + Drop, T: Wait>(
         &mut self,
         rt: &T,
         exchange: &Exchange<V, J>,
         member: MemberNo,
-        ended: bool,
         left: &mut u64,
     ) -> Result<bool, Stop>
         requires log { self.old.reader.log ≡ V.log }
         requires live { self.old.delivery.over ≡ false }
         requires next { IsNextOf (known_replies V.setup member self.old.reader.known)
             self.old.delivery.next }
-        requires past { ended ≡ true → day_over V.setup self.old.reader.known ≡ true }
         ensures log { self.new.reader.log ≡ V.log }
         ensures known { IsPrefix self.old.reader.known self.new.reader.known }
         ensures ok { IfOk result (λ moved.
@@ -122,9 +120,11 @@ impl<W: Write, C: Clock> Outbox<W, C> {
             (W.contents self.old.output) (W.contents self.new.output)) }
     {
         let from = self.delivery.next();
-        let Ok(rows) = exchange.replies_page(rt, &mut self.reader, member, from, PAGE) else {
+        let (news, page) = exchange.news_page(rt, &mut self.reader, member, from, PAGE);
+        let Ok(rows) = page else {
             return Err(Stop::Faulted(Fault::NoMemory));
         };
+        let ended = news.ended;
         if rows.is_empty() {
             if *left == 0 {
                 return Err(Stop::Faulted(Fault::Turns));
@@ -149,7 +149,7 @@ impl<W: Write, C: Clock> Outbox<W, C> {
             Err(Broken) => return Err(Stop::Faulted(Fault::Write)),
         }
         match filled {
-            Ok(()) => Ok(true),
+            Ok(()) => Ok(ended || rows.len() as u64 == PAGE),
             Err(stop) => Err(stop),
         }
     }
@@ -182,9 +182,8 @@ pub fn deliver<V: Venue, J: Journal + Drop, W: Write, C: Clock, T: Wait>(
         (W.contents outbox.output) (W.contents result.0.output)) }
 {
     for _ in 0..u64::MAX {
-        let news = exchange.news(rt, &mut outbox.reader, member);
-        match outbox.round(rt, exchange, member, news.ended, left) {
-            Ok(true) => {}
+        match outbox.round(rt, exchange, member, left) {
+            Ok(true) => exchange.ring_feed(),
             Ok(false) => return (outbox, Ok(())),
             Err(stop) => return (outbox, Err(stop)),
         }

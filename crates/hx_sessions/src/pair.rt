@@ -24,9 +24,16 @@ fn patience(delivery: &Delivery, now: u64) -> Duration {
     Duration::from_nanos(delivery.until_heartbeat(now))
 }
 
+// Whether the reply to what was submitted behind this number may go out before the publisher of the feed is woken: it is
+// one message, and the line takes a page of replies at once, so that the feed waits for no member who does not read.
+fn may_reply_first<V: Venue, R: Source, C>(inbox: &Inbox<V, R, C>, behind: u64) -> bool {
+    inbox.sender.number == behind.saturating_add(1) && inbox.input.takes_at_once()
+}
+
 /// Both directions, by turns: all replies that are there are sent, and then it sleeps until a piece of the stream comes, or
 /// there is news for the member, or a heartbeat is due. It arms its bell before it looks for replies, so no news is missed.
-/// Each ends at its next turn once the other has.
+/// Each ends at its next turn once the other has. The publisher of the feed may have a ring due then: whoever calls this
+/// calls `ring_feed`.
 pub fn work<V: Venue, J: Journal + Drop, R: Read + Source, W: Write, C: Clock, G: Gate, T: Wait>(
     rt: &T,
     alloc: Global,
@@ -56,6 +63,7 @@ pub fn work<V: Venue, J: Journal + Drop, R: Read + Source, W: Write, C: Clock, G
     for _ in 0..reads {
         exchange.bell(&inbox.sender.pass).arm();
         let (sent, all) = deliver(rt, exchange, member, outbox, &mut left);
+        exchange.ring_feed();
         outbox = sent;
         match all {
             Ok(()) => {}
@@ -63,9 +71,13 @@ pub fn work<V: Venue, J: Journal + Drop, R: Read + Source, W: Write, C: Clock, G
         }
         let now = outbox.clock.now();
         let limit = patience(&outbox.delivery, now);
+        let behind = inbox.sender.number;
         match receive(rt, alloc, trader, &mut inbox, &mut framer, limit) {
             Ok(()) => {}
             Err(stop) => return (inbox, stop, outbox, Stop::Told),
+        }
+        if !may_reply_first(&inbox, behind) {
+            exchange.ring_feed();
         }
     }
     (inbox, Stop::Faulted(Fault::Turns), outbox, Stop::Told)

@@ -191,6 +191,7 @@ fn converse<
         result.2 }
 {
     let (mut inbox, inn, outbox, out) = work(rt, alloc, trader, inbox, outbox, reads, turns);
+    trader.exchange.ring_feed();
     match both(inn, out) {
         Ok(Ended::Logout) => {
             let exchange = trader.exchange;

@@ -41,6 +41,9 @@ pub enum Failure {
     /// The page of figures could not be opened.
     #[error("network failed: --metrics")]
     NoMetrics,
+    /// The page of a vendor's screen could not be opened.
+    #[error("network failed: --web")]
+    NoPage,
     /// The file of the schedule could not be read.
     #[error("read failed: --schedule")]
     NoSchedule,
@@ -99,7 +102,7 @@ impl Failure {
             ) => 4,
             Failure::Watch(WatchError::Network | WatchError::Write) => 4,
             Failure::Journal(error) => error.status(),
-            Failure::NoMetrics | Failure::NoSchedule => 4,
+            Failure::NoMetrics | Failure::NoPage | Failure::NoSchedule => 4,
             Failure::Schedule(ScheduleError::Line { .. }) | Failure::Refused => 1,
             Failure::Schedule(ScheduleError::NoMemory)
             | Failure::Socket(SocketError::NoMemory)

@@ -4,10 +4,14 @@ use crate::failure::Failure;
 use clap::ArgMatches;
 use hx_runs::RunError;
 use hx_units::Symbol;
-use hx_watch::{WatchArgs, watch};
+use hx_watch::{WatchArgs, watch, watch_on_page};
+use std::hash::RandomState;
 use std::io;
-use std::net::Net;
+use std::net::{Ipv4Addr, Net, TcpListener, TcpStream};
+use std::random::RandomSource;
 use std::rt::Clock;
+use std::sync::Wait;
+use std::thread::Threads;
 
 // The name of a stock, filled with spaces on the right; none where it has no or more than 8 bytes.
 fn symbol_of(word: &str) -> Option<Symbol> {
@@ -33,14 +37,43 @@ fn args_of(matches: &ArgMatches<'_>) -> Option<WatchArgs> {
     })
 }
 
-/// Watches a feed, and writes what changes as it changes.
-pub fn watch_feed<R: AllocGlobal + Print + Net + Clock>(
-    rt: &R,
-    matches: &ArgMatches<'_>,
-) -> Result<(), Failure> {
+// Watches a feed, and serves its page at this port besides.
+fn watch_with_page<
+    R: AllocGlobal
+        + Print
+        + Net<Listener = TcpListener, Stream = TcpStream>
+        + Clock
+        + RandomSource
+        + Threads
+        + Wait
+        + Sync,
+>(rt: &R, args: &WatchArgs, port: u16) -> Result<(), Failure> {
+    let Ok(keys) = RandomState::new(rt) else {
+        return Err(Failure::NoPage);
+    };
+    match TcpListener::bind(rt, (Ipv4Addr::new(127, 0, 0, 1), port)) {
+        Ok(listener) => Ok(watch_on_page(rt, args, &mut io::writer(rt), listener, keys)?),
+        Err(_) => Err(Failure::NoPage),
+    }
+}
+
+/// Watches a feed, and writes what changes as it changes; and serves its page, where the command
+/// line has a port for it.
+pub fn watch_feed<
+    R: AllocGlobal
+        + Print
+        + Net<Listener = TcpListener, Stream = TcpStream>
+        + Clock
+        + RandomSource
+        + Threads
+        + Wait
+        + Sync,
+>(rt: &R, matches: &ArgMatches<'_>) -> Result<(), Failure> {
     let Some(args) = args_of(matches) else {
         return Err(Failure::Run(RunError::CommandLine));
     };
-    watch(rt, &args, &mut io::writer(rt))?;
-    Ok(())
+    match matches.get_one::<u16>("web") {
+        Some(port) => watch_with_page(rt, &args, port),
+        None => Ok(watch(rt, &args, &mut io::writer(rt))?),
+    }
 }

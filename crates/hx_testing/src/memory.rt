@@ -5,6 +5,50 @@ use std::alloc::Global;
 use std::io::{self, Error, ErrorKind, Read, Write};
 use std::sync::atomic::{AtomicU64, Ordering};
 use std::thread::yield_now;
+use std::time::Duration;
+
+const SECOND: u64 = 1_000_000_000;
+
+/// A time in place of the machine's, which goes on only where somebody sleeps, up to an end. It is in nanoseconds.
+#[derive(Drop)]
+pub struct Rest {
+    slept: AtomicU64,
+    sleeps: AtomicU64,
+    end: u64,
+}
+
+impl Rest {
+    /// Nobody has slept yet.
+    pub fn new(end: u64) -> Rest {
+        Rest {
+            slept: AtomicU64::new(0),
+            sleeps: AtomicU64::new(0),
+            end,
+        }
+    }
+
+    /// How long was slept.
+    pub fn slept(&self) -> u64 {
+        self.slept.load(Ordering::SeqCst)
+    }
+
+    /// How often.
+    pub fn sleeps(&self) -> u64 {
+        self.sleeps.load(Ordering::SeqCst)
+    }
+
+    /// Sleeps for so long, or up to the end: whether it has come.
+    pub fn sleep(&self, limit: Duration) -> bool {
+        let left = self.end.saturating_sub(self.slept());
+        let asked = limit
+            .as_secs()
+            .saturating_mul(SECOND)
+            .saturating_add(u64::from(limit.subsec_nanos()));
+        self.sleeps.fetch_add(1, Ordering::SeqCst);
+        self.slept.fetch_add(asked.min(left), Ordering::SeqCst);
+        asked >= left
+    }
+}
 
 /// What an input does behind its bytes.
 #[derive(Clone, Copy)]
@@ -21,6 +65,8 @@ pub enum Behind<'a> {
         wanted: u64,
         last: &'a [u8],
     },
+    /// It ends where this time does.
+    Rests(&'a Rest),
 }
 
 /// The one call that goes wrong: its number, from 1, or 0 for none; it fails so, or gives or takes nothing.
@@ -91,6 +137,12 @@ impl Read for Input<'_> {
                 Behind::End => return Ok(0),
                 Behind::Fails(kind) => return Err(Error::from(kind)),
                 Behind::Heartbeats => self.bytes = HEARTBEAT,
+                Behind::Rests(rest) => {
+                    if rest.slept() < rest.end {
+                        return Err(Error::from(ErrorKind::WouldBlock));
+                    }
+                    return Ok(0);
+                }
                 Behind::Waits {
                     count,
                     wanted,

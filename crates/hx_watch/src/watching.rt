@@ -1,17 +1,23 @@
 //! A watch: the feed's datagrams come in, what is missing is asked for, and changes are told.
 
 use crate::fault::WatchError;
+use crate::onlooker::{Nobody, OnPage, Onlooker, Progress};
 use crate::quotes::Quotes;
 use crate::requests::Requests;
 use crate::text::{Depth, Name};
+use hx_board::{Post, Recorder};
 use hx_itch::Feed;
 use hx_mold::{MoldPacket, decode_packet, encode_request};
+use hx_page::serve_page;
 use hx_reader::Screen;
 use hx_units::Symbol;
 use std::alloc::Global;
+use std::hash::RandomState;
 use std::io;
 use std::io::{ErrorKind, Write};
-use std::net::{Ipv4Addr, Net, UdpSocket};
+use std::net::{Ipv4Addr, Net, TcpListener, TcpStream, UdpSocket};
+use std::sync::Wait;
+use std::thread::{Threads, join};
 use std::time::{Clock, Duration, Instant};
 
 // The most bytes of a datagram.
@@ -71,6 +77,7 @@ fn session_of(datagram: &[u8]) -> Option<[u8; 10]> {
 // A watch of a session that was heard of.
 #[derive(Drop)]
 struct Watching {
+    session: [u8; 10],
     screen: Screen,
     quotes: Quotes,
     requests: Requests,
@@ -106,11 +113,20 @@ impl Watching {
     }
 
     // Hands out all messages that have come, and tells what they have changed.
-    fn show<W: Write>(&mut self, writer: &mut W, stock: Option<Symbol>) -> Result<(), WatchError> {
+    fn show<W: Write, O: Onlooker>(
+        &mut self,
+        writer: &mut W,
+        onlooker: &mut O,
+        stock: Option<Symbol>,
+    ) -> Result<(), WatchError> {
         for _ in 0..u64::MAX {
             let (number, _) = self.screen.reader.progress();
+            onlooker.look(&self.screen);
             match self.screen.step() {
-                Ok(Some(message)) => self.tell(writer, stock, &message)?,
+                Ok(Some(message)) => {
+                    onlooker.note(&message, &self.screen.book)?;
+                    self.tell(writer, stock, &message)?;
+                }
                 Ok(None) => break,
                 Err(fault) => return Err(WatchError::Screen { number, fault }),
             }
@@ -142,7 +158,17 @@ impl Watching {
         }
     }
 
-    // Whether nothing more is to come: all was handed out, or the feed has been silent for too long.
+    // How far it is.
+    fn progress(&self, is_over: bool) -> Progress {
+        Progress {
+            session: self.session,
+            asked: self.requests.count,
+            is_over,
+        }
+    }
+
+    // Whether nothing more is to come: all was handed out, or the feed has been silent for too
+    // long.
     fn is_over(&self, now: Instant) -> bool {
         self.screen.reader.is_whole()
             || now.saturating_duration_since(self.heard) >= Duration::from_secs(SILENCE)
@@ -207,6 +233,7 @@ fn first_heard<R: Clock>(
         let mut screen = Screen::new(alloc, session, PLACES)?;
         screen.receive(datagram);
         return Ok(Watching {
+            session,
             screen,
             quotes: Quotes::new(alloc),
             requests: Requests::new(),
@@ -216,13 +243,12 @@ fn first_heard<R: Clock>(
     Err(WatchError::Network)
 }
 
-/// Watches a feed until its session has ended and nothing is missing, or until it has been silent for
-/// five seconds, and tells what changes as lines of text. It waits for the first packet, of whichever
-/// session, for as long as none comes.
-pub fn watch<R: AllocGlobal + Net + Clock, W: Write>(
+// Watches a feed, while somebody or nobody looks on.
+fn watch_before<R: AllocGlobal + Net + Clock, W: Write, O: Onlooker>(
     rt: &R,
     args: &WatchArgs,
     writer: &mut W,
+    onlooker: &mut O,
 ) -> Result<(), WatchError> {
     let alloc = rt.alloc();
     let Ok(socket) = bind(rt, args.feed) else {
@@ -231,9 +257,11 @@ pub fn watch<R: AllocGlobal + Net + Clock, W: Write>(
     let mut buffer = vec![in alloc; 0u8; DATAGRAM]?;
     let mut watching = first_heard(rt, alloc, &socket, &mut buffer)?;
     for _ in 0..u64::MAX {
-        watching.show(writer, args.stock)?;
+        watching.show(writer, onlooker, args.stock)?;
         let time = now(rt)?;
-        if watching.is_over(time) {
+        let is_over = watching.is_over(time);
+        onlooker.hear(&watching.screen, watching.progress(is_over), time)?;
+        if is_over {
             break;
         }
         watching.ask(&socket, args.requests, time)?;
@@ -245,4 +273,61 @@ pub fn watch<R: AllocGlobal + Net + Clock, W: Write>(
         }
     }
     write_end(writer, &watching)
+}
+
+/// Watches a feed until its session has ended and nothing is missing, or until it has been silent
+/// for five seconds, and tells what changes as lines of text. It waits for the first packet, of
+/// whichever session, for as long as none comes.
+pub fn watch<R: AllocGlobal + Net + Clock, W: Write>(
+    rt: &R,
+    args: &WatchArgs,
+    writer: &mut W,
+) -> Result<(), WatchError> {
+    watch_before(rt, args, writer, &mut Nobody)
+}
+
+/// Watches a feed as `watch` does, and serves its page meanwhile to all who connect there, from
+/// before the first packet until a second behind the end at most. The keys are secret: a peer
+/// chooses the names of its headers.
+pub fn watch_on_page<
+    R: AllocGlobal
+        + Net<Listener = TcpListener, Stream = TcpStream>
+        + Clock
+        + Threads
+        + Wait
+        + Sync,
+    W: Write,
+>(
+    rt: &R,
+    args: &WatchArgs,
+    writer: &mut W,
+    listener: TcpListener,
+    keys: RandomState,
+) -> Result<(), WatchError> {
+    let alloc = rt.alloc();
+    let post = Post::new(alloc);
+    let shared = &post;
+    let (served, watched) = join(
+        rt,
+        move || {
+            let served = serve_page(rt, alloc, listener, shared, keys);
+            shared.close(rt);
+            served
+        },
+        move || {
+            let mut page = OnPage {
+                rt,
+                post: shared,
+                recorder: Recorder::new(alloc),
+            };
+            let watched = watch_before(rt, args, writer, &mut page);
+            shared.end(rt);
+            watched
+        },
+    );
+    watched?;
+    match served {
+        Ok(()) => Ok(()),
+        Err(_) => Err(WatchError::Network),
+    }
 }

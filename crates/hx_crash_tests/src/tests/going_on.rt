@@ -145,7 +145,9 @@ fn send_from<V: Venue, J: Journal + Drop, R: Wait>(
         if count == 0 {
             break;
         }
-        match exchange.submit_all(rt, pass, batch) {
+        let done = exchange.submit_all(rt, pass, batch);
+        exchange.ring_feed();
+        match done {
             Ok(_) => answered = answered.saturating_add(count),
             Err((SubmitError::Stopped, 0)) => return Ok((answered, true)),
             Err(_) => return Err("an event is refused".into()),

@@ -4,7 +4,7 @@ ghost use Rattle.hx_rules.specs.declared.event.Event.{Event};
 
 use super::scenario::{Scenario, play};
 use hx_blog::Reader;
-use hx_engine::{Entry, Exchange, FinishError, Pass, Venue};
+use hx_engine::{Entry, Exchange, FinishError, Journal, Pass, Venue};
 use hx_engine_testing::memory::Memory;
 use hx_market::Event;
 use hx_members::Setup;
@@ -138,9 +138,9 @@ impl Scenario for OnePassMissing {
 }
 
 /// The exchange ends with so many entries, and so many messages of the feed.
-pub fn ends<V: Venue, R: Abort>(
+pub fn ends<V: Venue, J: Journal + Drop, R: Abort>(
     rt: &R,
-    exchange: Exchange<V, Memory>,
+    exchange: Exchange<V, J>,
     passes: Vec<Pass<V>>,
     entries: usize,
     messages: u64,

@@ -1,13 +1,14 @@
 //! Who is woken by what is told: only who has news.
-ghost use Rattle.std.specs.Prelude.{◌≡◌, []};
+ghost use Rattle.std.specs.Prelude.{◌≡◌, [], true};
 ghost use Rattle.hx_engine.specs.Opening.{IsNewLog};
 
 use super::exchanges::ends;
 use hx_bells::Bell;
 use hx_blog::{Log, Reader};
-use hx_engine::{Entry, Exchange, Logs, Pass, Venue};
+use hx_engine::{Entry, Exchange, Journal, Logs, Pass, Venue};
 use hx_engine_testing::ground::logs_of;
 use hx_engine_testing::memory::Memory;
+use hx_journal::Unkept;
 use hx_members::Setup;
 use hx_testing::sending::{BUY, Order, SELL, enter};
 use hx_units::MemberNo;
@@ -32,14 +33,14 @@ fn has_rung(clock: &impl Clock, bell: &Bell) -> Result<bool, Fail> {
 
 // Two sessions, of the first two members, and the exchange that they are at.
 #[derive(Drop)]
-struct Room<V: Venue> {
+struct Room<V: Venue, J: Journal> {
     alloc: Global,
-    exchange: Exchange<V, Memory>,
+    exchange: Exchange<V, J>,
     first: Pass<V>,
     second: Pass<V>,
 }
 
-impl<V: Venue> Room<V> {
+impl<V: Venue, J: Journal + Drop> Room<V, J> {
     // Who is woken by an order of the first pass: the first member's session, the second's, and the publisher.
     fn woken<R: Wait + Clock + Abort>(&mut self, rt: &R, order: &Order) -> Result<[bool; 3], Fail> {
         let event = enter(self.alloc, order)?;
@@ -56,12 +57,12 @@ impl<V: Venue> Room<V> {
 }
 
 // Both sessions listen, each to its member.
-fn room_of<V: Venue, R: Wait>(
+fn room_of<V: Venue, J: Journal + Drop, R: Wait>(
     rt: &R,
     alloc: Global,
-    exchange: Exchange<V, Memory>,
+    exchange: Exchange<V, J>,
     mut passes: Vec<Pass<V>>,
-) -> Result<Room<V>, Fail> {
+) -> Result<Room<V, J>, Fail> {
     let second = passes.pop().ok_or("a pass")?;
     let first = passes.pop().ok_or("a pass")?;
     exchange.listen(rt, &first, MemberNo::of(1).ok_or("a member")?);
@@ -75,7 +76,10 @@ fn room_of<V: Venue, R: Wait>(
 }
 
 // Orders that nobody sees wake their member alone, and those that are seen the publisher too.
-fn own_orders<V: Venue, R: Wait + Clock + Abort>(rt: &R, room: &mut Room<V>) -> Result<(), Fail> {
+fn own_orders<V: Venue, J: Journal + Drop, R: Wait + Clock + Abort>(
+    rt: &R,
+    room: &mut Room<V, J>,
+) -> Result<(), Fail> {
     let hidden = Order {
         token: *b"H1",
         display: b'N',
@@ -97,7 +101,10 @@ fn own_orders<V: Venue, R: Wait + Clock + Abort>(rt: &R, room: &mut Room<V>) -> 
 }
 
 // An execution wakes both, and who has left is not woken.
-fn an_execution<V: Venue, R: Wait + Clock + Abort>(rt: &R, room: &mut Room<V>) -> Result<(), Fail> {
+fn an_execution<V: Venue, J: Journal + Drop, R: Wait + Clock + Abort>(
+    rt: &R,
+    room: &mut Room<V, J>,
+) -> Result<(), Fail> {
     let crossing = Order {
         member: 2,
         token: *b"S1",
@@ -116,11 +123,39 @@ fn an_execution<V: Venue, R: Wait + Clock + Abort>(rt: &R, room: &mut Room<V>) -
     Ok(())
 }
 
-fn wake<V: Venue, R: Wait + Clock + Abort>(
+// The publisher is woken by `submit_all` itself where a journal is written, and else by `ring_feed`, once.
+fn a_late_ring<V: Venue, J: Journal + Drop, R: Wait + Clock + Abort>(
+    rt: &R,
+    room: &mut Room<V, J>,
+    is_late: bool,
+) -> Result<(), Fail> {
+    let last = Order {
+        token: *b"T3",
+        ..BUY
+    };
+    let events = vec![in room.alloc; enter(room.alloc, &last)?]?;
+    room.exchange.feed_bell().arm();
+    assert!(rt;
+        room.exchange
+            .submit_all(rt, &mut room.first, events)
+            .is_ok()
+    );
+    assert_eq!(rt; has_rung(rt, room.exchange.feed_bell())?, !is_late);
+    room.exchange.feed_bell().arm();
+    room.exchange.ring_feed();
+    assert_eq!(rt; has_rung(rt, room.exchange.feed_bell())?, is_late);
+    room.exchange.feed_bell().arm();
+    room.exchange.ring_feed();
+    assert!(rt; !has_rung(rt, room.exchange.feed_bell())?);
+    Ok(())
+}
+
+fn wake<V: Venue, J: Journal + Drop, R: Wait + Clock + Abort>(
     rt: &R,
     alloc: Global,
     setup: Setup,
     logs: Logs,
+    journal: J,
     blank: Blank,
     mut reader: Reader<Entry>,
 ) -> Result<(), Fail>
@@ -130,29 +165,41 @@ fn wake<V: Venue, R: Wait + Clock + Abort>(
     requires of_setup { setup ≡ V.setup }
     requires before { V.before ≡ [] }
     requires reader { reader.log ≡ V.log }
+    requires journal { J.appended journal ≡ [] }
+    requires safe { (J.kept journal ≡ J.appended journal) × (J.is_open journal ≡ true) }
     requires blank { (blank.name ≡ V.name) × (blank.parts ≡ V.parts) × (V.parts ≡ 2) }
 {
-    let (exchange, passes) = Exchange::<V, Memory>::new(
-        alloc,
-        setup,
-        logs,
-        Memory::new(alloc, 10_000),
-        blank,
-        2,
-    )?;
+    let is_late = journal.is_quick();
+    let (exchange, passes) = Exchange::<V, J>::new(alloc, setup, logs, journal, blank, 2)?;
     assert_eq!(rt; reader.look(exchange.feed_log()), 0);
     let mut room = room_of(rt, alloc, exchange, passes)?;
     own_orders(rt, &mut room)?;
     an_execution(rt, &mut room)?;
+    a_late_ring(rt, &mut room, is_late)?;
     let passes = vec![in alloc; room.first, room.second]?;
-    ends(rt, room.exchange, passes, 5, 3)
+    ends(rt, room.exchange, passes, 6, 4)
+}
+
+fn wake_at<J: Journal + Drop, R: Wait + Clock + Abort>(
+    rt: &R,
+    alloc: Global,
+    journal: J,
+) -> Result<(), Fail>
+    requires journal { J.appended journal ≡ [] }
+    requires safe { (J.kept journal ≡ J.appended journal) × (J.is_open journal ≡ true) }
+{
+    let setup = Setup::standard(alloc)?;
+    let (log, writer, reader) = Log::<Entry>::new(alloc, 100)?;
+    let logs = logs_of(alloc, log, writer)?;
+    wake::<Brand, J, R>(rt, alloc, setup, logs, journal, Blank::new(2), reader)
 }
 
 #[test]
 fn only_who_has_news_is_woken(rt: HostRuntime) -> Result<(), Fail> {
-    let alloc = rt.alloc();
-    let setup = Setup::standard(alloc)?;
-    let (log, writer, reader) = Log::<Entry>::new(alloc, 100)?;
-    let logs = logs_of(alloc, log, writer)?;
-    wake::<Brand, _>(&rt, alloc, setup, logs, Blank::new(2), reader)
+    wake_at(&rt, rt.alloc(), Memory::new(rt.alloc(), 10_000))
+}
+
+#[test]
+fn the_publisher_is_woken_last(rt: HostRuntime) -> Result<(), Fail> {
+    wake_at(&rt, rt.alloc(), Unkept::new())
 }

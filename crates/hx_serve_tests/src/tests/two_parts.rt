@@ -51,6 +51,26 @@ struct Seat<V: Venue> {
     ghost belongs: { reader.log ≡ V.log },
 }
 
+// A seat for each of two passes: the reader splits in two.
+fn seat_both<V: Venue>(
+    exchange: &Exchange<V, Unkept>,
+    mut passes: Vec<Pass<V>>,
+    mut reader: Reader<Entry>,
+) -> Option<(Seat<V>, Seat<V>)>
+    requires { reader.log ≡ V.log }
+{
+    let other = reader.split(exchange.feed_log());
+    let second = Seat {
+        pass: passes.pop()?,
+        reader: other,
+    };
+    let first = Seat {
+        pass: passes.pop()?,
+        reader,
+    };
+    Some((first, second))
+}
+
 // The part of the next connection.
 fn connected<V: Venue>(listener: &TcpListener, seat: Seat<V>) -> Option<OverTcp<V>> {
     let (stream, _) = listener.accept().ok()?;
@@ -201,21 +221,13 @@ fn play_day<
     let Founding {
         own,
         logs,
-        mut reader,
+        reader,
         blank,
     } = founding;
     let journal = Unkept::new();
-    let (exchange, mut passes) = Exchange::<V, Unkept>::new(alloc, own, logs, journal, blank, 2)?;
-    let other = reader.split(exchange.feed_log());
-    let second = Seat {
-        pass: passes.pop().ok_or("a pass")?,
-        reader: other,
-    };
-    let first = Seat {
-        pass: passes.pop().ok_or("a pass")?,
-        reader,
-    };
-    let (mut first, mut second) = play_two(rt, alloc, &exchange, (first, second))?;
+    let (exchange, passes) = Exchange::<V, Unkept>::new(alloc, own, logs, journal, blank, 2)?;
+    let seats = seat_both(&exchange, passes, reader).ok_or("two passes")?;
+    let (mut first, mut second) = play_two(rt, alloc, &exchange, seats)?;
     first.reads_all(rt, &exchange, &mut second.pass)?;
     second.reads_all(rt, &exchange, &mut first.pass)?;
     let passes = vec![in alloc; first.pass, second.pass]?;

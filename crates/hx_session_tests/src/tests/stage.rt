@@ -12,7 +12,7 @@ use hx_journal::Unkept;
 use hx_market::{Bytes, Event};
 use hx_members::Setup;
 use hx_sessions::{Clock, DropCopy, Logins, Part, serve_all};
-use hx_testing::memory::{Behind, Input, Output};
+use hx_testing::memory::{Behind, Input, Output, Rest};
 use hx_units::NoMemory;
 use std::alloc::Global;
 use std::io::{self, Read};
@@ -25,13 +25,21 @@ use std::test::*;
 use std::thread::Threads;
 use std::time::{Clock as Timer, Duration};
 
-/// The time of day is always the same.
-#[derive(Drop)]
-pub struct Still;
+// The time of day when sessions begin, in nanoseconds.
+const START: u64 = 1000;
 
-impl Clock for Still {
+/// The time of day: always the same, but for what was slept.
+#[derive(Drop)]
+pub struct Still<'a> {
+    rest: Option<&'a Rest>,
+}
+
+impl Clock for Still<'_> {
     fn now(&mut self) -> u64 {
-        1000
+        match self.rest {
+            Some(rest) => rest.slept().saturating_add(START),
+            None => START,
+        }
     }
 }
 
@@ -91,8 +99,9 @@ impl<'a> Read for Line<'a> {
 }
 
 impl<'a> Source for Line<'a> {
-    fn wait(&self, bell: &Bell, _limit: Duration) -> bool {
+    fn wait(&self, bell: &Bell, limit: Duration) -> bool {
         match self.input.behind {
+            Behind::Rests(rest) if self.input.bytes.is_empty() => rest.sleep(limit),
             Behind::Waits { count, wanted, .. } if self.input.bytes.is_empty() => {
                 if count.load(Ordering::SeqCst) < wanted {
                     bell.sleep(Duration::from_millis(1));
@@ -105,7 +114,7 @@ impl<'a> Source for Line<'a> {
 }
 
 // What a client's session is made of.
-type OwnPart<'a, V> = Part<V, Line<'a>, Output<'a>, Still>;
+type OwnPart<'a, V> = Part<V, Line<'a>, Output<'a>, Still<'a>>;
 
 // An exchange with its setup, the passes that are left, and a reader of its log.
 #[derive(Drop)]
@@ -157,11 +166,15 @@ impl<V: Venue> Stage<V> {
     fn part<'a>(&mut self, input: Input<'a>, output: Output<'a>) -> Option<OwnPart<'a, V>> {
         let pass = self.passes.pop()?;
         let reader = self.reader.split(self.exchange.feed_log());
+        let rest = match input.behind {
+            Behind::Rests(rest) => Some(rest),
+            _ => None,
+        };
         Some(Part {
             input: Line { input },
             output,
-            inbound: Still,
-            outbound: Still,
+            inbound: Still { rest },
+            outbound: Still { rest },
             pass,
             reader,
         })

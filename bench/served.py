@@ -1,0 +1,122 @@
+"""A day of `hx_tape serve` on loopback, for the scripts that measure one."""
+import os
+import socket
+import struct
+import subprocess
+import tempfile
+import time
+
+HOST = "127.0.0.1"
+# More sessions than that are those of an open day.
+SESSIONS = 63
+
+
+def setup_text(members):
+    lines = ["session HX00000007", "start open", "stock ABCD 5120000000644e435a20502020314e000000004e"]
+    lines += [f"member {n} F{n:03d} U{n:05d} P{n:09d} 1000000" for n in range(1, members + 1)]
+    return "\n".join(lines) + "\n"
+
+
+def free_port(kind):
+    with socket.socket(socket.AF_INET, kind) as found:
+        found.bind((HOST, 0))
+        return found.getsockname()[1]
+
+
+def frame(kind, payload=b""):
+    return struct.pack(">Hc", len(payload) + 1, kind) + payload
+
+
+def order(number):
+    return frame(b"U", struct.pack(">c14scI8sII4scccIcc", b"O", b"%014d" % number, b"B", 100, b"ABCD    ",
+                                   100_000 + 100 * (number % 1000), 99_999, b"    ", b"Y", b"O", b"N", 0, b"N", b"R"))
+
+
+def connected(port):
+    """A connection, once the server listens: it makes room for its feed first."""
+    for _ in range(100):
+        try:
+            return socket.create_connection((HOST, port))
+        except ConnectionRefusedError:
+            time.sleep(0.05)
+    return socket.create_connection((HOST, port))
+
+
+class Member:
+    def __init__(self, port, number):
+        self.line = connected(port)
+        self.line.setsockopt(socket.IPPROTO_TCP, socket.TCP_NODELAY, 1)
+        self.kept = b""
+        self.number = number
+
+    def log_in(self):
+        self.line.sendall(frame(b"L", b"U%05d" % self.number + b"P%09d" % self.number + b" " * 10
+                                + b"1".rjust(20)))
+        assert self.packet()[:1] == b"A"
+
+    def packet(self):
+        while len(self.kept) < 2 or len(self.kept) < 2 + struct.unpack_from(">H", self.kept)[0]:
+            more = self.line.recv(1 << 16)
+            assert more, "closed"
+            self.kept += more
+        size, = struct.unpack_from(">H", self.kept)
+        packet, self.kept = self.kept[2:2 + size], self.kept[2 + size:]
+        return packet
+
+    def reply(self):
+        packet = self.packet()
+        while packet[:1] == b"H":
+            packet = self.packet()
+        return packet
+
+
+class Day:
+    """A server with so many members, each logged in."""
+
+    def __init__(self, program, members, capacity=1_000_000, sync=None):
+        self.setup = tempfile.NamedTemporaryFile("w", suffix=".setup")
+        self.setup.write(setup_text(members))
+        self.setup.flush()
+        self.folder = tempfile.TemporaryDirectory(dir=".")
+        self.is_open = members > SESSIONS
+        kept = ["--open", "--connections-per-address", str(members)] if self.is_open else []
+        kept += ["--journal", os.path.join(self.folder.name, "day"), "--sync", sync] if sync else []
+        self.feed = socket.socket(socket.AF_INET, socket.SOCK_DGRAM)
+        self.feed.setsockopt(socket.SOL_SOCKET, socket.SO_RCVBUF, 1 << 22)
+        self.feed.bind((HOST, 0))
+        port, requests = free_port(socket.SOCK_STREAM), free_port(socket.SOCK_DGRAM)
+        self.server = subprocess.Popen(
+            [program, "serve", "--port", str(port), "--feed", str(self.feed.getsockname()[1]), "--requests",
+             str(requests), "--sessions", str(members), "--setup", self.setup.name, "--capacity", str(capacity), *kept],
+            stdin=subprocess.PIPE, stdout=subprocess.PIPE, stderr=subprocess.DEVNULL)
+        time.sleep(0.3)
+        self.members = []
+        for number in range(1, members + 1):
+            self.members.append(Member(port, number))
+            # (a day that is not open begins with its last connection)
+            if self.is_open:
+                self.members[-1].log_in()
+        if not self.is_open:
+            for member in self.members:
+                member.log_in()
+
+    def processor_seconds(self):
+        """What the server has used, and what of it the kernel, for the server."""
+        with open(f"/proc/{self.server.pid}/stat") as file:
+            fields = file.read().rsplit(")", 1)[1].split()
+        own, kernel = int(fields[11]), int(fields[12])
+        return (own + kernel) / os.sysconf("SC_CLK_TCK"), kernel / os.sysconf("SC_CLK_TCK")
+
+    def tell_processor(self, orders):
+        used, kernel = self.processor_seconds()
+        print(f"   an order takes {1e6 * used / orders:.1f} us of a processor, {100 * kernel / used:.0f} % of it in the kernel")
+
+    def end(self):
+        if self.is_open:
+            self.server.kill()
+            print("   ended, status", self.server.wait())
+            return
+        for member in self.members:
+            member.line.sendall(frame(b"O"))
+        self.server.stdin.close()
+        print("  ", self.server.stdout.read().decode().strip(), "status", self.server.wait())

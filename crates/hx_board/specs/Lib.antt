@@ -1,0 +1,4 @@
+pub mod Names
+pub mod Trades
+pub mod Depths
+pub mod Texts

@@ -1,0 +1,29 @@
+//! A vendor's board: what the feed tells of each stock, as JSON texts; the recorder that gathers it
+//! beside the screen, and the post by which it reaches the page.
+#![tactic(auto)]
+
+mod board;
+mod chart;
+mod depth;
+mod listing;
+mod name;
+mod news;
+mod pace;
+mod recorder;
+mod status;
+#[cfg(test)]
+mod tests;
+mod text;
+mod trade;
+
+pub use board::{Board, Sheet};
+pub use chart::{Quote, chart_text};
+pub use depth::{all_bids, all_offers};
+pub use listing::{Listing, depth_text, stock_text};
+pub use name::shown_name;
+pub use news::{News, Post, StockNews};
+pub use pace::PACE;
+pub use recorder::Recorder;
+pub use status::{Status, feed_text};
+pub use text::{write_name, write_number, write_trades};
+pub use trade::{Trade, trade_of};

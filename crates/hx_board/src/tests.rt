@@ -1,0 +1,4 @@
+//! Tests.
+
+mod boards;
+mod texts;

@@ -1,0 +1,329 @@
+//! Those who read the page: each by a connection of his own, none of whom can hold up another.
+
+use crate::answering::Page;
+use crate::browser::Browser;
+use http_server::{Config, Connection, State};
+use http1::Limits;
+use hx_board::Board;
+use std::alloc::{AllocError, Global};
+use std::hash::RandomState;
+use std::io::{ErrorKind, Read};
+use std::net::{Shutdown, TcpListener, TcpStream};
+use std::time::{Clock, Duration, Instant};
+use std::{io, mem};
+
+// So many who ask are there at most. One more, and the one that came first goes.
+const ASKERS: usize = 64;
+
+// So many browsers are told of changes at most.
+const BROWSERS: usize = 128;
+
+// A connection is closed so many seconds behind its last request.
+const PATIENCE: u64 = 5;
+
+// How often a connection is read and written in one look at most.
+const TURNS: u32 = 4;
+
+// For so many milliseconds requests are answered in one look.
+const BUDGET: u64 = 5;
+
+// So many bytes that come behind a last answer are thrown away in one look.
+const THROWN: usize = 4096;
+
+// The limits of a connection.
+const CONFIG: Config = Config {
+    // A head, in bytes. Browsers send one or two thousand.
+    limits: Limits {
+        max_head_len: 8192,
+        max_extensions_len: 1024,
+        max_trailers_len: 1024,
+    },
+    // Nothing is done with a body.
+    max_body_len: 1024,
+    // While more bytes than this wait to be sent, no request is read.
+    max_pending: 8192,
+    read_size: 4096,
+};
+
+// What a connection is.
+#[derive(Drop)]
+enum Line {
+    // One who asks.
+    Asks(Connection),
+    // One who is told of changes.
+    Watches(Browser),
+    // One who has got his last answer, and was told that nothing more comes.
+    Leaves,
+    // One who goes.
+    IsGone,
+}
+
+// One who reads.
+#[derive(Drop)]
+struct Guest {
+    stream: TcpStream,
+    line: Line,
+    // When he came, or when his last request was answered.
+    since: Instant,
+}
+
+// Whether something was moved; not where that would wait.
+fn has_moved(moving: io::Result<usize>) -> io::Result<bool> {
+    match moving {
+        Ok(_) => Ok(true),
+        Err(error) => match error.kind() {
+            ErrorKind::WouldBlock | ErrorKind::TimedOut | ErrorKind::Interrupted => Ok(false),
+            _ => Err(error),
+        },
+    }
+}
+
+// Reads and writes once each, as far as that does not wait. Returns whether anything was moved.
+fn exchange(
+    stream: &mut TcpStream,
+    connection: &mut Connection,
+    page: &mut Page<'_>,
+) -> io::Result<bool> {
+    let mut moved = false;
+    if connection.wants_read() {
+        moved = has_moved(connection.read_from(stream))?;
+    }
+    connection.advance(page);
+    if connection.wants_write() {
+        moved |= has_moved(connection.write_to(stream))?;
+    }
+    Ok(moved)
+}
+
+// Reads, answers and writes, until there is nothing to move, or the connection has ended.
+fn converse(
+    stream: &mut TcpStream,
+    connection: &mut Connection,
+    page: &mut Page<'_>,
+) -> io::Result<()> {
+    for _ in 0..TURNS {
+        let moved = exchange(stream, connection, page)?;
+        if !moved || connection.state() != State::Open {
+            break;
+        }
+    }
+    Ok(())
+}
+
+// What becomes of a connection that was answered.
+fn after(alloc: Global, stream: &mut TcpStream, connection: Connection, now: Instant) -> Line {
+    if connection.state() == State::Upgraded {
+        let (input, output) = connection.into_buffers();
+        return Line::Watches(Browser::new(alloc, input, output, now));
+    }
+    if !connection.is_done() {
+        return Line::Asks(connection);
+    }
+    match stream.shutdown(Shutdown::Write) {
+        Ok(()) => Line::Leaves,
+        Err(_) => Line::IsGone,
+    }
+}
+
+// Throws away what still comes: to close a line with unread bytes would take from the other side
+// what it has not read.
+fn leave(stream: &mut TcpStream) -> Line {
+    let mut thrown = [0; THROWN];
+    match stream.read(&mut thrown) {
+        Ok(0) => Line::IsGone,
+        read => match has_moved(read) {
+            Ok(_) => Line::Leaves,
+            Err(_) => Line::IsGone,
+        },
+    }
+}
+
+impl Guest {
+    fn is_browser(&self) -> bool {
+        matches!(self.line, Line::Watches(_))
+    }
+
+    fn is_gone(&self) -> bool {
+        matches!(self.line, Line::IsGone)
+    }
+
+    // Answers one who asks.
+    fn answer(&mut self, alloc: Global, board: &Board, now: Instant) {
+        let mut page = Page::new(alloc, board);
+        let line = mem::replace(&mut self.line, Line::IsGone);
+        self.line = match line {
+            Line::Asks(mut connection) => {
+                match converse(&mut self.stream, &mut connection, &mut page) {
+                    Ok(()) => after(alloc, &mut self.stream, connection, now),
+                    Err(_) => Line::IsGone,
+                }
+            }
+            Line::Leaves => leave(&mut self.stream),
+            other => other,
+        };
+        if page.is_read {
+            self.since = now;
+        }
+        let patience = Duration::from_secs(PATIENCE);
+        if !self.is_browser() && now.saturating_duration_since(self.since) >= patience {
+            self.line = Line::IsGone;
+        }
+    }
+
+    // Tells one who watches.
+    fn tell(&mut self, board: &Board, now: Instant) {
+        if let Line::Watches(browser) = &mut self.line {
+            if !browser.attend(&mut self.stream, board, now) {
+                self.line = Line::IsGone;
+            }
+        }
+    }
+
+    // Tells one who watches that nothing more comes.
+    fn end(&mut self, board: &Board) {
+        if let Line::Watches(browser) = &mut self.line {
+            browser.end(board);
+        }
+    }
+
+    // Whether he is owed something.
+    fn is_owed(&self) -> bool {
+        match &self.line {
+            Line::Watches(browser) => !browser.is_told(),
+            Line::Asks(connection) => connection.wants_write(),
+            Line::Leaves | Line::IsGone => false,
+        }
+    }
+}
+
+/// Those who are there, who came first before the others.
+#[derive(Drop)]
+pub struct Guests {
+    alloc: Global,
+    keys: RandomState,
+    guests: Vec<Guest>,
+    // Whose requests are looked at next.
+    turn: usize,
+}
+
+impl Guests {
+    /// Nobody is there. The keys are secret: a peer chooses the names of its headers.
+    pub fn new(alloc: Global, keys: RandomState) -> Result<Guests, AllocError> {
+        Ok(Guests {
+            alloc,
+            keys,
+            guests: Vec::with_capacity(alloc, ASKERS + BROWSERS)?,
+            turn: 0,
+        })
+    }
+
+    // How many ask.
+    fn askers(&self) -> usize {
+        let mut count: usize = 0;
+        for guest in self.guests.iter() {
+            if !guest.is_browser() {
+                count = count.saturating_add(1);
+            }
+        }
+        count
+    }
+
+    // Lets the first go who asks.
+    fn drop_first(&mut self) {
+        for place in 0..self.guests.len() {
+            if !self.guests[place].is_browser() {
+                self.guests.remove(place);
+                return;
+            }
+        }
+    }
+
+    // Takes one in. Where too many are there, the one that came first goes.
+    fn enter(&mut self, stream: TcpStream, now: Instant) {
+        if stream.set_nonblocking(true).is_err() || stream.set_nodelay(true).is_err() {
+            return;
+        }
+        if self.askers() >= ASKERS {
+            self.drop_first();
+        }
+        let _ = self.guests.push(Guest {
+            stream,
+            line: Line::Asks(Connection::new(self.alloc, self.keys, CONFIG)),
+            since: now,
+        });
+    }
+
+    /// Takes in those who have come.
+    pub fn welcome(&mut self, listener: &TcpListener, now: Instant) {
+        for _ in 0..ASKERS {
+            let Ok((stream, _)) = listener.accept() else {
+                return;
+            };
+            self.enter(stream, now);
+        }
+    }
+
+    // Closes the youngest browsers, where there are too many.
+    fn make_room(&mut self) {
+        let mut count: usize = 0;
+        self.guests.retain(|guest| {
+            if guest.is_browser() {
+                count = count.saturating_add(1);
+            }
+            !guest.is_gone() && (count <= BROWSERS || !guest.is_browser())
+        });
+    }
+
+    /// Tells each browser what has changed.
+    pub fn tell(&mut self, board: &Board, now: Instant) {
+        for guest in self.guests.iter_mut() {
+            guest.tell(board, now);
+        }
+    }
+
+    /// Answers what was asked, one after the other, for a short time; whoever is not looked at is
+    /// the first next time. Those go who have ended, or who asked nothing for too long.
+    pub fn answer<T: Clock>(&mut self, rt: &T, board: &Board, now: Instant) {
+        let count = self.guests.len();
+        for _ in 0..count {
+            if self.turn >= count {
+                self.turn = 0;
+            }
+            if let Some(guest) = self.guests.get_mut(self.turn) {
+                if !guest.is_browser() {
+                    guest.answer(self.alloc, board, now);
+                }
+            }
+            self.turn += 1;
+            if has_run_out(rt, now) {
+                break;
+            }
+        }
+        self.make_room();
+    }
+
+    /// Tells all that nothing more comes.
+    pub fn end(&mut self, board: &Board) {
+        for guest in self.guests.iter_mut() {
+            guest.end(board);
+        }
+    }
+
+    /// Whether somebody is owed something.
+    pub fn are_owed(&self) -> bool {
+        for guest in self.guests.iter() {
+            if guest.is_owed() {
+                return true;
+            }
+        }
+        false
+    }
+}
+
+// Whether the time for answers has run out.
+fn has_run_out<T: Clock>(rt: &T, since: Instant) -> bool {
+    match Instant::now(rt) {
+        Ok(now) => now.saturating_duration_since(since) >= Duration::from_millis(BUDGET),
+        Err(_) => true,
+    }
+}

@@ -1,0 +1,5 @@
+//! Tests.
+
+mod answers;
+mod browsers;
+mod news;

@@ -1,0 +1,86 @@
+//! The market alone, and a desk alone: one thread, and no lock.
+ghost use Rattle.std.specs.Prelude.{◌≡◌};
+
+use crate::failure::Failure;
+use crate::report::report;
+use crate::tape::day_setup;
+use hx_blog::Log;
+use hx_desk::{Desk, DeskError, Entry};
+use hx_levels::LevelBook;
+use hx_market::{Event, Market, Output, PrepareError};
+use std::alloc::Global;
+use std::rt::Clock;
+use std::time::Instant;
+
+/// How many messages the log of a feed has room for.
+pub const CAPACITY: u64 = 1_000_000;
+
+// How many messages of the feed and how many replies were told.
+#[derive(Clone, Copy)]
+struct Told {
+    feed: u64,
+    replies: u64,
+}
+
+// Plays all events into the same lists, which are emptied before each.
+fn play_all(
+    market: &mut Market<LevelBook>,
+    output: &mut Output,
+    events: &[Event],
+) -> Result<Told, PrepareError> {
+    let (mut feed, mut replies) = (0u64, 0u64);
+    for event in events {
+        output.feed.clear();
+        output.replies.clear();
+        market.play(event, output)?;
+        feed = feed.saturating_add(output.feed.len() as u64);
+        replies = replies.saturating_add(output.replies.len() as u64);
+    }
+    Ok(Told { feed, replies })
+}
+
+/// The market alone: no log, no history, and no rows of replies.
+pub fn market_rate<R: Print + Eprint + Clock>(
+    rt: &R,
+    alloc: Global,
+    events: &[Event],
+) -> Result<(), Failure> {
+    let mut market = Market::new(alloc, day_setup(alloc)?, LevelBook::new(alloc))?;
+    let mut output = Output {
+        feed: Vec::new(alloc),
+        replies: Vec::new(alloc),
+    };
+    let begun = Instant::now(rt)?;
+    let told = play_all(&mut market, &mut output, events)?;
+    report(rt, begun, "the market alone", events.len() as u64, "events")?;
+    println!(rt; "feed {}, replies {}", told.feed, told.replies)?;
+    Ok(())
+}
+
+// Each event is admitted, sealed and told on its own.
+fn record_all(desk: &mut Desk, log: &Log<Entry>, events: &[Event]) -> Result<(), DeskError>
+    requires log { desk.old.log ≡ log.now }
+    requires told { desk.old.sealed ≡ desk.old.told }
+{
+    for event in events {
+        desk.admit(log, 1, event)?;
+        desk.seal();
+        desk.release(log);
+    }
+    Ok(())
+}
+
+/// A desk alone: the market, the log, the history and the replies.
+pub fn desk_rate<R: Print + Eprint + Clock>(
+    rt: &R,
+    alloc: Global,
+    events: &[Event],
+) -> Result<(), Failure> {
+    let (log, writer, _reader) = Log::<Entry>::new(alloc, CAPACITY)?;
+    let mut desk = Desk::new(alloc, day_setup(alloc)?, writer)?;
+    let begun = Instant::now(rt)?;
+    record_all(&mut desk, &log, events)?;
+    report(rt, begun, "a desk alone", events.len() as u64, "events")?;
+    println!(rt; "feed {}", desk.feed_count())?;
+    Ok(())
+}

@@ -1,0 +1,22 @@
+//! A log that several append to, of whom one at a time counts: its records, and the one rule by which every reader
+//! knows which of them count.
+//!
+//! A record names its term, its writer and the place of its first line. Who takes over appends an empty record of the
+//! next term. From then on the records of the terms before it are passed over, by every reader alike, whenever they
+//! come.
+#![tactic(auto)]
+
+mod head;
+pub mod laws;
+mod lines;
+mod reading;
+mod record;
+mod text;
+
+pub use head::Head;
+pub use reading::{Reading, Verdict};
+pub use record::{LogRecord, RecordError};
+pub use text::{TextError, read_record};
+
+#[cfg(test)]
+mod tests;
