@@ -93,7 +93,7 @@ impl<V: Venue, J: Journal + Drop> Exchange<V, J> {
             (pass.new.waiting ≡ pass.old.waiting) ⊎ (e ≡ Stopped)) }
         ensures outright { IsRefusedOutright V.setup event.now result }
     {
-        let Ok(copy) = event.copy(self.alloc) else {
+        let Ok(copy) = event.copy() else {
             return Err(self.refuse(rt, &mut pass.knows, &mut pass.entered, event, false));
         };
         let Ok(events) = one(self.alloc, copy) else {

@@ -3,7 +3,7 @@ ghost use Rattle.std.specs.Prelude.{◌≡◌, ◌<◌, ◌↔◌, ◌++◌, ◌
 ghost use Rattle.hx_replay.specs.Ahead.{TakesLines, IsAhead};
 
 use crate::pending::Pending;
-use hx_market::Event;
+use hx_market::{Bytes, Event};
 use hx_tape_lines::read_event;
 use hx_text::split_once;
 use std::alloc::{AllocError, Global};
@@ -13,7 +13,7 @@ use std::mem::replace;
 /// The events of lines that are read and not yet played. Contracts see the list of them.
 #[derive(Drop)]
 pub(crate) struct Ahead {
-    // The events, and behind them others that are played: their bytes are room for those of the next ones.
+    // The events, and behind them others that are played: their bytes are a place for those of the next ones.
     events: Vec<Event>,
     count: usize,
 }
@@ -57,17 +57,17 @@ impl Ahead {
         self.count == 0
     }
 
-    // A list for the bytes of the next event. What stands in it is of no use.
-    fn room(&mut self, alloc: Global) -> Vec<u8>
+    // A place for the bytes of the next event. What stands in it is of no use.
+    fn place(&mut self) -> Bytes
         ensures { self.new ≡ self.old }
     {
         if self.count < self.events.len() {
             let played = replace(&mut self.events[self.count], Event::Tick { time: 0 });
             if let Event::Message { bytes, .. } = played {
-                return bytes.into_vec();
+                return bytes;
             }
         }
-        Vec::new(alloc)
+        Bytes::none()
     }
 
     // Puts an event behind the others.
@@ -93,7 +93,7 @@ impl Ahead {
             let Some((line, others)) = split_once(rest, b'\n') else {
                 return Ok(rest);
             };
-            let Some(event) = read_event(self.room(alloc), line)? else {
+            let Some(event) = read_event(alloc, self.place(), line)? else {
                 return Ok(rest);
             };
             self.push(event)?;

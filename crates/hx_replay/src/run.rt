@@ -11,7 +11,7 @@ use crate::room::Room;
 use hx_levels::Book;
 use hx_market::{Event, Market, PrepareError};
 use hx_members::Setup;
-use hx_tape_lines::{event_of, line};
+use hx_tape_lines::read_event;
 use hx_units::NoMemory;
 use std::alloc::{AllocError, Global};
 use std::marker::Model;
@@ -155,14 +155,11 @@ impl<B: Book + Drop> Run<B> {
             line,
             kind: Kind::Bad,
         };
-        let Some(fields) = line::read_in(room.bytes(self.alloc), text)? else {
-            return Err(bad);
-        };
-        let Some(event) = event_of(fields) else {
+        let Some(event) = read_event(self.alloc, room.place(), text)? else {
             return Err(bad);
         };
         self.play_event(&event, &mut room.lines)?;
-        room.keep_bytes(event);
+        room.keep_place(event);
         Ok(())
     }
 

@@ -13,7 +13,7 @@ use crate::pending::LONGEST;
 use crate::pieces::READS;
 use crate::run::fault_of;
 use hx_audit::{Auditor, Bearing, Whose};
-use hx_market::Event;
+use hx_market::{Bytes, Event};
 use hx_members::Setup;
 use hx_tape_lines::read_event;
 use hx_text::split_once;
@@ -67,7 +67,7 @@ fn take_line(
         → IsFaultOf ⊥ auditor.old.setup all e) }
 {
     let number = next_line(bearings);
-    let Some(event) = read_event(Vec::new(alloc), text)? else {
+    let Some(event) = read_event(alloc, Bytes::none(), text)? else {
         return Err(bad_line(bearings));
     };
     if let Err(error) = auditor.take(&event) {

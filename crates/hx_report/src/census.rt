@@ -13,7 +13,7 @@ ghost use Rattle.hx_report.specs.Noted.{begun_by, traders_in, is_quiet_chain, ch
 
 use crate::rest::{Rested, note_rested};
 use hx_levels::LevelBook;
-use hx_market::{Event, Market, Output};
+use hx_market::{Bytes, Event, Market, Output};
 use hx_members::Setup;
 use hx_ouch::{Inbound, Outbound, decode_in};
 use hx_tape_lines::read_event;
@@ -146,7 +146,7 @@ fn take_line(alloc: Global, notes: &mut Notes, text: &[u8]) -> Result<(), NoMemo
         → text.now ≡ line_of e → HasNoted notes.old setup (map event_of es)
         → HasNoted notes.new setup (map event_of (es ++ e ∷ []))) }
 {
-    let Some(event) = read_event(Vec::new(alloc), text)? else {
+    let Some(event) = read_event(alloc, Bytes::none(), text)? else {
         return Err(NoMemory);
     };
     notes.take(&event)?;

@@ -86,11 +86,11 @@ fn add_message(
     ensures err { OnErr result (events.new.items ≡ events.old.items) }
 {
     events.reserve(1)?;
-    let bytes = Vec::from_slice(alloc, text)?;
+    let bytes = Bytes::of(alloc, Vec::from_slice(alloc, text)?)?;
     events.push_reserved(Event::Message {
         member: member.get(),
         time,
-        bytes: Bytes::of(bytes),
+        bytes,
     });
     Ok(())
 }
