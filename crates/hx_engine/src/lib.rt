@@ -20,6 +20,7 @@ mod opening;
 mod pass;
 mod pass_count;
 mod replies;
+mod spelled;
 mod submitting;
 mod venue;
 
