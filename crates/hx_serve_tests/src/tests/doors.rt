@@ -4,7 +4,6 @@ use super::boards::told;
 use super::client::{ALPHA, Client};
 use super::open_days::{CLOSING, Stage, Terms, USUAL, await_told, come_and_go, serve_open};
 use super::vendor::Vendor;
-use hx_bells::Source;
 use hx_members::{Seed, Setup};
 use hx_serve::{Beginning, Hosting, Left, ServeError, Silent, Times, serve_kept, today};
 use std::alloc::Global;
@@ -223,26 +222,5 @@ fn a_day_that_others_reach_is_told_of(rt: HostRuntime) -> Result<(), Fail> {
         assert!(rt; served == Ok(()));
         assert_eq!(rt; told(&stage.board.warnings), warnings);
     }
-    Ok(())
-}
-
-// More writes than a line takes that nobody reads.
-const MANY: u32 = 100_000;
-
-// A line takes a write at once, until it is full.
-#[test]
-fn a_line_that_nobody_reads(rt: HostRuntime) -> Result<(), Fail> {
-    let listener = TcpListener::bind(&rt, (Ipv4Addr::new(127, 0, 0, 1), 0))?;
-    let silent = TcpStream::connect(&rt, listener.local_addr()?)?;
-    let (mut line, _) = listener.accept()?;
-    assert!(rt; line.takes_at_once());
-    line.set_nonblocking(true)?;
-    for _ in 0..MANY {
-        if line.write(&[0; 4096]).is_err() {
-            break;
-        }
-    }
-    assert!(rt; !line.takes_at_once());
-    drop(silent);
     Ok(())
 }
