@@ -11,6 +11,7 @@ ghost use Rattle.hx_engine.specs.Passes.{sent_by};
 ghost use Rattle.hx_engine.specs.Exchanges.{DoneAt, LastDone, AreAdmittedUpTo, IsRefusedOutright, Settles};
 
 use crate::answers::{SubmitError, refused};
+use crate::entered::Entered;
 use crate::flight::{Flight, Landed};
 use crate::keeper::Keeper;
 use crate::spelled::Records;
@@ -23,39 +24,6 @@ use std::alloc::Global;
 use std::marker::Brand;
 use std::mem::replace;
 use std::sync::ledger::{Book, Share};
-
-/// How many events were admitted, where the last of them was recorded, and why the next one was refused.
-#[derive(Drop)]
-pub struct Entered {
-    pub count: usize,
-    pub last: Done,
-    pub refused: Option<SubmitError>,
-    /// A receipt for all that is published, if they were told at once.
-    pub told: Option<Receipt<Entry>>,
-}
-
-impl Entered {
-    /// None, since the first of them was refused.
-    pub fn none(error: SubmitError) -> Entered
-        ensures { result ≡ record {
-          count = 0;
-          last = record { place = 0; first = 0; count = 0 };
-          refused = Some error;
-          told = None;
-        } }
-    {
-        Entered {
-            count: 0,
-            last: Done {
-                place: 0,
-                first: 0,
-                count: 0,
-            },
-            refused: Some(error),
-            told: None,
-        }
-    }
-}
 
 // How many events are looked at before the first of them is admitted.
 const AT_ONCE: usize = 16;

@@ -11,6 +11,7 @@
 #![tactic(auto)]
 
 mod answers;
+mod entered;
 mod exchange;
 mod flight;
 mod handed_in;

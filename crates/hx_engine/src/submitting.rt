@@ -12,7 +12,8 @@ ghost use Rattle.hx_engine.specs.Exchanges.{Sends, SendsAll, SendsFirst, Enters,
 use crate::answers::SubmitError;
 use crate::exchange::Exchange;
 use crate::flight::Flight;
-use crate::held::{Entered, Held, ToldNews};
+use crate::entered::Entered;
+use crate::held::{Held, ToldNews};
 use crate::pass::Pass;
 use crate::spelled::Records;
 use crate::venue::Venue;
