@@ -14,5 +14,5 @@ loop-preserved c =
     let line = c.in-Some.line.now in
     let others = c.in-Some.others.now in
     let one = some_of (IsLineOf line) c.in_ok-event.field-0 event c.in-Some-2.is c.in_ok-event.ensures.some in
-    let grown = c.in_ok-push.ensures ∙ ap (λ (es : List Event). es ++ event ∷ []) c.room.ensures in
+    let grown = c.in_ok-push.ensures ∙ ap (λ (es : List Event). es ++ event ∷ []) c.place.ensures in
     takes_more c.args.text.now c.args.self.now c.loop.self _ c.loop.rest.now line others event c.loop.invariant grown c.in-Some.ensures.some.0 one
