@@ -1,7 +1,7 @@
 -- What a journal's calls do to its records.
 use Rattle.std.proofs.Common.{◌≡◌, inl, inr, ⊎_elim, ℕ, true, false, ◌+◌, List, [], ◌∷◌, ◌++◌, length, refl, ap, sym, ◌∙◌, subst, arith, append_assoc, length-append}
 use Rattle.std.proofs.lemmas.List.{append-nil}
-use Rattle.hx_journal.specs.Device.{LeavesOnly}
+use Rattle.hx_disk.specs.Device.{LeavesOnly}
 use Rattle.hx_journal.specs.Lines.{lines_of}
 use Rattle.hx_journal.specs.Records.{is_mark, records_of, sealed, recovered}
 use Rattle.hx_journal.specs.Crashes.{IsBetween, Leaves}

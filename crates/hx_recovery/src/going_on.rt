@@ -1,6 +1,6 @@
 //! How a day goes on from its journal.
 ghost use Rattle.std.specs.Prelude.{◌≡◌, map, true, IfOk};
-ghost use Rattle.hx_journal.specs.Calls.{seen_of};
+ghost use Rattle.hx_disk.specs.Calls.{seen_of};
 ghost use Rattle.hx_journal.specs.Files.{stored, appended};
 ghost use Rattle.hx_journal.specs.Lines.{text_of};
 ghost use Rattle.hx_journal.specs.Records.{records_of, recovered};

@@ -25,13 +25,13 @@ use denote.Triple.Entry.{on_entry}
 use denote.Triple.Spec.{Meets, triple_of}
 use denote.Triple.Table.{entered}
 use denote.Triple.Walked.{says, Stays, stay_ref, walk_of, AllGo, Goes-ref, Walks, ends_at, walked, walk_Meets}
-use Rattle.hx_journal.specs.declared.call_log.CallLog.{CallLog}
-use Rattle.hx_journal.specs.Calls.{event_of}
-use Rattle.hx_journal.specs.contracts.call_log.CallLog as T
-use Rattle.hx_journal.specs.contracts.call_log.CallLog.note.Key.{name as #it}
-use Rattle.hx_journal.specs.contracts.call_log.CallLog.note as it
-use Rattle.hx_journal.proofs.call_log.CallLog.note.Statement as stated
-use Rattle.hx_journal.proofs.call_log.CallLog.note.Code as code
+use Rattle.hx_disk.specs.declared.call_log.CallLog.{CallLog}
+use Rattle.hx_disk.specs.Calls.{event_of}
+use Rattle.hx_disk.specs.contracts.call_log.CallLog as T
+use Rattle.hx_disk.specs.contracts.call_log.CallLog.note.Key.{name as #it}
+use Rattle.hx_disk.specs.contracts.call_log.CallLog.note as it
+use Rattle.hx_disk.proofs.call_log.CallLog.note.Statement as stated
+use Rattle.hx_disk.proofs.call_log.CallLog.note.Code as code
 use denote.Ref.{Bor}
 use denote.Builtin.{u8, u64}
 use denote.Exit.{yes}

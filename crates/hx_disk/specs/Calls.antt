@@ -2,7 +2,7 @@
 use Rattle.std.specs.Prelude.{◌≡◌, ◌⊎◌, ℕ, zero, suc, ◌+◌, ◌≤◌, Bool, true, false, ◌==◌, List, [], ◌∷◌, ◌++◌, length, take, drop, slice_index}
 use mathlib.Core.Logic.{inl, inr}
 use Rattle.std.proofs.Common.{arith}
-use Rattle.hx_journal.specs.Device.{Mixed, Cut}
+use Rattle.hx_disk.specs.Device.{Mixed, Cut}
 
 -- A call with its answer: which call, a place, whether it succeeded, and bytes. Calls stand in a
 -- list, the newest first.

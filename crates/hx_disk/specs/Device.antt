@@ -1,7 +1,7 @@
 -- What the calls of a device do to its file, and what a crash may do between two syncs.
 use Rattle.std.specs.Prelude.{◌≡◌, ◌⊎◌, ℕ, ◌+◌, ◌-◌, ◌<◌, ◌≤◌, max, min, List, ◌++◌, length, take, drop, get_or, Result, IsErrOf, IsOk}
-use Rattle.hx_journal.specs.declared.device.DeviceError.{DeviceError}
-use Rattle.hx_journal.specs.declared.device.DeviceError.TheVariants.{NoRoom, Failed}
+use Rattle.hx_disk.specs.declared.device.DeviceError.{DeviceError}
+use Rattle.hx_disk.specs.declared.device.DeviceError.TheVariants.{NoRoom, Failed}
 
 -- new is old with these bytes at this offset
 abbrev pub Holds : List ℕ → ℕ → List ℕ → List ℕ → Type 0

@@ -1,7 +1,7 @@
 //! A file whose calls are noted for contracts.
 ghost use Rattle.std.specs.Prelude.{◌≡◌, length};
-ghost use Rattle.hx_journal.specs.Device.{Only};
-ghost use Rattle.hx_journal.specs.Calls.{seen_of, leaves_of, left_of, faults_of, counts_now_of, only_now_of};
+ghost use Rattle.hx_disk.specs.Device.{Only};
+ghost use Rattle.hx_disk.specs.Calls.{seen_of, leaves_of, left_of, faults_of, counts_now_of, only_now_of};
 
 use crate::{CallLog, Device, DeviceError};
 

@@ -1,7 +1,7 @@
 //! The calls on a file, known to contracts alone.
 ghost use Rattle.std.specs.Prelude.{◌≡◌, List, [], ◌∷◌};
 ghost use Rattle.std.specs.Borrow.{ftrue};
-ghost use Rattle.hx_journal.specs.Calls.{Event, event_of};
+ghost use Rattle.hx_disk.specs.Calls.{Event, event_of};
 
 use std::marker::{Model, PhantomData};
 

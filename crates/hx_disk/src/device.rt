@@ -1,7 +1,7 @@
 //! A file as the journal sees it: what it has, and what a crash may leave of it.
 ghost use Rattle.std.specs.Prelude.{◌≡◌, ◌≤◌, List, ℕ, length, take, OnOk};
-ghost use Rattle.hx_journal.specs.declared.device.DeviceError.TheVariants.{Memory};
-ghost use Rattle.hx_journal.specs.Device.{Only, Follows, Mixed, Cut, Holds, Elapses, HasCause};
+ghost use Rattle.hx_disk.specs.declared.device.DeviceError.TheVariants.{Memory};
+ghost use Rattle.hx_disk.specs.Device.{Only, Follows, Mixed, Cut, Holds, Elapses, HasCause};
 
 use std::alloc::{AllocError, AllocFailed};
 

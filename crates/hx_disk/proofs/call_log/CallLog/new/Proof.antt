@@ -21,12 +21,12 @@ use denote.Triple.Entry.{on_entry}
 use denote.Triple.Spec.{Meets, triple_of}
 use denote.Triple.Table.{entered}
 use denote.Triple.Walked.{says, ends_at, walked, walk_Meets}
-use Rattle.hx_journal.specs.declared.call_log.CallLog.{CallLog}
-use Rattle.hx_journal.specs.contracts.call_log.CallLog as T
-use Rattle.hx_journal.specs.contracts.call_log.CallLog.new.Key.{name as #it}
-use Rattle.hx_journal.specs.contracts.call_log.CallLog.new as it
-use Rattle.hx_journal.proofs.call_log.CallLog.new.Statement as stated
-use Rattle.hx_journal.proofs.call_log.CallLog.new.Code as code
+use Rattle.hx_disk.specs.declared.call_log.CallLog.{CallLog}
+use Rattle.hx_disk.specs.contracts.call_log.CallLog as T
+use Rattle.hx_disk.specs.contracts.call_log.CallLog.new.Key.{name as #it}
+use Rattle.hx_disk.specs.contracts.call_log.CallLog.new as it
+use Rattle.hx_disk.proofs.call_log.CallLog.new.Statement as stated
+use Rattle.hx_disk.proofs.call_log.CallLog.new.Code as code
 
 abbrev v : Val
 v = vstruct (vcons (vstruct vnil) vnil)

@@ -3,8 +3,8 @@
 //! Trusted: that each method makes the call that it is named after, and that the system keeps what
 //! `Device` says of it.
 ghost use Rattle.std.specs.Prelude.{◌≡◌, IfOk};
-ghost use Rattle.hx_journal.specs.Device.{Only};
-ghost use Rattle.hx_journal.specs.Calls.{seen_of, leaves_of, faults_of};
+ghost use Rattle.hx_disk.specs.Device.{Only};
+ghost use Rattle.hx_disk.specs.Calls.{seen_of, leaves_of, faults_of};
 
 use crate::{DeviceError, Noted, RawFile};
 use std::fs::{OpenOptions, TryLockError};
