@@ -10,9 +10,9 @@ ghost use Rattle.hx_engine.specs.Passes.{placed};
 ghost use Rattle.hx_engine.specs.Exchanges.{Sends, SendsAll, SendsFirst, Enters, Settles, Stays, IsInOrder, AreAdmittedUpTo, IsRefusedOutright};
 
 use crate::answers::SubmitError;
+use crate::entered::Entered;
 use crate::exchange::Exchange;
 use crate::flight::Flight;
-use crate::entered::Entered;
 use crate::held::{Held, ToldNews};
 use crate::pass::Pass;
 use crate::spelled::Records;

@@ -18,12 +18,13 @@ use Rattle.hx_rules.specs.Removal.{others, less, lessened}
 use Rattle.hx_rules.specs.Replace.{handed_over, replace_order}
 use Rattle.hx_day.specs.Day.{MayRecord}
 use Rattle.hx_rules.specs.Executions.{arrive, chains_after}
-use Rattle.hx_market.specs.Bounds.{chains_by, own, is_name, open_in, IsPlaced, ArePlaced, total, IsSound, CanAccept}
-use Rattle.hx_market.proofs.Bounds.ChainShares.{IsWithin, open-append, placed-append, placed-shares, own-le}
-use Rattle.hx_market.proofs.Bounds.UsedTokens.{placed-more, open-more, chained-more, entered-last, used-last, get-append, same-name}
-use Rattle.hx_market.proofs.Bounds.OneOrderPerChain.{NoneOf, open-none, none-more, lone-more, lone-filter, lone-lessened, gone}
-use Rattle.hx_market.proofs.Bounds.Counts.{total-within, length-raised, raised-along, raised-limited}
-use Rattle.hx_market.proofs.Bounds.AfterEnter.{recording, more, raised-le, Arrives, matched_of, counted_arrival, own_note, ends, sound_arrived, draws}
+use Rattle.hx_bounds.specs.Changes.{recording, Names, Replaces}
+use Rattle.hx_bounds.specs.Bounds.{chains_by, own, is_name, open_in, IsPlaced, ArePlaced, total, IsSound, CanAccept}
+use Rattle.hx_bounds.proofs.ChainShares.{IsWithin, open-append, placed-append, placed-shares, own-le}
+use Rattle.hx_bounds.proofs.UsedTokens.{placed-more, open-more, chained-more, entered-last, used-last, get-append, same-name}
+use Rattle.hx_bounds.proofs.OneOrderPerChain.{NoneOf, open-none, none-more, lone-more, lone-filter, lone-lessened, gone}
+use Rattle.hx_bounds.proofs.Counts.{total-within, length-raised, raised-along, raised-limited}
+use Rattle.hx_bounds.proofs.AfterEnter.{more, raised-le, Arrives, matched_of, counted_arrival, own_note, ends, sound_arrived, draws}
 
 -- Orders that go.
 
@@ -52,11 +53,6 @@ sound_filtered m keep hours h = record {
 }
 
 -- The old order, where a member's token names it.
-
--- the member calls this live order by this token
-pub record Names (m : Market) (i : ℕ) (t : Token) (old : Order) : Type 0 where
-  pub found : find (is_called i t) m.live ≡ Some old
-  pub called : is_called i t old ≡ true
 
 placed_old : (m : Market) (i : ℕ) (t : Token) (old : Order) → IsSound m → Names m i t old → IsPlaced m.tokens old
 placed_old m i t old h n = found_among (IsPlaced m.tokens) (is_called i t) old m.live h.placed n.found
@@ -102,14 +98,6 @@ sound_handed m i t u h = record {
 }
 
 -- A Replace that replaces.
-
--- the new order: its token is new, in the chain of the old one, of which with its open shares no more is executed than one message may have
-pub record Replaces (m : Market) (i : ℕ) (t : Token) (old x : Order) : Type 0 where
-  pub names : Names m i t old
-  pub unused : is_used m.tokens i x.token ≡ false
-  pub member : x.member ≡ old.member
-  pub chain : x.chain ≡ old.chain
-  pub shares : executed_by m.chains i (entered_of m.tokens i t) + x.shares ≤ 999999
 
 none_left : (m : Market) (i : ℕ) (t : Token) (old : Order) → IsSound m → Names m i t old → NoneOf m.tokens i (entered_of m.tokens i t) (others_in m i t)
 none_left m i t old h n =

@@ -11,7 +11,7 @@ use Rattle.hx_levels.specs.Book.{outranks}
 use Rattle.hx_match.specs.declared.fills.Incoming.{Incoming}
 use Rattle.hx_match.specs.Matching.{Execution, Place, Matched, behind, first_of_entries, passes, first_entry, less_of, matched_by, matched_entries, itself, with_shares}
 use Rattle.hx_members.specs.Chains.{Used, Chain, is_chain, entered_of, executed_by, executed_at, note, noted, IsEnteredAt, noted_at}
-use Rattle.hx_market.specs.Bounds.{noted_both, chains_by, CanNote, CanNoteAll, own, is_name, open_in, IsPlaced, ArePlaced}
+use Rattle.hx_bounds.specs.Bounds.{noted_both, chains_by, CanNote, CanNoteAll, own, is_name, open_in, IsPlaced, ArePlaced}
 use Rattle.hx_rules.specs.Executions.{chains_after}
 
 pub is_token-true : (t u : Token) → is_token t u ≡ true → t ≡ u

@@ -14,11 +14,12 @@ use Rattle.hx_rules.specs.Markets.{Market, opening}
 use Rattle.hx_rules.specs.Executions.{chains_after, incoming_of, resting_of, displays, arrive}
 use Rattle.hx_rules.specs.Enter.{consumed, drawn, accept_order, reject, after_draw}
 use Rattle.hx_day.specs.Day.{MayRecord}
-use Rattle.hx_market.specs.Bounds.{own, is_name, open_in, IsPlaced, ArePlaced, CanNote, chains_by, total, AreLone, IsSound, CanAccept}
-use Rattle.hx_market.proofs.Bounds.ChainShares.{open-append, IsWithin, Counted, counted, executed-noted, can, placed-append}
-use Rattle.hx_market.proofs.Bounds.UsedTokens.{placed-more, open-more, open-unused, executed-unused, executed-fresh, chained-more, chained-append, chained-noted, entered-last, used-last, get-last, same-name}
-use Rattle.hx_market.proofs.Bounds.OneOrderPerChain.{NoneOf, StayLone, stay_lone, lone-more, lone-append, none-more, none-unused}
-use Rattle.hx_market.proofs.Bounds.Counts.{ended, total-raised, total-within, length-raised, raised-along, raised-limited}
+use Rattle.hx_bounds.specs.Changes.{recording, IsEntered}
+use Rattle.hx_bounds.specs.Bounds.{own, is_name, open_in, IsPlaced, ArePlaced, CanNote, chains_by, total, AreLone, IsSound, CanAccept}
+use Rattle.hx_bounds.proofs.ChainShares.{open-append, IsWithin, Counted, counted, executed-noted, can, placed-append}
+use Rattle.hx_bounds.proofs.UsedTokens.{placed-more, open-more, open-unused, executed-unused, executed-fresh, chained-more, chained-append, chained-noted, entered-last, used-last, get-last, same-name}
+use Rattle.hx_bounds.proofs.OneOrderPerChain.{NoneOf, StayLone, stay_lone, lone-more, lone-append, none-more, none-unused}
+use Rattle.hx_bounds.proofs.Counts.{ended, total-raised, total-within, length-raised, raised-along, raised-limited}
 
 zeros : (n i : ℕ) → slice_index (replicate n 0) i ≤ 0
 zeros zero i = omega arith
@@ -38,9 +39,6 @@ sound_opening setup = record {
   numbered = refl;
   limited = λ i. (let a = zeros 4096 i in omega arith);
 }
-
-abbrev pub recording : Market → ℕ → Market
-recording m i = record m { recorded = raised m.recorded i }
 
 pub more : (m : Market) (i : ℕ) → IsSound m → MayRecord m.recorded i → total (raised m.recorded i) ≡ total m.recorded + 1
 more m i h l = let a = h.numbered in let b = l.in_range in total-raised m.recorded i (omega arith)
@@ -204,12 +202,6 @@ sound_arrived m x time imm h n =
     chained_if false cs g = g
 
 -- An order is entered.
-
--- the order's token is new, and its chain has the next place
-pub record IsEntered (m : Market) (x : Order) : Type 0 where
-  pub unused : is_used m.tokens x.member x.token ≡ false
-  pub chain : x.chain ≡ length m.tokens
-  pub shares : x.shares ≤ 999999
 
 within_entered : (m : Market) (x : Order) → IsSound m → IsEntered m x → IsWithin (used_by m x.member x.token) x.member x.token x.shares (chains_with m x.member x.token) m.live
 within_entered m x h new k t = at (is_name x.member x.token k t) refl

@@ -8,8 +8,8 @@ use Rattle.hx_levels.specs.Book.{outranks, crosses}
 use Rattle.hx_match.specs.declared.fills.Incoming.{Incoming}
 use Rattle.hx_match.specs.Matching.{Place, Matched, behind, first_of_entries, passes, qualifies, terms, less_of, matched_by, matched_entries, itself, with_shares}
 use Rattle.hx_refs.specs.Numbers.{raised}
-use Rattle.hx_market.specs.Bounds.{total}
-use Rattle.hx_market.proofs.Bounds.ChainShares.{first, StandsIn, split}
+use Rattle.hx_bounds.specs.Bounds.{total}
+use Rattle.hx_bounds.proofs.ChainShares.{first, StandsIn, split}
 
 length-append : (xs ys : List Order) → length (xs ++ ys) ≡ length xs + length ys
 length-append [] ys = omega arith

@@ -14,14 +14,16 @@ use Rattle.std.specs.List.{find}
 use Rattle.hx_levels.specs.declared.order.Live.{Live}
 use Rattle.hx_levels.specs.Book.{lives}
 use Rattle.hx_market.proofs.OrdersByToken.{only_found}
-use Rattle.hx_market.proofs.Bounds.AfterReplace.{Replaces, chain_old, can_replace, sound_handed, sound_replaced, sound_lessened, sound_filtered}
+use Rattle.hx_bounds.specs.Changes.{Replaces}
+use Rattle.hx_bounds.proofs.AfterReplace.{chain_old, can_replace, sound_handed, sound_replaced, sound_lessened, sound_filtered}
 use Rattle.hx_rules.specs.Enter.{next_reference}
-use Rattle.hx_market.specs.Bounds.{IsSound}
+use Rattle.hx_bounds.specs.Bounds.{IsSound}
 use Rattle.hx_market.specs.Effects.{IsEffect, SuitsTokens, IsAbout, IsOnly, SuitsReplacement, IsReplacement, IsOf, IsInRange, is_due, order_of_enter, replacement_order, outcome_of}
 use Rattle.hx_market.specs.declared.effect.Replacement.{Replacement}
 use Rattle.hx_day.specs.Day.{MayRecord}
 use Rattle.hx_market.specs.Prepared.{FitsEffect}
-use Rattle.hx_market.proofs.Bounds.AfterEnter.{recording, can_accept, sound_recorded, sound_rejected, sound_accepted}
+use Rattle.hx_bounds.specs.Changes.{recording}
+use Rattle.hx_bounds.proofs.AfterEnter.{can_accept, sound_recorded, sound_rejected, sound_accepted}
 
 -- neither halts nor executions are counted
 sound_traded : (m : Market) (halted : List Bool) (executions : List Match) → IsSound m → IsSound (record m { halted = halted; executions = executions })

@@ -6,8 +6,8 @@ use Rattle.hx_units.specs.declared.names.Token.{Token}
 use Rattle.hx_units.specs.Names.{is_token}
 use Rattle.hx_levels.specs.declared.order.Order.{Order}
 use Rattle.hx_members.specs.Chains.{Used, Chain, is_use, is_used, is_chain, entered_of, executed_by, note, noted, IsEnteredAt, entered_used}
-use Rattle.hx_market.specs.Bounds.{own, is_name, open_in, ArePlaced}
-use Rattle.hx_market.proofs.Bounds.ChainShares.{is_token-true, name-self}
+use Rattle.hx_bounds.specs.Bounds.{own, is_name, open_in, ArePlaced}
+use Rattle.hx_bounds.proofs.ChainShares.{is_token-true, name-self}
 
 pub used-append : (ts us : List Used) (m : ℕ) (t : Token) → is_used ts m t ≡ true → is_used (ts ++ us) m t ≡ true
 used-append [] us m t h = absurd (let z : false ≡ true = h in cc)

@@ -10,10 +10,10 @@ use Rattle.hx_match.specs.Matching.{Place, matched_by, matched_entries, itself, 
 use Rattle.hx_members.specs.Chains.{Used, is_used, entered_of, entered_used}
 use Rattle.hx_rules.specs.Orders.{is_called}
 use Rattle.hx_rules.specs.Removal.{others, less, lessened}
-use Rattle.hx_market.specs.Bounds.{own, is_name, is_of_chain, open_in, ArePlaced, AreLone}
-use Rattle.hx_market.proofs.Bounds.ChainShares.{first, StandsIn, split}
-use Rattle.hx_market.proofs.Bounds.UsedTokens.{entered-append, same-name, used-get}
-use Rattle.hx_market.proofs.Bounds.ChainShares.{name-self}
+use Rattle.hx_bounds.specs.Bounds.{own, is_name, is_of_chain, open_in, ArePlaced, AreLone}
+use Rattle.hx_bounds.proofs.ChainShares.{first, StandsIn, split}
+use Rattle.hx_bounds.proofs.UsedTokens.{entered-append, same-name, used-get}
+use Rattle.hx_bounds.proofs.ChainShares.{name-self}
 
 -- the order is of the chain of another
 abbrev is_with : List Used → Order → Order → Bool
