@@ -10,7 +10,7 @@ use Rattle.hx_rules.specs.declared.event.Event.{Event}
 use Rattle.hx_market.specs.Outputs.{Reply}
 use Rattle.hx_market.specs.Steps.{step}
 use Rattle.hx_market.specs.Refusals.{refusal, or_no_memory}
-use Rattle.hx_replay.specs.declared.fault.Kind.TheVariants as kind
+use Rattle.hx_tape_lines.specs.declared.fault.Kind.TheVariants as kind
 use Rattle.hx_replay.specs.declared.fault.TapeError.{TapeError}
 use Rattle.hx_tape_lines.specs.Text.{Entry, IsEntry, line}
 use Rattle.hx_replay.specs.Output.{feed_lines, reply_lines, counts_after}

@@ -7,20 +7,20 @@ use hx_market::{Bytes, Event};
 use std::alloc::Global;
 use std::mem::replace;
 
-/// A place for the bytes of a message, and the output lines of events. The next ones take memory only where they are longer than all
-/// before them, or more.
+/// A place for the bytes of a message, and room for the output lines of events. The next ones take memory only where they
+/// are longer than all before them, or more.
 #[derive(Drop)]
-pub(crate) struct Room {
+pub struct Room {
     place: Bytes,
     /// The output lines that are told and not yet written.
-    pub(crate) lines: Messages,
+    pub lines: Messages,
     /// Room for those that are spelled.
-    pub(crate) spelled: Lines,
+    pub spelled: Lines,
 }
 
 impl Room {
     /// None yet.
-    pub(crate) fn new(alloc: Global) -> Room
+    pub fn new(alloc: Global) -> Room
         ensures { result.lines ≡ [] }
     {
         Room {

@@ -5,9 +5,9 @@ ghost use Rattle.hx_units.specs.Ranges.{IsMember};
 ghost use Rattle.hx_members.specs.Setups.{Setup as SetupOf};
 ghost use Rattle.hx_rules.specs.declared.event.Event.{Event as Happening};
 ghost use Rattle.hx_market.specs.Steps.{sender};
-ghost use Rattle.hx_tape_lines.specs.Text.{Entry, line as line_of};
+ghost use Rattle.hx_tape_lines.specs.Text.{Entry, line as line_of, tape};
 ghost use Rattle.hx_tape_lines.specs.Events.{IsKnown, event_of};
-ghost use Rattle.hx_replay.specs.Run.{start, tape, AreEvents};
+ghost use Rattle.hx_replay.specs.Run.{start, AreEvents};
 ghost use Rattle.hx_report.specs.Counts.{is_execution};
 ghost use Rattle.hx_report.specs.Noted.{begun_by, traders_in, is_quiet_chain, chain_mark, HasNoted, IsCensus};
 

@@ -2,9 +2,9 @@
 ghost use Rattle.std.specs.Prelude.{◌≡◌, ◌++◌, ◌∷◌, [], List, map, IfOk, OnOk};
 ghost use Rattle.hx_rules.specs.Steps.{sender};
 ghost use Rattle.hx_audit.specs.Auditing.{choice_of};
-ghost use Rattle.hx_tape_lines.specs.Text.{Entry, line as line_of};
+ghost use Rattle.hx_tape_lines.specs.Text.{Entry, line as line_of, tape};
 ghost use Rattle.hx_tape_lines.specs.Events.{IsKnown, event_of};
-ghost use Rattle.hx_replay.specs.Run.{start, tape, AreEvents};
+ghost use Rattle.hx_replay.specs.Run.{start, AreEvents};
 ghost use Rattle.hx_report.specs.Marks.{marks_of, marked_by, HasTakenLines};
 
 use hx_audit::{Auditor, Bearing, Whose};
