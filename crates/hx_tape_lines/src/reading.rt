@@ -26,11 +26,7 @@ pub fn event_of(alloc: Global, place: Bytes, fields: Fields) -> Result<Option<Ev
 }
 
 /// The event of a line, where it is one, its bytes in the place of others.
-pub fn read_event(
-    alloc: Global,
-    place: Bytes,
-    text: &[u8],
-) -> Result<Option<Event>, NoMemory>
+pub fn read_event(alloc: Global, place: Bytes, text: &[u8]) -> Result<Option<Event>, NoMemory>
     ensures some { IfOk result (λ o. IfSome o (IsLineOf text.now)) }
     ensures none { IfOk result (λ o. IfNone o (IsNoLine text.now)) }
 {

@@ -7,9 +7,10 @@ use Rattle.hx_replay.proofs.Playing.{no_line_is_bad}
 use Rattle.hx_replay.proofs.run.Run.play.Goals as goal
 
 pub returns-in_default-clause-faults : goal.returns-in_default-clause-faults
-returns-in_default-clause-faults g c =
-    (ap (λ (p : Progress). p.events + 1) c.self.view_is,
-    no_line_is_bad c.args.self.now c.args.text.now (none_of (IsNoLine c.args.text.now) c.in_ok-event.field-0 c.in_default.is c.in_ok-event.ensures.none))
+returns-in_default-clause-faults g c = (
+  ap (λ (p : Progress). p.events + 1) c.self.view_is,
+  no_line_is_bad c.args.self.now c.args.text.now (none_of (IsNoLine c.args.text.now) c.in_ok-event.field-0 c.in_default.is c.in_ok-event.ensures.none),
+)
 
 pub returns-in_err-play_event-clause-faults : goal.returns-in_err-play_event-clause-faults
 returns-in_err-play_event-clause-faults g c =
