@@ -112,9 +112,6 @@ record_at (x ∷ records) (suc i) in' all = record_at records i (omega arith) al
 
 -- What the journal leaves.
 
-pub leaves_nothing : (a : ℕ) (past : ℕ → List (List ℕ) → Type 0) (least most : List (List ℕ)) → Leaves a a past past least most
-leaves_nothing a past least most = record { later = omega arith; each = λ t c l h. inl h }
-
 pub longer : (xs ys zs : List (List ℕ)) → IsPrefix xs ys → IsPrefix ys zs → IsPrefix xs zs
 longer xs ys zs p q = (p.0 ++ q.0, sym (append_assoc xs p.0 q.0) ∙ (ap (λ w. w ++ q.0) p.1 ∙ q.1))
 

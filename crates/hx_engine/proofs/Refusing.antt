@@ -24,10 +24,6 @@ snoc_same (a ∷ xs) (b ∷ ys) x y p =
     let first : a ≡ b = ap (λ (l : List _). get_or l 0 x) p in
     ((λ i. first i ∷ rest.0 i), rest.1)
 
--- no event is the last of none
-pub none_last : (setup : Setup) (number : ℕ) (before : List Entry) (done : Done) → LastDone setup number before [] done
-none_last setup number before done earlier event p = absurd (omega (arith, ap (λ (l : List Event). length l) p, length-append earlier (event ∷ [])))
-
 pub one_last : (setup : Setup) (number : ℕ) (before now : List Entry) (events : List Event) (i : ℕ) (event : Event) (done : Done) → i < length events → event ≡ get_or events i event
     → now ≡ before ++ sent_by number (take i events) → DoneAt setup now event done → LastDone setup number before (take (i + 1) events) done
 one_last setup number before now events i event done l is history at earlier other p =
@@ -173,11 +169,6 @@ pub answered : (setup : Setup) (events : List Event) (count : ℕ) (refused : Op
 answered setup events count refused error answer none is bad stranger h =
     let all : AreAdmittedUpTo setup events 0 (Some error) = subst (λ (n : ℕ). AreAdmittedUpTo setup events n (Some error)) none (subst (λ (o : Option SubmitError). AreAdmittedUpTo setup events count o) is h) in
     (all.0, all.1, λ event g. still_outright setup event error answer bad stranger (all.2 event g))
-
--- the one of one
-pub refused_one : (setup : Setup) (event : Event) (n : ℕ) (error : SubmitError) → AreAdmittedUpTo setup (event ∷ []) n (Some error) → (n ≡ 0) × IsRefusedOutright setup event (Err error)
-refused_one setup event zero error h = (refl, h.2 event refl)
-refused_one setup event (suc n) error h = absurd (omega (arith, h.0))
 
 pub at_most : (setup : Setup) (events : List Event) (count : ℕ) (refused : Option SubmitError) → AreAdmittedUpTo setup events count refused → count ≤ length events
 at_most setup events count None h = omega (arith, h.0)

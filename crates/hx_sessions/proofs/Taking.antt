@@ -123,9 +123,6 @@ has_behind ps qs h = record {
 pub upto_cut : (packets : List SoupPacket) (i : ℕ) (done : List (List ℕ)) → Upto packets i done → Cut packets done
 upto_cut packets i done u = record { asks = λ later. (asked (drop i packets ++ later), sym (u.asks later)) }
 
-pub upto_all : (packets : List SoupPacket) (i : ℕ) (done : List (List ℕ)) → Upto packets i done → length packets ≤ i → Acting packets done
-upto_all packets i done u h = record { asks = λ later. u.asks later ∙ ap (λ l. done ++ asked (l ++ later)) (drop_all i packets h) }
-
 -- ---- acting on packets all at once
 
 pub acting_cut : (ps : List SoupPacket) (ds : List (List ℕ)) → Acting ps ds → Cut ps ds
@@ -145,14 +142,6 @@ cut_take : (packets : List SoupPacket) (texts : List (List ℕ)) (n : ℕ) → C
 cut_take packets texts n c = record {
   asks = λ later. prefix_trans (take n texts) texts (asked (packets ++ later)) (drop n texts, take-append-drop n texts) (c.asks later);
 }
-
--- all was submitted
-pub acted_all : (member : ℕ) (old new : List (ℕ × Event)) (packets : List SoupPacket) (events : List Event) → Gathers member packets events None → SendsOn old new events → (u : Unit {0}) → Acted member old new packets (Ok u)
-acted_all member old new packets events (texts, are, asks) s u = (texts, record { events = events; sends = s; are = are }, asks)
-
--- all was submitted, and the worker stops
-pub acted_until : (member : ℕ) (old new : List (ℕ × Event)) (packets : List SoupPacket) (events : List Event) (w : Stop) → Gathers member packets events (Some w) → SendsOn old new events → Acted member old new packets (Err w)
-acted_until member old new packets events w (texts, are, asks) s = (texts, record { events = events; sends = s; are = are }, asks)
 
 -- a submit was refused
 pub acted_some : (member : ℕ) (old new : List (ℕ × Event)) (packets : List SoupPacket) (events : List Event) (w : Option Stop) (f : Fault) → Gathers member packets events w → SendsSome old new events → Acted member old new packets (Err (stop.Faulted f))
@@ -196,9 +185,6 @@ acting_join ps qs ds es a b = record {
 
 pub acting_all : (ps : List SoupPacket) (ds : List (List ℕ)) → Acting ps ds → ds ≡ asked ps
 acting_all ps ds a = sym (ap asked (sym (append-nil ps)) ∙ (a.asks [] ∙ append-nil ds))
-
-asked_two : (ps qs : List SoupPacket) (ds : List (List ℕ)) → Acting ps ds → asked (ps ++ qs) ≡ ds ++ asked qs
-asked_two ps qs ds a = a.asks qs
 
 closed_all : (ps qs : List SoupPacket) (ds es : List (List ℕ)) → Acting ps ds → Closed qs es → ds ++ es ≡ asked (ps ++ qs)
 closed_all ps qs ds es a c = sym (a.asks qs ∙ ap (λ l. ds ++ l) (ap asked (sym (append-nil qs)) ∙ c.asks []))
