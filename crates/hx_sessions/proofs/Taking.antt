@@ -76,38 +76,35 @@ submits_join member a b c ts us s t = record {
 
 -- ---- acting on packets one by one
 
--- what was submitted for the packets before i
-pub record Upto (packets : List SoupPacket) (i : ℕ) (done : List (List ℕ)) : Type 0 where
-  pub asks : (later : List SoupPacket) → asked (packets ++ later) ≡ done ++ asked (drop i packets ++ later)
+-- what was submitted for the packets before those that are left
+pub record Upto (packets rest : List SoupPacket) (done : List (List ℕ)) : Type 0 where
+  pub asks : (later : List SoupPacket) → asked (packets ++ later) ≡ done ++ asked (rest ++ later)
 
-pub upto_none : (packets : List SoupPacket) → Upto packets 0 []
+pub upto_none : (packets : List SoupPacket) → Upto packets packets []
 upto_none packets = record { asks = λ later. refl }
 
-at : (packets : List SoupPacket) (i : ℕ) (p : SoupPacket) → i < length packets → p ≡ get_or packets i p → drop i packets ≡ p ∷ drop (i + 1) packets
-at packets i p h is = drop_more packets i p h ∙ ap (λ x. x ∷ drop (i + 1) packets) (sym is)
+step : (packets rest others : List SoupPacket) (done : List (List ℕ)) (p : SoupPacket) (a : Action) → Upto packets rest done → rest ≡ p ∷ others → later_action p ≡ a
+    → (later : List SoupPacket) → asked (packets ++ later) ≡ done ++ asked_by a p.payload (asked (others ++ later))
+step packets rest others done p a u is acts later =
+    u.asks later ∙ ap (λ l. done ++ asked (l ++ later)) is ∙ ap (λ x. done ++ asked_by x p.payload (asked (others ++ later))) acts
 
-step : (packets : List SoupPacket) (i : ℕ) (done : List (List ℕ)) (p : SoupPacket) (a : Action) → Upto packets i done → i < length packets → p ≡ get_or packets i p → later_action p ≡ a
-    → (later : List SoupPacket) → asked (packets ++ later) ≡ done ++ asked_by a p.payload (asked (drop (i + 1) packets ++ later))
-step packets i done p a u h is acts later =
-    u.asks later ∙ ap (λ l. done ++ asked (l ++ later)) (at packets i p h is) ∙ ap (λ x. done ++ asked_by x p.payload (asked (drop (i + 1) packets ++ later))) acts
+pub upto_submit : (packets rest others : List SoupPacket) (done : List (List ℕ)) (p : SoupPacket) → Upto packets rest done → rest ≡ p ∷ others → later_action p ≡ action.Submit → Upto packets others (done ++ p.payload ∷ [])
+upto_submit packets rest others done p u is acts =
+    record { asks = λ later. step packets rest others done p action.Submit u is acts later ∙ sym (append_assoc done (p.payload ∷ []) (asked (others ++ later))) }
 
-pub upto_submit : (packets : List SoupPacket) (i : ℕ) (done : List (List ℕ)) (p : SoupPacket) → Upto packets i done → i < length packets → p ≡ get_or packets i p → later_action p ≡ action.Submit → Upto packets (i + 1) (done ++ p.payload ∷ [])
-upto_submit packets i done p u h is acts =
-    record { asks = λ later. step packets i done p action.Submit u h is acts later ∙ sym (append_assoc done (p.payload ∷ []) (asked (drop (i + 1) packets ++ later))) }
+pub upto_ignore : (packets rest others : List SoupPacket) (done : List (List ℕ)) (p : SoupPacket) → Upto packets rest done → rest ≡ p ∷ others → later_action p ≡ action.Ignore → Upto packets others done
+upto_ignore packets rest others done p u is acts = record { asks = λ later. step packets rest others done p action.Ignore u is acts later }
 
-pub upto_ignore : (packets : List SoupPacket) (i : ℕ) (done : List (List ℕ)) (p : SoupPacket) → Upto packets i done → i < length packets → p ≡ get_or packets i p → later_action p ≡ action.Ignore → Upto packets (i + 1) done
-upto_ignore packets i done p u h is acts = record { asks = λ later. step packets i done p action.Ignore u h is acts later }
-
-pub upto_closed : (packets : List SoupPacket) (i : ℕ) (done : List (List ℕ)) (p : SoupPacket) (a : Action) → Upto packets i done → i < length packets → p ≡ get_or packets i p → later_action p ≡ a
+pub upto_closed : (packets rest others : List SoupPacket) (done : List (List ℕ)) (p : SoupPacket) (a : Action) → Upto packets rest done → rest ≡ p ∷ others → later_action p ≡ a
     → ((text : List ℕ) (more : List (List ℕ)) → asked_by a text more ≡ []) → Closed packets done
-upto_closed packets i done p a u h is acts none = record { asks = λ later. step packets i done p a u h is acts later ∙ (ap (λ l. done ++ l) (none p.payload (asked (drop (i + 1) packets ++ later))) ∙ append-nil done) }
+upto_closed packets rest others done p a u is acts none = record { asks = λ later. step packets rest others done p a u is acts later ∙ (ap (λ l. done ++ l) (none p.payload (asked (others ++ later))) ∙ append-nil done) }
 
-pub has_at : (packets : List SoupPacket) (i : ℕ) (p : SoupPacket) → i < length packets → p ≡ get_or packets i p → later_action p ≡ action.Logout → HasLogout packets
-has_at packets i p h is acts = record {
-  before = take i packets;
+pub has_at : (packets before rest others : List SoupPacket) (p : SoupPacket) → before ++ rest ≡ packets → rest ≡ p ∷ others → later_action p ≡ action.Logout → HasLogout packets
+has_at packets before rest others p all is acts = record {
+  before = before;
   logout = p;
-  after = drop (i + 1) packets;
-  splits = sym (take-append-drop i packets) ∙ ap (λ l. take i packets ++ l) (at packets i p h is);
+  after = others;
+  splits = sym all ∙ ap (λ l. before ++ l) is;
   is = acts;
 }
 
@@ -120,8 +117,8 @@ has_behind ps qs h = record {
   is = h.is;
 }
 
-pub upto_cut : (packets : List SoupPacket) (i : ℕ) (done : List (List ℕ)) → Upto packets i done → Cut packets done
-upto_cut packets i done u = record { asks = λ later. (asked (drop i packets ++ later), sym (u.asks later)) }
+pub upto_cut : (packets rest : List SoupPacket) (done : List (List ℕ)) → Upto packets rest done → Cut packets done
+upto_cut packets rest done u = record { asks = λ later. (asked (rest ++ later), sym (u.asks later)) }
 
 -- ---- acting on packets all at once
 
