@@ -6,7 +6,8 @@ use hx_market::{Bytes, Event};
 use hx_replay::Pending;
 use hx_tape_lines::read_event;
 use hx_text::split_once;
-use std::alloc::{AllocError, Global};
+use hx_units::NoMemory;
+use std::alloc::Global;
 use std::marker::Model;
 use std::mem::replace;
 
@@ -71,7 +72,7 @@ impl Ahead {
     }
 
     // Puts an event behind the others.
-    fn push(&mut self, event: Event) -> Result<(), AllocError>
+    fn push(&mut self, event: Event) -> Result<(), NoMemory>
         ensures { OnOk result (self.new ≡ self.old ++ event ∷ []) }
     {
         if self.count < self.events.len() {
@@ -85,7 +86,7 @@ impl Ahead {
 
     // Takes lines of a text behind those that are here, until they are as many as are taken for a turn, and answers what
     // stands behind them: nothing, or a line that is none, or lines that are too many.
-    fn take_lines<'a>(&mut self, alloc: Global, text: &'a [u8]) -> Result<&'a [u8], AllocError>
+    fn take_lines<'a>(&mut self, alloc: Global, text: &'a [u8]) -> Result<&'a [u8], NoMemory>
         ensures { IfOk result (λ rest. TakesLines text.now self.old self.new rest.now) }
     {
         let mut rest = text;
@@ -103,7 +104,7 @@ impl Ahead {
     }
 
     // The same of bytes that are pending.
-    fn take_pending(&mut self, alloc: Global, pending: &mut Pending) -> Result<(), AllocError>
+    fn take_pending(&mut self, alloc: Global, pending: &mut Pending) -> Result<(), NoMemory>
         ensures taken { OnOk result (TakesLines pending.old self.old self.new pending.new) }
         ensures err { OnErr result (pending.new ≡ pending.old) }
     {
@@ -114,7 +115,7 @@ impl Ahead {
 
     /// Reads the next lines of what is pending in place of those before: as many as are taken for a turn, or all. Without
     /// memory all stay pending.
-    pub(crate) fn read(&mut self, alloc: Global, pending: &mut Pending) -> Result<(), AllocError>
+    pub(crate) fn read(&mut self, alloc: Global, pending: &mut Pending) -> Result<(), NoMemory>
         ensures ok { OnOk result (IsAhead pending.old self.new pending.new) }
         ensures err { OnErr result (pending.new ≡ pending.old) }
     {
