@@ -154,7 +154,7 @@ impl<V: Venue, J: Journal + Drop> Exchange<V, J> {
             &mut pass.entered,
             &mut pass.share,
             &events,
-            &written,
+            written,
         );
         if count == 0 {
             return match refused {
@@ -249,13 +249,13 @@ impl<V: Venue, J: Journal + Drop> Exchange<V, J> {
         entered: &mut Receipt<Entry>,
         share: &mut Share<V>,
         events: &[Event],
-        written: &Records,
+        written: Records,
     ) -> Entered
         requires some { 0 < length events.now }
         requires knows { knows.old.log ≡ V.log }
         requires entered { entered.old.log ≡ V.admitted }
         requires share { 0 < share.old.parts }
-        requires written { written.now ≡ map record_of events.now }
+        requires written { written ≡ map record_of events.now }
         ensures entered { 0 < result.count → Enters V.setup number (take result.count events.now)
             knows.old.known entered.new.known result.last }
         ensures knows { knows.new ≡ knows.old }
@@ -276,7 +276,7 @@ impl<V: Venue, J: Journal + Drop> Exchange<V, J> {
         let known = knows.again(&self.log);
         held.desk.confirm(&self.log, known);
         held.desk.stands();
-        let mut made = held.enter_all(&self.log, &self.admitted, number, share, events, written);
+        let mut made = held.enter_all(&self.log, &self.admitted, number, share, events, &written);
         held.note(&self.admitted, entered);
         let (log, admitted, kept) = (&self.log, &self.admitted, &self.kept);
         let seen = held.desk.feed_count();
