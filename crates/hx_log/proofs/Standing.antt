@@ -1,0 +1,166 @@
+-- What stands in a log, and how far it is read.
+use Rattle.std.proofs.Common.{◌≡◌, ℕ, zero, suc, ◌+◌, ◌-◌, ◌<◌, ◌≤◌, List, [], ◌∷◌, ◌++◌, length, take, drop, get_or, Bool, true, false, cond, refl, sym, ap, ◌∙◌, subst, arith, append_assoc, length-append}
+use Rattle.std.proofs.lemmas.List.{append-nil}
+use Rattle.std.specs.Prelude.{Result, Ok, Err, OnOk}
+use mathlib.Core.List.{IsPrefix}
+use Rattle.hx_journal.specs.Lines.{text_of}
+use Rattle.hx_journal.proofs.Lines.{text_of-append}
+use Rattle.hx_terms.specs.declared.head.Head.{Head}
+use Rattle.hx_terms.specs.declared.reading.Reading.{Reading}
+use Rattle.hx_terms.specs.Records.{Record}
+use Rattle.hx_terms.specs.Terms.{counts, start, after, after_all, taking, passing, taken, next_of, takeover_of}
+use Rattle.hx_terms.proofs.Standing.{next_counts, takeover_counts}
+use Rattle.hx_log.specs.declared.writer.LogWriter.{LogWriter}
+use Rattle.hx_log.specs.Logs.{AreNumbered, Stands}
+use Rattle.hx_log.specs.Writers.{IsAt, Follows, Keeps, TakesOver}
+
+-- ---- numbers
+
+pub numbered_push : (n : ℕ) (rs : List Record) (r : Record) → AreNumbered n rs → r.head.number ≡ n + length rs → AreNumbered n (rs ++ r ∷ [])
+numbered_push n [] r h e = (omega (arith, e), tt)
+numbered_push n (x ∷ rs) r h e = (h.0, numbered_push (n + 1) rs r h.1 (omega (arith, e)))
+
+pub numbered_drop : (n k : ℕ) (rs : List Record) → AreNumbered n rs → AreNumbered (n + k) (drop k rs)
+numbered_drop n zero rs h = let same : n ≡ n + zero = omega arith in subst (λ (m : ℕ). AreNumbered m rs) same h
+numbered_drop n (suc k) [] h = tt
+numbered_drop n (suc k) (r ∷ rs) h =
+    let same : n + 1 + k ≡ n + suc k = omega arith in
+    subst (λ (m : ℕ). AreNumbered m (drop k rs)) same (numbered_drop (n + 1) k rs h.1)
+
+pub numbered_at : (n i : ℕ) (rs : List Record) (d : Record) → AreNumbered n rs → i < length rs → (get_or rs i d).head.number ≡ n + i
+numbered_at n i [] d h lt = absurd (omega (arith, lt))
+numbered_at n zero (r ∷ rs) d h lt = omega (arith, h.0)
+numbered_at n (suc i) (r ∷ rs) d h lt = omega (arith, numbered_at (n + 1) i rs d h.1 (omega (arith, lt)))
+
+number_after : (at : Reading) (r : Record) → (after at r).number ≡ at.number + 1
+number_after at r = by_test (counts at r.head)
+  where
+    by_test : (b : Bool) → (cond b (taking at r) (passing at)).number ≡ at.number + 1
+    by_test true = refl
+    by_test false = refl
+
+pub number_after_all : (at : Reading) (rs : List Record) → (after_all at rs).number ≡ at.number + length rs
+number_after_all at [] = omega arith
+number_after_all at (r ∷ rs) = omega (arith, number_after at r, number_after_all (after at r) rs)
+
+-- ---- reading on
+
+pub after_more : (at : Reading) (xs ys : List Record) → after_all at (xs ++ ys) ≡ after_all (after_all at xs) ys
+after_more at [] ys = refl
+after_more at (x ∷ xs) ys = after_more (after at x) xs ys
+
+pub taken_more : (at : Reading) (xs ys : List Record) → taken at (xs ++ ys) ≡ taken at xs ++ taken (after_all at xs) ys
+taken_more at [] ys = refl
+taken_more at (x ∷ xs) ys =
+    ap (λ (l : List (List ℕ)). cond (counts at x.head) x.lines [] ++ l) (taken_more (after at x) xs ys)
+    ∙ sym (append_assoc (cond (counts at x.head) x.lines []) (taken (after at x) xs) (taken (after_all (after at x) xs) ys))
+
+-- ---- beginnings
+
+joined : {A : Type 0} (a b c : List A) → IsPrefix a b → IsPrefix b c → IsPrefix a c
+joined a b c p q = (p.0 ++ q.0, sym (append_assoc a p.0 q.0) ∙ ap (λ (l : List _). l ++ q.0) p.1 ∙ q.1)
+
+-- two beginnings of a list that are as long are one
+same_front : {A : Type 0} (a b all : List A) → IsPrefix a all → IsPrefix b all → length a ≡ length b → a ≡ b
+same_front [] [] all p q e = refl
+same_front [] (y ∷ b) all p q e = absurd (omega (arith, e))
+same_front (x ∷ a) [] all p q e = absurd (omega (arith, e))
+same_front (x ∷ a) (y ∷ b) [] p q e = absurd (cc (p.1))
+same_front (x ∷ a) (y ∷ b) (z ∷ all) p q e =
+    let head : x ≡ y = cc (p.1, q.1) in
+    let first : IsPrefix a all = (p.0, cc (p.1)) in
+    let second : IsPrefix b all = (q.0, cc (q.1)) in
+    let rest = same_front a b all first second (omega (arith, e)) in
+    λ i. head i ∷ rest i
+
+front_of : {A : Type 0} (a b all : List A) → IsPrefix (a ++ b) all → IsPrefix a all
+front_of a b all p = (b ++ p.0, sym (append_assoc a b p.0) ∙ p.1)
+
+-- ---- a writer
+
+-- the next record stands behind what is read
+pub kept_at : (old new known : List Record) (at now : Reading) (r : Record) → IsAt old known at → IsPrefix old new → Stands new r → r.head.number ≡ at.number → now ≡ after at r
+    → IsAt new (known ++ r ∷ []) now
+kept_at old new known at now r h grows stands number is =
+    let number_is : at.number ≡ 1 + length known = ap (λ (a : Reading). a.number) h.reading ∙ number_after_all start known in
+    let size : length known ≡ length stands.front = omega (arith, number_is, number, stands.numbered) in
+    let same : known ≡ stands.front = same_front known stands.front new (joined known old new h.begins grows) (front_of stands.front (r ∷ []) new stands.is) size in
+    record {
+      begins = subst (λ (l : List Record). IsPrefix (l ++ r ∷ []) new) (sym same) stands.is;
+      reading = is ∙ ap (λ (a : Reading). after a r) h.reading ∙ sym (after_more start known (r ∷ []));
+    }
+
+-- the lines of one more record that counts
+told_more : (known : List Record) (at : Reading) (r : Record) → at ≡ after_all start known → counts at r.head ≡ true → taken start (known ++ r ∷ []) ≡ taken start known ++ r.lines
+told_more known at r is it_does =
+    taken_more start known (r ∷ [])
+    ∙ ap (λ (l : List (List ℕ)). taken start known ++ l)
+    (ap (λ (b : Bool). cond b r.lines [] ++ []) (ap (λ (a : Reading). counts a r.head) (sym is) ∙ it_does) ∙ append-nil r.lines)
+
+pub keeps : (old new known : List Record) (a b : LogWriter) (r : Record) (text : List ℕ) → IsAt old known a.reading → IsPrefix old new → Stands new r → a.reading.writer ≡ a.writer → r.head ≡ next_of a.reading
+    → b.reading ≡ after a.reading r → text ≡ text_of r.lines → Keeps new known a b text
+keeps old new known a b r text h grows stands office head is text_is =
+    let it_does : counts a.reading r.head ≡ true = ap (counts a.reading) head ∙ next_counts a.reading in
+    record {
+      kept = r;
+      at = kept_at old new known a.reading b.reading r h grows stands (ap (λ (k : Head). k.number) head) is;
+      by = ap (λ (k : Head). k.writer) head ∙ office;
+      counts_now = it_does;
+      text_is = text_is;
+      told = told_more known a.reading r h.reading it_does;
+    }
+
+no_lines : (lines : List (List ℕ)) → [] ≡ text_of lines → lines ≡ []
+no_lines [] e = refl
+no_lines (l ∷ lines) e = let none : 0 ≡ length (l ++ 10 ∷ text_of lines) = ap length e in absurd (omega (arith, none, length-append l (10 ∷ text_of lines)))
+
+stands_then : (at : Reading) (r : Record) → counts at r.head ≡ true → after at r ≡ taking at r
+stands_then at r is = ap (λ (b : Bool). cond b (taking at r) (passing at)) is
+
+pub takes_over : (old new known : List Record) (a b : LogWriter) (r : Record) → IsAt old known a.reading → IsPrefix old new → Stands new r → r.head ≡ takeover_of a.writer a.reading
+    → b.reading ≡ after a.reading r → b.writer ≡ a.writer → [] ≡ text_of r.lines → TakesOver new known a b
+takes_over old new known a b r h grows stands head is who none =
+    let it_does : counts a.reading r.head ≡ true = ap (counts a.reading) head ∙ (takeover_counts a.reading a.writer).0 in
+    let now : b.reading ≡ taking a.reading r = is ∙ stands_then a.reading r it_does in
+    record {
+      kept = r;
+      at = kept_at old new known a.reading b.reading r h grows stands (ap (λ (k : Head). k.number) head) is;
+      office = ap (λ (c : Reading). c.writer) now ∙ ap (λ (k : Head). k.writer) head ∙ sym who;
+      same = who;
+      term = ap (λ (c : Reading). c.term) now ∙ ap (λ (k : Head). k.term) head;
+      told = told_more known a.reading r h.reading it_does ∙ ap (λ (l : List (List ℕ)). taken start known ++ l) (no_lines r.lines none) ∙ append-nil (taken start known);
+    }
+
+-- records from the next number on stand behind what is read
+pub follows : (old new known more : List Record) (at now : Reading) (text : List ℕ) → IsAt old known at → IsPrefix old new → IsPrefix more (drop (at.number - 1) new)
+    → now ≡ after_all at more → text ≡ text_of (taken at more) → Follows new known at now text
+follows old new known more at now text h grows behind is text_is =
+    let number_is : at.number ≡ 1 + length known = ap (λ (a : Reading). a.number) h.reading ∙ number_after_all start known in
+    let place : at.number - 1 ≡ length known = omega (arith, number_is) in
+    let begins = joined known old new h.begins grows in
+    let rest : drop (at.number - 1) new ≡ begins.0 =
+        ap (λ (k : ℕ). drop k new) place ∙ ap (drop (length known)) (sym begins.1) ∙ drop_front known begins.0 in
+    record {
+      more = more;
+      at = record {
+        begins = (behind.0, append_assoc known more behind.0 ∙ ap (λ (l : List Record). known ++ l) (behind.1 ∙ rest) ∙ begins.1);
+        reading = is ∙ ap (λ (a : Reading). after_all a more) h.reading ∙ sym (after_more start known more);
+      };
+      text_is = text_is;
+      told = taken_more start known more ∙ ap (λ (a : Reading). taken start known ++ taken a more) (sym h.reading);
+    }
+  where
+    drop_front : (xs ys : List Record) → drop (length xs) (xs ++ ys) ≡ ys
+    drop_front [] ys = refl
+    drop_front (x ∷ xs) ys = drop_front xs ys
+
+-- ---- a log in memory
+
+pub pushed : (rs : List Record) (r : Record) → r.head.number ≡ length rs + 1 → Stands (rs ++ r ∷ []) r
+pushed rs r number = record { front = rs; is = ([], append-nil (rs ++ r ∷ [])); numbered = number }
+
+-- ---- results
+
+pub both_ok : {A E : Type 0} (r : Result A E) {P Q R : Type 0} → OnOk r P → OnOk r Q → (P → Q → R) → OnOk r R
+both_ok (Ok x) p q f = f p q
+both_ok (Err e) p q f = tt
