@@ -1,14 +1,17 @@
 -- What stands in a log, and how far it is read.
-use Rattle.std.proofs.Common.{◌≡◌, ℕ, zero, suc, ◌+◌, ◌-◌, ◌<◌, ◌≤◌, List, [], ◌∷◌, ◌++◌, length, take, drop, get_or, Bool, true, false, cond, refl, sym, ap, ◌∙◌, subst, arith, append_assoc, length-append}
-use Rattle.std.proofs.lemmas.List.{append-nil}
+use Rattle.std.proofs.Common.{◌≡◌, ◌≢◌, ◌&&◌, ◌||◌, eqb, ltb, ℕ, zero, suc, ◌+◌, ◌-◌, ◌<◌, ◌≤◌, List, [], ◌∷◌, ◌++◌, length, take, drop, get_or, Bool, true, false, cond, refl, sym, ap, ◌∙◌, subst, arith, append_assoc, length-append}
+use Rattle.std.proofs.lemmas.Bool.Decides.{nat_tests}
+use Rattle.std.proofs.lemmas.List.{append-nil, length-take-le, take_more}
 use Rattle.std.specs.Prelude.{Result, Ok, Err, OnOk}
 use mathlib.Core.List.{IsPrefix}
 use Rattle.hx_journal.specs.Lines.{text_of}
 use Rattle.hx_journal.proofs.Lines.{text_of-append}
 use Rattle.hx_terms.specs.declared.head.Head.{Head}
 use Rattle.hx_terms.specs.declared.reading.Reading.{Reading}
+use Rattle.hx_terms.specs.declared.reading.Verdict.{Verdict}
+use Rattle.hx_terms.specs.declared.reading.Verdict.TheVariants as verdict
 use Rattle.hx_terms.specs.Records.{Record}
-use Rattle.hx_terms.specs.Terms.{counts, start, after, after_all, taking, passing, taken, next_of, takeover_of}
+use Rattle.hx_terms.specs.Terms.{IsReason, is_later, is_by_who_stands, counts, start, after, after_all, taking, passing, taken, next_of, takeover_of}
 use Rattle.hx_terms.proofs.Standing.{next_counts, takeover_counts}
 use Rattle.hx_log.specs.declared.writer.LogWriter.{LogWriter}
 use Rattle.hx_log.specs.Logs.{AreNumbered, Stands}
@@ -54,6 +57,61 @@ taken_more at [] ys = refl
 taken_more at (x ∷ xs) ys =
     ap (λ (l : List (List ℕ)). cond (counts at x.head) x.lines [] ++ l) (taken_more (after at x) xs ys)
     ∙ sym (append_assoc (cond (counts at x.head) x.lines []) (taken (after at x) xs) (taken (after_all (after at x) xs) ys))
+
+-- one record more is read
+pub read_more : (at : Reading) (rs : List Record) (i : ℕ) (d : Record) → i < length rs → after_all at (take (i + 1) rs) ≡ after (after_all at (take i rs)) (get_or rs i d)
+read_more at rs i d lt = ap (after_all at) (take_more rs i d lt) ∙ after_more at (take i rs) (get_or rs i d ∷ [])
+
+-- its number is the one at which the reading stands
+pub next_number : (at now : Reading) (rs : List Record) (i : ℕ) (d : Record) → AreNumbered at.number rs → i < length rs → now ≡ after_all at (take i rs) → (get_or rs i d).head.number ≡ now.number
+next_number at now rs i d numbered lt is =
+    let many : length (take i rs) ≡ i = length-take-le i rs (omega (arith, lt)) in
+    let number_is : now.number ≡ at.number + length (take i rs) = ap (λ (a : Reading). a.number) is ∙ number_after_all at (take i rs) in
+    omega (arith, many, number_is, numbered_at at.number i rs d numbered lt)
+
+-- where it counts, its lines are taken
+pub text_more : (at : Reading) (rs : List Record) (i : ℕ) (d : Record) (text : List ℕ) → i < length rs → counts (after_all at (take i rs)) (get_or rs i d).head ≡ true → text ≡ text_of (taken at (take i rs))
+    → text ++ text_of (get_or rs i d).lines ≡ text_of (taken at (take (i + 1) rs))
+text_more at rs i d text lt it_does is =
+    let r = get_or rs i d in
+    let front = take i rs in
+    let here : taken (after_all at front) (r ∷ []) ≡ r.lines = ap (λ (b : Bool). cond b r.lines [] ++ []) it_does ∙ append-nil r.lines in
+    ap (λ (l : List ℕ). l ++ text_of r.lines) is
+    ∙ sym (text_of-append (taken at front) r.lines)
+    ∙ ap (λ (l : List (List ℕ)). text_of (taken at front ++ l)) (sym here)
+    ∙ ap text_of (sym (taken_more at front (r ∷ [])))
+    ∙ ap (λ (l : List Record). text_of (taken at l)) (sym (take_more rs i d lt))
+
+-- where it is passed over, none are
+pub text_same : (at : Reading) (rs : List Record) (i : ℕ) (d : Record) (text : List ℕ) → i < length rs → counts (after_all at (take i rs)) (get_or rs i d).head ≡ false → text ≡ text_of (taken at (take i rs))
+    → text ≡ text_of (taken at (take (i + 1) rs))
+text_same at rs i d text lt it_does_not is =
+    let r = get_or rs i d in
+    let front = take i rs in
+    let here : taken (after_all at front) (r ∷ []) ≡ [] = ap (λ (b : Bool). cond b r.lines [] ++ []) it_does_not in
+    is
+    ∙ ap text_of (sym (append-nil (taken at front)))
+    ∙ ap (λ (l : List (List ℕ)). text_of (taken at front ++ l)) (sym here)
+    ∙ ap text_of (sym (taken_more at front (r ∷ [])))
+    ∙ ap (λ (l : List Record). text_of (taken at l)) (sym (take_more rs i d lt))
+
+-- ---- what is passed over
+
+earlier : (p w : Bool) (a b : ℕ) → b < a → (p && (ltb a b || (eqb b a && w))) ≡ false
+earlier p w a b lt = grind (arith, nat_tests)
+
+of_another : (p : Bool) (a b x y : ℕ) → b ≡ a → x ≢ y → (p && (ltb a b || (eqb b a && eqb x y))) ≡ false
+of_another p a b x y same ne = grind (arith, nat_tests)
+
+elsewhere : (q : Bool) (x y : ℕ) → x ≢ y → (eqb x y && q) ≡ false
+elsewhere q x y ne = grind (arith, nat_tests)
+
+-- a record does not count for which there is another reason
+pub is_passed_over : (at : Reading) (head : Head) (v : Verdict) → IsReason at head v → v ≢ verdict.Counts → counts at head ≡ false
+is_passed_over at head verdict.Counts h ne = absurd (ne refl)
+is_passed_over at head verdict.EarlierTerm h ne = earlier (eqb head.place at.place) (eqb head.writer at.writer) at.term head.term h
+is_passed_over at head verdict.OtherWriter h ne = of_another (eqb head.place at.place) at.term head.term head.writer at.writer h.0 h.1
+is_passed_over at head verdict.OtherPlace h ne = elsewhere (is_later at head || is_by_who_stands at head) head.place at.place h.1
 
 -- ---- beginnings
 

@@ -1,2 +1,4 @@
 pub mod Logs
 pub mod Writers
+pub mod Calls
+pub mod Laws
