@@ -10,12 +10,20 @@ use Rattle.hx_terms.specs.declared.head.Head.{Head}
 use Rattle.hx_terms.specs.declared.reading.Reading.{Reading}
 use Rattle.hx_terms.specs.declared.reading.Verdict.{Verdict}
 use Rattle.hx_terms.specs.declared.reading.Verdict.TheVariants as verdict
-use Rattle.hx_terms.specs.Records.{Record}
+use Rattle.hx_terms.specs.declared.record.RecordError.{RecordError}
+use Rattle.hx_terms.specs.declared.record.RecordError.TheVariants as lines
+use Rattle.hx_terms.specs.Lines.{IsRecordFault}
+use Rattle.hx_terms.specs.Records.{Record, IsHead}
 use Rattle.hx_terms.specs.Terms.{IsReason, is_later, is_by_who_stands, counts, start, after, after_all, taking, passing, taken, next_of, takeover_of}
 use Rattle.hx_terms.proofs.Standing.{next_counts, takeover_counts}
 use Rattle.hx_log.specs.declared.writer.LogWriter.{LogWriter}
 use Rattle.hx_log.specs.Logs.{AreNumbered, Stands}
 use Rattle.hx_log.specs.Writers.{IsAt, Follows, Keeps, TakesOver}
+use Rattle.hx_log.specs.declared.error.LogError.{LogError}
+use Rattle.hx_log.specs.declared.error.LogError.TheVariants as refusal
+use Rattle.hx_log.specs.declared.error.KeepError.{KeepError}
+use Rattle.hx_log.specs.declared.error.KeepError.TheVariants as fault
+use Rattle.hx_log.specs.Faults.{IsRefused, IsAppendFault, IsKeepFault, IsTakeoverFault}
 
 -- ---- numbers
 
@@ -115,7 +123,7 @@ is_passed_over at head verdict.OtherPlace h ne = elsewhere (is_later at head || 
 
 -- ---- beginnings
 
-joined : {A : Type 0} (a b c : List A) → IsPrefix a b → IsPrefix b c → IsPrefix a c
+pub joined : {A : Type 0} (a b c : List A) → IsPrefix a b → IsPrefix b c → IsPrefix a c
 joined a b c p q = (p.0 ++ q.0, sym (append_assoc a p.0 q.0) ∙ ap (λ (l : List _). l ++ q.0) p.1 ∙ q.1)
 
 -- two beginnings of a list that are as long are one
@@ -211,6 +219,41 @@ follows old new known more at now text h grows behind is text_is =
     drop_front : (xs ys : List Record) → drop (length xs) (xs ++ ys) ≡ ys
     drop_front [] ys = refl
     drop_front (x ∷ xs) ys = drop_front xs ys
+
+-- ---- what goes wrong
+
+pub is_refused : (before behind : List Record) (number : ℕ) (error : LogError) → (error ≡ refusal.Taken → number ≤ length behind) → (error ≡ refusal.Gap → length before + 1 < number) → IsRefused before behind number error
+is_refused before behind number refusal.Taken taken gap = taken refl
+is_refused before behind number refusal.Gap taken gap = gap refl
+is_refused before behind number refusal.Unknown taken gap = tt
+is_refused before behind number refusal.Unreachable taken gap = tt
+is_refused before behind number (refusal.NoRecord other) taken gap = tt
+is_refused before behind number refusal.NoMemory taken gap = tt
+
+pub keep_fault : (before behind : List Record) (w : LogWriter) (text : List ℕ) (error : KeepError) → w.reading.writer ≡ w.writer → IsAppendFault before behind w.reading.number error → IsKeepFault before behind w text error
+keep_fault before behind w text fault.NotInOffice office h = absurd h
+keep_fault before behind w text fault.NoHead office h = absurd h
+keep_fault before behind w text (fault.Lines error) office h = absurd h
+keep_fault before behind w text (fault.Log error) office h = (office, h)
+
+pub takeover_fault : (before behind : List Record) (w : LogWriter) (error : KeepError) → IsAppendFault before behind w.reading.number error → IsTakeoverFault before behind w error
+takeover_fault before behind w fault.NotInOffice h = h
+takeover_fault before behind w fault.NoHead h = h
+takeover_fault before behind w (fault.Lines error) h = h
+takeover_fault before behind w (fault.Log error) h = h
+
+-- a record of a takeover has nothing that could be wrong with its lines
+pub no_line_fault : (head : Head) (error : RecordError) → IsHead head → IsRecordFault head [] error → ⊥
+no_line_fault head lines.Number good bad =
+    bad 0 good (record { is = refl; lines = tt; counted = refl }) (omega (arith, good.place.1))
+no_line_fault head (lines.Line number) good bad =
+    absurd (omega (arith, ap length bad.1.stands.is, length-append (text_of bad.1.stands.front) (bad.1.line ++ 10 ∷ bad.1.behind), length-append bad.1.line (10 ∷ bad.1.behind)))
+no_line_fault head lines.Unended good bad = nothing (text_of bad.1.stands.front) bad.1.rest bad.1.stands.is bad.1.some
+  where
+    nothing : (a b : List ℕ) → [] ≡ a ++ b → b ≢ [] → ⊥
+    nothing [] [] e some = some refl
+    nothing [] (y ∷ b) e some = absurd (cc (e))
+    nothing (x ∷ a) b e some = absurd (cc (e))
 
 -- ---- a log in memory
 

@@ -65,5 +65,35 @@ all_calls log writer (c ∷ calls) text h are =
     let rest = all_calls c.behind c.writer calls (text ++ text_by c.call) next are.3 in
     record { known = rest.known; begins = rest.begins; is = sym (append_assoc text (text_by c.call) (text_of_calls calls)) ∙ rest.is }
 
-of_front : (committed : List Record) (told : List ℕ) → HasTold committed told → IsOfFront committed (text_of_calls _)
-of_front committed told h = ?
+-- what is told begins what may be told of the log
+record IsTold (committed : List Record) (told : List ℕ) : Type 0 where
+  known : List Record
+  begins : IsPrefix known committed
+  is : IsPrefix told (text_of (taken start known))
+
+told_of : (committed : List Record) (told : List ℕ) → HasTold committed told → IsTold committed told
+told_of committed told h =
+    let none : MayTell [] h.writer.reading [] = record { known = []; is_at = record { begins = ([], refl); reading = h.began }; is = refl } in
+    let all = all_calls [] h.writer h.calls [] none h.are_calls in
+    record {
+      known = all.known;
+      begins = joined all.known (log_after [] h.calls) committed all.begins h.of_log;
+      is = subst (λ (l : List ℕ). IsPrefix told l) all.is h.told_is;
+    }
+
+text_begins : (a b : List (List ℕ)) → IsPrefix a b → IsPrefix (text_of a) (text_of b)
+text_begins a b p = (text_of p.0, sym (text_of-append a p.0) ∙ ap text_of p.1)
+
+pub one_takes_first : OneTakesFirst
+one_takes_first committed known1 known2 p q = one_is_ahead start known1 known2 committed p q
+
+pub none_otherwise : NoneIsToldOtherwise
+none_otherwise committed one other p q =
+    let a = told_of committed one p in
+    let b = told_of committed other q in
+    let one_text = text_of (taken start a.known) in
+    let other_text = text_of (taken start b.known) in
+    elim (one_takes_first committed a.known b.known a.begins b.begins) [
+      | inl before ↦ two_beginnings one other other_text (joined one one_text other_text a.is (text_begins (taken start a.known) (taken start b.known) before)) b.is
+      | inr before ↦ two_beginnings one other one_text a.is (joined other other_text one_text b.is (text_begins (taken start b.known) (taken start a.known) before))
+    ]

@@ -1,4 +1,5 @@
 pub mod Logs
 pub mod Writers
+pub mod Faults
 pub mod Calls
 pub mod Laws

@@ -1,8 +1,11 @@
 use super::*;
-use hx_terms::{Head, LogRecord};
+use hx_terms::{Head, LogRecord, RecordError};
 use std::alloc::Global;
 use std::process::Abort;
 use std::test::Fail;
+
+mod losses;
+mod orders;
 
 // A writer, and what it has told.
 struct Side {
@@ -18,68 +21,78 @@ fn side(alloc: Global, writer: u64) -> Side {
 }
 
 // Reads on, and tells what counts.
-fn follow(alloc: Global, log: &mut MemoryLog, side: &mut Side) -> Result<(), Fail> {
+fn follow<L: Log>(alloc: Global, log: &mut L, side: &mut Side) -> Result<(), Fail> {
     if let Ok(text) = side.writer.follow(alloc, log) {
         side.told.extend_from_slice(&text)?;
     }
     Ok(())
 }
 
-// Keeps a line and tells it; where it can't, it reads on and takes over.
-fn act(alloc: Global, log: &mut MemoryLog, side: &mut Side, line: &[u8]) -> Result<(), Fail> {
-    match side.writer.keep(log, Vec::from_slice(alloc, line)?) {
-        Ok(()) => side.told.extend_from_slice(line)?,
-        Err(_) => {
-            follow(alloc, log, side)?;
-            let _may_lose = side.writer.take_over(alloc, log);
-        }
-    }
-    Ok(())
-}
-
-// What one has told is a beginning of what the other has told, and both are of what a reader takes who comes last.
-fn agree(
-    rt: &impl Abort,
+// Keeps a line, and tells it once it is kept.
+fn keep<L: Log>(
     alloc: Global,
-    log: &mut MemoryLog,
-    one: &Side,
-    other: &Side,
-) -> Result<(), Fail> {
-    let mut last = side(alloc, 9);
-    follow(alloc, log, &mut last)?;
-    assert!(rt; last.told.starts_with(&one.told));
-    assert!(rt; last.told.starts_with(&other.told));
-    Ok(())
+    log: &mut L,
+    side: &mut Side,
+    line: &[u8],
+) -> Result<Result<(), KeepError>, Fail> {
+    let kept = side.writer.keep(log, Vec::from_slice(alloc, line)?);
+    if kept.is_ok() {
+        side.told.extend_from_slice(line)?;
+    }
+    Ok(kept)
 }
 
-const LINES: &[&[u8]] = &[b"a\n", b"b\n", b"c\n", b"d\n", b"e\n", b"f\n"];
+// What stands in a log, as a text.
+fn text_of(alloc: Global, log: &mut MemoryLog) -> Result<Vec<u8>, Fail> {
+    let mut text = Vec::new(alloc);
+    for record in &log.read(alloc, 1)? {
+        text.extend_from_slice(&record.spelled(alloc)?)?;
+    }
+    Ok(text)
+}
 
-// Two writers take six turns, in an order that the bits of a number say.
-fn turns(rt: &impl Abort, alloc: Global, order: u32) -> Result<(), Fail> {
+// The log below.
+const TAKEN_OVER: &[u8] = b"#1 1 1 1
+#2 1 1 1
+buy
+#3 2 2 2
+#4 2 2 2
+cancel
+";
+
+#[test]
+fn a_takeover_comes_before_a_record(rt: HostRuntime) -> Result<(), Fail> {
+    let alloc = rt.alloc();
     let mut log = MemoryLog::new(alloc);
     let mut one = side(alloc, 1);
     let mut other = side(alloc, 2);
-    for (i, line) in LINES.iter().enumerate() {
-        if order >> (i as u32) & 1 == 1 {
-            act(alloc, &mut log, &mut one, line)?;
-        } else {
-            act(alloc, &mut log, &mut other, line)?;
-        }
-        agree(rt, alloc, &mut log, &one, &other)?;
-    }
+    let not_in_office = Err(KeepError::NotInOffice);
+    assert_eq!(rt; keep(alloc, &mut log, &mut one, b"buy\n")?, not_in_office);
+    assert_eq!(rt; one.writer.take_over(alloc, &mut log), Ok(()));
+    assert!(rt; one.writer.is_in_office());
+    assert_eq!(rt; keep(alloc, &mut log, &mut one, b"buy\n")?, Ok(()));
+
+    // The other reads that, and takes over before the next record comes.
+    follow(alloc, &mut log, &mut other)?;
+    assert_eq!(rt; other.writer.take_over(alloc, &mut log), Ok(()));
+    let taken = Err(KeepError::Log(LogError::Taken));
+    assert_eq!(rt; keep(alloc, &mut log, &mut one, b"sell\n")?, taken);
+    assert!(rt; one.writer.is_in_office());
+    follow(alloc, &mut log, &mut one)?;
+    assert!(rt; !one.writer.is_in_office());
+    assert_eq!(rt; keep(alloc, &mut log, &mut one, b"sell\n")?, not_in_office);
+
+    // Both tell what the other keeps.
+    assert_eq!(rt; keep(alloc, &mut log, &mut other, b"cancel\n")?, Ok(()));
+    follow(alloc, &mut log, &mut one)?;
+    assert_eq!(rt; one.told.as_slice(), b"buy\ncancel\n".as_slice());
+    assert_eq!(rt; other.told.as_slice(), b"buy\ncancel\n".as_slice());
+    assert_eq!(rt; log.len(), 4);
+    assert_eq!(rt; text_of(alloc, &mut log)?.as_slice(), TAKEN_OVER);
     Ok(())
 }
 
-#[test]
-fn two_writers_tell_alike_in_all_orders(rt: HostRuntime) -> Result<(), Fail> {
-    let alloc = rt.alloc();
-    for order in 0..64u32 {
-        turns(&rt, alloc, order)?;
-    }
-    Ok(())
-}
-
-// A record of writer 1 that it sent before it knew of any other.
+// A record of writer 1 in term 1 that it sent before it knew of any other.
 fn sent(alloc: Global, number: u64, place: u64) -> Result<LogRecord, Fail> {
     let head = Head {
         number,
@@ -91,31 +104,51 @@ fn sent(alloc: Global, number: u64, place: u64) -> Result<LogRecord, Fail> {
 }
 
 #[test]
-fn an_answer_is_lost_late_or_twice(rt: HostRuntime) -> Result<(), Fail> {
+fn records_that_come_late_are_passed_over(rt: HostRuntime) -> Result<(), Fail> {
     let alloc = rt.alloc();
     let mut log = MemoryLog::new(alloc);
     let mut one = side(alloc, 1);
     let mut other = side(alloc, 2);
-    act(alloc, &mut log, &mut one, b"x\n")?;
-    assert!(rt; one.writer.is_in_office());
+    assert_eq!(rt; one.writer.take_over(alloc, &mut log), Ok(()));
 
-    // Lost: the record stands there, and nobody was told; who reads on is told.
+    // Three are sent at once. The first comes, twice, and the third too early.
     assert_eq!(rt; log.append(&sent(alloc, 2, 1)?), Ok(()));
-    assert_eq!(rt; one.told.len(), 0);
-
-    // Twice: the second time it is taken.
     assert_eq!(rt; log.append(&sent(alloc, 2, 1)?), Err(LogError::Taken));
-    assert_eq!(rt; log.append(&sent(alloc, 4, 2)?), Err(LogError::Gap));
+    assert_eq!(rt; log.append(&sent(alloc, 4, 3)?), Err(LogError::Gap));
 
-    // Late: another took over first.
-    act(alloc, &mut log, &mut other, b"y\n")?;
-    assert_eq!(rt; log.append(&sent(alloc, 4, 2)?), Ok(()));
+    // The other takes over in place of the second. Then the third comes.
+    follow(alloc, &mut log, &mut other)?;
+    assert_eq!(rt; other.writer.take_over(alloc, &mut log), Ok(()));
+    assert_eq!(rt; log.append(&sent(alloc, 3, 2)?), Err(LogError::Taken));
+    assert_eq!(rt; log.append(&sent(alloc, 4, 3)?), Ok(()));
+    assert_eq!(rt; log.append(&sent(alloc, 5, 2)?), Ok(()));
+
+    // It stands there, and nobody tells it.
+    let taken = Err(KeepError::Log(LogError::Taken));
+    assert_eq!(rt; keep(alloc, &mut log, &mut other, b"next\n")?, taken);
+    follow(alloc, &mut log, &mut other)?;
+    assert_eq!(rt; keep(alloc, &mut log, &mut other, b"next\n")?, Ok(()));
     follow(alloc, &mut log, &mut one)?;
-    assert!(rt; !one.writer.is_in_office());
-    act(alloc, &mut log, &mut other, b"y\n")?;
-    agree(&rt, alloc, &mut log, &one, &other)?;
-    assert_eq!(rt; one.told.as_slice(), b"sent\n".as_slice());
-    assert_eq!(rt; other.told.as_slice(), b"sent\n".as_slice());
-    assert_eq!(rt; log.len(), 5);
+    assert_eq!(rt; one.told.as_slice(), b"sent\nnext\n".as_slice());
+    assert_eq!(rt; other.told.as_slice(), b"sent\nnext\n".as_slice());
+    assert_eq!(rt; log.len(), 6);
+    Ok(())
+}
+
+#[test]
+fn what_is_no_record_is_not_kept(rt: HostRuntime) -> Result<(), Fail> {
+    let alloc = rt.alloc();
+    let mut log = MemoryLog::new(alloc);
+    let mut nobody = side(alloc, 0);
+    assert_eq!(rt; nobody.writer.take_over(alloc, &mut log), Err(KeepError::NoHead));
+    assert_eq!(rt; keep(alloc, &mut log, &mut nobody, b"buy\n")?, Err(KeepError::NoHead));
+    let mut one = side(alloc, 1);
+    assert_eq!(rt; one.writer.take_over(alloc, &mut log), Ok(()));
+    let unended = Err(KeepError::Lines(RecordError::Unended));
+    assert_eq!(rt; keep(alloc, &mut log, &mut one, b"buy")?, unended);
+    let mark = Err(KeepError::Lines(RecordError::Line { number: 2 }));
+    assert_eq!(rt; keep(alloc, &mut log, &mut one, b"buy\n#\n")?, mark);
+    assert_eq!(rt; one.told.len(), 0);
+    assert_eq!(rt; log.len(), 1);
     Ok(())
 }

@@ -1,11 +1,12 @@
 //! A writer of a log.
-ghost use Rattle.std.specs.Prelude.{◌≡◌, ◌++◌, ◌↔◌, List, IsTrue, IfOk, OnOk, OnErr};
+ghost use Rattle.std.specs.Prelude.{◌≡◌, ◌++◌, ◌↔◌, List, IsTrue, IfOk, IfErr, OnOk, OnErr};
 ghost use mathlib.Core.List.{IsPrefix};
 ghost use Rattle.hx_journal.specs.Lines.{text_of};
 ghost use Rattle.hx_terms.specs.Records.{Record};
 ghost use Rattle.hx_terms.specs.Terms.{start, after, after_all, taken};
 ghost use Rattle.hx_log.specs.Logs.{Stands, AreNumbered};
 ghost use Rattle.hx_log.specs.Writers.{IsAt, Follows, Keeps, TakesOver};
+ghost use Rattle.hx_log.specs.Faults.{IsKeepFault, IsTakeoverFault, IsAppendFault};
 
 use crate::{KeepError, Log, LogError};
 use hx_terms::{LogRecord, Reading, Verdict};
@@ -63,12 +64,16 @@ impl LogWriter {
 
     /// Keeps the lines of a text, each with a line feed behind it: Ok means that they count, for every reader, and may
     /// be told. After an error none of them may be told.
+    ///
+    /// Errors: the first that there is, in the order of `KeepError`.
     pub fn keep<L: Log>(&mut self, log: &mut L, text: Vec<u8>) -> Result<(), KeepError>
         ensures who { self.new.writer ≡ self.old.writer }
         ensures ok { OnOk result ((known : List Record)
             → IsAt (L.committed log.old) known self.old.reading
             → Keeps (L.committed log.new) known self.old self.new text.items) }
         ensures err { OnErr result (self.new ≡ self.old) }
+        ensures fault { IfErr result (IsKeepFault
+            (L.committed log.old) (L.committed log.new) self.old text.items) }
         ensures grows { IsPrefix (L.committed log.old) (L.committed log.new) }
     {
         if !self.is_in_office() {
@@ -89,6 +94,8 @@ impl LogWriter {
             → IsAt (L.committed log.old) known self.old.reading
             → TakesOver (L.committed log.new) known self.old self.new) }
         ensures err { OnErr result (self.new ≡ self.old) }
+        ensures fault { IfErr result (IsTakeoverFault
+            (L.committed log.old) (L.committed log.new) self.old) }
         ensures grows { IsPrefix (L.committed log.old) (L.committed log.new) }
     {
         let Some(head) = self.reading.takeover(self.writer) else {
@@ -107,6 +114,8 @@ impl LogWriter {
         ensures ok { OnOk result (self.new.reading ≡ after self.old.reading next.now) }
         ensures stands { OnOk result (Stands (L.committed log.new) next.now) }
         ensures err { OnErr result (self.new ≡ self.old) }
+        ensures fault { IfErr result (IsAppendFault
+            (L.committed log.old) (L.committed log.new) self.old.reading.number) }
         ensures grows { IsPrefix (L.committed log.old) (L.committed log.new) }
     {
         match log.append(next) {
