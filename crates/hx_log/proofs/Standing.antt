@@ -205,7 +205,7 @@ follows old new known more at now text h grows behind is text_is =
     let place : at.number - 1 ≡ length known = omega (arith, number_is) in
     let begins = joined known old new h.begins grows in
     let rest : drop (at.number - 1) new ≡ begins.0 =
-        ap (λ (k : ℕ). drop k new) place ∙ ap (drop (length known)) (sym begins.1) ∙ drop_front known begins.0 in
+    ap (λ (k : ℕ). drop k new) place ∙ ap (drop (length known)) (sym begins.1) ∙ drop_front known begins.0 in
     record {
       more = more;
       at = record {
@@ -238,8 +238,8 @@ keep_fault before behind w text (fault.Log error) office h = (office, h)
 
 pub takeover_fault : (before behind : List Record) (w : LogWriter) (error : KeepError) → IsAppendFault before behind w.reading.number error → IsTakeoverFault before behind w error
 takeover_fault before behind w fault.NotInOffice h = h
-takeover_fault before behind w fault.NoHead h = h
-takeover_fault before behind w (fault.Lines error) h = h
+takeover_fault before behind w fault.NoHead h = absurd h
+takeover_fault before behind w (fault.Lines error) h = absurd h
 takeover_fault before behind w (fault.Log error) h = h
 
 -- a record of a takeover has nothing that could be wrong with its lines

@@ -66,8 +66,10 @@ fn a_takeover_comes_before_a_record(rt: HostRuntime) -> Result<(), Fail> {
     let mut log = MemoryLog::new(alloc);
     let mut one = side(alloc, 1);
     let mut other = side(alloc, 2);
-    let not_in_office = Err(KeepError::NotInOffice);
-    assert_eq!(rt; keep(alloc, &mut log, &mut one, b"buy\n")?, not_in_office);
+    assert_eq!(rt;
+        keep(alloc, &mut log, &mut one, b"buy\n")?,
+        Err(KeepError::NotInOffice)
+    );
     assert_eq!(rt; one.writer.take_over(alloc, &mut log), Ok(()));
     assert!(rt; one.writer.is_in_office());
     assert_eq!(rt; keep(alloc, &mut log, &mut one, b"buy\n")?, Ok(()));
@@ -80,7 +82,10 @@ fn a_takeover_comes_before_a_record(rt: HostRuntime) -> Result<(), Fail> {
     assert!(rt; one.writer.is_in_office());
     follow(alloc, &mut log, &mut one)?;
     assert!(rt; !one.writer.is_in_office());
-    assert_eq!(rt; keep(alloc, &mut log, &mut one, b"sell\n")?, not_in_office);
+    assert_eq!(rt;
+        keep(alloc, &mut log, &mut one, b"sell\n")?,
+        Err(KeepError::NotInOffice)
+    );
 
     // Both tell what the other keeps.
     assert_eq!(rt; keep(alloc, &mut log, &mut other, b"cancel\n")?, Ok(()));
@@ -140,8 +145,14 @@ fn what_is_no_record_is_not_kept(rt: HostRuntime) -> Result<(), Fail> {
     let alloc = rt.alloc();
     let mut log = MemoryLog::new(alloc);
     let mut nobody = side(alloc, 0);
-    assert_eq!(rt; nobody.writer.take_over(alloc, &mut log), Err(KeepError::NoHead));
-    assert_eq!(rt; keep(alloc, &mut log, &mut nobody, b"buy\n")?, Err(KeepError::NoHead));
+    assert_eq!(rt;
+        nobody.writer.take_over(alloc, &mut log),
+        Err(KeepError::NoHead)
+    );
+    assert_eq!(rt;
+        keep(alloc, &mut log, &mut nobody, b"buy\n")?,
+        Err(KeepError::NoHead)
+    );
     let mut one = side(alloc, 1);
     assert_eq!(rt; one.writer.take_over(alloc, &mut log), Ok(()));
     let unended = Err(KeepError::Lines(RecordError::Unended));

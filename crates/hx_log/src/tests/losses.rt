@@ -23,7 +23,14 @@ enum Loss {
     Twice,
 }
 
-const LOSSES: &[Loss] = &[Loss::Gone, Loss::Stands, Loss::Late, Loss::Twice];
+fn loss_of(number: usize) -> Loss {
+    match number {
+        0 => Loss::Gone,
+        1 => Loss::Stands,
+        2 => Loss::Late,
+        _ => Loss::Twice,
+    }
+}
 
 // A log in memory of which one append is not answered as it should be.
 struct LossyLog {
@@ -51,13 +58,9 @@ impl LossyLog {
         ensures { self.new.log ≡ self.old.log }
     {
         match self.before {
-            Some(0) => {
-                self.before = None;
-                true
-            }
             Some(before) => {
-                self.before = Some(before - 1);
-                false
+                self.before = before.checked_sub(1);
+                before == 0
             }
             None => false,
         }
@@ -110,8 +113,7 @@ impl Log for LossyLog {
 fn two_writers_tell_alike_whatever_is_lost(rt: HostRuntime) -> Result<(), Fail> {
     let alloc = rt.alloc();
     for case in 0..3072usize {
-        let loss = LOSSES[case % 4];
-        let mut log = lossy(alloc, loss, (case / 4 % 12) as u32);
+        let mut log = lossy(alloc, loss_of(case % 4), (case / 4 % 12) as u32);
         let mut pair = pair(alloc);
         turns(&rt, alloc, &mut log, &mut pair, (case / 48) as u32)?;
     }
@@ -151,7 +153,10 @@ fn is_answered(
     let mut log = lossy(alloc, loss, 1);
     let mut one = side(alloc, 1);
     assert_eq!(rt; one.writer.take_over(alloc, &mut log), Ok(()));
-    assert_eq!(rt; keep(alloc, &mut log, &mut one, b"buy\n")?, Err(KeepError::Log(error)));
+    assert_eq!(rt;
+        keep(alloc, &mut log, &mut one, b"buy\n")?,
+        Err(KeepError::Log(error))
+    );
     assert_eq!(rt; one.told.len(), 0);
     follow(alloc, &mut log, &mut one)?;
     assert_eq!(rt; one.told.as_slice(), read);
