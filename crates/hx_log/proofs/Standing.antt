@@ -103,6 +103,21 @@ text_same at rs i d text lt it_does_not is =
     ∙ ap text_of (sym (taken_more at front (r ∷ [])))
     ∙ ap (λ (l : List Record). text_of (taken at l)) (sym (take_more rs i d lt))
 
+-- ---- a record of those that are read
+
+module _ (at : Reading) (rs : List Record) (i : ℕ) (now : Reading) (r : Record) (lt : i < length rs) (is : r ≡ get_or rs i r) (now_is : now ≡ after_all at (take i rs)) where
+  pub reads_on : (next : Reading) → next ≡ after now r → next ≡ after_all at (take (i + 1) rs)
+  reads_on next next_is = next_is ∙ ap (λ (a : Reading). after a r) now_is ∙ ap (after (after_all at (take i rs))) is ∙ sym (read_more at rs i r lt)
+
+  as_there : counts (after_all at (take i rs)) (get_or rs i r).head ≡ counts now r.head
+  as_there = ap (λ (a : Reading). counts a (get_or rs i r).head) (sym now_is) ∙ ap (λ (x : Record). counts now x.head) (sym is)
+
+  pub adds : (old new : List ℕ) → counts now r.head ≡ true → old ≡ text_of (taken at (take i rs)) → new ≡ old ++ text_of r.lines → new ≡ text_of (taken at (take (i + 1) rs))
+  adds old new it_does old_is new_is = new_is ∙ ap (λ (x : Record). old ++ text_of x.lines) is ∙ text_more at rs i r old lt (as_there ∙ it_does) old_is
+
+  pub adds_none : (old new : List ℕ) → counts now r.head ≡ false → old ≡ text_of (taken at (take i rs)) → new ≡ old → new ≡ text_of (taken at (take (i + 1) rs))
+  adds_none old new it_does_not old_is new_is = new_is ∙ text_same at rs i r old lt (as_there ∙ it_does_not) old_is
+
 -- ---- what is passed over
 
 earlier : (p w : Bool) (a b : ℕ) → b < a → (p && (ltb a b || (eqb b a && w))) ≡ false
