@@ -275,8 +275,14 @@ no_line_fault head lines.Unended good bad = nothing (text_of bad.1.stands.front)
 pub pushed : (rs : List Record) (r : Record) → r.head.number ≡ length rs + 1 → Stands (rs ++ r ∷ []) r
 pushed rs r number = record { front = rs; is = ([], append-nil (rs ++ r ∷ [])); numbered = number }
 
--- ---- results
+-- ---- what a call gives
 
-pub both_ok : {A E : Type 0} (r : Result A E) {P Q R : Type 0} → OnOk r P → OnOk r Q → (P → Q → R) → OnOk r R
-both_ok (Ok x) p q f = f p q
-both_ok (Err e) p q f = tt
+pub kept_ok : {T E : Type 0} (result : Result T E) (old new : List Record) (a b : LogWriter) (r : Record) (text : List ℕ) → IsPrefix old new → a.reading.writer ≡ a.writer → r.head ≡ next_of a.reading → text ≡ text_of r.lines
+    → OnOk result (b.reading ≡ after a.reading r) → OnOk result (Stands new r) → OnOk result ((known : List Record) → IsAt old known a.reading → Keeps new known a b text)
+kept_ok (Ok x) old new a b r text grows office head text_is is stands = λ known h. keeps old new known a b r text h grows stands office head is text_is
+kept_ok (Err e) old new a b r text grows office head text_is is stands = tt
+
+pub took_over_ok : {T E : Type 0} (result : Result T E) (old new : List Record) (a b : LogWriter) (r : Record) → IsPrefix old new → r.head ≡ takeover_of a.writer a.reading → b.writer ≡ a.writer → [] ≡ text_of r.lines
+    → OnOk result (b.reading ≡ after a.reading r) → OnOk result (Stands new r) → OnOk result ((known : List Record) → IsAt old known a.reading → TakesOver new known a b)
+took_over_ok (Ok x) old new a b r grows head who none is stands = λ known h. takes_over old new known a b r h grows stands head is who none
+took_over_ok (Err e) old new a b r grows head who none is stands = tt
