@@ -1,4 +1,7 @@
 //! Why a log does not do what it is asked.
+ghost use Rattle.std.specs.Prelude.{◌≡◌};
+ghost use Rattle.hx_log.specs.declared.error.LogError.TheVariants.{NoMemory};
+
 use hx_terms::RecordError;
 use hx_units::NoMemory;
 use std::alloc::{AllocError, AllocFailed};
@@ -24,18 +27,24 @@ pub enum LogError {
 }
 
 impl From<NoMemory> for LogError {
+    ghost from_gives = { λ _ e. e ≡ NoMemory };
+
     fn from(_error: NoMemory) -> LogError {
         LogError::NoMemory
     }
 }
 
 impl From<AllocError> for LogError {
+    ghost from_gives = { λ _ e. e ≡ NoMemory };
+
     fn from(_error: AllocError) -> LogError {
         LogError::NoMemory
     }
 }
 
 impl<T: Drop> From<AllocFailed<T>> for LogError {
+    ghost from_gives = { λ _ e. e ≡ NoMemory };
+
     fn from(_error: AllocFailed<T>) -> LogError {
         LogError::NoMemory
     }

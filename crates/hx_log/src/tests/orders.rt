@@ -170,7 +170,7 @@ fn turns_and_late(rt: &impl Abort, alloc: Global, order: u32, behind: usize) -> 
         agree(rt, alloc, &mut log, &pair)?;
     }
     end(rt, alloc, &mut log, &mut pair)?;
-    assert!(rt; !pair.one.told.windows(5).any(|w| w == b"late\n"));
+    assert!(rt; !pair.one.told.windows(5).any(|w| w == b"late\n".as_slice()));
     Ok(())
 }
 
