@@ -8,12 +8,13 @@ mod losses;
 mod orders;
 
 // A writer, and what it has told.
+#[derive(Drop)]
 struct Side {
     writer: LogWriter,
     told: Vec<u8>,
 }
 
-fn side(alloc: Global, writer: u64) -> Side {
+fn new_side(alloc: Global, writer: u64) -> Side {
     Side {
         writer: LogWriter::new(writer),
         told: Vec::new(alloc),
@@ -64,8 +65,8 @@ cancel
 fn a_takeover_comes_before_a_record(rt: HostRuntime) -> Result<(), Fail> {
     let alloc = rt.alloc();
     let mut log = MemoryLog::new(alloc);
-    let mut one = side(alloc, 1);
-    let mut other = side(alloc, 2);
+    let mut one = new_side(alloc, 1);
+    let mut other = new_side(alloc, 2);
     assert_eq!(rt;
         keep(alloc, &mut log, &mut one, b"buy\n")?,
         Err(KeepError::NotInOffice)
@@ -112,8 +113,8 @@ fn sent(alloc: Global, number: u64, place: u64) -> Result<LogRecord, Fail> {
 fn records_that_come_late_are_passed_over(rt: HostRuntime) -> Result<(), Fail> {
     let alloc = rt.alloc();
     let mut log = MemoryLog::new(alloc);
-    let mut one = side(alloc, 1);
-    let mut other = side(alloc, 2);
+    let mut one = new_side(alloc, 1);
+    let mut other = new_side(alloc, 2);
     assert_eq!(rt; one.writer.take_over(alloc, &mut log), Ok(()));
 
     // Three are sent at once. The first comes, twice, and the third too early.
@@ -144,7 +145,7 @@ fn records_that_come_late_are_passed_over(rt: HostRuntime) -> Result<(), Fail> {
 fn what_is_no_record_is_not_kept(rt: HostRuntime) -> Result<(), Fail> {
     let alloc = rt.alloc();
     let mut log = MemoryLog::new(alloc);
-    let mut nobody = side(alloc, 0);
+    let mut nobody = new_side(alloc, 0);
     assert_eq!(rt;
         nobody.writer.take_over(alloc, &mut log),
         Err(KeepError::NoHead)
@@ -153,7 +154,7 @@ fn what_is_no_record_is_not_kept(rt: HostRuntime) -> Result<(), Fail> {
         keep(alloc, &mut log, &mut nobody, b"buy\n")?,
         Err(KeepError::NoHead)
     );
-    let mut one = side(alloc, 1);
+    let mut one = new_side(alloc, 1);
     assert_eq!(rt; one.writer.take_over(alloc, &mut log), Ok(()));
     let unended = Err(KeepError::Lines(RecordError::Unended));
     assert_eq!(rt; keep(alloc, &mut log, &mut one, b"buy")?, unended);

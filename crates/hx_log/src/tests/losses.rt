@@ -2,8 +2,8 @@
 ghost use Rattle.std.specs.Prelude.{◌≡◌};
 ghost use mathlib.Core.List.{IsPrefix};
 
-use super::orders::{pair, turns};
-use super::{follow, keep, side};
+use super::orders::{new_pair, turns};
+use super::{follow, keep, new_side};
 use crate::{KeepError, Log, LogError, MemoryLog};
 use hx_terms::LogRecord;
 use std::alloc::Global;
@@ -33,6 +33,7 @@ fn loss_of(number: usize) -> Loss {
 }
 
 // A log in memory of which one append is not answered as it should be.
+#[derive(Drop)]
 struct LossyLog {
     alloc: Global,
     log: MemoryLog,
@@ -114,7 +115,7 @@ fn two_writers_tell_alike_whatever_is_lost(rt: HostRuntime) -> Result<(), Fail> 
     let alloc = rt.alloc();
     for case in 0..3072usize {
         let mut log = lossy(alloc, loss_of(case % 4), (case / 4 % 12) as u32);
-        let mut pair = pair(alloc);
+        let mut pair = new_pair(alloc);
         turns(&rt, alloc, &mut log, &mut pair, (case / 48) as u32)?;
     }
     Ok(())
@@ -151,7 +152,7 @@ fn is_answered(
     told: &[u8],
 ) -> Result<(), Fail> {
     let mut log = lossy(alloc, loss, 1);
-    let mut one = side(alloc, 1);
+    let mut one = new_side(alloc, 1);
     assert_eq!(rt; one.writer.take_over(alloc, &mut log), Ok(()));
     assert_eq!(rt;
         keep(alloc, &mut log, &mut one, b"buy\n")?,

@@ -1,5 +1,5 @@
 //! Two writers of one log, in each order of six turns.
-use super::{Side, follow, keep, side};
+use super::{Side, follow, keep, new_side};
 use crate::{Log, MemoryLog};
 use hx_terms::{Head, LogRecord, Reading};
 use std::alloc::Global;
@@ -9,15 +9,16 @@ use std::test::Fail;
 const LINES: &[&[u8]] = &[b"a\n", b"b\n", b"c\n", b"d\n", b"e\n", b"f\n"];
 
 // Two writers, and whose turn it is.
+#[derive(Drop)]
 pub(super) struct Pair {
     one: Side,
     other: Side,
 }
 
-pub(super) fn pair(alloc: Global) -> Pair {
+pub(super) fn new_pair(alloc: Global) -> Pair {
     Pair {
-        one: side(alloc, 1),
-        other: side(alloc, 2),
+        one: new_side(alloc, 1),
+        other: new_side(alloc, 2),
     }
 }
 
@@ -32,7 +33,7 @@ fn act<L: Log>(alloc: Global, log: &mut L, side: &mut Side, line: &[u8]) -> Resu
 
 // Of what the two have told, one is a beginning of the other, and both are of what a reader takes who comes last.
 fn agree<L: Log>(rt: &impl Abort, alloc: Global, log: &mut L, pair: &Pair) -> Result<(), Fail> {
-    let mut last = side(alloc, 9);
+    let mut last = new_side(alloc, 9);
     follow(alloc, log, &mut last)?;
     let (one, other) = (&pair.one.told, &pair.other.told);
     assert!(rt; one.starts_with(other) || other.starts_with(one));
@@ -87,7 +88,7 @@ fn two_writers_tell_alike_in_all_orders(rt: HostRuntime) -> Result<(), Fail> {
     let alloc = rt.alloc();
     for order in 0..64u32 {
         let mut log = MemoryLog::new(alloc);
-        let mut pair = pair(alloc);
+        let mut pair = new_pair(alloc);
         turns(&rt, alloc, &mut log, &mut pair, order)?;
         end(&rt, alloc, &mut log, &mut pair)?;
     }
@@ -106,7 +107,7 @@ const ORDERS: &[(u32, &[u8], &[u8])] = &[
 
 fn told(rt: &impl Abort, alloc: Global, order: u32, one: &[u8], other: &[u8]) -> Result<(), Fail> {
     let mut log = MemoryLog::new(alloc);
-    let mut pair = pair(alloc);
+    let mut pair = new_pair(alloc);
     turns(rt, alloc, &mut log, &mut pair, order)?;
     assert_eq!(rt; pair.one.told.as_slice(), one);
     assert_eq!(rt; pair.other.told.as_slice(), other);
@@ -136,7 +137,7 @@ fn late(alloc: Global, at: Reading, term: u64, writer: u64) -> Result<LogRecord,
 // Late records come: of each term that is over, by each of the two, and of a rival in the term that stands. Nobody
 // tells them.
 fn come_late(rt: &impl Abort, alloc: Global, log: &mut MemoryLog) -> Result<(), Fail> {
-    let mut last = side(alloc, 9);
+    let mut last = new_side(alloc, 9);
     follow(alloc, log, &mut last)?;
     let standing = last.writer.reading;
     let told = last.told.len();
@@ -161,7 +162,7 @@ fn come_late(rt: &impl Abort, alloc: Global, log: &mut MemoryLog) -> Result<(), 
 // Six turns, and late records behind one of them.
 fn turns_and_late(rt: &impl Abort, alloc: Global, order: u32, behind: usize) -> Result<(), Fail> {
     let mut log = MemoryLog::new(alloc);
-    let mut pair = pair(alloc);
+    let mut pair = new_pair(alloc);
     for number in 0..6usize {
         turn(alloc, &mut log, &mut pair, order, number)?;
         if number == behind {
