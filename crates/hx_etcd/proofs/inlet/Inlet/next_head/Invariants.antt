@@ -1,0 +1,7 @@
+use Rattle.hx_etcd.specs.Connections.{Comes}
+use Rattle.hx_etcd.proofs.inlet.Inlet.next_head.Given as goal
+
+abbrev pub invariant-heads : goal.invariant-heads
+invariant-heads g l =
+    Comes (g.R.Read.remaining l.initial.self.reader) (g.R.Read.remaining l.self.reader)
+    l.initial.self.unread.items l.self.unread.items

@@ -1,0 +1,6 @@
+pub mod Keys
+pub mod Parts
+pub mod Documents
+pub mod Requests
+pub mod Answers
+pub mod Connections
