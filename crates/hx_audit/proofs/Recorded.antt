@@ -72,11 +72,6 @@ unfolding run market_after
 took_none setup [] a h = record { market = h; recorded = tt }
 took_none setup (x ∷ events) a h = record { market = h; recorded = tt }
 
-pub took_all : (setup : Setup) (events : List Event) (i : ℕ) (a : Market) → length events ≤ i → Took setup events i a → (a ≡ run setup events) × AreRecorded setup events
-took_all setup events i a h t =
-    let all : take i events ≡ events = take_all i events h in
-    (t.market ∙ ap (run setup) all, subst (AreRecorded setup) all t.recorded)
-
 -- the same of an error that may be want of memory
 pub explained_or : (setup : Setup) (events : List Event) (i : ℕ) (a : Market) (x : Event) (error : StrikeError) → i < length events → x ≡ get_or events i x → Took setup events i a
     → IsErrorAt i (refusal setup a.recorded x) error → Explains setup events error

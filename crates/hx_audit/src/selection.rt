@@ -91,7 +91,7 @@ pub(crate) fn keep<S: Selection>(
     let mut kept = Vec::new(alloc);
     for event in events {
         if !is_borne(selection, &Bearing::of(event)) {
-            kept.push(event.copy(alloc)?)?;
+            kept.push(event.copy()?)?;
         }
     }
     Ok(kept)

@@ -192,7 +192,7 @@ impl Desk {
         }
         let entry = Entry {
             pass,
-            event: event.copy(self.alloc)?,
+            event: event.copy()?,
         };
         self.history.reserve(1).map_err(|_| NoMemory)?;
         self.rows.reserve(prepared.reply_members())?;
@@ -426,7 +426,7 @@ impl Desk {
         let mut history = Vec::with_capacity(self.alloc, told.len())?;
         for entry in told {
             let pass = entry.pass;
-            let event = entry.event.copy(self.alloc)?;
+            let event = entry.event.copy()?;
             history.push(Entry { pass, event })?;
         }
         Ok(history)

@@ -5,7 +5,6 @@ use Rattle.std.proofs.Math.Seq.{take-append_seam}
 use Rattle.std.specs.List.{AllByRecursion}
 use mathlib.Core.List.{IsPrefix}
 use Rattle.std.specs.Prelude.{Option, Some, IfSome}
-use Rattle.std.specs.Global.{Vec}
 use Rattle.hx_blog.specs.Feed.{Entries, feed}
 use Rattle.hx_rules.specs.declared.event.Event.{Event}
 use Rattle.hx_desk.specs.declared.entry.Entry.{Entry}
@@ -15,7 +14,7 @@ use Rattle.hx_desk.specs.Known.{history_of}
 use Rattle.hx_desk.specs.Desks.{DeskState, Grows, told_of}
 use Rattle.hx_journal.specs.Crashes.{Leaves}
 use Rattle.hx_journal.specs.Records.{IsRecord}
-use Rattle.hx_engine.specs.Journals.{unspoken, lines, record_texts}
+use Rattle.hx_engine.specs.Journals.{unspoken, lines}
 
 pub feed_unspoken : (h : List Entry) → feed (unspoken h) ≡ []
 feed_unspoken [] = refl
@@ -57,11 +56,10 @@ some_at P o t e h = subst (λ (x : Option _). IfSome x P) (sym e) h
 pub told_stays : (d e : DeskState) (entry : Entry) (done : Done) → Grows d e entry done → d.told ≤ length d.history → told_of e ≡ told_of d
 told_stays d e entry done grows within = (λ i. take (grows.told i) (grows.history i)) ∙ take-append-le d.told d.history (entry ∷ []) within
 
-pub one_line : (line : Event → List ℕ) (records : List (Vec ℕ)) (written : Vec ℕ) (d e : DeskState) (entry : Entry) (done : Done) → Grows d e entry done → d.sealed ≤ length d.history
-    → record_texts records ≡ lines line (drop d.sealed d.history) → written.items ≡ line entry.event → record_texts (records ++ written ∷ []) ≡ lines line (drop e.sealed e.history)
+pub one_line : (line : Event → List ℕ) (records : List (List ℕ)) (written : List ℕ) (d e : DeskState) (entry : Entry) (done : Done) → Grows d e entry done → d.sealed ≤ length d.history
+    → records ≡ lines line (drop d.sealed d.history) → written ≡ line entry.event → records ++ written ∷ [] ≡ lines line (drop e.sealed e.history)
 one_line line records written d e entry done grows within are is =
-    map-append (λ (r : Vec ℕ). r.items) records (written ∷ [])
-    ∙ (λ i. are i ++ is i ∷ [])
+    (λ i. are i ++ is i ∷ [])
     ∙ sym (map-append (λ (x : Entry). line x.event) (drop d.sealed d.history) (entry ∷ []))
     ∙ ap (lines line) (sym (drop-append-le d.sealed d.history (entry ∷ []) within))
     ∙ (λ i. lines line (drop (sym grows.sealed i) (sym grows.history i)))
@@ -107,15 +105,12 @@ pub all_records : (line : Event → List ℕ) → ((e : Event) → IsRecord (lin
 all_records line are [] = tt
 all_records line are (e ∷ h) = (are e.event, all_records line are h)
 
-pub record_at : (records : List (Vec ℕ)) (i : ℕ) (r : Vec ℕ) → i < length records → r ≡ get_or records i r → AllByRecursion IsRecord (record_texts records) → IsRecord r.items
-record_at [] i r in' is all = absurd (omega arith)
-record_at (x ∷ records) zero r in' is all = subst (λ (v : Vec ℕ). IsRecord v.items) (sym is) all.0
-record_at (x ∷ records) (suc i) r in' is all = record_at records i r (omega arith) is all.1
+pub record_at : (records : List (List ℕ)) (i : ℕ) → i < length records → AllByRecursion IsRecord records → IsRecord (get_or records i [])
+record_at [] i in' all = absurd (omega arith)
+record_at (x ∷ records) zero in' all = all.0
+record_at (x ∷ records) (suc i) in' all = record_at records i (omega arith) all.1
 
 -- What the journal leaves.
-
-pub leaves_nothing : (a : ℕ) (past : ℕ → List (List ℕ) → Type 0) (least most : List (List ℕ)) → Leaves a a past past least most
-leaves_nothing a past least most = record { later = omega arith; each = λ t c l h. inl h }
 
 pub longer : (xs ys zs : List (List ℕ)) → IsPrefix xs ys → IsPrefix ys zs → IsPrefix xs zs
 longer xs ys zs p q = (p.0 ++ q.0, sym (append_assoc xs p.0 q.0) ∙ (ap (λ w. w ++ q.0) p.1 ∙ q.1))
@@ -132,21 +127,16 @@ leaves_then a b c past mid since least least' most most' all f s same p q = reco
 }
 
 -- one record more
-pub one_record : (start : List (List ℕ)) (records : List (Vec ℕ)) (i : ℕ) (r : Vec ℕ) → i < length records → r ≡ get_or records i r
-    → (start ++ record_texts (take i records)) ++ r.items ∷ [] ≡ start ++ record_texts (take (i + 1) records)
-one_record start records i r in' is = append_assoc start (record_texts (take i records)) (r.items ∷ []) ∙ ap (λ (l : List (List ℕ)). start ++ l) (next records i r in' is ∙ ap (λ k. record_texts (take k records)) (let e : suc i ≡ i + 1 = omega arith in e))
+pub one_record : (start records : List (List ℕ)) (i : ℕ) → i < length records → (start ++ take i records) ++ get_or records i [] ∷ [] ≡ start ++ take (i + 1) records
+one_record start records i in' = append_assoc start (take i records) (get_or records i [] ∷ []) ∙ ap (λ (l : List (List ℕ)). start ++ l) (next records i in' ∙ ap (λ k. take k records) (let e : suc i ≡ i + 1 = omega arith in e))
   where
-    next : (records : List (Vec ℕ)) (i : ℕ) (r : Vec ℕ) → i < length records → r ≡ get_or records i r → record_texts (take i records) ++ r.items ∷ [] ≡ record_texts (take (suc i) records)
-    next [] i r in' is = absurd (omega arith)
-    next (x ∷ records) zero r in' is = ap (λ (v : Vec ℕ). v.items ∷ []) is
-    next (x ∷ records) (suc i) r in' is = ap (λ (l : List (List ℕ)). x.items ∷ l) (next records i r (omega arith) is)
+    next : (records : List (List ℕ)) (i : ℕ) → i < length records → take i records ++ get_or records i [] ∷ [] ≡ take (suc i) records
+    next [] i in' = absurd (omega arith)
+    next (x ∷ records) zero in' = refl
+    next (x ∷ records) (suc i) in' = ap (λ (l : List (List ℕ)). x ∷ l) (next records i (omega arith))
 
-pub some_records : (start : List (List ℕ)) (records : List (Vec ℕ)) (i : ℕ) → IsPrefix (start ++ record_texts (take i records)) (start ++ record_texts records)
-some_records start records i = (
-  record_texts (drop i records),
-  append_assoc start (record_texts (take i records)) (record_texts (drop i records))
-      ∙ ap (λ (l : List (List ℕ)). start ++ l) (sym (map-append (λ (r : Vec ℕ). r.items) (take i records) (drop i records)) ∙ ap record_texts (take-append-drop i records)),
-)
+pub some_records : (start records : List (List ℕ)) (i : ℕ) → IsPrefix (start ++ take i records) (start ++ records)
+some_records start records i = (drop i records, append_assoc start (take i records) (drop i records) ∙ ap (λ (l : List (List ℕ)). start ++ l) (take-append-drop i records))
 
 -- the records of what is known begin those of what is published
 pub known_lines : (line : Event → List ℕ) (known published : Entries Entry) (h : List Entry) → IsPrefix known published → history_of published ≡ h → IsPrefix (lines line (history_of known)) (lines line h)

@@ -4,3 +4,4 @@ pub mod PassLaws
 pub mod AllBack
 pub mod Refusing
 pub mod Records
+pub mod Pieces

@@ -186,15 +186,6 @@ ledger_more setup h rest = ledger_more_from setup (opening setup) h rest
 then : {A : Type 0} (xs ys zs : List A) → IsPrefix xs ys → IsPrefix ys zs → IsPrefix xs zs
 then xs ys zs p q = (p.0 ++ q.0, sym (append_assoc xs p.0 q.0) ∙ (ap (λ w. w ++ q.0) p.1 ∙ q.1))
 
-pub done_at : (setup : Setup) (d e : DeskState) (number : ℕ) (event : Event) (done : Done) → IsStanding d → d.setup ≡ setup → Grows d e (entry_of number event) done → DoneAt setup d.history event done
-done_at setup d e number event done s of_setup grows = record {
-  place = omega (arith, grows.place, ap (λ (h : List Entry). length h) grows.history, length-append d.history (entry_of number event ∷ []));
-  first = grows.first ∙ ap (λ (x : Setup). length (feed (ledger x d.history)) + 1) of_setup;
-  count =
-      grows.count ∙ ap (λ (x : Setup). length (step x d.market event).told.feed) of_setup ∙ ap (λ (m : Market). length (step setup m event).told.feed) s.market
-      ∙ ap (λ (x : Setup). length (step setup (run x (events_of d.history)) event).told.feed) of_setup;
-}
-
 pub enters : (setup : Setup) (d e : DeskState) (number : ℕ) (events : List Event) (known entered : Entries Entry) (done : Done) → IsStanding d → d.setup ≡ setup
     → e.history ≡ d.history ++ sent_by number events → done.place ≡ length d.history + length events → LastDone setup number d.history events done
     → IsPrefix known d.published → entered ≡ unspoken e.history → Enters setup number events known entered done

@@ -12,8 +12,6 @@ use Rattle.hx_desk.specs.declared.fault.DeskError.TheVariants as fault
 use Rattle.hx_desk.specs.Entries.{entry_of}
 use Rattle.hx_engine.specs.declared.answers.SubmitError.{SubmitError}
 use Rattle.hx_engine.specs.declared.answers.SubmitError.TheVariants.{Refused, Stopped}
-use Rattle.std.specs.Global.{Vec}
-use Rattle.hx_engine.specs.Journals.{record_texts}
 use Rattle.hx_engine.specs.Passes.{Sent, sent_by, placed}
 use Rattle.hx_engine.specs.Exchanges.{DoneAt, LastDone, IsInOrder, IsRefusedOutright, AreAdmittedUpTo, is_bad_time}
 
@@ -25,10 +23,6 @@ snoc_same (a ∷ xs) (b ∷ ys) x y p =
     let rest = snoc_same xs ys x y (ap (λ (l : List _). drop 1 l) p) in
     let first : a ≡ b = ap (λ (l : List _). get_or l 0 x) p in
     ((λ i. first i ∷ rest.0 i), rest.1)
-
--- no event is the last of none
-pub none_last : (setup : Setup) (number : ℕ) (before : List Entry) (done : Done) → LastDone setup number before [] done
-none_last setup number before done earlier event p = absurd (omega (arith, ap (λ (l : List Event). length l) p, length-append earlier (event ∷ [])))
 
 pub one_last : (setup : Setup) (number : ℕ) (before now : List Entry) (events : List Event) (i : ℕ) (event : Event) (done : Done) → i < length events → event ≡ get_or events i event
     → now ≡ before ++ sent_by number (take i events) → DoneAt setup now event done → LastDone setup number before (take (i + 1) events) done
@@ -89,34 +83,12 @@ pub all_one_more : (setup : Setup) (events : List Event) (i : ℕ) (event : Even
 all_one_more setup events i event l is all one =
     subst (λ n. AllByRecursion (IsInOrder setup) (take n events)) (let e : suc i ≡ i + 1 = omega arith in e) (next_in_order setup events i event l is all one)
 
--- a record of one of the lists, and those behind it
+-- the record of an event among those of all
 
-pub text_at : (texts : List (Vec ℕ)) (line : Event → List ℕ) (events : List Event) (i : ℕ) (text : Vec ℕ) (event : Event) → i < length texts → i < length events → text ≡ get_or texts i text → event ≡ get_or events i event
-    → drop i (record_texts texts) ≡ drop i (map line events) → text.items ≡ line event
-text_at [] line events i text event l m is same rest = absurd (omega arith)
-text_at (t ∷ texts) line [] i text event l m is same rest = absurd (omega arith)
-text_at (t ∷ texts) line (e ∷ events) zero text event l m is same rest =
-    ap (λ (v : Vec ℕ). v.items) is ∙ ap (λ (k : List (List ℕ)). get_or k 0 []) rest ∙ ap line (sym same)
-text_at (t ∷ texts) line (e ∷ events) (suc i) text event l m is same rest = text_at texts line events i text event (omega arith) (omega arith) is same rest
-
-pub texts_behind : (texts : List (Vec ℕ)) (lines : List (List ℕ)) (i : ℕ) (text : Vec ℕ) → drop i (record_texts texts) ≡ drop i lines → drop (i + 1) (record_texts (set texts i text)) ≡ drop (i + 1) lines
-texts_behind texts lines i text rest = let e : suc i ≡ i + 1 = omega arith in subst (λ n. drop n (record_texts (set texts i text)) ≡ drop n lines) e (next texts lines i rest)
-  where
-    one : (texts : List (Vec ℕ)) (lines : List (List ℕ)) (i : ℕ) → drop i (record_texts texts) ≡ drop i lines → drop (suc i) (record_texts texts) ≡ drop (suc i) lines
-    one texts lines i rest = sym (behind i (record_texts texts)) ∙ ap (λ (l : List (List ℕ)). drop 1 l) rest ∙ behind i lines
-      where
-        behind : (i : ℕ) (xs : List (List ℕ)) → drop 1 (drop i xs) ≡ drop (suc i) xs
-        behind zero xs = refl
-        behind (suc i) [] = refl
-        behind (suc i) (x ∷ xs) = behind i xs
-
-    past : (texts : List (Vec ℕ)) (i : ℕ) → drop (suc i) (record_texts (set texts i text)) ≡ drop (suc i) (record_texts texts)
-    past [] i = refl
-    past (t ∷ texts) zero = refl
-    past (t ∷ texts) (suc i) = past texts i
-
-    next : (texts : List (Vec ℕ)) (lines : List (List ℕ)) (i : ℕ) → drop i (record_texts texts) ≡ drop i lines → drop (suc i) (record_texts (set texts i text)) ≡ drop (suc i) lines
-    next texts lines i rest = past texts i ∙ one texts lines i rest
+pub text_at : (line : Event → List ℕ) (events : List Event) (i : ℕ) (event : Event) → i < length events → event ≡ get_or events i event → get_or (map line events) i [] ≡ line event
+text_at line [] i event in' is = absurd (omega arith)
+text_at line (e ∷ events) zero event in' is = ap line (sym is)
+text_at line (e ∷ events) (suc i) event in' is = text_at line events i event (omega arith) is
 
 -- an event more behind its place
 pub one_placed : (behind : ℕ) (events : List Event) (i : ℕ) (event : Event) → i < length events → event ≡ get_or events i event → placed behind (take (i + 1) events) ≡ placed behind (take i events) ++ (behind + i + 1, event) ∷ []
@@ -197,11 +169,6 @@ pub answered : (setup : Setup) (events : List Event) (count : ℕ) (refused : Op
 answered setup events count refused error answer none is bad stranger h =
     let all : AreAdmittedUpTo setup events 0 (Some error) = subst (λ (n : ℕ). AreAdmittedUpTo setup events n (Some error)) none (subst (λ (o : Option SubmitError). AreAdmittedUpTo setup events count o) is h) in
     (all.0, all.1, λ event g. still_outright setup event error answer bad stranger (all.2 event g))
-
--- the one of one
-pub refused_one : (setup : Setup) (event : Event) (n : ℕ) (error : SubmitError) → AreAdmittedUpTo setup (event ∷ []) n (Some error) → (n ≡ 0) × IsRefusedOutright setup event (Err error)
-refused_one setup event zero error h = (refl, h.2 event refl)
-refused_one setup event (suc n) error h = absurd (omega (arith, h.0))
 
 pub at_most : (setup : Setup) (events : List Event) (count : ℕ) (refused : Option SubmitError) → AreAdmittedUpTo setup events count refused → count ≤ length events
 at_most setup events count None h = omega (arith, h.0)

@@ -4,3 +4,4 @@ pub mod Passes
 pub mod Exchanges
 pub mod Finish
 pub mod Opening
+pub mod Pieces

@@ -2,9 +2,10 @@
 ghost use Rattle.std.specs.Prelude.{◌≡◌, [], length, take, drop, IfOk};
 ghost use Rattle.hx_tape_lines.specs.Text.{record_of};
 ghost use Rattle.hx_desk.specs.Known.{history_of};
-ghost use Rattle.hx_engine.specs.Journals.{unspoken, lines, record_texts};
+ghost use Rattle.hx_engine.specs.Journals.{unspoken, lines};
 
 use crate::keeper::Keeper;
+use crate::spelled::Records;
 use crate::venue::Venue;
 use hx_blog::{Log, NamesEntries, Receipt};
 use hx_desk::Entry;
@@ -15,7 +16,7 @@ use std::marker::Brand;
 #[derive(Drop)]
 pub struct Flight<V: Venue, J: Journal> {
     pub(crate) keeper: Keeper<V, J>,
-    pub(crate) records: Vec<Vec<u8>>,
+    pub(crate) records: Records,
     pub(crate) knows: Receipt<Entry>,
     pub(crate) end: u64,
     pub ghost named: { knows.log ≡ V.admitted },
@@ -23,7 +24,7 @@ pub struct Flight<V: Venue, J: Journal> {
     pub ghost ends: { end ≡ length knows.known },
     pub ghost begun: { take (length keeper.writer.published) knows.known
         ≡ keeper.writer.published },
-    pub ghost spelled: { record_texts records.items
+    pub ghost spelled: { records
         ≡ lines record_of (history_of (drop (length keeper.writer.published) knows.known)) },
 }
 
@@ -32,13 +33,13 @@ pub struct Flight<V: Venue, J: Journal> {
 pub struct Landed<V: Venue, J: Journal> {
     pub(crate) keeper: Keeper<V, J>,
     // Room for the records of the next one.
-    pub(crate) room: Vec<Vec<u8>>,
+    pub(crate) room: Records,
     pub(crate) knows: Receipt<Entry>,
     pub(crate) end: u64,
     pub ghost named: { knows.log ≡ V.admitted },
     pub ghost ends: { end ≡ length knows.known },
     pub ghost all: { keeper.writer.published ≡ knows.known },
-    pub ghost bare: { room.items ≡ [] },
+    pub ghost bare: { room ≡ [] },
 }
 
 impl<V: Venue, J: Journal + Drop> Flight<V, J> {
@@ -68,7 +69,7 @@ impl<V: Venue, J: Journal + Drop> Flight<V, J> {
 fn keep_all<V: Venue, J: Journal + Drop, N: NamesEntries<Entry>>(
     keeper: Keeper<V, J>,
     kept: &Log<Entry>,
-    records: &[Vec<u8>],
+    records: &Records,
     knows: &Receipt<Entry>,
 ) -> Result<Keeper<V, J>, (J, JournalError)>
     requires kept { kept.now ≡ V.kept }
@@ -77,7 +78,7 @@ fn keep_all<V: Venue, J: Journal + Drop, N: NamesEntries<Entry>>(
         ≡ keeper.writer.published }
     requires entries { N.entries ≡ drop (length keeper.writer.published) knows.now.known }
     requires left { N.left ≡ [] }
-    requires spelled { record_texts records.now ≡ lines record_of (history_of N.entries) }
+    requires spelled { records.now ≡ lines record_of (history_of N.entries) }
     ensures { IfOk result (λ k. k.writer.published ≡ knows.now.known) }
 {
     keeper.keep::<N>(kept, records)

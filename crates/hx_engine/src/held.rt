@@ -6,13 +6,15 @@ ghost use Rattle.hx_blog.specs.Feed.{feed};
 ghost use Rattle.hx_desk.specs.Entries.{entry_of, restored};
 ghost use Rattle.std.proofs.Props.{props};
 ghost use Rattle.hx_desk.specs.Desks.{Grows, Faults, IsResumed};
-ghost use Rattle.hx_engine.specs.Journals.{unspoken, lines, record_texts};
+ghost use Rattle.hx_engine.specs.Journals.{unspoken, lines};
 ghost use Rattle.hx_engine.specs.Passes.{sent_by};
 ghost use Rattle.hx_engine.specs.Exchanges.{DoneAt, LastDone, AreAdmittedUpTo, IsRefusedOutright, Settles};
 
 use crate::answers::{SubmitError, refused};
+use crate::entered::Entered;
 use crate::flight::{Flight, Landed};
 use crate::keeper::Keeper;
+use crate::spelled::Records;
 use crate::venue::Venue;
 use hx_blog::{Log, NamesEntries, Receipt, Writer};
 use hx_desk::{Desk, DeskError, Done, Entry};
@@ -22,39 +24,6 @@ use std::alloc::Global;
 use std::marker::Brand;
 use std::mem::replace;
 use std::sync::ledger::{Book, Share};
-
-/// How many events were admitted, where the last of them was recorded, and why the next one was refused.
-#[derive(Drop)]
-pub struct Entered {
-    pub count: usize,
-    pub last: Done,
-    pub refused: Option<SubmitError>,
-    /// A receipt for all that is published, if they were told at once.
-    pub told: Option<Receipt<Entry>>,
-}
-
-impl Entered {
-    /// None, since the first of them was refused.
-    pub fn none(error: SubmitError) -> Entered
-        ensures { result ≡ record {
-          count = 0;
-          last = record { place = 0; first = 0; count = 0 };
-          refused = Some error;
-          told = None;
-        } }
-    {
-        Entered {
-            count: 0,
-            last: Done {
-                place: 0,
-                first: 0,
-                count: 0,
-            },
-            refused: Some(error),
-            told: None,
-        }
-    }
-}
 
 // How many events are looked at before the first of them is admitted.
 const AT_ONCE: usize = 16;
@@ -91,7 +60,7 @@ pub struct Held<V: Venue, J: Journal> {
     pub register: Writer<Entry>,
     pub kept: Receipt<Entry>,
     // The records of the entries that are not sealed.
-    pub records: Vec<Vec<u8>>,
+    pub records: Records,
     pub keeper: Option<Keeper<V, J>>,
     // Why the journal failed, where it did.
     pub failed: Option<JournalError>,
@@ -113,7 +82,7 @@ pub struct Held<V: Venue, J: Journal> {
       log = V.kept;
       known = unspoken (take desk.told desk.history);
     } },
-    pub ghost spelled: { record_texts records.items ≡ lines record_of (drop desk.sealed desk.history) },
+    pub ghost spelled: { records ≡ lines record_of (drop desk.sealed desk.history) },
     pub ghost home: { IfSome keeper (λ k.
         (k.writer.published ≡ unspoken (take desk.told desk.history)) × (desk.sealed ≡ desk.told)) } by { Prim.hlevel props },
 }
@@ -166,7 +135,7 @@ impl<V: Venue, J: Journal + Drop> Held<V, J> {
             spare,
             register,
             kept,
-            records: Vec::new(alloc),
+            records: Records::new(alloc),
             keeper: Some(keeper),
             failed: None,
             glanced: 0,
@@ -202,12 +171,12 @@ impl<V: Venue, J: Journal + Drop> Held<V, J> {
         pass: u16,
         share: &mut Share<V>,
         event: &Event,
-        written: Vec<u8>,
+        written: &[u8],
     ) -> Result<Done, DeskError>
         requires log { log.now ≡ V.log }
         requires admitted { admitted.now ≡ V.admitted }
         requires share { 0 < share.old.parts }
-        requires written { written.items ≡ record_of event.now }
+        requires written { written.now ≡ record_of event.now }
         ensures ok { IfOk result (Grows self.old.desk self.new.desk (entry_of pass event.now)) }
         ensures err { OnErr result (self.new.desk ≡ self.old.desk) }
         ensures refused { IfErr result (Faults self.old.desk event.now) }
@@ -223,12 +192,18 @@ impl<V: Venue, J: Journal + Drop> Held<V, J> {
             ..
         } = self;
         desk.stands();
-        if records.reserve(1).is_err() {
+        let before = records.len();
+        let Ok(()) = records.push(written) else {
             return Err(desk.refuse(event));
-        }
-        let done = desk.admit(log, pass, event)?;
+        };
+        let done = match desk.admit(log, pass, event) {
+            Ok(done) => done,
+            Err(error) => {
+                records.truncate(before);
+                return Err(error);
+            }
+        };
         write_down::<Brand>(register, admitted, pass, event);
-        records.push_reserved(written);
         book.add(share, 1);
         Ok(done)
     }
@@ -241,12 +216,12 @@ impl<V: Venue, J: Journal + Drop> Held<V, J> {
         pass: u16,
         share: &mut Share<V>,
         event: &Event,
-        written: Vec<u8>,
+        written: &[u8],
     ) -> Result<Done, SubmitError>
         requires log { log.now ≡ V.log }
         requires admitted { admitted.now ≡ V.admitted }
         requires share { 0 < share.old.parts }
-        requires written { written.items ≡ record_of event.now }
+        requires written { written.now ≡ record_of event.now }
         ensures history { OnOk result (self.new.desk.history
             ≡ self.old.desk.history ++ entry_of pass event.now ∷ []) }
         ensures err { OnErr result (self.new.desk.history ≡ self.old.desk.history) }
@@ -292,12 +267,12 @@ impl<V: Venue, J: Journal + Drop> Held<V, J> {
         pass: u16,
         share: &mut Share<V>,
         events: &[Event],
-        written: Vec<Vec<u8>>,
+        written: &Records,
     ) -> Entered
         requires log { log.now ≡ V.log }
         requires admitted { admitted.now ≡ V.admitted }
         requires share { 0 < share.old.parts }
-        requires written { record_texts written.items ≡ map record_of events.now }
+        requires written { written.now ≡ map record_of events.now }
         ensures history { self.new.desk.history
             ≡ self.old.desk.history ++ sent_by pass (take result.count events.now) }
         ensures place { 0 < result.count
@@ -308,7 +283,6 @@ impl<V: Venue, J: Journal + Drop> Held<V, J> {
         ensures parts { share.new.parts ≡ share.old.parts }
         ensures outright { AreAdmittedUpTo V.setup events.now result.count result.refused }
     {
-        let mut written = written;
         let mut last = Done {
             place: 0,
             first: 0,
@@ -316,8 +290,7 @@ impl<V: Venue, J: Journal + Drop> Held<V, J> {
         };
         for i in 0..events.len() {
             self.glance(events, i);
-            let text = replace(&mut written[i], Vec::new(self.alloc));
-            match self.enter(log, admitted, pass, share, &events[i], text) {
+            match self.enter(log, admitted, pass, share, &events[i], written.get(i)) {
                 Ok(done) => last = done,
                 Err(error) => {
                     return Entered {
@@ -353,7 +326,7 @@ impl<V: Venue, J: Journal + Drop> Held<V, J> {
         let keeper = keeper.take()?;
         desk.stands();
         desk.seal();
-        let records = replace(records, Vec::new(*alloc));
+        let records = replace(records, Records::new(*alloc));
         Some(Flight {
             keeper,
             records,

@@ -7,8 +7,9 @@ ghost use Rattle.hx_journal.specs.Crashes.{Leaves};
 ghost use Rattle.hx_journal.specs.Records.{IsRecord};
 ghost use Rattle.hx_desk.specs.Entries.{restored};
 ghost use Rattle.hx_desk.specs.Known.{history_of};
-ghost use Rattle.hx_engine.specs.Journals.{unspoken, lines, record_texts};
+ghost use Rattle.hx_engine.specs.Journals.{unspoken, lines};
 
+use crate::spelled::Records;
 use crate::venue::Venue;
 use hx_blog::{Log, NamesEntries, Receipt, Writer};
 use hx_desk::Entry;
@@ -51,19 +52,19 @@ pub(crate) fn write_before<N: NamesEntries<Entry>>(
 }
 
 // Appends records, and sees that they are kept.
-fn write_down<J: Journal>(journal: &mut J, records: &[Vec<u8>]) -> Result<(), JournalError>
+fn write_down<J: Journal>(journal: &mut J, records: &Records) -> Result<(), JournalError>
     requires opened { J.is_open journal.old ≡ true }
-    requires records { AllByRecursion IsRecord (record_texts records.now) }
+    requires records { AllByRecursion IsRecord (records.now) }
     ensures appended { OnOk result (J.appended journal.new
-        ≡ J.appended journal.old ++ record_texts records.now) }
+        ≡ J.appended journal.old ++ records.now) }
     ensures kept { OnOk result (J.kept journal.new ≡ J.appended journal.new) }
     ensures opened { OnOk result (J.is_open journal.new ≡ true) }
     ensures any_moment { Leaves (J.moment journal.old) (J.moment journal.new)
         (J.left_since journal.old) (J.left_since journal.new) (J.kept journal.old)
-        (J.appended journal.old ++ record_texts records.now) }
+        (J.appended journal.old ++ records.now) }
 {
-    for record in records {
-        journal.append(record)?;
+    for place in 0..records.len() {
+        journal.append(records.get(place))?;
     }
     journal.sync()
 }
@@ -96,12 +97,12 @@ impl<V: Venue, J: Journal + Drop> Keeper<V, J> {
     pub fn keep<N: NamesEntries<Entry>>(
         self,
         log: &Log<Entry>,
-        records: &[Vec<u8>],
+        records: &Records,
     ) -> Result<Keeper<V, J>, (J, JournalError)>
         requires log { log.now ≡ V.kept }
         requires silent { N.entries ≡ unspoken (history_of N.entries) }
         requires left { N.left ≡ [] }
-        requires records { record_texts records.now ≡ lines record_of (history_of N.entries) }
+        requires records { records.now ≡ lines record_of (history_of N.entries) }
         ensures kept { IfOk result (λ k.
             k.writer.published ≡ self.writer.published ++ N.entries) }
         ensures any_moment { IfOk result (λ k. Leaves (J.moment self.journal)

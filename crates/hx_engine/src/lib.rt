@@ -11,6 +11,7 @@
 #![tactic(auto)]
 
 mod answers;
+mod entered;
 mod exchange;
 mod flight;
 mod handed_in;
@@ -20,6 +21,7 @@ mod opening;
 mod pass;
 mod pass_count;
 mod replies;
+mod spelled;
 mod submitting;
 mod venue;
 

@@ -6,15 +6,16 @@ ghost use Rattle.std.specs.Bool.{OnTrue};
 ghost use Rattle.std.specs.List.{AllByRecursion};
 ghost use Rattle.hx_desk.specs.declared.fault.DeskError.TheVariants.{BadTime, NoMember};
 ghost use Rattle.hx_engine.specs.declared.answers.SubmitError.TheVariants.{Refused, Stopped};
-ghost use Rattle.hx_engine.specs.Journals.{record_texts};
 ghost use Rattle.hx_engine.specs.Passes.{placed};
 ghost use Rattle.hx_engine.specs.Exchanges.{Sends, SendsAll, SendsFirst, Enters, Settles, Stays, IsInOrder, AreAdmittedUpTo, IsRefusedOutright};
 
 use crate::answers::SubmitError;
+use crate::entered::Entered;
 use crate::exchange::Exchange;
 use crate::flight::Flight;
-use crate::held::{Entered, Held, ToldNews};
+use crate::held::{Held, ToldNews};
 use crate::pass::Pass;
+use crate::spelled::Records;
 use crate::venue::Venue;
 use hx_blog::Receipt;
 use hx_desk::{DeskError, Done, Entry};
@@ -52,14 +53,16 @@ fn one<T: Drop>(alloc: Global, item: T) -> Result<Vec<T>, NoMemory>
 }
 
 // The records of events.
-fn spell_all(alloc: Global, events: &[Event]) -> Result<Vec<Vec<u8>>, NoMemory>
-    ensures { IfOk result (λ written. record_texts written.items ≡ map record_of events.now) }
+fn spell_all(alloc: Global, events: &[Event]) -> Result<Records, NoMemory>
+    ensures { IfOk result (λ written. written ≡ map record_of events.now) }
 {
-    let mut written = Vec::with_capacity(alloc, events.len())?;
+    let bytes = events.len().saturating_mul(USUAL_RECORD);
+    let mut written = Records::with_capacity(alloc, events.len(), bytes)?;
+    let mut record = Vec::with_capacity(alloc, USUAL_RECORD)?;
     for event in events {
-        let mut record = Vec::with_capacity(alloc, USUAL_RECORD)?;
+        record.clear();
         write_record(alloc, &mut record, event)?;
-        written.push(record)?;
+        written.push(&record)?;
     }
     Ok(written)
 }
@@ -93,7 +96,7 @@ impl<V: Venue, J: Journal + Drop> Exchange<V, J> {
             (pass.new.waiting ≡ pass.old.waiting) ⊎ (e ≡ Stopped)) }
         ensures outright { IsRefusedOutright V.setup event.now result }
     {
-        let Ok(copy) = event.copy(self.alloc) else {
+        let Ok(copy) = event.copy() else {
             return Err(self.refuse(rt, &mut pass.knows, &mut pass.entered, event, false));
         };
         let Ok(events) = one(self.alloc, copy) else {
@@ -246,13 +249,13 @@ impl<V: Venue, J: Journal + Drop> Exchange<V, J> {
         entered: &mut Receipt<Entry>,
         share: &mut Share<V>,
         events: &[Event],
-        written: Vec<Vec<u8>>,
+        written: Records,
     ) -> Entered
         requires some { 0 < length events.now }
         requires knows { knows.old.log ≡ V.log }
         requires entered { entered.old.log ≡ V.admitted }
         requires share { 0 < share.old.parts }
-        requires written { record_texts written.items ≡ map record_of events.now }
+        requires written { written ≡ map record_of events.now }
         ensures entered { 0 < result.count → Enters V.setup number (take result.count events.now)
             knows.old.known entered.new.known result.last }
         ensures knows { knows.new ≡ knows.old }
@@ -273,7 +276,7 @@ impl<V: Venue, J: Journal + Drop> Exchange<V, J> {
         let known = knows.again(&self.log);
         held.desk.confirm(&self.log, known);
         held.desk.stands();
-        let mut made = held.enter_all(&self.log, &self.admitted, number, share, events, written);
+        let mut made = held.enter_all(&self.log, &self.admitted, number, share, events, &written);
         held.note(&self.admitted, entered);
         let (log, admitted, kept) = (&self.log, &self.admitted, &self.kept);
         let seen = held.desk.feed_count();

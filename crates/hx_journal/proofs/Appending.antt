@@ -1,7 +1,7 @@
 -- What a journal's calls do to its records.
 use Rattle.std.proofs.Common.{◌≡◌, inl, inr, ⊎_elim, ℕ, true, false, ◌+◌, List, [], ◌∷◌, ◌++◌, length, refl, ap, sym, ◌∙◌, subst, arith, append_assoc, length-append}
 use Rattle.std.proofs.lemmas.List.{append-nil}
-use Rattle.hx_journal.specs.Device.{LeavesOnly}
+use Rattle.hx_disk.specs.Device.{LeavesOnly}
 use Rattle.hx_journal.specs.Lines.{lines_of}
 use Rattle.hx_journal.specs.Records.{is_mark, records_of, sealed, recovered}
 use Rattle.hx_journal.specs.Crashes.{IsBetween, Leaves}
@@ -9,17 +9,6 @@ use Rattle.hx_journal.specs.Files.{LineFileState, stored, appended, HasFromTo, H
 use Rattle.hx_journal.specs.Blocks.{left_of}
 use Rattle.hx_journal.proofs.Prefixes.{prefix_self, prefix_trans}
 use Rattle.hx_journal.proofs.Sealing.{recovers_between, keeps_sealed, sealed_prefix, sealed_mark, one_record, no_record, records_of-append, prefix_records}
-
--- a record more
-pub record_added : (stored waiting : List (List ℕ)) (bytes : List ℕ) → is_mark bytes ≡ false → records_of (stored ++ (waiting ++ bytes ∷ [])) ≡ records_of (stored ++ waiting) ++ bytes ∷ []
-record_added stored waiting bytes is =
-    ap records_of (sym (append_assoc stored waiting (bytes ∷ [])))
-    ∙ records_of-append (stored ++ waiting) (bytes ∷ [])
-    ∙ ap (λ (l : List (List ℕ)). records_of (stored ++ waiting) ++ l) (one_record bytes is)
-
-pub still_records : (waiting : List (List ℕ)) (bytes : List ℕ) → is_mark bytes ≡ false → records_of waiting ≡ waiting → records_of (waiting ++ bytes ∷ []) ≡ waiting ++ bytes ∷ []
-still_records waiting bytes is so_far =
-    records_of-append waiting (bytes ∷ []) ∙ ap (λ (l : List (List ℕ)). l ++ records_of (bytes ∷ [])) so_far ∙ ap (λ (l : List (List ℕ)). waiting ++ l) (one_record bytes is)
 
 -- a mark more: no record, and the blocks are whole
 pub mark_added : (stored waiting : List (List ℕ)) (mark : List ℕ) → is_mark mark ≡ true → records_of (stored ++ (waiting ++ mark ∷ [])) ≡ records_of (stored ++ waiting)
@@ -48,13 +37,6 @@ in_records moment left_since old new P least most so_far so = record {
       ⊎_elim (λ past. inl (left.0, past, left.2)) (λ p. inr (subst (λ (r : List (List ℕ)). IsBetween least r most) (sym left.2) (so left.0 p)))
       (so_far.before t left.0 le left.1);
 }
-
--- where nothing is done
-pub same_device : {D : Type 0} (moment : D → ℕ) (left_since : D → ℕ → List ℕ → Type 0) (old new : D) (least most : List (List ℕ)) → new ≡ old
-    → Leaves (moment old) (moment new) (left_of (left_since old)) (left_of (left_since new)) least most
-same_device moment left_since old new least most is =
-    subst (λ (d : _). Leaves (moment old) (moment d) (left_of (left_since old)) (left_of (left_since d)) least most) (sym is)
-    (record { later = omega arith; each = λ t records le left. inl left })
 
 -- what stands is between what is kept and what was appended
 pub stands_between : (file : List ℕ) (waiting : List (List ℕ)) → sealed (lines_of file) ≡ lines_of file → IsBetween (records_of (lines_of file)) (recovered file) (records_of (lines_of file ++ waiting))

@@ -35,9 +35,6 @@ pub record Copied (text rest tape : List ℕ) (count : ℕ) : Type 0 where
   pub tape_is : tape ++ text_of (records_of (lines_of rest)) ≡ text_of (records_of (lines_of text))
   pub count_is : count + length (records_of (lines_of rest)) ≡ length (records_of (lines_of text))
 
-pub nothing_copied : (text : List ℕ) → text ≡ text_of (lines_of text) → Copied text text [] 0
-nothing_copied text whole = record { whole = whole; tape_is = refl; count_is = zero-add (length (records_of (lines_of text))) }
-
 -- the next line, with its record or without
 next_lines : (rest line behind : List ℕ) → rest ≡ text_of (lines_of rest) → Lacks 10 line → rest ≡ line ++ 10 ∷ behind → (lines_of rest ≡ line ∷ lines_of behind) × (behind ≡ text_of (lines_of behind))
 next_lines rest line behind whole lacks cut =

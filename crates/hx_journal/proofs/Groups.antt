@@ -1,6 +1,6 @@
 -- What each of the calls of a device leaves in a run of them.
 use Rattle.std.proofs.Common.{◌≡◌, ℕ, ◌≤◌, List, [], ◌∷◌, ◌++◌, length, take, get_or, refl, ap, sym, ◌∙◌, subst, arith, append_assoc, length-take}
-use Rattle.hx_journal.specs.Device.{Mixed, Cut, Follows, Only}
+use Rattle.hx_disk.specs.Device.{Mixed, Cut, Follows, Only}
 use Rattle.hx_journal.specs.Lines.{IsLine, text_of, lines_of}
 use Rattle.hx_journal.specs.Files.{IsAtRest, HasFromTo, HasThose}
 use Rattle.hx_journal.proofs.Prefixes.{prefix_self}

@@ -53,10 +53,6 @@ no_day line rest front behind session day setup tag cut first second word is =
     let here = one_cut front session behind (day ++ 32 ∷ setup) first (word_lacks session word) (sym cut ∙ behind_tags rest session day setup (sym tag ∙ is)) in
     has_space day setup (subst (Lacks 32) here.1 second)
 
-pub parts_are : (line rest session behind day setup : List ℕ) → line ≡ 35 ∷ 104 ∷ 120 ∷ 49 ∷ 32 ∷ rest → rest ≡ session ++ 32 ∷ behind → behind ≡ day ++ 32 ∷ setup → line ≡ head_of session day setup
-parts_are line rest session behind day setup tag first second =
-    tag ∙ ap (λ (l : List ℕ). 35 ∷ 104 ∷ 120 ∷ 49 ∷ 32 ∷ l) (first ∙ ap (λ (l : List ℕ). session ++ 32 ∷ l) second) ∙ sym (tag_and_rest session day setup)
-
 -- the parts of a line are its words, where it has such
 pub record SameParts (a b c session day setup : List ℕ) : Type 0 where
   pub first : a ≡ session

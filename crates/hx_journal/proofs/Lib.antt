@@ -5,7 +5,6 @@ pub mod Torn
 pub mod Moments
 pub mod Groups
 pub mod Measuring
-pub mod Noting
 pub mod Copying
 pub mod Spelling
 pub mod Appending

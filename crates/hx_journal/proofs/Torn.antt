@@ -3,7 +3,7 @@ use Rattle.std.proofs.Common.{◌≡◌, ◌⊎◌, inl, inr, ⊎_elim, ℕ, zer
 use Rattle.std.proofs.lemmas.List.{append-nil, take_at, take_all, get_or-take, get_or-drop, get_or_append_left, get_or-append_right, get_or_past}
 use Rattle.std.proofs.lemmas.Bool.{cases_lt}
 use mathlib.Core.List.{IsPrefix}
-use Rattle.hx_journal.specs.Device.{Holds, Mixed, Cut, byte}
+use Rattle.hx_disk.specs.Device.{Holds, Mixed, Cut, byte}
 use Rattle.hx_journal.specs.Lines.{AreLines, text_of, lines_of}
 use Rattle.hx_journal.specs.Crashes.{IsBetween}
 use Rattle.hx_journal.specs.Files.{IsAtRest}

@@ -1,7 +1,7 @@
 -- What a journal tells of a device's error.
 use Rattle.std.specs.Prelude.{◌≡◌, ◌<◌, ℕ}
-use Rattle.hx_journal.specs.declared.device.DeviceError.{DeviceError}
-use Rattle.hx_journal.specs.declared.device.DeviceError.TheVariants as device
+use Rattle.hx_disk.specs.declared.device.DeviceError.{DeviceError}
+use Rattle.hx_disk.specs.declared.device.DeviceError.TheVariants as device
 use Rattle.hx_journal.specs.declared.error.JournalError.{JournalError}
 use Rattle.hx_journal.specs.declared.error.JournalError.TheVariants as told
 

@@ -1,6 +1,6 @@
 -- What a file of lines is to a contract, and what it keeps.
 use Rattle.std.specs.Prelude.{◌≡◌, ℕ, ◌+◌, ◌^◌, ◌≤◌, List, ◌++◌, length, take, Bool}
-use Rattle.hx_journal.specs.Device.{byte, Only}
+use Rattle.hx_disk.specs.Device.{byte, Only}
 use Rattle.hx_journal.specs.Lines.{lines_of, text_of}
 use Rattle.hx_journal.specs.Crashes.{IsBetween}
 

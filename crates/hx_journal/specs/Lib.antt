@@ -1,5 +1,3 @@
-pub mod Device
-pub mod Calls
 pub mod Lines
 pub mod Records
 pub mod Marks

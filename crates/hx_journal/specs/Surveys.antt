@@ -1,6 +1,6 @@
 -- What is told of a journal's file that is not opened.
 use Rattle.std.specs.Prelude.{◌≡◌, ◌≢◌, ℕ, suc, ◌+◌, ◌≤◌, List, length, take, filter, Option, None, Some}
-use Rattle.hx_journal.specs.Device.{byte}
+use Rattle.hx_disk.specs.Device.{byte}
 use Rattle.hx_journal.specs.Records.{is_mark}
 
 -- a file up to its damage, where it has one

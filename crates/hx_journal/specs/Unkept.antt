@@ -1,6 +1,6 @@
 -- The calls of a journal that keeps nothing on a disk.
 use Rattle.std.specs.Prelude.{ℕ, zero, suc, List, [], ◌∷◌, ◌++◌}
-use Rattle.hx_journal.specs.Calls.{Event}
+use Rattle.hx_disk.specs.Calls.{Event}
 
 -- the records that were appended, by calls of the kind 0
 abbrev pub appended_in : List Event → List (List ℕ)

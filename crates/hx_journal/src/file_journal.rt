@@ -1,6 +1,6 @@
 //! The journal of a day in a file.
 ghost use Rattle.std.specs.Prelude.{◌≡◌, length, true, false, IfErr, OnOk, OnErr, IsErrOf};
-ghost use Rattle.hx_journal.specs.Device.{LeavesOnly};
+ghost use Rattle.hx_disk.specs.Device.{LeavesOnly};
 ghost use Rattle.hx_journal.specs.Errors.{IsCause};
 ghost use Rattle.hx_journal.specs.Records.{records_of, ReadsAlike};
 ghost use Rattle.hx_journal.specs.Files.{stored, appended};

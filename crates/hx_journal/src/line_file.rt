@@ -1,6 +1,6 @@
 //! A file of lines, which outlives a crash.
 ghost use Rattle.std.specs.Prelude.{◌≡◌, ◌+◌, ◌<◌, ◌≤◌, ◌^◌, ◌++◌, [], ◌∷◌, List, ℕ, length, take, slice_index, true, false, IfOk, IfErr, OnOk, OnErr, IsErrOf, vec_len};
-ghost use Rattle.hx_journal.specs.Device.{Only, LeavesOnly};
+ghost use Rattle.hx_disk.specs.Device.{Only, LeavesOnly};
 ghost use Rattle.hx_journal.specs.Lines.{IsLine, text_of, lines_of};
 ghost use Rattle.hx_journal.specs.Errors.{IsCause};
 ghost use Rattle.hx_journal.specs.Files.{IsAtRest, stored, appended, HasBetween, HasThose, HasFromTo};

@@ -1,7 +1,7 @@
 //! How a journal is opened: its blocks are read and checked, and a torn end is cut off.
 ghost use Rattle.std.specs.Prelude.{◌≡◌, ◌↔◌, ◌≤◌, ◌^◌, [], ◌∷◌, List, ℕ, length, take, true, IsTrue, IfOk, IfErr, OnOk};
 ghost use mathlib.Core.List.{IsPrefix};
-ghost use Rattle.hx_journal.specs.Device.{Only, LeavesOnly};
+ghost use Rattle.hx_disk.specs.Device.{Only, LeavesOnly};
 ghost use Rattle.hx_journal.specs.Lines.{text_of, lines_of};
 ghost use Rattle.hx_journal.specs.Records.{sealed, recovered, ReadsAlike};
 ghost use Rattle.hx_journal.specs.Errors.{IsCause};

@@ -1,7 +1,7 @@
 //! A cut of what stands behind the last whole block.
 ghost use Rattle.std.specs.Prelude.{◌≡◌, ◌↔◌, ◌+◌, ◌<◌, ◌≤◌, length, take, IfOk, IfSome, IsSome, IsNone};
 ghost use mathlib.Core.List.{IsPrefix};
-ghost use Rattle.hx_journal.specs.Device.{Only, LeavesOnly};
+ghost use Rattle.hx_disk.specs.Device.{Only, LeavesOnly};
 ghost use Rattle.hx_journal.specs.Lines.{text_of, lines_of};
 ghost use Rattle.hx_journal.specs.Records.{sealed, recovered};
 ghost use Rattle.hx_journal.specs.Surveys.{before_damage};

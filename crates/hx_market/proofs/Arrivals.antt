@@ -24,13 +24,13 @@ use Rattle.hx_market.specs.declared.effect.Replacement.{Replacement}
 use Rattle.hx_market.specs.declared.effect.Effect.TheVariants.{Accept, Replace}
 use Rattle.hx_market.specs.declared.commit.execute.Arriving.{Arriving}
 use Rattle.hx_market.specs.Arrivals.{CanArrive, CanRest, arrive_in, filled}
-use Rattle.hx_market.specs.Bounds.{CanNote, CanNoteAll, chains_by, noted_if}
+use Rattle.hx_bounds.specs.Bounds.{CanNote, CanNoteAll, chains_by, noted_if}
 use Rattle.hx_market.specs.Effects.{order_of_enter, replacement_order, incoming_of_enter, incoming_of_replacement, open_shares}
 use Rattle.hx_market.specs.MarketModel.{MarketState, market_state_of}
 use Rattle.hx_market.specs.OrderKeys.{AreKeyed, AreBefore}
 use Rattle.hx_market.specs.Prepared.{CanCommit}
-use Rattle.hx_market.proofs.Bounds.ChainShares.{noted-place}
-use Rattle.hx_market.proofs.Bounds.UsedTokens.{used-last, same-name}
+use Rattle.hx_bounds.proofs.ChainShares.{noted-place}
+use Rattle.hx_bounds.proofs.UsedTokens.{used-last, same-name}
 use Rattle.hx_market.proofs.OrderKeys.{before_left, before_new}
 use Rattle.hx_market.proofs.Plans.{length-done}
 

@@ -24,8 +24,8 @@ use Rattle.hx_rules.specs.Hours.{is_over}
 use Rattle.hx_market.specs.OrderKeys.{AreKeyed}
 use Rattle.hx_market.specs.Effects.{IsOnly}
 use Rattle.hx_market.specs.Expiries.{order_place, order_at, one_or_none, orders_at, IsEntered, AreInOrder, AreEntered}
-use Rattle.hx_market.proofs.Bounds.ChainShares.{name-self}
-use Rattle.hx_market.proofs.Bounds.UsedTokens.{same-name}
+use Rattle.hx_bounds.proofs.ChainShares.{name-self}
+use Rattle.hx_bounds.proofs.UsedTokens.{same-name}
 use Rattle.hx_market.proofs.OrderKeys.{StandsUsed, stand_used, used_place, place-unused}
 
 -- What stands at a place.

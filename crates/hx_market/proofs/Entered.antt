@@ -26,7 +26,7 @@ use Rattle.hx_rules.specs.Removal.{others, less, lessened}
 use Rattle.hx_rules.specs.Hours.{is_over}
 use Rattle.hx_laws.proofs.History.CoherentMarkets.{IsOfAnyShares, matched_of}
 use Rattle.hx_laws.proofs.History.CoherentSteps.{all_lessened}
-use Rattle.hx_market.specs.Bounds.{ArePlaced}
+use Rattle.hx_bounds.specs.Bounds.{ArePlaced}
 use Rattle.hx_market.specs.declared.effect.Due.{Due}
 use Rattle.hx_market.specs.declared.effect.Due.TheVariants.{Over, ByCode}
 use Rattle.hx_market.specs.declared.effect.Effect.{Effect}
@@ -34,8 +34,8 @@ use Rattle.hx_market.specs.declared.effect.Effect.TheVariants.{Nothing, Reject, 
 use Rattle.hx_market.specs.Effects.{IsAbout, SuitsTokens, is_due, order_of_enter, replacement_order, outcome_of}
 use Rattle.hx_market.specs.Expiries.{order_place, IsEntered, AreInOrder, AreEntered, IsEndEntered, until_of, over_until}
 use Rattle.hx_day.specs.Ends.{StaysAfter, StaysElsewhere}
-use Rattle.hx_market.proofs.Bounds.ChainShares.{first, StandsIn, split}
-use Rattle.hx_market.proofs.Bounds.UsedTokens.{same-name}
+use Rattle.hx_bounds.proofs.ChainShares.{first, StandsIn, split}
+use Rattle.hx_bounds.proofs.UsedTokens.{same-name}
 use Rattle.hx_market.proofs.OrderKeys.{place-used}
 
 -- The order in which tokens were used.

@@ -1,4 +1,4 @@
-pub mod Bounds
+pub mod AfterEffect
 pub mod OrderKeys
 pub mod OrdersByToken
 pub mod Replacements

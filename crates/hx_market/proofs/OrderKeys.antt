@@ -19,7 +19,7 @@ use Rattle.hx_members.proofs.ChainLaws.{place_of-pushed, place_of-new, slice_get
 use Rattle.hx_rules.specs.Orders.{is_called}
 use Rattle.hx_market.specs.OrderKeys.{AreKeyed, AreBefore}
 use Rattle.hx_market.specs.Effects.{IsOnly, confirmed}
-use Rattle.hx_market.proofs.Bounds.UsedTokens.{same-name}
+use Rattle.hx_bounds.proofs.UsedTokens.{same-name}
 
 -- An order is found by the key at its token.
 

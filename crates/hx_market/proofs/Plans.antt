@@ -25,7 +25,7 @@ use Rattle.hx_rules.specs.Removal.{others, deleted, taken_off}
 use Rattle.hx_rules.specs.Replace.{replaced_of, is_one_display}
 use Rattle.hx_market.specs.Effects.{incoming_of_enter, order_of_enter, accepted_by, IsOnly, open_shares, incoming_of_replacement, replacement_order, replaced_by_effect}
 use Rattle.hx_market.proofs.OrdersByToken.{others_lives}
-use Rattle.hx_market.proofs.Bounds.UsedTokens.{same-name}
+use Rattle.hx_bounds.proofs.UsedTokens.{same-name}
 use Rattle.hx_itch.specs.declared.message.Feed.TheVariants.{OrderReplace, OrderCancel, OrderDelete}
 use Rattle.hx_market.specs.Prepared.{maker_of, makers_and, arrival_members, arrival_count, one_if, replaced_count}
 

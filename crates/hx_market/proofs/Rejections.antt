@@ -60,13 +60,6 @@ known_in_range setup n h = at (nat_le 1 n && nat_le n 4095) refl h
     at true e h = let p = and_parts (nat_le 1 n) (nat_le n 4095) e in (low n p.0, high n p.1)
     at false e h = absurd (let z : true ≡ false = h in cc)
 
-pub known_member_of : (setup : Setup) (n : ℕ) → is_none (known_member setup n) ≡ false → is_none (member_of setup n) ≡ false
-known_member_of setup n h = at (nat_le 1 n && nat_le n 4095) h
-  where
-    at : (b : Bool) → is_none (if b then member_of setup n else None) ≡ false → is_none (member_of setup n) ≡ false
-    at true h = h
-    at false h = absurd (let z : true ≡ false = h in cc)
-
 -- nothing is told of a token that is not used
 pub unused_of : (b : Bool) (s : TokenState) → is_some (if b then Some s else None) ≡ false → b ≡ false
 unused_of true s h = h

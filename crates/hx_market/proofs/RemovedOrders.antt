@@ -85,12 +85,6 @@ pub next_out : (p : Live → Bool) (items : List Live) (i : ℕ) (live : Live) (
 next_out p items i live xs l e d h =
     takes_out p live (drop (i + 1) items) xs d (ap (λ (z : Live). z ∷ drop (i + 1) items) e ∙ sym (drop_more items i live l) ∙ h)
 
--- at the end of the list, or in one with orders that were met
-pub differ_at_end : (after : Option Key) (xs : List Live) → IfSome after (λ k. KeysDiffer xs) → None ≡ next_by_time after xs → KeysDiffer xs
-differ_at_end None [] h e = tt
-differ_at_end None (x ∷ xs) h e = absurd (let z : ◌≡◌ {A = Option Key} None (Some x.key) = e in cc)
-differ_at_end (Some k) xs h e = h
-
 pub filter-step : {X : Type 0} (p : X → Bool) (x : X) (xs : List X) → filter p (x ∷ []) ++ filter p xs ≡ filter p (x ∷ xs)
 filter-step p x xs = at (p x)
   where

@@ -4,7 +4,7 @@ use Rattle.hx_rules.specs.Markets.{Market}
 use Rattle.hx_day.specs.Ends.{StaysElsewhere}
 use Rattle.hx_expiries.specs.declared.entry.Entry.{Entry}
 use Rattle.hx_expiries.specs.Expiries.{Holds}
-use Rattle.hx_market.specs.Bounds.{IsSound}
+use Rattle.hx_bounds.specs.Bounds.{IsSound}
 use Rattle.hx_market.specs.Expiries.{AreEntered}
 use Rattle.hx_market.proofs.Entered.{entered_kept, entered_elsewhere}
 

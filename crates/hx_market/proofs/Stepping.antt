@@ -8,15 +8,15 @@ use Rattle.hx_rules.specs.declared.event.Event.{Event}
 use Rattle.hx_rules.specs.Markets.{Market}
 use Rattle.hx_rules.specs.Steps.{step, with_record}
 use Rattle.hx_market.specs.declared.next_step.NextStep.{NextStep}
-use Rattle.hx_market.specs.Bounds.{IsSound}
+use Rattle.hx_bounds.specs.Bounds.{IsSound}
 use Rattle.hx_market.specs.Effects.{outcome_of}
 use Rattle.hx_market.specs.Expiries.{AreEntered, over_until}
 use Rattle.hx_market.specs.MarketModel.{MarketState}
 use Rattle.hx_market.specs.Prepared.{CanCommit, IsReady}
 use Rattle.hx_market.proofs.Entered.{entered_outcome}
 use Rattle.hx_market.proofs.PreparedCounts.{step_is}
-use Rattle.hx_market.proofs.Bounds.AfterEnter.{recording}
-use Rattle.hx_market.proofs.Bounds.AfterEffect.{in_range, fits_effect, sound_outcome}
+use Rattle.hx_bounds.specs.Changes.{recording}
+use Rattle.hx_market.proofs.AfterEffect.{in_range, fits_effect, sound_outcome}
 
 -- the same state, but for the counts
 abbrev pub counted : List ℕ → MarketState → MarketState

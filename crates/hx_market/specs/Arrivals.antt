@@ -15,7 +15,7 @@ use Rattle.hx_market.specs.declared.effect.AcceptedEnter.{AcceptedEnter}
 use Rattle.hx_market.specs.declared.effect.Replacement.{Replacement}
 use Rattle.hx_market.specs.Effects.{order_of_enter, replacement_order}
 use Rattle.hx_rules.specs.Orders.{is_immediate}
-use Rattle.hx_market.specs.Bounds.{CanNote, CanNoteAll, chains_by, noted_if}
+use Rattle.hx_bounds.specs.Bounds.{CanNote, CanNoteAll, chains_by, noted_if}
 use Rattle.hx_market.specs.MarketModel.{MarketState}
 use Rattle.hx_market.specs.OrderKeys.{AreBefore}
 

@@ -1,5 +1,4 @@
 pub mod OrderKeys
-pub mod Bounds
 pub mod Effects
 pub mod MarketModel
 pub mod Expiries

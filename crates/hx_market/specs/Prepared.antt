@@ -11,7 +11,7 @@ use Rattle.hx_match.specs.Rules.{AreFills}
 use Rattle.hx_members.specs.Setups.{Setup}
 use Rattle.hx_members.specs.Chains.{Used, entered_of, entered_used, entered_chain, replacing_used, IsEnteredAt}
 use Rattle.hx_members.specs.declared.name.Name.{Name}
-use Rattle.hx_market.specs.Bounds.{CanAccept}
+use Rattle.hx_bounds.specs.Bounds.{CanAccept}
 use Rattle.hx_day.specs.Day.{MayRecord}
 use Rattle.hx_rules.specs.declared.event.Event.{Event}
 use Rattle.hx_market.specs.declared.next_step.NextStep.{NextStep}

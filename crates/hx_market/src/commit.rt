@@ -5,7 +5,7 @@ ghost use Rattle.std.specs.Vec.{vec_len, vec_capacity};
 ghost use Rattle.std.specs.List.{AllByRecursion};
 ghost use Rattle.hx_itch.specs.Message.{feed_time};
 ghost use Rattle.hx_rules.specs.Steps.{step};
-ghost use Rattle.hx_market.specs.Bounds.{IsSound};
+ghost use Rattle.hx_bounds.specs.Bounds.{IsSound};
 ghost use Rattle.hx_market.specs.Expiries.{AreEntered};
 ghost use Rattle.hx_market.specs.declared.effect.Effect.TheVariants.{Reject};
 ghost use Rattle.hx_market.specs.Effects.{IsUnused, outcome_of};

@@ -54,7 +54,7 @@ impl<B: Book> Model for Market<B> {
     ghost use Rattle.std.specs.Prelude.{◌≡◌, Some, length};
     ghost use Rattle.std.specs.Option.{option_map};
     ghost use Rattle.hx_market.specs.Room.{HasRoom, IsEmpty};
-    ghost use Rattle.hx_market.specs.Bounds.{IsSound};
+    ghost use Rattle.hx_bounds.specs.Bounds.{IsSound};
     ghost use Rattle.hx_market.specs.Expiries.{AreEntered};
     ghost use Rattle.hx_market.specs.MarketModel.{Planned, Seen, with_step};
     ghost use Rattle.hx_market.specs.Prepared.{IsPlanned};

@@ -4,7 +4,7 @@ ghost use Rattle.hx_tape_lines.specs.Text.{record_of};
 ghost use Rattle.hx_desk.specs.Entries.{restored};
 ghost use Rattle.hx_engine.specs.Journals.{lines};
 ghost use Rattle.hx_engine.specs.Opening.{IsNewLog, most_passes};
-ghost use Rattle.hx_journal.specs.Calls.{seen_of};
+ghost use Rattle.hx_disk.specs.Calls.{seen_of};
 ghost use Rattle.hx_journal.specs.Files.{stored, appended};
 ghost use Rattle.hx_journal.specs.Records.{records_of};
 

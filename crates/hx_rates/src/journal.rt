@@ -1,7 +1,7 @@
 //! Groups of records of 115 bytes through a journal: each group is appended, and brought to the disk by one write and
 //! one sync.
 ghost use Rattle.std.specs.Prelude.{◌≡◌, [], true, IfOk};
-ghost use Rattle.hx_journal.specs.Calls.{seen_of};
+ghost use Rattle.hx_disk.specs.Calls.{seen_of};
 ghost use Rattle.hx_journal.specs.Files.{stored, appended};
 ghost use Rattle.hx_journal.specs.Records.{records_of};
 

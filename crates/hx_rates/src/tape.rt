@@ -1,7 +1,7 @@
 //! The events of a tape, and the setup of its day.
 
 use crate::failure::Failure;
-use hx_market::Event;
+use hx_market::{Bytes, Event};
 use hx_members::Setup;
 use hx_tape_lines::read_event;
 use hx_text::split_once;
@@ -34,7 +34,7 @@ pub fn read_tape(alloc: Global, input: &mut impl Read) -> Result<Vec<Event>, Fai
     let mut events = Vec::new(alloc);
     let mut rest = text.as_slice();
     while let Some((line, others)) = split_once(rest, b'\n') {
-        let Some(event) = read_event(Vec::new(alloc), line)? else {
+        let Some(event) = read_event(alloc, Bytes::none(), line)? else {
             return Err(Failure::Tape);
         };
         events.push(event)?;
@@ -50,7 +50,7 @@ pub fn read_tape(alloc: Global, input: &mut impl Read) -> Result<Vec<Event>, Fai
 pub fn copy_all(alloc: Global, events: &[Event]) -> Result<Vec<Event>, NoMemory> {
     let mut copies = Vec::with_capacity(alloc, events.len())?;
     for event in events {
-        copies.push(event.copy(alloc)?)?;
+        copies.push(event.copy()?)?;
     }
     Ok(copies)
 }

@@ -7,11 +7,11 @@ use Rattle.std.proofs.lemmas.List.Elements.{All-head, All-tail}
 use Rattle.hex.specs.Hex.{encode_lower}
 use Rattle.hx_text.specs.Cuts.{Lacks}
 use Rattle.hx_text.proofs.Splits.{same_split, none_split}
-use Rattle.hx_tape_lines.specs.Text.{Entry as Line, IsEntry, line}
+use Rattle.hx_tape_lines.specs.Text.{Entry as Line, IsEntry, line, tape}
 use Rattle.hx_tape_lines.proofs.Lines.{hex_length}
 use Rattle.hx_tape_lines.proofs.OneLine.{line_same}
-use Rattle.hx_replay.specs.declared.fault.Kind.{Kind}
-use Rattle.hx_replay.specs.Run.{Progress, tape, after, after_all, check_of, AreEvents, BeginsBadly, FailsAs}
+use Rattle.hx_tape_lines.specs.declared.fault.Kind.{Kind}
+use Rattle.hx_replay.specs.Run.{Progress, after, after_all, check_of, AreEvents, BeginsBadly, FailsAs}
 use Rattle.hx_replay.proofs.OneReading.{line_no_feed, tape-cons}
 
 -- ---- lengths

@@ -5,16 +5,16 @@ use Rattle.std.specs.Io.KnownBytes.{Consumes, IsAtEnd}
 use Rattle.hx_members.specs.Setups.{Setup}
 use Rattle.hx_rules.specs.declared.event.Event.{Event}
 use Rattle.hx_laws.specs.Recorded.{AreRecorded}
-use Rattle.hx_tape_lines.specs.Text.{Entry as Line, IsEntry, record_of}
+use Rattle.hx_tape_lines.specs.Text.{Entry as Line, IsEntry, record_of, tape}
 use Rattle.hx_tape_lines.specs.Events.{event_of, IsKnown}
 use Rattle.hx_desk.specs.declared.entry.Entry.{Entry}
 use Rattle.hx_desk.specs.Entries.{events_of}
 use Rattle.hx_desk.proofs.Standing.{published_is}
 use Rattle.hx_engine.specs.Journals.{lines}
-use Rattle.hx_replay.specs.declared.fault.Kind.{Kind}
+use Rattle.hx_tape_lines.specs.declared.fault.Kind.{Kind}
 use Rattle.hx_replay.specs.declared.fault.TapeError.TheVariants as fault
 use Rattle.hx_replay.specs.Whole.{StopsAt}
-use Rattle.hx_replay.specs.Run.{Progress, start, after, after_all, tape, output_all, AreEvents}
+use Rattle.hx_replay.specs.Run.{Progress, start, after, after_all, output_all, AreEvents}
 use Rattle.hx_replay.specs.Seen.{texts_of, output_lines}
 use Rattle.hx_replay.specs.Grep.{lines_with, of_member, lines_of_feed}
 use Rattle.hx_replay.proofs.NoTrace.{texts_are}

@@ -7,17 +7,17 @@ use Rattle.hx_units.specs.Limits.{member_numbers}
 use Rattle.hx_units.specs.Letters.{space, line_feed}
 use Rattle.hx_blog.specs.Feed.{feed}
 use Rattle.hx_members.specs.Setups.{Setup}
-use Rattle.hx_tape_lines.specs.Text.{Entry as Line, record_of}
+use Rattle.hx_tape_lines.specs.Text.{Entry as Line, record_of, tape}
 use Rattle.hx_laws.specs.Recorded.{AreRecorded}
 use Rattle.hx_desk.specs.declared.entry.Entry.{Entry}
 use Rattle.hx_desk.specs.Entries.{events_of, ledger}
 use Rattle.hx_desk.specs.Known.{known_replies}
 use Rattle.hx_engine.specs.Journals.{lines}
-use Rattle.hx_replay.specs.declared.fault.Kind.{Kind}
+use Rattle.hx_tape_lines.specs.declared.fault.Kind.{Kind}
 use Rattle.hx_replay.specs.declared.fault.TapeError.TheVariants as fault
 use Rattle.hx_replay.specs.declared.run.Counts.{Counts}
 use Rattle.hx_replay.specs.Whole.{ReplaysAll, StopsAt}
-use Rattle.hx_replay.specs.Run.{start, tape, output_all, AreEvents}
+use Rattle.hx_replay.specs.Run.{start, output_all, AreEvents}
 use Rattle.hx_replay.specs.Seen.{texts_of, output_lines}
 use Rattle.hx_replay.specs.Grep.{lines_with, of_member, lines_of_feed}
 use Rattle.hx_recovery.specs.Recovery.{AreReadBack}

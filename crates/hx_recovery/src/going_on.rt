@@ -1,6 +1,6 @@
 //! How a day goes on from its journal.
 ghost use Rattle.std.specs.Prelude.{◌≡◌, map, true, IfOk};
-ghost use Rattle.hx_journal.specs.Calls.{seen_of};
+ghost use Rattle.hx_disk.specs.Calls.{seen_of};
 ghost use Rattle.hx_journal.specs.Files.{stored, appended};
 ghost use Rattle.hx_journal.specs.Lines.{text_of};
 ghost use Rattle.hx_journal.specs.Records.{records_of, recovered};
@@ -10,7 +10,7 @@ ghost use Rattle.hx_engine.specs.Journals.{lines};
 
 use hx_engine::{Journal, JournalError, Recovered};
 use hx_journal::{FileJournal, Head, Noted, OpenError, RawFile};
-use hx_market::Event;
+use hx_market::{Bytes, Event};
 use hx_tape_lines::read_event;
 use hx_text::split_once;
 use hx_units::NoMemory;
@@ -73,7 +73,7 @@ fn events_of<P: Progress>(
     let mut events = Vec::new(alloc);
     let mut rest = tape;
     while let Some((line, others)) = split_once(rest, b'\n') {
-        let Some(event) = read_event(Vec::new(alloc), line)? else {
+        let Some(event) = read_event(alloc, Bytes::none(), line)? else {
             return Err(no_event(events.len()));
         };
         events.push(event)?;

@@ -7,18 +7,15 @@ use Rattle.std.proofs.Math.Seq.{take-append_seam}
 use Rattle.hx_text.specs.Cuts.{Lacks}
 use Rattle.hx_replay.specs.declared.fault.TapeError.{TapeError}
 use Rattle.hx_replay.specs.declared.fault.TapeError.TheVariants as fault
-use Rattle.hx_replay.specs.Run.{Progress, tape, output_all, Plays, Replays, Stops, EndsBy, Faults, Writes, IsFront, IsFew}
-use Rattle.hx_replay.specs.Ahead.{Gathers, IsUnwritten}
+use Rattle.hx_replay.specs.Run.{Progress, output_all, Plays, Replays, Stops, EndsBy, Faults, Writes, IsFront, IsFew}
+use Rattle.hx_tape_lines.specs.Text.{tape}
+use Rattle.hx_replay.specs.Gathering.{Gathers, IsUnwritten}
 use Rattle.hx_replay.proofs.Runs.{grows, stops_at_line, events_counted, few_all, length-tape}
 
 -- ---- fronts
 
 pub front_itself : (xs : List ℕ) → IsFront xs xs
 front_itself xs = ([], sym (append-nil xs))
-
--- what was there before, by its length
-pub front_taken : (n : ℕ) (xs ys text : List ℕ) → n ≡ length xs → text ≡ ys → IsFront xs ys → take n text ≡ xs
-front_taken n xs ys text is same h = ap (λ (k : ℕ). take k text) is ∙ ap (λ (l : List ℕ). take (length xs) l) (same ∙ h.1) ∙ take-append_seam xs h.0
 
 -- ---- lines that are gathered
 

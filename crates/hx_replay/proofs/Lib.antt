@@ -11,16 +11,7 @@ pub mod OneReading
 pub mod OutputIsTold
 pub mod NoTrace
 pub mod Strikes
-pub mod Taken
-pub mod Leaving
 pub mod Texts
 pub mod StruckTapes
-pub mod Reading
 pub mod Spelled
 pub mod Marked
-pub mod Turning
-pub mod BehindTurns
-pub mod TurnLists
-pub mod TurnsOfPlayer
-pub mod Sending
-pub mod TurnEnds

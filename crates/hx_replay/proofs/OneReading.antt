@@ -9,8 +9,7 @@ use Rattle.std.proofs.lemmas.List.Elements.{All-append, All-cons}
 use Rattle.hex.specs.Hex.{encode_lower, is_hex_digit, IsBytes}
 use Rattle.hex.proofs.HexLemmas.{decode_of-encode_lower, decode_of-ok}
 use Rattle.hx_text.specs.Cuts.{Lacks}
-use Rattle.hx_tape_lines.specs.Text.{Entry, IsEntry, line}
-use Rattle.hx_replay.specs.Run.{tape}
+use Rattle.hx_tape_lines.specs.Text.{Entry, IsEntry, line, tape}
 use Rattle.hx_text.proofs.Splits.{same_split}
 use Rattle.hx_text.proofs.Numbers.{lacks-decimal}
 use Rattle.hx_tape_lines.proofs.Lines.{after_time}

@@ -6,13 +6,13 @@ use Rattle.std.proofs.lemmas.List.{append-nil, length-append, nil_from_length}
 use Rattle.std.proofs.Math.Seq.{drop-append_seam}
 use Rattle.hx_replay.specs.declared.fault.TapeError.{TapeError}
 use Rattle.hx_replay.specs.declared.fault.TapeError.TheVariants as fault
-use Rattle.hx_replay.specs.declared.fault.Kind.{Kind}
-use Rattle.hx_replay.specs.declared.fault.Kind.TheVariants as kinds
+use Rattle.hx_tape_lines.specs.declared.fault.Kind.{Kind}
+use Rattle.hx_tape_lines.specs.declared.fault.Kind.TheVariants as kinds
 use Rattle.hx_members.specs.Setups.{Setup, IsSetup}
 use Rattle.hx_text.specs.Cuts.{Lacks}
-use Rattle.hx_tape_lines.specs.Text.{Entry, longest_line}
+use Rattle.hx_tape_lines.specs.Text.{Entry, longest_line, tape}
 use Rattle.hx_tape_lines.specs.Events.{event_of}
-use Rattle.hx_replay.specs.Run.{Progress, tape, after_all, output_all, start, counts_of, FailsAs, IsFew, AreEvents, Replays, Stops, EndsBy, BeginsBadly, IsFront}
+use Rattle.hx_replay.specs.Run.{Progress, after_all, output_all, start, counts_of, FailsAs, IsFew, AreEvents, Replays, Stops, EndsBy, BeginsBadly, IsFront}
 use Rattle.hx_replay.specs.Whole.{ReplaysAll, StopsAt}
 use Rattle.hx_replay.proofs.NoTrace.{no_trace, tells_nothing}
 use Rattle.hx_replay.proofs.StruckTapes.{texts_tell_nothing}
@@ -86,11 +86,6 @@ starts_so setup copied c pending r w copy i is none =
     let start_is : start setup ≡ c = ap start (sym copy) ∙ sym is in
     subst (λ (x : List ℕ). SoFar setup r r w w c x) (sym none) (subst (λ (x : Progress). SoFar setup r r w w x []) start_is (so_far_none setup r w i))
 
--- the setup of a replay at its start
-pub setup_at_start : (setup : Setup) (c : Progress) → c ≡ start setup → c.setup ≡ setup
-unfolding start
-setup_at_start setup c is = ap (λ (x : Progress). x.setup) is
-
 -- a piece more, of which this is pending
 pub so_far_more : (setup : Setup) (r s s' w v u : Option (List ℕ)) (c c' : Progress) (pending piece pending' : List ℕ) → SoFar setup r s w v c pending → Consumes s s' piece
     → Replays c c' (pending ++ piece) v u pending' → Lacks 10 pending' → length pending' ≤ longest_line → SoFar setup r s' w u c' pending'
@@ -101,16 +96,6 @@ so_far_more setup r s s' w v u c c' pending piece pending' h took plays none fit
   plays = replays_then (start setup) c c' h.text pending piece pending' w v u h.plays plays;
   no_feed = none;
   fits = fits;
-}
-
-pub so_far_kept : (setup : Setup) (r s s' w v : Option (List ℕ)) (c : Progress) (pending : List ℕ) → SoFar setup r s w v c pending → Keeps s s' → SoFar setup r s' w v c pending
-so_far_kept setup r s s' w v c pending h kept = record {
-  is_setup = h.is_setup;
-  text = h.text;
-  read = Consumes-kept r s s' h.text h.read kept;
-  plays = h.plays;
-  no_feed = h.no_feed;
-  fits = h.fits;
 }
 
 -- how large the counts are

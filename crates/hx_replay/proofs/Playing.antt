@@ -1,5 +1,5 @@
 -- One line is played.
-use Rattle.std.proofs.Common.{◌≡◌, ℕ, ◌+◌, true, false, List, ◌++◌, length, Option, Some, None, refl, sym, ap, ◌∙◌, subst, inr}
+use Rattle.std.proofs.Common.{◌≡◌, ℕ, ◌+◌, true, false, List, ◌++◌, length, Option, Some, None, refl, sym, ap, ◌∙◌, subst, inl, inr}
 use Rattle.std.proofs.lemmas.Bool.{cond-true, cond-false}
 use Rattle.hx_itch.specs.declared.message.Feed.{Feed}
 use Rattle.hx_members.specs.Setups.{Setup}
@@ -10,12 +10,12 @@ use Rattle.hx_rules.specs.declared.event.Event.{Event}
 use Rattle.hx_market.specs.Outputs.{Reply}
 use Rattle.hx_market.specs.Steps.{step}
 use Rattle.hx_market.specs.Refusals.{refusal, or_no_memory}
-use Rattle.hx_replay.specs.declared.fault.Kind.TheVariants as kind
+use Rattle.hx_tape_lines.specs.declared.fault.Kind.TheVariants as kind
 use Rattle.hx_replay.specs.declared.fault.TapeError.{TapeError}
 use Rattle.hx_tape_lines.specs.Text.{Entry, IsEntry, line}
 use Rattle.hx_replay.specs.Output.{feed_lines, reply_lines, counts_after}
-use Rattle.hx_tape_lines.specs.Events.{event_of, is_unknown}
-use Rattle.hx_replay.specs.Run.{Progress, kind_of, fault_of, check_of, output_of, after, Plays, Faults}
+use Rattle.hx_tape_lines.specs.Events.{event_of, is_unknown, IsNoLine}
+use Rattle.hx_replay.specs.Run.{Progress, kind_of, fault_of, check_of, output_of, after, Plays, Faults, FailsAs}
 
 -- an entry that says something is checked by the market
 pub checked : (p : Progress) (e : Entry) → is_unknown e ≡ false → check_of p e ≡ kind_of (refusal p.setup p.market.recorded (event_of e))
@@ -26,6 +26,11 @@ checked p e h = cond-false (is_unknown e) (Some kind.Bad) (kind_of (refusal p.se
 pub unknown_is_bad : (p : Progress) (e : Entry) → is_unknown e ≡ true → check_of p e ≡ Some kind.Bad
 unfolding check_of
 unknown_is_bad p e h = cond-true (is_unknown e) (Some kind.Bad) (kind_of (refusal p.setup p.market.recorded (event_of e))) h
+
+-- a text that is the line of no event is a bad line
+pub no_line_is_bad : (p : Progress) (text : List ℕ) → IsNoLine text → FailsAs p kind.Bad text
+no_line_is_bad p text (inl none) = inl (refl, none)
+no_line_is_bad p text (inr (e, entry, is_line, unknown)) = inr (e, entry, is_line, unknown_is_bad p e unknown)
 
 pub refused_line : (p : Progress) (text : List ℕ) (e : Entry) (event : Event) (x : TapeError) → IsEntry e → text ≡ line e → event ≡ event_of e → is_unknown e ≡ false
     → x ≡ fault_of (p.events + 1) (or_no_memory (refusal p.setup p.market.recorded event)) → Faults p text x

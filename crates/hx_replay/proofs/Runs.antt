@@ -5,10 +5,10 @@ use Rattle.std.proofs.lemmas.List.{append-nil, length-append}
 use Rattle.std.proofs.lemmas.List.Concat.{flat_map-cons, flat_map-append}
 use Rattle.hx_replay.specs.declared.fault.TapeError.{TapeError}
 use Rattle.hx_replay.specs.declared.fault.TapeError.TheVariants as fault
-use Rattle.hx_replay.specs.declared.fault.Kind.TheVariants as kinds
+use Rattle.hx_tape_lines.specs.declared.fault.Kind.TheVariants as kinds
 use Rattle.hx_text.specs.Cuts.{Lacks}
-use Rattle.hx_tape_lines.specs.Text.{Entry, line}
-use Rattle.hx_replay.specs.Run.{Progress, output_of, after, IsEvent, AreEvents, tape, after_all, output_all, Plays, Replays, Stops, EndsBy, Faults, FailsAs, IsFew}
+use Rattle.hx_tape_lines.specs.Text.{Entry, line, tape}
+use Rattle.hx_replay.specs.Run.{Progress, output_of, after, IsEvent, AreEvents, after_all, output_all, Plays, Replays, Stops, EndsBy, Faults, FailsAs, IsFew}
 use Rattle.hx_replay.proofs.Few.{few-after}
 
 -- ---- one list of events after another

@@ -28,11 +28,6 @@ writes_from a b bytes h = record { front = bytes; bytes_are = sym (append-nil by
 pub record IsSpelled (w v : Option (List ℕ)) (all left spelled : List ℕ) : Type 0 where
   pub wrote : Writes w v all (spelled ++ left)
 
-pub spelled_none : (w : Option (List ℕ)) (all text spelled : List ℕ) → spelled ≡ [] → text ≡ all → IsSpelled w w all text spelled
-spelled_none w all text spelled none is = record {
-  wrote = record { front = []; bytes_are = sym is ∙ ap (λ (x : List ℕ). x ++ text) (sym none); wrote = Appends-nil w };
-}
-
 -- one line more
 pub spelled_one : (w v : Option (List ℕ)) (all now left spelled more : List ℕ) → IsSpelled w v all (now ++ left) spelled → more ≡ spelled ++ now → IsSpelled w v all left more
 spelled_one w v all now left spelled more h one = record {

@@ -11,7 +11,7 @@ use Rattle.hx_market.specs.Steps.{run, sender}
 use Rattle.hx_market.specs.QuietChains.{Choice, bears, is_quiet, quiet_of_one, strike, strike_one, strike_all}
 use Rattle.hx_audit.specs.Recording.{AreAccepted, AreRecorded}
 use Rattle.hx_audit.proofs.StruckRecorded.{struck_recorded}
-use Rattle.hx_replay.specs.declared.fault.Kind.TheVariants as kind
+use Rattle.hx_tape_lines.specs.declared.fault.Kind.TheVariants as kind
 use Rattle.hx_tape_lines.specs.Text.{Entry}
 use Rattle.hx_tape_lines.specs.Events.{event_of, is_unknown, IsKnown}
 use Rattle.hx_replay.specs.Run.{Progress, start, kind_of, check_of, after, output_all, AreEvents}

@@ -34,7 +34,7 @@ use Rattle.hx_market.specs.Halts.{is_trading_state, halted_by}
 use Rattle.hx_market.specs.Breaks.{execution_of, broken_if, broken_by}
 use Rattle.hx_rules.specs.declared.matches.Match.{Match}
 use Rattle.hx_market.specs.Steps.{receive, step, with_record}
-use Rattle.hx_market.proofs.Bounds.Counts.{ended}
+use Rattle.hx_bounds.proofs.Counts.{ended}
 
 -- all messages of an event but few end a live order, or are a code's to all
 pub record TellsFew (live : List Order) (o : Outcome) : Type 0 where

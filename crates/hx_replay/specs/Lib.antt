@@ -4,10 +4,9 @@ pub mod Seen
 pub mod Grep
 pub mod Whole
 pub mod Struck
-pub mod Taking
+pub mod FirstFaults
 pub mod Quiet
 pub mod Histories
-pub mod Ahead
+pub mod Gathering
 pub mod MarkWords
 pub mod Marks
-pub mod Turns

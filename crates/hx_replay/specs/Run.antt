@@ -1,6 +1,5 @@
 -- What is written for a tape.
 use Rattle.std.specs.Prelude.{◌≡◌, ◌≢◌, ◌⊎◌, ℕ, ◌+◌, ◌*◌, ◌<◌, ◌≤◌, if◌then◌else◌, List, [], ◌∷◌, ◌++◌, length, replicate, slice_index, Option, Some, None}
-use Rattle.std.specs.List.{flat_map}
 use Rattle.std.specs.Io.KnownBytes.{Appends}
 use Rattle.hx_units.specs.Limits.{member_numbers}
 use Rattle.hx_units.specs.Letters.{line_feed}
@@ -11,13 +10,13 @@ use Rattle.hx_market.specs.Markets.{Market, opening}
 use Rattle.hx_market.specs.Outputs.{Outcome}
 use Rattle.hx_market.specs.Refusals.{refusal}
 use Rattle.hx_market.specs.Steps.{step}
-use Rattle.hx_replay.specs.declared.fault.Kind.{Kind}
-use Rattle.hx_replay.specs.declared.fault.Kind.TheVariants as kind
+use Rattle.hx_tape_lines.specs.declared.fault.Kind.{Kind}
+use Rattle.hx_tape_lines.specs.declared.fault.Kind.TheVariants as kind
 use Rattle.hx_replay.specs.declared.fault.TapeError.{TapeError}
 use Rattle.hx_replay.specs.declared.fault.TapeError.TheVariants as fault
 use Rattle.hx_replay.specs.declared.run.Counts.{Counts}
 use Rattle.hx_text.specs.Cuts.{Lacks}
-use Rattle.hx_tape_lines.specs.Text.{Entry, IsEntry, line, longest_line}
+use Rattle.hx_tape_lines.specs.Text.{Entry, IsEntry, line, longest_line, tape}
 use Rattle.hx_tape_lines.specs.Events.{event_of, is_unknown}
 use Rattle.hx_replay.specs.Output.{feed_lines, reply_lines, counts_after}
 
@@ -118,10 +117,6 @@ Faults p text fault.Write = ⊥
 Faults p text fault.Turns = ⊥
 
 -- ---- lines
-
--- the text of events
-abbrev pub tape : List Entry → List ℕ
-tape events = flat_map (λ e. line e ++ line_feed ∷ []) events
 
 abbrev pub after_all : Progress → List Entry → Progress
 after_all p [] = p

@@ -4,9 +4,9 @@ use Rattle.std.specs.Io.KnownBytes.{Consumes, Appends, IsAtEnd}
 use Rattle.hx_members.specs.Setups.{Setup}
 use Rattle.hx_replay.specs.declared.fault.TapeError.{TapeError}
 use Rattle.hx_replay.specs.declared.run.Counts.{Counts}
-use Rattle.hx_tape_lines.specs.Text.{Entry}
+use Rattle.hx_tape_lines.specs.Text.{Entry, tape}
 use Rattle.hx_tape_lines.specs.Events.{event_of}
-use Rattle.hx_replay.specs.Run.{tape, start, after_all, output_all, AreEvents, Stops, counts_of}
+use Rattle.hx_replay.specs.Run.{start, after_all, output_all, AreEvents, Stops, counts_of}
 use Rattle.hx_replay.specs.Seen.{LeavesNoTrace}
 use Rattle.hx_replay.specs.Quiet.{TellsNothing, TextsTellNothing}
 

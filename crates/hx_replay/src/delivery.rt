@@ -3,7 +3,7 @@ ghost use Rattle.std.specs.Prelude.{◌≡◌, ◌++◌, ◌∷◌, ℕ, List, O
 ghost use Rattle.std.specs.Io.KnownBytes.{Appends};
 ghost use Rattle.hx_text.specs.Cuts.{Lacks};
 ghost use Rattle.hx_replay.specs.Run.{Progress, Writes, Faults, Stops};
-ghost use Rattle.hx_replay.specs.Ahead.{Gathers, IsUnwritten};
+ghost use Rattle.hx_replay.specs.Gathering.{Gathers, IsUnwritten};
 ghost use Rattle.hx_replay.specs.Marks.{lines_of, HaveRoomForTimes};
 ghost use Rattle.hx_replay.specs.Seen.{texts_of};
 ghost use Rattle.hx_replay.specs.declared.messages.Mark.{Mark};

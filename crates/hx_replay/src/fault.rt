@@ -2,34 +2,10 @@
 ghost use Rattle.std.specs.Prelude.{◌≡◌};
 ghost use Rattle.hx_replay.specs.declared.fault.TapeError.TheVariants.{NoMemory as OutOfMemory};
 
+use hx_tape_lines::Kind;
 use hx_units::NoMemory;
 use std::alloc::{AllocError, AllocFailed};
-use std::fmt;
 use thiserror::Error;
-
-/// What is wrong with a line. The checks come in this order.
-#[derive(Clone, Copy, Debug, PartialEq, Eq)]
-pub enum Kind {
-    /// The line has not the form of a tape's lines.
-    Bad,
-    /// The time is not within the day.
-    Time,
-    /// The setup has no such member.
-    Member,
-    /// As many events of the member as allowed were before.
-    Limit,
-}
-
-impl fmt::Display for Kind {
-    fn fmt<W: fmt::Write>(&self, f: &mut fmt::Formatter<W>) -> fmt::Result {
-        f.write_str(match self {
-            Kind::Bad => "bad line",
-            Kind::Time => "bad time",
-            Kind::Member => "no such member",
-            Kind::Limit => "member at limit",
-        })
-    }
-}
 
 /// Why a tape was not replayed to its end. What was written stands.
 #[derive(Debug, Drop, Error)]

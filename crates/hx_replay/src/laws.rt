@@ -3,16 +3,15 @@ ghost use Rattle.std.specs.Prelude.{◌≡◌, List, map, replicate};
 ghost use Rattle.std.specs.List.{AllByRecursion};
 ghost use Rattle.hx_members.specs.Setups.{Setup};
 ghost use Rattle.hx_market.specs.Steps.{run, told};
-ghost use Rattle.hx_tape_lines.specs.Text.{Entry, IsEntry};
+ghost use Rattle.hx_tape_lines.specs.Text.{Entry, IsEntry, entry_of_event, tape};
 ghost use Rattle.hx_replay.specs.Output.{told_lines};
 ghost use Rattle.hx_rules.specs.declared.event.Event.{Event};
 ghost use Rattle.hx_replay.specs.Seen.{LeavesNoTrace};
 ghost use Rattle.hx_audit.specs.Recording.{AreRecorded};
-ghost use Rattle.hx_tape_lines.specs.Text.{entry_of_event};
 ghost use Rattle.hx_tape_lines.specs.Events.{IsKnown, event_of};
 ghost use Rattle.hx_replay.specs.Quiet.{TellsNothing, TextsTellNothing};
 ghost use Rattle.hx_replay.specs.Histories.{IsReplayed};
-ghost use Rattle.hx_replay.specs.Run.{tape, start, output_all, after_all, AreEvents};
+ghost use Rattle.hx_replay.specs.Run.{start, output_all, after_all, AreEvents};
 
 /// A text is the tape of one list of entries.
 #[tactic(auto, using(crate::proofs::OneReading::tape_same))]

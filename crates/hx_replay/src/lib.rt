@@ -1,28 +1,28 @@
-//! Tapes: a replay from a tape's lines to its output lines, and a tape without a member's quiet chains.
+//! Tapes: a replay from a tape's lines to its output lines.
 #![tactic(auto)]
 
-mod ahead;
 mod delivery;
 mod fault;
 pub mod laws;
 mod messages;
 mod pending;
 mod pieces;
-mod player;
 mod replaying;
-mod replaying_ahead;
 mod room;
 mod run;
-mod scribe;
-mod striking;
-mod taking;
 mod telling;
-mod turn;
-mod turns;
 
-pub use fault::{Kind, TapeError};
-pub use hx_tape_lines::{read_operator_line, write_event};
+pub use fault::TapeError;
+pub use hx_tape_lines::Kind;
 pub use replaying::{replay, replay_on};
-pub use replaying_ahead::replay_ahead;
 pub use run::Counts;
-pub use striking::{strike_all_tape, strike_tape};
+
+// What a replay is made of, for those that share its work among threads, or read a tape in another way.
+pub use delivery::{spell_told, write_before, write_told};
+pub use messages::Messages;
+pub use pending::Pending;
+pub use pieces::{MOST_LINES, MOST_READS, finish, keep_rest};
+pub use replaying::{play_lines, write_whole};
+pub use room::Room;
+pub use run::{Run, fault_of};
+pub use telling::Lines;

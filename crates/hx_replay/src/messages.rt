@@ -85,9 +85,9 @@ pub(crate) struct ToldCounts {
     pub(crate) replies: u64,
 }
 
-/// Lines of output before they are spelled. Contracts see their text.
+/// Lines of output before they are spelled: the messages, and their numbers. Contracts see their text.
 #[derive(Drop)]
-pub(crate) struct Messages {
+pub struct Messages {
     // The market writes what it tells into these lists, where it stays.
     told: Output,
     marks: Vec<Mark>,
@@ -195,7 +195,7 @@ fn append_all(
 
 impl Messages {
     /// None yet.
-    pub(crate) fn new(alloc: Global) -> Messages
+    pub fn new(alloc: Global) -> Messages
         ensures { result ≡ [] }
     {
         Messages {
@@ -216,14 +216,14 @@ impl Messages {
     }
 
     /// Lets them go. Their memory stays for others.
-    pub(crate) fn clear(&mut self)
+    pub fn clear(&mut self)
         ensures { self.new ≡ [] }
     {
         forget(&mut self.told, &mut self.marks);
     }
 
     /// Takes all of others behind these, by one copy for each list. Where memory is wanting, it lets them all go.
-    pub(crate) fn take_all(&mut self, others: &mut Messages) -> Result<(), AllocError>
+    pub fn take_all(&mut self, others: &mut Messages) -> Result<(), AllocError>
         ensures ok { OnOk result (self.new ≡ self.old ++ others.old) }
         ensures empty { OnOk result (others.new ≡ []) }
     {

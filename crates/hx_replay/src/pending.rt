@@ -5,18 +5,16 @@ ghost use Rattle.hx_tape_lines.specs.Text.{longest_line};
 ghost use Rattle.hx_replay.specs.declared.fault.TapeError.TheVariants as fault;
 
 use crate::fault::TapeError;
+use hx_tape_lines::LONGEST_LINE;
 use std::alloc::{AllocError, Global};
 use std::io::{self, ErrorKind, Read};
 use std::marker::Model;
-
-/// The greatest line, without its line feed.
-pub(crate) const LONGEST: usize = 2066;
 
 /// Bytes that are read and not yet played. They stand in one piece of memory, in which the place where they begin moves on
 /// as they are played: before more is read, a line that is not yet whole is moved to the front, where it waits for its end.
 /// Contracts see them.
 #[derive(Drop)]
-pub(crate) struct Pending {
+pub struct Pending {
     // Those that are played, then they, and behind them room for those that are read next.
     bytes: Vec<u8>,
     start: usize,
@@ -37,20 +35,20 @@ impl Model for Pending {
 
 impl Pending {
     /// None yet, and room for pieces of this size.
-    pub(crate) fn new(alloc: Global, piece: usize) -> Result<Pending, AllocError>
+    pub fn new(alloc: Global, piece: usize) -> Result<Pending, AllocError>
         requires some { 1 ≤ piece }
         requires fits { piece ≤ 8388608 }
         ensures { IfOk result (λ pending. pending ≡ []) }
     {
         Ok(Pending {
-            bytes: vec![in alloc; 0; LONGEST + piece]?,
+            bytes: vec![in alloc; 0; LONGEST_LINE + piece]?,
             start: 0,
             count: 0,
         })
     }
 
     /// The bytes.
-    pub(crate) fn text(&self) -> &[u8]
+    pub fn text(&self) -> &[u8]
         ensures { result.now ≡ self.now }
     {
         &self.bytes[self.start..self.start + self.count]
@@ -81,7 +79,7 @@ impl Pending {
 
     /// Reads a piece behind them, if the reader is not interrupted, and answers whether there may be more: `false` at the
     /// end of what is read.
-    pub(crate) fn read<R: Read>(&mut self, reader: &mut R) -> Result<bool, TapeError>
+    pub fn read<R: Read>(&mut self, reader: &mut R) -> Result<bool, TapeError>
         requires { length self.old ≤ longest_line }
         ensures piece { OnOk result ((piece : List ℕ) × (self.new ≡ self.old ++ piece)
             × Consumes (R.remaining reader.old) (R.remaining reader.new) piece) }
@@ -100,7 +98,7 @@ impl Pending {
     }
 
     /// Lets all go but the last ones, so many.
-    pub(crate) fn keep(&mut self, count: usize)
+    pub fn keep(&mut self, count: usize)
         requires { count ≤ length self.old }
         ensures { self.new ≡ drop (length self.old - count) self.old }
     {

@@ -2,20 +2,22 @@
 ghost use Rattle.std.specs.Prelude.{◌≡◌, ◌≤◌, ◌<◌, ◌^◌, ◌+◌, ◌-◌, OnOk, IfOk, IfErr, length, drop};
 ghost use Rattle.hx_tape_lines.specs.Text.{longest_line};
 ghost use Rattle.hx_replay.specs.declared.fault.TapeError.TheVariants as fault;
-ghost use Rattle.hx_replay.specs.declared.fault.Kind.TheVariants as kinds;
+ghost use Rattle.hx_tape_lines.specs.declared.fault.Kind.TheVariants as kinds;
 
-use crate::fault::{Kind, TapeError};
-use crate::pending::{LONGEST, Pending};
+use crate::fault::TapeError;
+use crate::pending::Pending;
 use crate::run::Counts;
+use hx_tape_lines::{Kind, LONGEST_LINE};
 
-/// So many reads are too many.
-pub(crate) const READS: u64 = 1_000_000_000;
+/// So many reads of a tape are too many.
+pub const MOST_READS: u64 = 1_000_000_000;
 
-/// More lines are too many.
-pub(crate) const LINES: u64 = 1 << 47;
+/// More lines of a tape are too many.
+pub const MOST_LINES: u64 = 1 << 47;
 
-/// Keeps the last bytes, so many, where they can be the front of a line: those behind the last whole one.
-pub(crate) fn keep_rest(pending: &mut Pending, rest: usize, counts: Counts) -> Result<(), TapeError>
+/// Of the bytes that are pending, keeps the last ones, so many, for the next piece to be read behind them: those behind the
+/// last whole line. Where they are more than the longest line has, the line that they begin is bad.
+pub fn keep_rest(pending: &mut Pending, rest: usize, counts: Counts) -> Result<(), TapeError>
     requires within { rest ≤ length pending.old }
     requires events { counts.events < 2 ^ 63 }
     ensures ok { OnOk result ((rest ≤ longest_line)
@@ -23,15 +25,16 @@ pub(crate) fn keep_rest(pending: &mut Pending, rest: usize, counts: Counts) -> R
     ensures err { IfErr result (λ e.
         (e ≡ fault.Line (counts.events + 1) kinds.Bad) × (longest_line < rest)) }
 {
-    if rest > LONGEST {
+    if rest > LONGEST_LINE {
         return Err(bad_line(counts));
     }
     pending.keep(rest);
     Ok(())
 }
 
-/// The answer at the end of a tape.
-pub(crate) fn finish(counts: Counts, pending: &[u8]) -> Result<Counts, TapeError>
+/// What a replay answers at the end of its tape: what it counted; or where bytes are pending, that their line is bad, since
+/// no line feed ends it.
+pub fn finish(counts: Counts, pending: &[u8]) -> Result<Counts, TapeError>
     requires { counts.events < 2 ^ 63 }
     ensures ok { IfOk result (λ c. (c ≡ counts) × (length pending.now ≡ 0)) }
     ensures err { IfErr result (λ e.

@@ -10,7 +10,7 @@ ghost use Rattle.hx_replay.specs.declared.fault.TapeError.TheVariants as fault;
 use crate::delivery::{write_before, write_told};
 use crate::fault::TapeError;
 use crate::pending::Pending;
-use crate::pieces::{LINES, READS, finish, keep_rest};
+use crate::pieces::{MOST_LINES, MOST_READS, finish, keep_rest};
 use crate::room::Room;
 use crate::run::{Counts, Run};
 use crate::telling::Lines;
@@ -20,7 +20,7 @@ use hx_text::split_once;
 use std::alloc::Global;
 use std::io::{ErrorKind, Read, Write};
 
-// Writes the bytes. Where it fails, a front of them was written.
+/// Writes the bytes. Where it fails, a front of them was written.
 pub fn write_whole<W: Write>(writer: &mut W, bytes: &[u8]) -> Result<(), TapeError>
     ensures ok { OnOk result (Appends (W.contents writer.old) (W.contents writer.new) bytes.now) }
     ensures write { IfErr result (λ e. e ≡ fault.Write) }
@@ -81,8 +81,8 @@ pub fn write_many<W: Write>(writer: &mut W, lines: &mut Lines) -> Result<(), Tap
     Ok(())
 }
 
-// Plays the whole lines of the text, has their output sent out, and answers the bytes behind them. What was told before
-// a line that fails is written.
+/// Plays the whole lines of the text, writes their output lines and flushes the writer, and answers the bytes behind them.
+/// Where a line fails, what was told before it is written.
 pub fn play_lines<'a, B: Book + Drop, W: Write>(
     run: &mut Run<B>,
     room: &mut Room,
@@ -149,8 +149,8 @@ pub fn replay_on<B: Book + Drop, R: Read, W: Write>(
     let mut run = Run::new(alloc, setup.copy(alloc)?, book)?;
     let mut pending = Pending::new(alloc, PIECE)?;
     let mut room = Room::new(alloc);
-    for _ in 0..READS {
-        if run.counts().events > LINES {
+    for _ in 0..MOST_READS {
+        if run.counts().events > MOST_LINES {
             return Err(TapeError::Turns);
         }
         if !pending.read(reader)? {

@@ -3,46 +3,46 @@ ghost use Rattle.std.specs.Prelude.{◌≡◌, []};
 
 use crate::messages::Messages;
 use crate::telling::Lines;
-use hx_market::Event;
+use hx_market::{Bytes, Event};
 use std::alloc::Global;
 use std::mem::replace;
 
-/// The bytes of a message, and the output lines of events. The next ones take memory only where they are longer than all
-/// before them, or more.
+/// A place for the bytes of a message, and room for the output lines of events. The next ones take memory only where they
+/// are longer than all before them, or more.
 #[derive(Drop)]
-pub(crate) struct Room {
-    bytes: Vec<u8>,
+pub struct Room {
+    place: Bytes,
     /// The output lines that are told and not yet written.
-    pub(crate) lines: Messages,
+    pub lines: Messages,
     /// Room for those that are spelled.
-    pub(crate) spelled: Lines,
+    pub spelled: Lines,
 }
 
 impl Room {
     /// None yet.
-    pub(crate) fn new(alloc: Global) -> Room
+    pub fn new(alloc: Global) -> Room
         ensures { result.lines ≡ [] }
     {
         Room {
-            bytes: Vec::new(alloc),
+            place: Bytes::none(),
             lines: Messages::new(alloc),
             spelled: Lines::new(alloc),
         }
     }
 
-    /// A list for the bytes of a message. What stands in it is of no use.
-    pub(crate) fn bytes(&mut self, alloc: Global) -> Vec<u8>
+    /// A place for the bytes of a message. What stands in it is of no use.
+    pub(crate) fn place(&mut self) -> Bytes
         ensures { self.new.lines ≡ self.old.lines }
     {
-        replace(&mut self.bytes, Vec::new(alloc))
+        replace(&mut self.place, Bytes::none())
     }
 
-    /// Keeps the bytes of an event that is told.
-    pub(crate) fn keep_bytes(&mut self, event: Event)
+    /// Keeps the place of the bytes of an event that is told.
+    pub(crate) fn keep_place(&mut self, event: Event)
         ensures { self.new.lines ≡ self.old.lines }
     {
         if let Event::Message { bytes, .. } = event {
-            self.bytes = bytes.into_vec();
+            self.place = bytes;
         }
     }
 }

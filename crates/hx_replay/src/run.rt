@@ -5,13 +5,13 @@ ghost use Rattle.hx_tape_lines.specs.Events.{IsKnown, event_of};
 ghost use Rattle.hx_tape_lines.specs.Text.{Entry, line};
 ghost use Rattle.hx_replay.specs.Run.{fault_of, counts_of, start, Plays, Faults, IsFew};
 
-use crate::fault::{Kind, TapeError};
+use crate::fault::TapeError;
 use crate::messages::{Messages, ToldCounts};
 use crate::room::Room;
 use hx_levels::Book;
 use hx_market::{Event, Market, PrepareError};
 use hx_members::Setup;
-use hx_tape_lines::{event_of, line};
+use hx_tape_lines::{Kind, read_event};
 use hx_units::NoMemory;
 use std::alloc::{AllocError, Global};
 use std::marker::Model;
@@ -93,7 +93,7 @@ fn no_replies(alloc: Global) -> Result<Vec<u64>, AllocError>
     vec![in alloc; 0; 4096]
 }
 
-// The fault of the line of this number, where the market refuses its event.
+/// The fault of the line of this number, where the market refuses its event.
 pub fn fault_of(line: u64, error: PrepareError) -> TapeError
     ensures { result ≡ fault_of line error }
 {
@@ -132,7 +132,7 @@ impl<B: Book + Drop> Run<B> {
         self.counts
     }
 
-    /// Looks at the next events before their turn.
+    /// Looks at the next events before their turn, so that what they need is in the processor's cache then. Nothing changes.
     pub fn glance(&mut self, events: &[Event])
         ensures { self.new ≡ self.old }
     {
@@ -140,7 +140,7 @@ impl<B: Book + Drop> Run<B> {
     }
 
     /// Plays the next line, and appends its output lines to the room's. Where the line fails, those before it stay.
-    pub fn play(&mut self, text: &[u8], room: &mut Room) -> Result<(), TapeError>
+    pub(crate) fn play(&mut self, text: &[u8], room: &mut Room) -> Result<(), TapeError>
         requires events { self.old.events < 2 ^ 48 }
         requires few { IsFew self.old }
         ensures ok { OnOk result ((output : List ℕ)
@@ -155,18 +155,16 @@ impl<B: Book + Drop> Run<B> {
             line,
             kind: Kind::Bad,
         };
-        let Some(fields) = line::read_in(room.bytes(self.alloc), text)? else {
-            return Err(bad);
-        };
-        let Some(event) = event_of(fields) else {
+        let Some(event) = read_event(self.alloc, room.place(), text)? else {
             return Err(bad);
         };
         self.play_event(&event, &mut room.lines)?;
-        room.keep_bytes(event);
+        room.keep_place(event);
         Ok(())
     }
 
-    /// Plays the event of a line, and appends its output lines. Where the line fails, those before it stay.
+    /// Plays the event of the next line, and appends its output lines to others. Where the line fails, the others stay, but
+    /// for want of memory.
     pub fn play_event(&mut self, event: &Event, lines: &mut Messages) -> Result<(), TapeError>
         requires events { self.old.events < 2 ^ 48 }
         requires few { IsFew self.old }

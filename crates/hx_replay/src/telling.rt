@@ -14,9 +14,9 @@ use itoa::write_digits;
 use std::alloc::{AllocError, Global};
 use std::marker::Model;
 
-/// Output lines. Contracts see their text.
+/// Output lines that are spelled. Contracts see their text.
 #[derive(Drop)]
-pub(crate) struct Lines {
+pub struct Lines {
     // The text, and behind it bytes that are of no use: where they are enough, a line takes no memory.
     bytes: Vec<u8>,
     // Where the text ends.
@@ -45,7 +45,7 @@ impl Lines {
     }
 
     /// Their text.
-    pub(crate) fn text(&self) -> &[u8]
+    pub fn text(&self) -> &[u8]
         ensures { result.now ≡ self.now }
     {
         &self.bytes[..self.end]
@@ -59,7 +59,7 @@ impl Lines {
     }
 
     /// Lets them go. Their memory stays for others.
-    pub(crate) fn clear(&mut self)
+    pub fn clear(&mut self)
         ensures { self.new ≡ [] }
     {
         self.end = 0;

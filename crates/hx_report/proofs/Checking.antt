@@ -5,9 +5,9 @@ use Rattle.std.specs.List.{AllByRecursion}
 use Rattle.hx_members.specs.Setups.{Setup}
 use Rattle.hx_audit.specs.declared.auditor.Whose.{Whose}
 use Rattle.hx_audit.specs.declared.auditor.Whose.TheVariants.{Of, OfAll}
-use Rattle.hx_tape_lines.specs.Text.{Entry, IsEntry}
+use Rattle.hx_tape_lines.specs.Text.{Entry, IsEntry, tape}
 use Rattle.hx_tape_lines.specs.Events.{IsKnown}
-use Rattle.hx_replay.specs.Run.{start, tape, output_all, AreEvents}
+use Rattle.hx_replay.specs.Run.{start, output_all, AreEvents}
 use Rattle.hx_replay.specs.Struck.{struck, struck_all, left_by}
 use Rattle.hx_replay.specs.Whole.{ReplaysAll}
 use Rattle.hx_replay.specs.declared.run.Counts.{Counts}

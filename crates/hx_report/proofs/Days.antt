@@ -6,11 +6,11 @@ use Rattle.hx_market.specs.Markets.{Market}
 use Rattle.hx_market.specs.Steps.{run}
 use Rattle.hx_audit.specs.Auditing.{choice_of}
 use Rattle.hx_audit.specs.declared.auditor.Whose.{Whose}
-use Rattle.hx_tape_lines.specs.Text.{Entry}
+use Rattle.hx_tape_lines.specs.Text.{Entry, tape}
 use Rattle.hx_tape_lines.specs.Events.{IsKnown, event_of}
 use Rattle.hx_replay.specs.declared.fault.TapeError.{TapeError}
 use Rattle.hx_replay.specs.declared.fault.TapeError.TheVariants as fault
-use Rattle.hx_replay.specs.Run.{start, tape, output_all, AreEvents}
+use Rattle.hx_replay.specs.Run.{start, output_all, AreEvents}
 use Rattle.hx_replay.specs.Struck.{left_by}
 use Rattle.hx_replay.specs.Whole.{StopsAt}
 use Rattle.hx_report.specs.declared.check.Check.{Check}

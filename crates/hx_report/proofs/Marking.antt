@@ -10,9 +10,9 @@ use Rattle.hx_market.specs.QuietChains.{Choice, bears, is_quiet}
 use Rattle.hx_audit.specs.Auditing.{HasTaken, is_borne, choice_of}
 use Rattle.hx_audit.specs.declared.auditor.Whose.{Whose}
 use Rattle.hx_audit.specs.declared.auditor.Whose.TheVariants.{OfAll}
-use Rattle.hx_tape_lines.specs.Text.{Entry}
+use Rattle.hx_tape_lines.specs.Text.{Entry, tape}
 use Rattle.hx_tape_lines.specs.Events.{event_of}
-use Rattle.hx_replay.specs.Run.{start, tape, AreEvents}
+use Rattle.hx_replay.specs.Run.{start, AreEvents}
 use Rattle.hx_report.specs.declared.marks.Mark.{Mark}
 use Rattle.hx_report.specs.declared.marks.TakenLine.{TakenLine}
 use Rattle.hx_report.specs.declared.marks.TakenLines.{TakenLines}

@@ -15,9 +15,8 @@ use Rattle.hx_market.specs.Steps.{sender}
 use Rattle.hx_market.specs.QuietChains.{Choice, message_bears, bears, is_quiet, quiet_of_one}
 use Rattle.hx_audit.specs.Auditing.{choice_of}
 use Rattle.hx_audit.specs.declared.auditor.Whose.{Whose}
-use Rattle.hx_tape_lines.specs.Text.{Entry, line}
+use Rattle.hx_tape_lines.specs.Text.{Entry, line, tape}
 use Rattle.hx_tape_lines.specs.Events.{event_of}
-use Rattle.hx_replay.specs.Run.{tape}
 use Rattle.hx_replay.specs.Struck.{without_chosen}
 use Rattle.hx_replay.proofs.OneReading.{tape-cons}
 use Rattle.hx_replay.proofs.Runs.{tape-append}

@@ -6,10 +6,10 @@ use Rattle.hx_text.specs.Cuts.{Lacks}
 use Rattle.hx_text.proofs.Splits.{same_split, none_split}
 use Rattle.hx_rules.specs.declared.event.Event.{Event}
 use Rattle.hx_market.specs.Refusals.{refusal}
-use Rattle.hx_tape_lines.specs.Text.{Entry, IsEntry, line}
+use Rattle.hx_tape_lines.specs.Text.{Entry, IsEntry, line, tape}
 use Rattle.hx_tape_lines.specs.Events.{event_of, is_unknown, IsKnown, IsLineOf}
-use Rattle.hx_replay.specs.declared.fault.Kind.TheVariants as kind
-use Rattle.hx_replay.specs.Run.{Progress, tape, kind_of, check_of, after, IsEvent, AreEvents}
+use Rattle.hx_tape_lines.specs.declared.fault.Kind.TheVariants as kind
+use Rattle.hx_replay.specs.Run.{Progress, kind_of, check_of, after, IsEvent, AreEvents}
 use Rattle.hx_replay.proofs.OneReading.{tape_same, tape-cons, line_no_feed}
 
 -- ---- what is so where no error was told

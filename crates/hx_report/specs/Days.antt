@@ -4,12 +4,13 @@ use Rattle.hx_members.specs.Setups.{Setup}
 use Rattle.hx_market.specs.Steps.{run, told}
 use Rattle.hx_audit.specs.Auditing.{choice_of}
 use Rattle.hx_audit.specs.declared.auditor.Whose.{Whose}
-use Rattle.hx_tape_lines.specs.Text.{Entry}
+use Rattle.hx_tape_lines.specs.Text.{Entry, tape}
 use Rattle.hx_tape_lines.specs.Events.{event_of}
 use Rattle.hx_replay.specs.declared.fault.TapeError.{TapeError}
 use Rattle.hx_replay.specs.declared.fault.TapeError.TheVariants as fault
-use Rattle.hx_replay.specs.Run.{start, tape, after_all, output_all, counts_of, AreEvents}
-use Rattle.hx_replay.specs.Struck.{left_by, StopsBefore}
+use Rattle.hx_replay.specs.Run.{start, after_all, output_all, counts_of, AreEvents}
+use Rattle.hx_replay.specs.Struck.{left_by}
+use Rattle.hx_replay.specs.FirstFaults.{StopsBefore}
 use Rattle.hx_report.specs.declared.day.Day.{Day}
 use Rattle.hx_report.specs.declared.check.Check.{Check}
 use Rattle.hx_report.specs.Looks.{Look, pick_of}

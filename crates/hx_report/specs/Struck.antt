@@ -2,9 +2,8 @@
 use Rattle.std.specs.Prelude.{◌≡◌, List, length}
 use Rattle.std.specs.List.{filter}
 use Rattle.hx_market.specs.QuietChains.{Choice, bears}
-use Rattle.hx_tape_lines.specs.Text.{Entry}
+use Rattle.hx_tape_lines.specs.Text.{Entry, tape}
 use Rattle.hx_tape_lines.specs.Events.{event_of}
-use Rattle.hx_replay.specs.Run.{tape}
 use Rattle.hx_replay.specs.Struck.{without_chosen}
 use Rattle.hx_report.specs.declared.striking.Struck.{Struck}
 use Rattle.hx_report.specs.Sums.{counted}

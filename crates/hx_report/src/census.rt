@@ -5,15 +5,15 @@ ghost use Rattle.hx_units.specs.Ranges.{IsMember};
 ghost use Rattle.hx_members.specs.Setups.{Setup as SetupOf};
 ghost use Rattle.hx_rules.specs.declared.event.Event.{Event as Happening};
 ghost use Rattle.hx_market.specs.Steps.{sender};
-ghost use Rattle.hx_tape_lines.specs.Text.{Entry, line as line_of};
+ghost use Rattle.hx_tape_lines.specs.Text.{Entry, line as line_of, tape};
 ghost use Rattle.hx_tape_lines.specs.Events.{IsKnown, event_of};
-ghost use Rattle.hx_replay.specs.Run.{start, tape, AreEvents};
+ghost use Rattle.hx_replay.specs.Run.{start, AreEvents};
 ghost use Rattle.hx_report.specs.Counts.{is_execution};
 ghost use Rattle.hx_report.specs.Noted.{begun_by, traders_in, is_quiet_chain, chain_mark, HasNoted, IsCensus};
 
 use crate::rest::{Rested, note_rested};
 use hx_levels::LevelBook;
-use hx_market::{Event, Market, Output};
+use hx_market::{Bytes, Event, Market, Output};
 use hx_members::Setup;
 use hx_ouch::{Inbound, Outbound, decode_in};
 use hx_tape_lines::read_event;
@@ -146,7 +146,7 @@ fn take_line(alloc: Global, notes: &mut Notes, text: &[u8]) -> Result<(), NoMemo
         → text.now ≡ line_of e → HasNoted notes.old setup (map event_of es)
         → HasNoted notes.new setup (map event_of (es ++ e ∷ []))) }
 {
-    let Some(event) = read_event(Vec::new(alloc), text)? else {
+    let Some(event) = read_event(alloc, Bytes::none(), text)? else {
         return Err(NoMemory);
     };
     notes.take(&event)?;

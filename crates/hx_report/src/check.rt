@@ -1,7 +1,7 @@
 //! The promise, checked on a day: what others get with and without quiet chains.
 ghost use Rattle.std.specs.Prelude.{◌≡◌, List, IfOk};
-ghost use Rattle.hx_tape_lines.specs.Text.{Entry};
-ghost use Rattle.hx_replay.specs.Run.{start, tape, output_all, AreEvents};
+ghost use Rattle.hx_tape_lines.specs.Text.{Entry, tape};
+ghost use Rattle.hx_replay.specs.Run.{start, output_all, AreEvents};
 ghost use Rattle.hx_audit.specs.declared.auditor.Whose.TheVariants as whose;
 ghost use Rattle.hx_report.specs.declared.looks.Look.TheVariants as look;
 ghost use Rattle.hx_report.specs.Days.{IsDay, IsCheck};

@@ -2,13 +2,13 @@
 ghost use Rattle.std.specs.Prelude.{◌≡◌, ◌++◌, ◌∷◌, [], List, map, IfOk, OnOk};
 ghost use Rattle.hx_rules.specs.Steps.{sender};
 ghost use Rattle.hx_audit.specs.Auditing.{choice_of};
-ghost use Rattle.hx_tape_lines.specs.Text.{Entry, line as line_of};
+ghost use Rattle.hx_tape_lines.specs.Text.{Entry, line as line_of, tape};
 ghost use Rattle.hx_tape_lines.specs.Events.{IsKnown, event_of};
-ghost use Rattle.hx_replay.specs.Run.{start, tape, AreEvents};
+ghost use Rattle.hx_replay.specs.Run.{start, AreEvents};
 ghost use Rattle.hx_report.specs.Marks.{marks_of, marked_by, HasTakenLines};
 
 use hx_audit::{Auditor, Bearing, Whose};
-use hx_market::Event;
+use hx_market::{Bytes, Event};
 use hx_members::Setup;
 use hx_tape_lines::read_event;
 use hx_text::split_once;
@@ -55,7 +55,7 @@ fn take_line(alloc: Global, taken: &mut TakenLines, text: &[u8]) -> Result<(), N
     ensures ok { OnOk result ((es : List Entry) (e : Entry) → IsKnown e → text.now ≡ line_of e
         → HasTakenLines taken.old es → HasTakenLines taken.new (es ++ e ∷ [])) }
 {
-    let Some(event) = read_event(Vec::new(alloc), text)? else {
+    let Some(event) = read_event(alloc, Bytes::none(), text)? else {
         return Err(NoMemory);
     };
     if taken.auditor.take(&event).is_err() {

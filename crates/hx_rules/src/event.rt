@@ -2,56 +2,8 @@
 ghost use Rattle.std.specs.Prelude.{◌≡◌, ◌<◌, length, IfOk, IfErr, List};
 ghost use Rattle.hx_rules.specs.Steps.{message_bytes};
 
+use crate::bytes::Bytes;
 use hx_units::{NoMemory, Symbol};
-use std::alloc::Global;
-use std::marker::Model;
-
-/// The bytes of a message, as they came. Contracts see the list of them.
-#[derive(Drop)]
-pub struct Bytes {
-    items: Vec<u8>,
-}
-
-impl Model for Bytes {
-    ghost use Rattle.std.specs.Prelude.{ℕ, List};
-
-    ghost Value = { List ℕ };
-
-    ghost view = { λ b. b.items.items };
-}
-
-impl Bytes {
-    /// These bytes.
-    pub fn of(items: Vec<u8>) -> Bytes
-        ensures { result ≡ items.items }
-    {
-        Bytes { items }
-    }
-
-    /// The bytes, as a slice.
-    pub fn as_slice(&self) -> &[u8]
-        ensures { result.now ≡ self.now }
-    {
-        &self.items
-    }
-
-    /// The bytes, given back.
-    pub fn into_vec(self) -> Vec<u8>
-        ensures { result.items ≡ self }
-    {
-        self.items
-    }
-
-    // Equal bytes. Where there are none it takes no memory.
-    fn copy(&self, alloc: Global) -> Result<Bytes, NoMemory>
-        ensures equal { IfOk result (λ bytes. bytes ≡ self.now) }
-        ensures memory { IfErr result (λ _. 0 < length self.now) }
-    {
-        let mut items = Vec::new(alloc);
-        items.extend_from_slice(&self.items)?;
-        Ok(Bytes { items })
-    }
-}
 
 /// One event of the market: a member's message, or one of the operator: a tick, the hours' next code, a halt, or a
 /// break. Its time is in nanoseconds since midnight, and it is that of all that the event gives.
@@ -99,9 +51,9 @@ pub enum Event {
 }
 
 impl Event {
-    /// An equal event. `NoMemory` where there is no room for the bytes of a message: one without bytes takes no
-    /// memory, nor do the other events.
-    pub fn copy(&self, alloc: Global) -> Result<Event, NoMemory>
+    /// An equal event, which shares the bytes of a message. `NoMemory` where they can't be shared once more: one without
+    /// bytes takes no memory, nor do the other events.
+    pub fn copy(&self) -> Result<Event, NoMemory>
         ensures equal { IfOk result (λ event. event ≡ self.now) }
         ensures memory { IfErr result (λ _. 0 < length (message_bytes self.now)) }
     {
@@ -113,7 +65,7 @@ impl Event {
             } => Event::Message {
                 member: *member,
                 time: *time,
-                bytes: bytes.copy(alloc)?,
+                bytes: bytes.share()?,
             },
             Event::Tick { time } => Event::Tick { time: *time },
             Event::Hours { time, code } => Event::Hours {

@@ -1,6 +1,7 @@
 //! What the market is: its events, the operator's bytes, and, in `specs/`, the definition of every step.
 #![tactic(auto)]
 
+mod bytes;
 mod event;
 mod fault;
 mod lives;
@@ -9,7 +10,8 @@ mod operator;
 mod output;
 mod rules;
 
-pub use event::{Bytes, Event};
+pub use bytes::Bytes;
+pub use event::Event;
 pub use fault::PrepareError;
 pub use lives::{ends_by_code, expiry_of, is_over};
 pub use matches::Match;

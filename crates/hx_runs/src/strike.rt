@@ -4,7 +4,7 @@ use crate::fault::RunError;
 use crate::progress::WatchedInput;
 use crate::setups::read_setup;
 use clap::ArgMatches;
-use hx_replay::{strike_all_tape, strike_tape};
+use hx_strike::{strike_all_tape, strike_tape};
 use hx_units::MemberNo;
 use std::io;
 use std::rt::Files;

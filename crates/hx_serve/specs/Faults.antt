@@ -3,7 +3,7 @@ use Rattle.std.specs.Prelude.{ℕ, Bool, true, false, Option, Some, None}
 use Rattle.hx_engine.specs.declared.answers.SubmitError.{SubmitError}
 use Rattle.hx_engine.specs.declared.answers.SubmitError.TheVariants.{Refused, Stopped}
 use Rattle.hx_desk.specs.declared.fault.DeskError.TheVariants as refused
-use Rattle.hx_replay.specs.declared.fault.Kind.TheVariants as kind
+use Rattle.hx_tape_lines.specs.declared.fault.Kind.TheVariants as kind
 use Rattle.hx_serve.specs.declared.fault.ServeError.{ServeError}
 use Rattle.hx_serve.specs.declared.fault.ServeError.TheVariants as failure
 

@@ -3,8 +3,7 @@ use Rattle.std.specs.Prelude.{ℕ, List, [], ◌∷◌, ◌++◌, map, codes}
 use Rattle.std.specs.Fmt.{decimal}
 use Rattle.hx_units.specs.Letters.{line_feed}
 use Rattle.hx_desk.specs.declared.entry.Entry.{Entry}
-use Rattle.hx_replay.specs.Run.{tape}
-use Rattle.hx_tape_lines.specs.Text.{entry_of_event}
+use Rattle.hx_tape_lines.specs.Text.{tape, entry_of_event}
 
 -- the last line: how many events there were, and how many messages of the feed
 abbrev pub last_line : (events feed : ℕ) → List ℕ

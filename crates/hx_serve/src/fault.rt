@@ -3,7 +3,7 @@ ghost use Rattle.std.specs.Prelude.{◌≡◌};
 ghost use Rattle.hx_serve.specs.declared.fault.ServeError.TheVariants.{NoMemory as OutOfMemory};
 
 use hx_doors::DoorsError;
-use hx_replay::Kind;
+use hx_tape_lines::Kind;
 use hx_units::NoMemory;
 use std::alloc::{AllocError, AllocFailed};
 use thiserror::Error;

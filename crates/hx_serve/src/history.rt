@@ -5,7 +5,7 @@ ghost use Rattle.hx_serve.specs.LastLine.{tape_of};
 
 use crate::fault::ServeError;
 use hx_engine::Entry;
-use hx_replay::write_event;
+use hx_tape_lines::write_event;
 use std::alloc::Global;
 use std::io::Write;
 

@@ -1,11 +1,10 @@
 //! The operator of an open day: a line that is bad or refused is told of, and the next one is read.
 
 use crate::fault::ServeError;
-use crate::operator::LONGEST;
 use hx_engine::{DeskError, Exchange, Journal, Pass, SubmitError, Venue};
 use hx_floor::{Board, DayClock, Floor, Notice, Refusal, Times};
 use hx_market::Event;
-use hx_replay::read_operator_line;
+use hx_tape_lines::{LONGEST_LINE, read_operator_line};
 use hx_text::split_once;
 use std::alloc::Global;
 use std::io::{ErrorKind, Read};
@@ -112,7 +111,7 @@ impl<V: Venue> Conductor<V> {
             self.take_line(rt, alloc, exchange, floor, line);
             rest = others;
         }
-        if rest.len() > LONGEST {
+        if rest.len() > LONGEST_LINE {
             self.overlong = true;
             rest = &[];
         }

@@ -7,14 +7,11 @@ ghost use Rattle.hx_serve.specs.Operator.{SendsAll, Conducts, ConductsOn, Breaks
 
 use crate::fault::ServeError;
 use hx_engine::{DeskError, Exchange, Journal, Pass, SubmitError, Venue};
-use hx_replay::{Kind, read_operator_line};
+use hx_tape_lines::{Kind, LONGEST_LINE, read_operator_line};
 use hx_text::split_once;
 use std::alloc::Global;
 use std::io::{ErrorKind, Read};
 use std::sync::Wait;
-
-/// The greatest line, without its line feed.
-pub(crate) const LONGEST: usize = 2066;
 
 // The fault of a line whose event the exchange refused.
 fn line_fault(line: u64, error: SubmitError) -> ServeError
@@ -112,7 +109,7 @@ impl<V: Venue> Operator<V> {
                 Err(fault) => return Err(fault),
             }
         }
-        if rest.len() > LONGEST {
+        if rest.len() > LONGEST_LINE {
             return Err(self.bad_line());
         }
         let Ok(pending) = Vec::from_slice(alloc, rest) else {

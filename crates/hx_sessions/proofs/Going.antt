@@ -112,13 +112,6 @@ sent_some first replies rest old new ended gs a b c s live sends (left, w) = rec
   );
 }
 
--- what is left are the replies from the next one on
-pub sent_rest : (first : ℕ) (replies rest : List (List ℕ)) (d : Delivery) (a b : Option (List ℕ)) → Sent first replies rest d a b → drop (d.next - 1) replies ≡ rest
-sent_rest first replies rest d a b s =
-    let v = s.delivers in
-    let n : d.next - 1 ≡ length (v.before ++ v.rows) = omega (arith, v.next, v.starts, length-append v.before v.rows) in
-    ap (λ k. drop k replies) n ∙ (ap (drop (length (v.before ++ v.rows))) (v.splits ∙ sym (append_assoc v.before v.rows rest)) ∙ drop-append_seam (v.before ++ v.rows) rest)
-
 pub sent_room : (first : ℕ) (replies rest : List (List ℕ)) (d : Delivery) (a b : Option (List ℕ)) → Sent first replies rest d a b → d.next + length rest ≡ length replies + 1
 sent_room first replies rest d a b s =
     let v = s.delivers in

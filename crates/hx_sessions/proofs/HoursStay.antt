@@ -117,21 +117,3 @@ after_both : (setup : Setup) (a : Market) (xs ys : List Event) → market_after 
 unfolding market_after
 after_both setup a [] ys = refl
 after_both setup a (x ∷ xs) ys = after_both setup (step setup a x).market xs ys
-
-six_stay : (m n : ℕ) → m ≤ n → nat_le 6 m ≡ true → nat_le 6 n ≡ true
-six_stay m n le past = grind (arith, nat_tests)
-
--- a day that is over by what is known is over by whatever more is known
-pub over_stays : (setup : Setup) (known longer : Entries Entry) → IsPrefix known longer → is_over (known_market setup known) ≡ true → is_over (known_market setup longer) ≡ true
-unfolding run
-over_stays setup known longer begins past =
-    let xs = events_of (history_of known) in
-    let ys = events_of (history_of begins.0) in
-    let all : events_of (history_of longer) ≡ xs ++ ys =
-    ap (λ (k : Entries Entry). events_of (history_of k)) (sym begins.1)
-    ∙ ap events_of (map-append (λ (e : Entry × List (List ℕ)). e.0) known begins.0)
-    ∙ map-append (λ (e : Entry). e.event) (history_of known) (history_of begins.0) in
-    let market : known_market setup longer ≡ market_after setup (known_market setup known) ys =
-    ap (λ (es : List Event). market_after setup (opening setup) es) all ∙ after_both setup (opening setup) xs ys in
-    six_stay (known_market setup known).hours (known_market setup longer).hours
-    (subst (λ (b : Market). (known_market setup known).hours ≤ b.hours) (sym market) (hours_after setup (known_market setup known) ys)) past

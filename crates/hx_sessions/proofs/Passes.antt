@@ -32,9 +32,6 @@ ledger_begins setup xs ys = ledger_more setup (opening setup) xs ys
 pub carries_none : (may : Bool) (p : PassState) → CarriesOn may p p
 carries_none may p = record { number = refl; known = prefix_self p.known; silent = λ e. refl }
 
-pub carries_same : (may : Bool) (old new : PassState) → new ≡ old → CarriesOn may old new
-carries_same may old new is = subst (CarriesOn may old) (sym is) (carries_none may old)
-
 pub carries_more : (may : Bool) (a b c : PassState) → CarriesOn may a b → CarriesOn may b c → CarriesOn may a c
 carries_more may a b c p q = record {
   number = q.number ∙ p.number;

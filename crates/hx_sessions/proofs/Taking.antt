@@ -76,38 +76,35 @@ submits_join member a b c ts us s t = record {
 
 -- ---- acting on packets one by one
 
--- what was submitted for the packets before i
-pub record Upto (packets : List SoupPacket) (i : ℕ) (done : List (List ℕ)) : Type 0 where
-  pub asks : (later : List SoupPacket) → asked (packets ++ later) ≡ done ++ asked (drop i packets ++ later)
+-- what was submitted for the packets before those that are left
+pub record Upto (packets rest : List SoupPacket) (done : List (List ℕ)) : Type 0 where
+  pub asks : (later : List SoupPacket) → asked (packets ++ later) ≡ done ++ asked (rest ++ later)
 
-pub upto_none : (packets : List SoupPacket) → Upto packets 0 []
+pub upto_none : (packets : List SoupPacket) → Upto packets packets []
 upto_none packets = record { asks = λ later. refl }
 
-at : (packets : List SoupPacket) (i : ℕ) (p : SoupPacket) → i < length packets → p ≡ get_or packets i p → drop i packets ≡ p ∷ drop (i + 1) packets
-at packets i p h is = drop_more packets i p h ∙ ap (λ x. x ∷ drop (i + 1) packets) (sym is)
+step : (packets rest others : List SoupPacket) (done : List (List ℕ)) (p : SoupPacket) (a : Action) → Upto packets rest done → rest ≡ p ∷ others → later_action p ≡ a
+    → (later : List SoupPacket) → asked (packets ++ later) ≡ done ++ asked_by a p.payload (asked (others ++ later))
+step packets rest others done p a u is acts later =
+    u.asks later ∙ ap (λ l. done ++ asked (l ++ later)) is ∙ ap (λ x. done ++ asked_by x p.payload (asked (others ++ later))) acts
 
-step : (packets : List SoupPacket) (i : ℕ) (done : List (List ℕ)) (p : SoupPacket) (a : Action) → Upto packets i done → i < length packets → p ≡ get_or packets i p → later_action p ≡ a
-    → (later : List SoupPacket) → asked (packets ++ later) ≡ done ++ asked_by a p.payload (asked (drop (i + 1) packets ++ later))
-step packets i done p a u h is acts later =
-    u.asks later ∙ ap (λ l. done ++ asked (l ++ later)) (at packets i p h is) ∙ ap (λ x. done ++ asked_by x p.payload (asked (drop (i + 1) packets ++ later))) acts
+pub upto_submit : (packets rest others : List SoupPacket) (done : List (List ℕ)) (p : SoupPacket) → Upto packets rest done → rest ≡ p ∷ others → later_action p ≡ action.Submit → Upto packets others (done ++ p.payload ∷ [])
+upto_submit packets rest others done p u is acts =
+    record { asks = λ later. step packets rest others done p action.Submit u is acts later ∙ sym (append_assoc done (p.payload ∷ []) (asked (others ++ later))) }
 
-pub upto_submit : (packets : List SoupPacket) (i : ℕ) (done : List (List ℕ)) (p : SoupPacket) → Upto packets i done → i < length packets → p ≡ get_or packets i p → later_action p ≡ action.Submit → Upto packets (i + 1) (done ++ p.payload ∷ [])
-upto_submit packets i done p u h is acts =
-    record { asks = λ later. step packets i done p action.Submit u h is acts later ∙ sym (append_assoc done (p.payload ∷ []) (asked (drop (i + 1) packets ++ later))) }
+pub upto_ignore : (packets rest others : List SoupPacket) (done : List (List ℕ)) (p : SoupPacket) → Upto packets rest done → rest ≡ p ∷ others → later_action p ≡ action.Ignore → Upto packets others done
+upto_ignore packets rest others done p u is acts = record { asks = λ later. step packets rest others done p action.Ignore u is acts later }
 
-pub upto_ignore : (packets : List SoupPacket) (i : ℕ) (done : List (List ℕ)) (p : SoupPacket) → Upto packets i done → i < length packets → p ≡ get_or packets i p → later_action p ≡ action.Ignore → Upto packets (i + 1) done
-upto_ignore packets i done p u h is acts = record { asks = λ later. step packets i done p action.Ignore u h is acts later }
-
-pub upto_closed : (packets : List SoupPacket) (i : ℕ) (done : List (List ℕ)) (p : SoupPacket) (a : Action) → Upto packets i done → i < length packets → p ≡ get_or packets i p → later_action p ≡ a
+pub upto_closed : (packets rest others : List SoupPacket) (done : List (List ℕ)) (p : SoupPacket) (a : Action) → Upto packets rest done → rest ≡ p ∷ others → later_action p ≡ a
     → ((text : List ℕ) (more : List (List ℕ)) → asked_by a text more ≡ []) → Closed packets done
-upto_closed packets i done p a u h is acts none = record { asks = λ later. step packets i done p a u h is acts later ∙ (ap (λ l. done ++ l) (none p.payload (asked (drop (i + 1) packets ++ later))) ∙ append-nil done) }
+upto_closed packets rest others done p a u is acts none = record { asks = λ later. step packets rest others done p a u is acts later ∙ (ap (λ l. done ++ l) (none p.payload (asked (others ++ later))) ∙ append-nil done) }
 
-pub has_at : (packets : List SoupPacket) (i : ℕ) (p : SoupPacket) → i < length packets → p ≡ get_or packets i p → later_action p ≡ action.Logout → HasLogout packets
-has_at packets i p h is acts = record {
-  before = take i packets;
+pub has_at : (packets before rest others : List SoupPacket) (p : SoupPacket) → before ++ rest ≡ packets → rest ≡ p ∷ others → later_action p ≡ action.Logout → HasLogout packets
+has_at packets before rest others p all is acts = record {
+  before = before;
   logout = p;
-  after = drop (i + 1) packets;
-  splits = sym (take-append-drop i packets) ∙ ap (λ l. take i packets ++ l) (at packets i p h is);
+  after = others;
+  splits = sym all ∙ ap (λ l. before ++ l) is;
   is = acts;
 }
 
@@ -120,11 +117,8 @@ has_behind ps qs h = record {
   is = h.is;
 }
 
-pub upto_cut : (packets : List SoupPacket) (i : ℕ) (done : List (List ℕ)) → Upto packets i done → Cut packets done
-upto_cut packets i done u = record { asks = λ later. (asked (drop i packets ++ later), sym (u.asks later)) }
-
-pub upto_all : (packets : List SoupPacket) (i : ℕ) (done : List (List ℕ)) → Upto packets i done → length packets ≤ i → Acting packets done
-upto_all packets i done u h = record { asks = λ later. u.asks later ∙ ap (λ l. done ++ asked (l ++ later)) (drop_all i packets h) }
+pub upto_cut : (packets rest : List SoupPacket) (done : List (List ℕ)) → Upto packets rest done → Cut packets done
+upto_cut packets rest done u = record { asks = λ later. (asked (rest ++ later), sym (u.asks later)) }
 
 -- ---- acting on packets all at once
 
@@ -145,14 +139,6 @@ cut_take : (packets : List SoupPacket) (texts : List (List ℕ)) (n : ℕ) → C
 cut_take packets texts n c = record {
   asks = λ later. prefix_trans (take n texts) texts (asked (packets ++ later)) (drop n texts, take-append-drop n texts) (c.asks later);
 }
-
--- all was submitted
-pub acted_all : (member : ℕ) (old new : List (ℕ × Event)) (packets : List SoupPacket) (events : List Event) → Gathers member packets events None → SendsOn old new events → (u : Unit {0}) → Acted member old new packets (Ok u)
-acted_all member old new packets events (texts, are, asks) s u = (texts, record { events = events; sends = s; are = are }, asks)
-
--- all was submitted, and the worker stops
-pub acted_until : (member : ℕ) (old new : List (ℕ × Event)) (packets : List SoupPacket) (events : List Event) (w : Stop) → Gathers member packets events (Some w) → SendsOn old new events → Acted member old new packets (Err w)
-acted_until member old new packets events w (texts, are, asks) s = (texts, record { events = events; sends = s; are = are }, asks)
 
 -- a submit was refused
 pub acted_some : (member : ℕ) (old new : List (ℕ × Event)) (packets : List SoupPacket) (events : List Event) (w : Option Stop) (f : Fault) → Gathers member packets events w → SendsSome old new events → Acted member old new packets (Err (stop.Faulted f))
@@ -196,9 +182,6 @@ acting_join ps qs ds es a b = record {
 
 pub acting_all : (ps : List SoupPacket) (ds : List (List ℕ)) → Acting ps ds → ds ≡ asked ps
 acting_all ps ds a = sym (ap asked (sym (append-nil ps)) ∙ (a.asks [] ∙ append-nil ds))
-
-asked_two : (ps qs : List SoupPacket) (ds : List (List ℕ)) → Acting ps ds → asked (ps ++ qs) ≡ ds ++ asked qs
-asked_two ps qs ds a = a.asks qs
 
 closed_all : (ps qs : List SoupPacket) (ds es : List (List ℕ)) → Acting ps ds → Closed qs es → ds ++ es ≡ asked (ps ++ qs)
 closed_all ps qs ds es a c = sym (a.asks qs ∙ ap (λ l. ds ++ l) (ap asked (sym (append-nil qs)) ∙ c.asks []))

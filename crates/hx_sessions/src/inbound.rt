@@ -13,7 +13,7 @@ use hx_bells::Source;
 use hx_engine::{DeskError, Exchange, Journal, Pass, SubmitError, Venue};
 use hx_market::{Bytes, Event};
 use hx_session_core::{Action, Intake};
-use hx_soup::{Framer, FramerError, SoupPacket};
+use hx_soup::{Framer, FramerError, Payload, SoupPacket};
 use hx_units::{MemberNo, NoMemory};
 use std::alloc::Global;
 use std::io::{Error, ErrorKind, Read};
@@ -79,18 +79,18 @@ fn add_message(
     events: &mut Vec<Event>,
     member: MemberNo,
     time: u64,
-    text: &[u8],
+    payload: Payload,
 ) -> Result<(), NoMemory>
     ensures ok { OnOk result (events.new.items
-        ≡ events.old.items ++ Message member time (text.now) ∷ []) }
+        ≡ events.old.items ++ Message member time payload ∷ []) }
     ensures err { OnErr result (events.new.items ≡ events.old.items) }
 {
     events.reserve(1)?;
-    let bytes = Vec::from_slice(alloc, text)?;
+    let bytes = Bytes::of(alloc, payload.into_vec())?;
     events.push_reserved(Event::Message {
         member: member.get(),
         time,
-        bytes: Bytes::of(bytes),
+        bytes,
     });
     Ok(())
 }
@@ -102,22 +102,21 @@ fn gather<C: Clock>(
     member: MemberNo,
     may_send: bool,
     clock: &mut C,
-    packets: &[SoupPacket],
+    packets: Vec<SoupPacket>,
 ) -> Gathered
-    ensures gathers { Gathers member packets.now result.events.items result.stop }
+    ensures gathers { Gathers member packets.items result.events.items result.stop }
     ensures silent { may_send ≡ false → result.events.items ≡ [] }
 {
     let mut events = Vec::new(alloc);
     let mut intake = Intake::Open;
     let time = clock.now();
     for packet in packets {
-        match intake.packet(packet) {
+        match intake.packet(&packet) {
             Action::Submit => {
                 if !may_send {
                     return Gathered::until(events, Stop::Faulted(Fault::Framing));
                 }
-                let text = packet.payload.as_slice();
-                match add_message(alloc, &mut events, member, time, text) {
+                match add_message(alloc, &mut events, member, time, packet.payload) {
                     Ok(()) => {}
                     Err(_) => return Gathered::until(events, Stop::Faulted(Fault::NoMemory)),
                 }
@@ -178,11 +177,11 @@ fn act<V: Venue, J: Journal + Drop, C: Clock, G: Gate, T: Wait>(
     alloc: Global,
     trader: &Trader<'_, V, J, G>,
     sender: &mut Sender<V, C>,
-    packets: &[SoupPacket],
+    packets: Vec<SoupPacket>,
 ) -> Result<(), Stop>
     ensures pass { CarriesOn trader.now.may_send sender.old.pass sender.new.pass }
     ensures acted { Acted trader.now.member
-        sender.old.pass.sent sender.new.pass.sent packets.now result }
+        sender.old.pass.sent sender.new.pass.sent packets.items result }
 {
     let Gathered { events, stop } = gather(
         alloc,
@@ -207,12 +206,12 @@ fn act_last<V: Venue, J: Journal + Drop, C: Clock, G: Gate, T: Wait>(
     alloc: Global,
     trader: &Trader<'_, V, J, G>,
     sender: &mut Sender<V, C>,
-    packets: &[SoupPacket],
+    packets: Vec<SoupPacket>,
 ) -> Stop
     ensures pass { CarriesOn trader.now.may_send sender.old.pass sender.new.pass }
     ensures acted { (done : List (List ℕ))
         × Submits trader.now.member sender.old.pass.sent sender.new.pass.sent done
-        × ActedUntil packets.now done result }
+        × ActedUntil packets.items done result }
 {
     match act(rt, alloc, trader, sender, packets) {
         Ok(()) => Stop::Faulted(Fault::Framing),
@@ -235,14 +234,14 @@ fn take<V: Venue, J: Journal + Drop, C: Clock, G: Gate, T: Wait>(
         sender.old.pass.sent sender.new.pass.sent result }
 {
     match framer.feed(alloc, piece) {
-        Ok(packets) => act(rt, alloc, trader, sender, &packets),
+        Ok(packets) => act(rt, alloc, trader, sender, packets),
         Err(
             FramerError::TooLong {
                 before,
                 length: _bad,
             },
-        ) => Err(act_last(rt, alloc, trader, sender, &before)),
-        Err(FramerError::Empty { before }) => Err(act_last(rt, alloc, trader, sender, &before)),
+        ) => Err(act_last(rt, alloc, trader, sender, before)),
+        Err(FramerError::Empty { before }) => Err(act_last(rt, alloc, trader, sender, before)),
         Err(FramerError::NoMemory) => Err(Stop::Faulted(Fault::NoMemory)),
         Err(FramerError::Failed) => Err(Stop::Faulted(Fault::Framing)),
     }

@@ -1,6 +1,6 @@
 //! The command that serves a day.
 ghost use Rattle.std.specs.Prelude.{◌≡◌, true};
-ghost use Rattle.hx_journal.specs.Calls.{seen_of};
+ghost use Rattle.hx_disk.specs.Calls.{seen_of};
 ghost use Rattle.hx_journal.specs.Files.{stored, appended};
 ghost use Rattle.hx_journal.specs.Records.{records_of};
 ghost use Rattle.hx_tape_lines.specs.Text.{record_of};

@@ -3,7 +3,7 @@ use Rattle.std.proofs.Common.{◌≡◌, ℕ, zero, suc, ◌+◌, ◌*◌, ◌/�
 use Rattle.std.specs.Prelude.{◌≢◌, ◌&&◌, ◌⊎◌, Bool, true, false, nat_lt}
 use Rattle.std.proofs.lemmas.Bool.{and_parts, and_cases}
 use Rattle.std.proofs.lemmas.List.{take_more_set}
-use Rattle.std.proofs.Math.Seq.{take-suc, take-append_seam}
+use Rattle.std.proofs.Math.Seq.{take-suc}
 use Rattle.hex.specs.Hex.{encode_lower, encode_with, lower_digits, IsBytes}
 use Rattle.hex.proofs.HexLemmas.{length-encode_with}
 
@@ -95,7 +95,3 @@ digits_unread text others i h l so_far lt high low front unread fits = first (an
     first : (so_far ≡ false) ⊎ ((nat_lt h 16 && nat_lt l 16) ≡ false) → text ≢ encode_lower others
     first (inl which) = front which
     first (inr which) = second (and_cases (nat_lt h 16) (nat_lt l 16) which)
-
--- a slice that was written whole
-pub written_whole : (xs ys : List ℕ) (n : ℕ) → n ≡ length xs → take n (xs ++ drop (length xs) ys) ≡ xs
-written_whole xs ys n e = ap (λ (k : ℕ). take k (xs ++ drop (length xs) ys)) e ∙ take-append_seam xs (drop (length xs) ys)

@@ -1,9 +1,9 @@
 -- The text of a tape.
 use Rattle.std.specs.Prelude.{◌≡◌, ◌⊎◌, ℕ, ◌^◌, ◌<◌, ◌≤◌, List, [], ◌∷◌, ◌++◌, length, Bool, true, nat_lt, ◌&&◌, if◌then◌else◌}
-use Rattle.std.specs.List.{AllByRecursion}
+use Rattle.std.specs.List.{AllByRecursion, flat_map}
 use Rattle.std.specs.Fmt.{decimal}
 use Rattle.hex.specs.Hex.{encode_lower, IsBytes}
-use Rattle.hx_units.specs.Letters.{letter, space}
+use Rattle.hx_units.specs.Letters.{letter, space, line_feed}
 use Rattle.hx_rules.specs.declared.event.Event.{Event}
 use Rattle.hx_rules.specs.declared.event.Event.TheVariants.{Message, Tick, Hours, Halt, Break}
 use Rattle.hx_rules.specs.OperatorMessages.{halt_bytes, break_bytes}
@@ -43,6 +43,10 @@ pub record IsEntry (e : Entry) : Type 0 where
 -- its one line, without the line feed
 abbrev pub line : Entry → List ℕ
 line e = decimal e.time ++ space ∷ (decimal e.member ++ space ∷ encode_lower e.bytes)
+
+-- the text of a tape: its lines, each with its line feed
+abbrev pub tape : List Entry → List ℕ
+tape entries = flat_map (λ e. line e ++ line_feed ∷ []) entries
 
 -- all are below a bound
 abbrev pub all_below : ℕ → List ℕ → Bool

@@ -2,6 +2,7 @@
 #![tactic(auto)]
 
 mod decimal;
+mod fault;
 mod hexadecimal;
 pub mod laws;
 pub mod line;
@@ -11,8 +12,9 @@ mod spelling;
 mod vectors;
 
 pub use decimal::digit_count;
+pub use fault::Kind;
 pub use hexadecimal::write_bytes;
-pub use line::Fields;
+pub use line::{Fields, LONGEST_LINE};
 pub use operator::read_operator_line;
 pub use reading::{event_of, read_event};
 pub use spelling::{write_event, write_record};

@@ -6,6 +6,9 @@ use crate::decimal::{split_long_number, split_number};
 use crate::hexadecimal::read_bytes;
 use std::alloc::{AllocError, Global};
 
+/// The bytes of the longest line, without its line feed.
+pub const LONGEST_LINE: usize = 2066;
+
 /// A timed message of a member.
 #[derive(Debug, Drop)]
 pub struct Fields {

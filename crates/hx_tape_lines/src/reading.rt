@@ -5,31 +5,34 @@ ghost use Rattle.hx_tape_lines.specs.Events.{event_of, is_unknown, IsLineOf, IsN
 
 use crate::line::{Fields, read_in};
 use hx_rules::{Bytes, Event, decode_operator};
-use std::alloc::AllocError;
+use hx_units::NoMemory;
+use std::alloc::Global;
 
-/// The event of an entry: a member's message, or what the operator's bytes say, where they say something.
-pub fn event_of(fields: Fields) -> Option<Event>
-    ensures event { IfSome result (λ event. event ≡ event_of (entry_of fields)) }
-    ensures known { OnSome result (is_unknown (entry_of fields) ≡ false) }
-    ensures unknown { IfNone result (is_unknown (entry_of fields) ≡ true) }
+/// The event of an entry: a member's message, its bytes in the place of others, or what the operator's bytes say, where
+/// they say something.
+pub fn event_of(alloc: Global, place: Bytes, fields: Fields) -> Result<Option<Event>, NoMemory>
+    ensures event { IfOk result (λ o. IfSome o (λ event. event ≡ event_of (entry_of fields))) }
+    ensures known { IfOk result (λ o. OnSome o (is_unknown (entry_of fields) ≡ false)) }
+    ensures unknown { IfOk result (λ o. IfNone o (is_unknown (entry_of fields) ≡ true)) }
 {
     if fields.member == 0 {
-        return decode_operator(fields.time, &fields.bytes);
+        return Ok(decode_operator(fields.time, &fields.bytes));
     }
-    Some(Event::Message {
+    Ok(Some(Event::Message {
         member: fields.member,
         time: fields.time,
-        bytes: Bytes::of(fields.bytes),
-    })
+        bytes: place.replaced_by(alloc, fields.bytes)?,
+    }))
 }
 
-/// The event of a line, where it is one, its bytes in the room of others.
-pub fn read_event(room: Vec<u8>, text: &[u8]) -> Result<Option<Event>, AllocError>
+/// The event of a line, where it is one, its bytes in the place of others.
+pub fn read_event(alloc: Global, place: Bytes, text: &[u8]) -> Result<Option<Event>, NoMemory>
     ensures some { IfOk result (λ o. IfSome o (IsLineOf text.now)) }
     ensures none { IfOk result (λ o. IfNone o (IsNoLine text.now)) }
 {
-    let Some(fields) = read_in(room, text)? else {
+    let mut place = place;
+    let Some(fields) = read_in(place.take_room(alloc), text)? else {
         return Ok(None);
     };
-    Ok(event_of(fields))
+    event_of(alloc, place, fields)
 }

@@ -25,7 +25,7 @@ pub fn event_of(alloc: Global, line: &[u8]) -> Result<Event, Fail> {
     Ok(Event::Message {
         member,
         time,
-        bytes: Bytes::of(bytes),
+        bytes: Bytes::of(alloc, bytes)?,
     })
 }
 

@@ -161,7 +161,7 @@ fn batch_from(alloc: Global, day: Day, first: usize, turn: usize) -> Result<Vec<
     let size = day.at_once[turn % 4];
     let mut batch = Vec::new(alloc);
     for event in day.events.iter().skip(first).take(size) {
-        batch.push(event.copy(alloc)?)?;
+        batch.push(event.copy()?)?;
     }
     Ok(batch)
 }

@@ -1,7 +1,8 @@
 //! A large day, of which another thread reads the lines ahead, and writes what they tell.
 
 use super::day::{SETUP, day};
-use hx_replay::{Kind, TapeError, replay, replay_ahead};
+use hx_replay::{Kind, TapeError, replay};
+use hx_replay_threads::replay_ahead;
 use hx_testing::Day;
 use hx_testing::halts::{BREAK_OF_BOTH_SIDES, HALTS_AND_BREAKS, HALTS_AT_THEIR_EDGES};
 use hx_testing::lines::{first_lines, front, last_lines};

@@ -1,7 +1,8 @@
 //! The day without quiet chains: of one member, and of all.
 
 use super::day::{BEFORE_QUIET, QUIET_OF_ALL, QUIET_OF_THIRD, SETUP, day};
-use hx_replay::{replay, strike_all_tape, strike_tape};
+use hx_replay::replay;
+use hx_strike::{strike_all_tape, strike_tape};
 use hx_testing::Day;
 use hx_testing::lines::{first_lines, last_lines, lines_that};
 use hx_testing::setups::setup_of;

@@ -4,7 +4,7 @@ ghost use Rattle.hx_levels.specs.Book.{order_of};
 ghost use Rattle.hx_match.specs.Executing.{taken, done_by, left_by, AreGood};
 ghost use Rattle.hx_rules.specs.Executions.{match_of, feed_of_execution};
 ghost use Rattle.hx_market.specs.Arrivals.{filled, told_of_execution, told_of_executions};
-ghost use Rattle.hx_market.specs.Bounds.{CanNoteAll};
+ghost use Rattle.hx_bounds.specs.Bounds.{CanNoteAll};
 ghost use Rattle.hx_market.specs.Room.{RoomFor, Tells, TakesRoom};
 
 use crate::state::State;

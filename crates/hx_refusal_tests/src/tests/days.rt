@@ -1,6 +1,7 @@
 //! The days over which calls go wrong, and the two calls that run a tape.
 
-use hx_replay::{Counts, TapeError, replay, strike_tape};
+use hx_replay::{Counts, TapeError, replay};
+use hx_strike::strike_tape;
 use hx_testing::Day;
 use hx_testing::lines::split_line;
 use hx_testing::setups::{CLOSED, STANDARD, setup_of};

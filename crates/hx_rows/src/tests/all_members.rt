@@ -3,7 +3,8 @@
 use super::replaying::{expect_output, replayed};
 use hx_audit::{StrikeError, strike_all, strike_chains};
 use hx_market::{Event, PrepareError};
-use hx_replay::{Kind, TapeError, strike_all_tape};
+use hx_replay::{Kind, TapeError};
+use hx_strike::strike_all_tape;
 use hx_testing::Day;
 use hx_testing::lines::{events_of, first_lines, last_lines};
 use hx_testing::setups::standard;

@@ -7,9 +7,9 @@ fn copies_are_equal(rt: HostRuntime) -> Result<(), Fail> {
     let event = Event::Message {
         member: 1,
         time: 10,
-        bytes: Bytes::of(b"OUX".to_vec(rt.alloc())?),
+        bytes: Bytes::of(rt.alloc(), b"OUX".to_vec(rt.alloc())?)?,
     };
-    let copy = event.copy(rt.alloc())?;
+    let copy = event.copy()?;
     let Event::Message {
         member,
         time,
@@ -20,6 +20,5 @@ fn copies_are_equal(rt: HostRuntime) -> Result<(), Fail> {
     };
     assert_eq!(rt; (member, time), (1, 10));
     assert_eq!(rt; bytes.as_slice(), b"OUX".as_slice());
-    assert_eq!(rt; bytes.into_vec().len(), 3);
     Ok(())
 }

@@ -3,7 +3,7 @@
 
 use super::replaying::replayed;
 use hx_ouch::{Cancel, Enter, Inbound, Replace, encode_in};
-use hx_replay::{strike_all_tape, strike_tape};
+use hx_strike::{strike_all_tape, strike_tape};
 use hx_testing::lines::lines_that;
 use hx_testing::setups::standard;
 use hx_units::{Firm, MemberNo, Symbol, Token};

@@ -1,7 +1,8 @@
 //! Tapes without the messages of a member's quiet chains.
 
 use super::replaying::{Replayed, expect_output, replayed};
-use hx_replay::{Counts, Kind, TapeError, strike_tape};
+use hx_replay::{Counts, Kind, TapeError};
+use hx_strike::strike_tape;
 use hx_testing::lines::first_lines;
 use hx_testing::setups::standard;
 use hx_testing::{Day, worked};

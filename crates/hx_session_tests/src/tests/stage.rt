@@ -148,7 +148,7 @@ impl<V: Venue> Stage<V> {
             let event = Event::Message {
                 member: 1,
                 time: 1000,
-                bytes: Bytes::of(bytes),
+                bytes: Bytes::of(self.alloc, bytes)?,
             };
             assert!(rt; self.record(rt, &event));
         }

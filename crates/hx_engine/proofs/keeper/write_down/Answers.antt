@@ -1,36 +1,35 @@
-use Rattle.std.proofs.Common.{List, ℕ, ◌≡◌, ◌∙◌, ◌++◌, ◌∷◌, [], ◌+◌, take, sym, subst, arith, append-nil}
+use Rattle.std.proofs.Common.{List, ℕ, ◌≡◌, ◌∙◌, ◌++◌, ◌∷◌, [], ◌+◌, get_or, take, sym, subst, arith, append-nil}
 use mathlib.Core.List.{IsPrefix}
 use Rattle.hx_journal.specs.Records.{IsRecord}
-use Rattle.hx_engine.specs.Journals.{record_texts}
 use Rattle.hx_engine.proofs.HeldLaws.{leaves_then, one_record, record_at, some_records}
 use Rattle.hx_engine.proofs.keeper.write_down.Goals as goal
 
 pub returns-in_err-append-clause-any_moment : goal.returns-in_err-append-clause-any_moment
 returns-in_err-append-clause-any_moment g c =
     let start = g.J.Journal.appended c.args.journal.now in
-    let records = c.args.records.now in
-    let i = c.loop-record.record-index in
-    let inv = c.loop-record.invariant in
-    let one : g.J.Journal.appended c.loop-record.journal ++ c.deref.result.now ∷ [] ≡ start ++ record_texts (take (i + 1) records) =
-    (λ k. inv.appended k ++ c.deref.ensures.value k ∷ []) ∙ one_record start records i c.record-item.result (omega arith) c.record-item.is in
-    leaves_then _ _ _ _ _ _ _ _ _ _ _ inv.leaves (c.append.ensures.any_moment inv.opened) inv.kept ([], append-nil _) (subst (λ l. IsPrefix l (start ++ record_texts records)) (sym one) (some_records start records (i + 1)))
+    let records : List (List ℕ) = c.args.records.now in
+    let i = c.loop-place.place in
+    let inv = c.loop-place.invariant in
+    let one : g.J.Journal.appended c.loop-place.journal ++ c.get.result.now ∷ [] ≡ start ++ take (i + 1) records =
+    (λ k. inv.appended k ++ c.get.ensures k ∷ []) ∙ one_record start records i (omega arith) in
+    leaves_then _ _ _ _ _ _ _ _ _ _ _ inv.leaves (c.append.ensures.any_moment inv.opened) inv.kept ([], append-nil _) (subst (λ l. IsPrefix l (start ++ records)) (sym one) (some_records start records (i + 1)))
 
-pub loop-record-preserved : goal.loop-record-preserved
-loop-record-preserved g c =
+pub loop-place-preserved : goal.loop-place-preserved
+loop-place-preserved g c =
     let start = g.J.Journal.appended c.args.journal.now in
-    let records = c.args.records.now in
-    let i = c.loop-record.record-index in
-    let inv = c.loop-record.invariant in
-    let one : g.J.Journal.appended c.loop-record.journal ++ c.deref.result.now ∷ [] ≡ start ++ record_texts (take (i + 1) records) =
-    (λ k. inv.appended k ++ c.deref.ensures.value k ∷ []) ∙ one_record start records i c.record-item.result (omega arith) c.record-item.is in
+    let records : List (List ℕ) = c.args.records.now in
+    let i = c.loop-place.place in
+    let inv = c.loop-place.invariant in
+    let one : g.J.Journal.appended c.loop-place.journal ++ c.get.result.now ∷ [] ≡ start ++ take (i + 1) records =
+    (λ k. inv.appended k ++ c.get.ensures k ∷ []) ∙ one_record start records i (omega arith) in
     record {
       appended = c.in_ok-append.ensures.appended ∙ one;
       kept = c.append.ensures.kept ∙ inv.kept;
       opened = c.append.ensures.still ∙ inv.opened;
-      leaves = leaves_then _ _ _ _ _ _ _ _ _ _ _ inv.leaves (c.append.ensures.any_moment inv.opened) inv.kept ([], append-nil _) (subst (λ l. IsPrefix l (start ++ record_texts records)) (sym one) (some_records start records (i + 1)));
+      leaves = leaves_then _ _ _ _ _ _ _ _ _ _ _ inv.leaves (c.append.ensures.any_moment inv.opened) inv.kept ([], append-nil _) (subst (λ l. IsPrefix l (start ++ records)) (sym one) (some_records start records (i + 1)));
     }
 
 pub append-requires : goal.append-requires
 append-requires g c = record {
-  record_is = subst (λ (bytes : List ℕ). IsRecord bytes) (sym c.deref.ensures.value) (record_at c.args.records.now c.loop-record.record-index c.record-item.result (omega arith) c.record-item.is c.requires.records);
+  record_is = subst (λ (bytes : List ℕ). IsRecord bytes) (sym c.get.ensures) (record_at c.args.records.now c.loop-place.place (omega arith) c.requires.records);
 }

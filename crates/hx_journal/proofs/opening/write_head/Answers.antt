@@ -1,7 +1,7 @@
 use Rattle.std.proofs.Common.{◌∷◌, [], sym, ◌∙◌, ap, subst, refl}
 use Rattle.hx_journal.specs.Lines.{lines_of}
 use Rattle.hx_journal.specs.Crashes.{IsBetween}
-use Rattle.hx_journal.specs.Device.{LeavesOnly}
+use Rattle.hx_disk.specs.Device.{LeavesOnly}
 use Rattle.hx_journal.specs.Files.{HasFromTo}
 use Rattle.hx_journal.proofs.Moments.{started}
 use Rattle.hx_journal.proofs.opening.write_head.Goals as goal

@@ -6,15 +6,15 @@ use Rattle.hx_itch.specs.Message.{feed_time}
 use Rattle.hx_rules.specs.Markets.{Market}
 use Rattle.hx_rules.specs.Outputs.{Outcome}
 use Rattle.hx_day.specs.Ends.{StaysAfter}
-use Rattle.hx_market.specs.Bounds.{IsSound}
+use Rattle.hx_bounds.specs.Bounds.{IsSound}
 use Rattle.hx_market.specs.Effects.{outcome_of}
 use Rattle.hx_market.specs.Expiries.{AreEntered}
 use Rattle.hx_market.specs.MarketModel.{MarketState}
 use Rattle.hx_market.specs.Prepared.{CanCommit}
 use Rattle.hx_market.specs.Room.{Tells}
 use Rattle.hx_market.proofs.FeedTimes.{fits_feed}
-use Rattle.hx_market.proofs.Bounds.AfterEnter.{recording}
-use Rattle.hx_market.proofs.Bounds.AfterEffect.{in_range}
+use Rattle.hx_bounds.specs.Changes.{recording}
+use Rattle.hx_market.proofs.AfterEffect.{in_range}
 use Rattle.hx_market.proofs.Stepping.{counted, can_commit, stepped, sound_after, entered_after}
 use Rattle.hx_market.proofs.commit.commit_step.Goals as goal
 

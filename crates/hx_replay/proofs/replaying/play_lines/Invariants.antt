@@ -1,5 +1,5 @@
 use Rattle.std.proofs.Common.{length}
-use Rattle.hx_replay.specs.Ahead.{Gathers}
+use Rattle.hx_replay.specs.Gathering.{Gathers}
 use Rattle.hx_replay.proofs.replaying.play_lines.Given as goal
 
 abbrev pub invariant-loop-line : goal.invariant-loop-line

@@ -24,8 +24,8 @@ returns-in_err-pending-clause-err g c =
 pub loop-init : goal.loop-init
 loop-init g c = starts_so c.args.setup.now c.in_ok-copy.field-0 c.in_ok-run.run' c.in_ok-pending.pending _ _ c.in_ok-copy.ensures.equal c.in_ok-copy.ensures.is_setup c.in_ok-run.ensures c.in_ok-pending.ensures
 
-pub returns-then-counts-gt-LINES-clause-err : goal.returns-then-counts-gt-LINES-clause-err
-returns-then-counts-gt-LINES-clause-err g c = stops_after_turns c.args.setup.now _ _ _ _ c.loop.run c.loop.pending c.loop.invariant
+pub returns-then-counts-gt-MOST_LINES-clause-err : goal.returns-then-counts-gt-MOST_LINES-clause-err
+returns-then-counts-gt-MOST_LINES-clause-err g c = stops_after_turns c.args.setup.now _ _ _ _ c.loop.run c.loop.pending c.loop.invariant
 
 pub returns-in_err-read-clause-err : goal.returns-in_err-read-clause-err
 returns-in_err-read-clause-err g c =

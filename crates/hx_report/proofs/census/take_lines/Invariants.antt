@@ -1,7 +1,7 @@
 use Rattle.std.proofs.Common.{◌≡◌, List, map, length}
-use Rattle.hx_tape_lines.specs.Text.{Entry}
+use Rattle.hx_tape_lines.specs.Text.{Entry, tape}
 use Rattle.hx_tape_lines.specs.Events.{event_of}
-use Rattle.hx_replay.specs.Run.{start, tape, AreEvents}
+use Rattle.hx_replay.specs.Run.{start, AreEvents}
 use Rattle.hx_report.specs.Noted.{HasNoted}
 use Rattle.hx_report.proofs.Tapes.{GoesOn}
 use Rattle.hx_report.proofs.census.take_lines.Given as goal

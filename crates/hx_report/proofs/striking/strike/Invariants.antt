@@ -1,9 +1,8 @@
 use Rattle.std.proofs.Common.{◌≡◌, List, length}
 use Rattle.std.specs.List.{AllByRecursion}
 use Rattle.hx_market.specs.Markets.{Market}
-use Rattle.hx_tape_lines.specs.Text.{Entry}
+use Rattle.hx_tape_lines.specs.Text.{Entry, tape}
 use Rattle.hx_tape_lines.specs.Events.{IsKnown}
-use Rattle.hx_replay.specs.Run.{tape}
 use Rattle.hx_report.proofs.Tapes.{GoesOn}
 use Rattle.hx_report.proofs.Struck.{seen_so, StruckSoFar}
 use Rattle.hx_report.proofs.striking.strike.Given as goal

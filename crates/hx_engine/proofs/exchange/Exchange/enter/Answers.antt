@@ -7,7 +7,7 @@ use Rattle.hx_rules.specs.declared.event.Event.{Event}
 use Rattle.hx_desk.specs.declared.entry.Entry.{Entry}
 use Rattle.hx_desk.specs.Desks.{DeskState}
 use Rattle.hx_engine.proofs.PassLaws.{enters}
-use Rattle.hx_engine.specs.declared.held.Entered.{Entered}
+use Rattle.hx_engine.specs.declared.entered.Entered.{Entered}
 use Rattle.hx_engine.specs.Exchanges.{AreAdmittedUpTo, Enters}
 use Rattle.hx_engine.proofs.Refusing.{at_most, refused_at}
 use Rattle.hx_engine.proofs.exchange.Exchange.enter.Goals as goal

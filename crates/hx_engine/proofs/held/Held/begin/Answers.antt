@@ -1,11 +1,10 @@
 use Rattle.std.proofs.Common.{◌∙◌, ℕ, length, ap, sym, arith}
 use Rattle.hx_blog.specs.Ends.{ReceiptState, WriterState}
-use Rattle.std.specs.Global.{Vec}
 use Rattle.hx_blog.specs.Feed.{Entries}
 use Rattle.hx_desk.specs.declared.entry.Entry.{Entry}
 use Rattle.hx_desk.specs.Known.{history_of}
 use Rattle.hx_desk.specs.Desks.{DeskState}
-use Rattle.hx_engine.specs.Journals.{unspoken, record_texts}
+use Rattle.hx_engine.specs.Journals.{unspoken}
 use Rattle.hx_engine.proofs.HeldLaws.{told_of_unspoken, length_unspoken, begun_at, spelled_from, some_at}
 use Rattle.hx_engine.proofs.held.Held.begin.Goals as goal
 use Rattle.hx_tape_lines.specs.Text.{record_of}
@@ -36,4 +35,4 @@ invariant_of-result-clause-spelled g c =
     let known = ap (λ (r : ReceiptState Entry). r.known) c.receipt.ensures.receipt ∙ ap (λ (w : WriterState Entry). w.published) held.registered in
     spelled_from record_of held.desk.history held.desk.told held.desk.sealed c.in_ok-keeper.keeper.writer.published c.receipt.result.known _ (omega (arith, s.order, s.within)) known (some_at _ held.keeper c.in_ok-keeper.keeper c.in_ok-keeper.ensures.value held.home).0
     (some_at _ held.keeper c.in_ok-keeper.keeper c.in_ok-keeper.ensures.value held.home).1
-    (ap (λ (v : Vec (Vec ℕ)). record_texts v.items) c.replace-records.ensures.value ∙ held.spelled)
+    (c.replace-records.ensures.value ∙ held.spelled)

@@ -1,22 +1,22 @@
-use Rattle.std.proofs.Common.{◌≡◌, ◌∙◌, ◌<◌, List, [], ◌∷◌, ◌++◌, length, take, get_or, ap, sym, subst, arith, length-append}
-use Rattle.std.proofs.lemmas.List.{length-map, length-set, length-take-le}
+use Rattle.std.proofs.Common.{◌≡◌, ◌∙◌, ◌<◌, ℕ, List, [], ◌∷◌, ◌++◌, length, take, get_or, ap, sym, subst, arith, length-append}
+use Rattle.std.proofs.lemmas.List.{length-map, length-take-le}
 use Rattle.hx_desk.specs.Entries.{entry_of}
 use Rattle.hx_engine.specs.Passes.{sent_by}
 use Rattle.hx_engine.specs.Exchanges.{DoneAt}
 use Rattle.hx_rules.specs.declared.event.Event.{Event}
 use Rattle.hx_desk.specs.declared.entry.Entry.{Entry}
-use Rattle.hx_engine.proofs.Refusing.{text_at, texts_behind, one_last, one_history, in_order, all_one_more, refused_at}
+use Rattle.hx_engine.proofs.Refusing.{text_at, one_last, one_history, in_order, all_one_more, refused_at}
 use Rattle.hx_engine.proofs.held.Held.enter_all.Goals as goal
 use Rattle.hx_tape_lines.specs.Text.{record_of}
 
+pub get-requires : goal.get-requires
+get-requires g c = omega (arith, ap (λ (l : List (List ℕ)). length l) c.requires.written, length-map c.args.events.now record_of)
+
 pub enter-requires-clause-written : goal.enter-requires-clause-written
 enter-requires-clause-written g c =
-    let inv = c.loop-i.invariant in
-    let l : c.loop-i.i < length c.args.events.now = omega arith in
-    let m : c.loop-i.i < length c.loop-i.written.items = omega (arith, l, inv.as_many) in
-    let value : c.replace-text.result ≡ c.index_mut.result.now = c.replace-text.ensures.value in
-    text_at c.loop-i.written.items record_of c.args.events.now c.loop-i.i c.replace-text.result c.index-events-i.result m l
-    (value ∙ c.index_mut.ensures.value ∙ ap (get_or c.loop-i.written.items c.loop-i.i) (sym value)) c.index-events-i.is inv.spelled
+    c.get.ensures
+    ∙ ap (λ (l : List (List ℕ)). get_or l c.loop-i.i []) c.requires.written
+    ∙ text_at record_of c.args.events.now c.loop-i.i c.index-events-i.result (omega arith) c.index-events-i.is
 
 pub returns-in-Err-clause-outright : goal.returns-in-Err-clause-outright
 returns-in-Err-clause-outright g c =
@@ -42,7 +42,5 @@ loop-i-preserved g c =
       last = one_last g.V.Venue.setup c.args.pass before now events i event c.in-Ok.done l c.index-events-i.is inv.history done;
       counted = omega (arith, e.counted, inv.counted);
       parts = e.parts ∙ inv.parts;
-      spelled = texts_behind c.loop-i.written.items _ i _ inv.spelled;
-      as_many = length-set c.loop-i.written.items i _ ∙ inv.as_many;
       in_order = all_one_more g.V.Venue.setup events i event l c.index-events-i.is inv.in_order (in_order g.V.Venue.setup event c.in-Ok.done e.outright);
     }

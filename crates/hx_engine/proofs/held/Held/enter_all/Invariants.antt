@@ -1,10 +1,8 @@
-use Rattle.std.proofs.Common.{◌≡◌, ◌+◌, ◌<◌, ◌++◌, length, map, take, drop}
+use Rattle.std.proofs.Common.{◌≡◌, ◌+◌, ◌<◌, ◌++◌, length, take}
 use Rattle.std.specs.List.{AllByRecursion}
-use Rattle.hx_engine.specs.Journals.{record_texts}
 use Rattle.hx_engine.specs.Passes.{sent_by}
 use Rattle.hx_engine.specs.Exchanges.{LastDone, IsInOrder}
 use Rattle.hx_engine.proofs.held.Held.enter_all.Given as goal
-use Rattle.hx_tape_lines.specs.Text.{record_of}
 
 abbrev pub invariant-loop-i : goal.invariant-loop-i
 invariant-loop-i g l = record {
@@ -13,7 +11,5 @@ invariant-loop-i g l = record {
   last : LastDone g.V.Venue.setup l.pass l.fn.self.desk.history (take l.i l.events) l.last;
   counted : l.share.amount ≡ l.fn.share.amount + l.i;
   parts : l.share.parts ≡ l.fn.share.parts;
-  spelled : drop l.i (record_texts l.written.items) ≡ drop l.i (map record_of l.events);
-  as_many : length l.written.items ≡ length l.events;
   in_order : AllByRecursion (IsInOrder g.V.Venue.setup) (take l.i l.events);
 }

@@ -8,7 +8,7 @@ use Rattle.hx_market.specs.MarketModel.{MarketState, market_state_of}
 use Rattle.hx_market.specs.OrderKeys.{AreKeyed}
 use Rattle.hx_market.specs.Prepared.{CanCommit}
 use Rattle.hx_market.proofs.Arrivals.{can_enter}
-use Rattle.hx_market.proofs.Bounds.AfterEnter.{draws}
+use Rattle.hx_bounds.proofs.AfterEnter.{draws}
 use Rattle.hx_market.proofs.OrderKeys.{keyed_pushed}
 use Rattle.hx_market.proofs.commit.enter.accept.Goals as goal
 

@@ -5,7 +5,7 @@ use Rattle.hx_levels.specs.Book.{order_of}
 use Rattle.hx_match.specs.declared.fills.Fill.{Fill}
 use Rattle.hx_match.specs.Executing.{done_by, done_with, AreGood}
 use Rattle.hx_members.specs.Chains.{Used, Chain, IsChainAt, noted_at}
-use Rattle.hx_market.specs.Bounds.{CanNote, CanNoteAll}
+use Rattle.hx_bounds.specs.Bounds.{CanNote, CanNoteAll}
 use Rattle.hx_market.specs.MarketModel.{MarketState}
 use Rattle.hx_market.proofs.OrderKeys.{keyed_left}
 use Rattle.hx_market.proofs.commit.execute.execute.Goals as goal

@@ -2,7 +2,7 @@ use Rattle.std.proofs.Common.{◌≡◌, ◌+◌, ◌*◌, ◌++◌, drop}
 use Rattle.hx_match.specs.Executing.{done_by, left_by, AreGood}
 use Rattle.hx_rules.specs.Executions.{matches_of}
 use Rattle.hx_market.specs.Arrivals.{told_of_executions}
-use Rattle.hx_market.specs.Bounds.{CanNoteAll, chains_by}
+use Rattle.hx_bounds.specs.Bounds.{CanNoteAll, chains_by}
 use Rattle.hx_market.specs.OrderKeys.{AreKeyed}
 use Rattle.hx_market.specs.Room.{TakesRoom}
 use Rattle.hx_market.proofs.commit.execute.execute.Given as goal

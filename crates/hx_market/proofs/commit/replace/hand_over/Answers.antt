@@ -11,7 +11,7 @@ use Rattle.hx_market.specs.Prepared.{IsChainOf}
 use Rattle.hx_market.proofs.OrderKeys.{keyed_without, keyed_pushed, before_new}
 use Rattle.hx_market.proofs.OrdersByToken.{has_found, others_lives}
 use Rattle.hx_market.proofs.Replacements.{entered_there}
-use Rattle.hx_market.proofs.Bounds.UsedTokens.{used-last}
+use Rattle.hx_bounds.proofs.UsedTokens.{used-last}
 use Rattle.hx_market.proofs.commit.replace.hand_over.Goals as goal
 
 pub remove-requires : goal.remove-requires

@@ -20,7 +20,7 @@ use Rattle.hx_market.specs.Effects.{replacement_order, told_in_one, incoming_of_
 use Rattle.hx_market.specs.MarketModel.{MarketState, listed, market_of}
 use Rattle.hx_market.specs.OrderKeys.{AreBefore}
 use Rattle.hx_market.proofs.Arrivals.{can_come}
-use Rattle.hx_market.proofs.Bounds.AfterEnter.{draws}
+use Rattle.hx_bounds.proofs.AfterEnter.{draws}
 use Rattle.hx_market.proofs.Plans.{length-done}
 use Rattle.hx_market.proofs.Replacements.{told_behind, none_done}
 use Rattle.hx_market.proofs.commit.replace.replace.Goals as goal

@@ -2,9 +2,9 @@ use Rattle.std.proofs.Common.{List, sym, subst}
 use Rattle.hx_members.specs.Setups.{Setup}
 use Rattle.hx_expiries.specs.declared.entry.Entry.{Entry}
 use Rattle.hx_rules.specs.Markets.{Market, opening}
-use Rattle.hx_market.specs.Bounds.{IsSound}
+use Rattle.hx_bounds.specs.Bounds.{IsSound}
 use Rattle.hx_market.specs.Expiries.{AreEntered}
-use Rattle.hx_market.proofs.Bounds.AfterEnter.{sound_opening}
+use Rattle.hx_bounds.proofs.AfterEnter.{sound_opening}
 use Rattle.hx_market.proofs.market.Market.seeded.Goals as goal
 
 -- as the day begins there is no order

@@ -1,0 +1,6 @@
+pub mod ChainShares
+pub mod UsedTokens
+pub mod OneOrderPerChain
+pub mod Counts
+pub mod AfterEnter
+pub mod AfterReplace

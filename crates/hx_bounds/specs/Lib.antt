@@ -1,0 +1,3 @@
+pub mod Bounds
+pub mod Changes
+pub mod Laws

@@ -1,0 +1,109 @@
+//! The records of events, in one text.
+ghost use Rattle.std.specs.Prelude.{◌≡◌, ◌<◌, ◌≤◌, [], ◌∷◌, ◌++◌, length, take, get_or, IfOk, OnOk, OnErr};
+
+use std::alloc::{AllocError, Global};
+use std::marker::Model;
+
+/// Records, one behind the other in one text. Contracts see a list of texts.
+#[derive(Drop)]
+pub struct Records {
+    text: Vec<u8>,
+    // Where each of them ends in the text.
+    ends: Vec<usize>,
+}
+
+impl Model for Records {
+    ghost use Rattle.std.specs.Prelude.{List, ℕ};
+    ghost use Rattle.hx_engine.specs.Pieces.{pieces, AreEnds};
+
+    ghost Value = { List (List ℕ) };
+
+    ghost view = { λ r. pieces 0 r.text.items r.ends.items };
+
+    ghost invariant = { λ r. AreEnds 0 r.text.items r.ends.items };
+}
+
+// Where the piece in front of a place ends, or 0.
+fn end_before(ends: &[usize], place: usize) -> usize
+    requires { place ≤ length ends.now }
+    ensures { result ≡ get_or (0 ∷ ends.now) place 0 }
+{
+    if place == 0 {
+        return 0;
+    }
+    ends[place - 1]
+}
+
+impl Records {
+    /// None.
+    pub fn new(alloc: Global) -> Records
+        ensures { result ≡ [] }
+    {
+        Records {
+            text: Vec::new(alloc),
+            ends: Vec::new(alloc),
+        }
+    }
+
+    /// None, with room for so many records of so many bytes together.
+    pub fn with_capacity(alloc: Global, count: usize, bytes: usize) -> Result<Records, AllocError>
+        ensures { IfOk result (λ r. r ≡ []) }
+    {
+        Ok(Records {
+            text: Vec::with_capacity(alloc, bytes)?,
+            ends: Vec::with_capacity(alloc, count)?,
+        })
+    }
+
+    /// How many there are.
+    pub fn len(&self) -> usize
+        ensures { result ≡ length self.now }
+    {
+        self.ends.len()
+    }
+
+    /// Whether there are none.
+    pub fn is_empty(&self) -> bool {
+        self.ends.is_empty()
+    }
+
+    /// The record at a place, which counts from 0.
+    pub fn get(&self, place: usize) -> &[u8]
+        requires { place < length self.now }
+        ensures { result.now ≡ get_or self.now place [] }
+    {
+        let start = end_before(&self.ends, place);
+        &self.text[start..self.ends[place]]
+    }
+
+    /// Puts a record behind the others.
+    pub fn push(&mut self, bytes: &[u8]) -> Result<(), AllocError>
+        ensures ok { OnOk result (self.new ≡ self.old ++ bytes.now ∷ []) }
+        ensures err { OnErr result (self.new ≡ self.old) }
+    {
+        self.ends.reserve(1)?;
+        self.text.extend_from_slice(bytes)?;
+        self.ends.push_reserved(self.text.len());
+        Ok(())
+    }
+
+    /// Takes all but the first so many away.
+    pub fn truncate(&mut self, count: usize)
+        ensures { self.new ≡ take count self.old }
+    {
+        if count >= self.ends.len() {
+            return;
+        }
+        let end = end_before(&self.ends, count);
+        self.text.truncate(end);
+        self.ends.truncate(count);
+    }
+
+    /// Takes all away, and keeps their memory.
+    pub fn clear(&mut self)
+        ensures { self.new ≡ [] }
+    {
+        self.text.clear();
+        self.ends.clear();
+    }
+}
