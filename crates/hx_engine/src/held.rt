@@ -358,9 +358,7 @@ impl<V: Venue, J: Journal + Drop> Held<V, J> {
             self.failed = Some(JournalError::Closed);
             return;
         }
-        if self.records.is_empty() {
-            self.records = room;
-        }
+        self.records.reuse(room);
         self.register.confirm(admitted, knows);
         self.tell(log, kept, keeper);
     }

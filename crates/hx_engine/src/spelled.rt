@@ -62,11 +62,6 @@ impl Records {
         self.ends.len()
     }
 
-    /// Whether there are none.
-    pub fn is_empty(&self) -> bool {
-        self.ends.is_empty()
-    }
-
     /// The record at a place, which counts from 0.
     pub fn get(&self, place: usize) -> &[u8]
         requires { place < length self.now }
@@ -97,6 +92,17 @@ impl Records {
         let end = end_before(&self.ends, count);
         self.text.truncate(end);
         self.ends.truncate(count);
+    }
+
+    /// Takes over the memory of others, if there are none here.
+    pub fn reuse(&mut self, others: Records)
+        ensures { self.new ≡ self.old }
+    {
+        if self.len() > 0 {
+            return;
+        }
+        *self = others;
+        self.clear();
     }
 
     /// Takes all away, and keeps their memory.
