@@ -18,9 +18,9 @@ use Rattle.hx_desk.specs.Entries.{entry_of, events_of, feed_spelled, ledger_from
 use Rattle.hx_desk.specs.Known.{history_of, known_market, known_replies}
 use Rattle.hx_desk.specs.Rows.{row_of, row_count, replies_spelled}
 use Rattle.hx_desk.specs.Secrecy.{IsFeedWithoutTrace}
-use Rattle.hx_desk.specs.Desks.{DeskState, IsStanding, TellsNoSecret, Grows, told_of, told_market}
+use Rattle.hx_desk.specs.Desks.{DeskState, IsStanding, TellsNoSecret, told_of, told_market}
 use Rattle.hx_engine.specs.Passes.{Sent, PassState, sent_by, placed, sent_from, sent_in, AreSomeOf}
-use Rattle.hx_engine.specs.Exchanges.{Sends, SendsAll, SendsFirst, Enters, Settles, DoneAt, LastDone, IsAudit}
+use Rattle.hx_engine.specs.Exchanges.{Sends, SendsAll, SendsFirst, Enters, Settles, LastDone, IsAudit}
 use Rattle.hx_engine.specs.Journals.{unspoken}
 use Rattle.hx_desk.specs.Known.{IsWhole}
 use Rattle.hx_engine.proofs.Places.{more_known, history_of_ledger, stand_at, are_below, all_sent, sent_append, some_of_more}

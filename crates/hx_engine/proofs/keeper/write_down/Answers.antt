@@ -1,4 +1,4 @@
-use Rattle.std.proofs.Common.{List, ℕ, ◌≡◌, ◌∙◌, ◌++◌, ◌∷◌, [], ◌+◌, get_or, take, sym, subst, arith, append-nil}
+use Rattle.std.proofs.Common.{List, ℕ, ◌≡◌, ◌∙◌, ◌++◌, ◌∷◌, [], ◌+◌, take, sym, subst, arith, append-nil}
 use mathlib.Core.List.{IsPrefix}
 use Rattle.hx_journal.specs.Records.{IsRecord}
 use Rattle.hx_engine.proofs.HeldLaws.{leaves_then, one_record, record_at, some_records}

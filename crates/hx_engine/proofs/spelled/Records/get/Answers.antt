@@ -1,4 +1,4 @@
-use Rattle.std.proofs.Common.{◌≡◌, ◌∙◌, ◌-◌, ◌<◌, ◌≤◌, ◌∷◌, [], get_or, take, drop, length, ap, sym, List, ℕ, arith}
+use Rattle.std.proofs.Common.{◌≡◌, ◌∙◌, ◌-◌, ◌<◌, ◌≤◌, ◌∷◌, [], get_or, take, drop, length, ap, List, ℕ, arith}
 use Rattle.hx_engine.proofs.Pieces.{many, piece_within, piece_at, stands_at}
 use Rattle.hx_engine.proofs.spelled.Records.get.Goals as goal
 

@@ -1,4 +1,4 @@
-use Rattle.std.proofs.Common.{◌≡◌, ◌∙◌, ◌-◌, ◌<◌, ◌≤◌, ◌∷◌, [], get_or, take, drop, length, ap, sym, subst, List, ℕ, arith}
+use Rattle.std.proofs.Common.{◌≡◌, ◌∙◌, ◌-◌, ◌≤◌, ◌∷◌, get_or, take, length, ap, sym, subst, List, ℕ, arith}
 use Rattle.std.proofs.lemmas.List.{take_all}
 use Rattle.hx_engine.specs.Pieces.{pieces, AreEnds}
 use Rattle.hx_engine.proofs.Pieces.{many, ends_cut, pieces_cut}
