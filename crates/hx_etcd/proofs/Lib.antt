@@ -1,0 +1,7 @@
+pub mod Faults
+pub mod Joins
+pub mod Holding
+pub mod Heads
+pub mod Pieces
+pub mod Streams
+pub mod Calls

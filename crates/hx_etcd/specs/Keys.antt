@@ -1,0 +1,16 @@
+-- The keys of records in etcd.
+use Rattle.std.specs.Prelude.{ℕ, ◌-◌, List, ◌++◌, length, replicate, codes}
+use Rattle.std.specs.Fmt.{decimal}
+use Rattle.hx_units.specs.Letters.{letter}
+
+-- the noughts in front of a number that is spelled by so many digits
+abbrev pub noughts : (size n : ℕ) → List ℕ
+noughts size n = replicate (size - length (decimal n)) (letter "0")
+
+-- the key of a record's number: `hx/` and the number by twelve digits
+unfoldable pub key_of : ℕ → List ℕ
+key_of n = codes "hx/" ++ (noughts 12 n ++ decimal n)
+
+-- the first key behind all that begin with `hx/`: "0" is the byte behind "/"
+abbrev pub keys_end : List ℕ
+keys_end = codes "hx0"

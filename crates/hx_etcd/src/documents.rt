@@ -1,0 +1,129 @@
+//! The JSON texts of requests.
+ghost use Rattle.std.specs.Prelude.{◌≡◌, IfOk};
+ghost use Rattle.std.specs.String.{string_bytes};
+ghost use Rattle.json.specs.Print.{print};
+ghost use Rattle.json.specs.Tree.{json_tokens};
+ghost use Rattle.hx_etcd.specs.Documents.{base64_of, transaction_of, question_of, append_text, range_text};
+ghost use Rattle.hx_etcd.specs.Keys.{key_of, keys_end};
+
+use crate::keys::key;
+use crate::parts::Part::{Array, EndArray, EndObject, Key, Object, Text};
+use crate::parts::text_of;
+use base64::engine::general_purpose::STANDARD;
+use hx_terms::LogRecord;
+use hx_units::NoMemory;
+use itoa::Buffer;
+use std::alloc::Global;
+
+// The first key behind those of records: "0" is the byte behind "/".
+const KEYS_END: &[u8; 3] = b"hx0";
+
+// Bytes as JSON has them.
+#[tactic(auto, unfolding(crate::specs::Documents::base64_of))]
+fn encoded(alloc: Global, bytes: &[u8]) -> Result<String, NoMemory>
+    ensures { IfOk result (λ text. string_bytes text ≡ base64_of bytes.now) }
+{
+    Ok(STANDARD.encode(alloc, bytes)?)
+}
+
+// The key of a number as JSON has it.
+fn encoded_key(alloc: Global, number: u64) -> Result<String, NoMemory>
+    ensures { IfOk result (λ text. string_bytes text ≡ base64_of (key_of number)) }
+{
+    let key = key(alloc, number)?;
+    encoded(alloc, &key)
+}
+
+// The transaction that puts a value where its key is not there, and else reads the key.
+fn transaction<'a>(alloc: Global, key: &'a str, value: &'a str) -> Result<Vec<u8>, NoMemory>
+    ensures { IfOk result (λ text.
+        text.items ≡ print (json_tokens (transaction_of key.now value.now))) }
+{
+    text_of(
+        alloc,
+        &[
+            Object,
+            Key("compare"),
+            Array,
+            Object,
+            Key("key"),
+            Text(key),
+            Key("target"),
+            Text("VERSION"),
+            Key("result"),
+            Text("EQUAL"),
+            Key("version"),
+            Text("0"),
+            EndObject,
+            EndArray,
+            Key("success"),
+            Array,
+            Object,
+            Key("requestPut"),
+            Object,
+            Key("key"),
+            Text(key),
+            Key("value"),
+            Text(value),
+            EndObject,
+            EndObject,
+            EndArray,
+            Key("failure"),
+            Array,
+            Object,
+            Key("requestRange"),
+            Object,
+            Key("key"),
+            Text(key),
+            EndObject,
+            EndObject,
+            EndArray,
+            EndObject,
+        ],
+    )
+}
+
+// The question for what stands from one key up to another.
+fn question<'a>(
+    alloc: Global,
+    key: &'a str,
+    end: &'a str,
+    most: &'a str,
+) -> Result<Vec<u8>, NoMemory>
+    ensures { IfOk result (λ text.
+        text.items ≡ print (json_tokens (question_of key.now end.now most.now))) }
+{
+    text_of(
+        alloc,
+        &[
+            Object,
+            Key("key"),
+            Text(key),
+            Key("range_end"),
+            Text(end),
+            Key("limit"),
+            Text(most),
+            EndObject,
+        ],
+    )
+}
+
+// The transaction that makes a record where its key is not there, and else tells what is there.
+pub(crate) fn append_body(alloc: Global, appended: &LogRecord) -> Result<Vec<u8>, NoMemory>
+    ensures { IfOk result (λ body. body.items ≡ append_text appended.now) }
+{
+    let key = encoded_key(alloc, appended.head().number)?;
+    let spelled = appended.spelled(alloc)?;
+    let value = encoded(alloc, &spelled)?;
+    transaction(alloc, key.as_str(), value.as_str())
+}
+
+// The question for the records from a number on, at most so many.
+pub(crate) fn range_body(alloc: Global, from: u64, most: u64) -> Result<Vec<u8>, NoMemory>
+    ensures { IfOk result (λ body. body.items ≡ range_text from most) }
+{
+    let mut buffer = Buffer::new();
+    let key = encoded_key(alloc, from)?;
+    let end = encoded(alloc, KEYS_END)?;
+    question(alloc, key.as_str(), end.as_str(), buffer.format(most))
+}

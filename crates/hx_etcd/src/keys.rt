@@ -1,0 +1,25 @@
+//! The keys of records.
+ghost use Rattle.std.specs.Prelude.{◌≡◌, IfOk};
+ghost use Rattle.hx_etcd.specs.Keys.{key_of};
+
+use hx_units::NoMemory;
+use itoa::Buffer;
+use std::alloc::Global;
+
+// As many noughts as a key's number has digits.
+const NOUGHTS: &[u8; 12] = b"000000000000";
+
+/// The key of the record of this number: `hx/` and the number by twelve digits, as `hx/000000000001`. The keys of
+/// numbers below 1,000,000,000,000 are in the numbers' order.
+pub fn key(alloc: Global, number: u64) -> Result<Vec<u8>, NoMemory>
+    ensures { IfOk result (λ key. key.items ≡ key_of number) }
+{
+    let mut buffer = Buffer::new();
+    let digits = buffer.format(number).as_bytes();
+    let missing = NOUGHTS.len().saturating_sub(digits.len());
+    let mut key = Vec::new(alloc);
+    key.extend_from_slice(b"hx/")?;
+    key.extend_from_slice(&NOUGHTS[..missing])?;
+    key.extend_from_slice(digits)?;
+    Ok(key)
+}

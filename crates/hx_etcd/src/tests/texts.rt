@@ -1,0 +1,95 @@
+//! What is asked, and what etcd 3.4.23 answered. `tests/etcd` asks a running etcd the same.
+
+// A head of a request, up to the length of its body.
+pub const APPEND_HEAD: &str = "POST /v3/kv/txn HTTP/1.1\r\nHost: etcd\r\n\
+    Content-Type: application/json\r\nContent-Length: ";
+
+pub const RANGE_HEAD: &str = "POST /v3/kv/range HTTP/1.1\r\nHost: etcd\r\n\
+    Content-Type: application/json\r\nContent-Length: ";
+
+// The record `#1 1 7 1` is appended.
+pub const APPEND_1: &str = "\
+    {\"compare\":[{\"key\":\"aHgvMDAwMDAwMDAwMDAx\",\"target\":\"VERSION\",\"result\":\"EQUAL\",\
+    \"version\":\"0\"}],\"success\":[{\"requestPut\":{\"key\":\"aHgvMDAwMDAwMDAwMDAx\",\
+    \"value\":\"IzEgMSA3IDEK\"}}],\"failure\":[{\"requestRange\":{\
+    \"key\":\"aHgvMDAwMDAwMDAwMDAx\"}}]}";
+
+// So is `#1 1 8 1`, of another writer.
+pub const RIVAL_1: &str = "\
+    {\"compare\":[{\"key\":\"aHgvMDAwMDAwMDAwMDAx\",\"target\":\"VERSION\",\"result\":\"EQUAL\",\
+    \"version\":\"0\"}],\"success\":[{\"requestPut\":{\"key\":\"aHgvMDAwMDAwMDAwMDAx\",\
+    \"value\":\"IzEgMSA4IDEK\"}}],\"failure\":[{\"requestRange\":{\
+    \"key\":\"aHgvMDAwMDAwMDAwMDAx\"}}]}";
+
+// So is `#2 1 7 1` with the lines `one` and `two`.
+pub const APPEND_2: &str = "\
+    {\"compare\":[{\"key\":\"aHgvMDAwMDAwMDAwMDAy\",\"target\":\"VERSION\",\"result\":\"EQUAL\",\
+    \"version\":\"0\"}],\"success\":[{\"requestPut\":{\"key\":\"aHgvMDAwMDAwMDAwMDAy\",\
+    \"value\":\"IzIgMSA3IDEKb25lCnR3bwo=\"}}],\"failure\":[{\"requestRange\":{\
+    \"key\":\"aHgvMDAwMDAwMDAwMDAy\"}}]}";
+
+// The first ten records are asked for; the first alone; those from the third on.
+pub const RANGE_1: &str = r#"{"key":"aHgvMDAwMDAwMDAwMDAx","range_end":"aHgw","limit":"10"}"#;
+
+pub const FIRST: &str = r#"{"key":"aHgvMDAwMDAwMDAwMDAx","range_end":"aHgw","limit":"1"}"#;
+
+pub const RANGE_3: &str = r#"{"key":"aHgvMDAwMDAwMDAwMDAz","range_end":"aHgw","limit":"10"}"#;
+
+// The append of the first record stands; that of its rival does not; that of the second does.
+pub const STANDS_1: &str = "\
+    {\"header\":{\"cluster_id\":\"6001611773266757492\",\"member_id\":\"13049071153751544597\",\
+    \"revision\":\"2\",\"raft_term\":\"2\"},\"succeeded\":true,\"responses\":[{\
+    \"response_put\":{\"header\":{\"revision\":\"2\"}}}]}";
+
+pub const TAKEN_1: &str = "\
+    {\"header\":{\"cluster_id\":\"6001611773266757492\",\"member_id\":\"13049071153751544597\",\
+    \"revision\":\"2\",\"raft_term\":\"2\"},\"responses\":[{\"response_range\":{\"header\":{\
+    \"revision\":\"2\"},\"kvs\":[{\"key\":\"aHgvMDAwMDAwMDAwMDAx\",\"create_revision\":\"2\",\
+    \"mod_revision\":\"2\",\"version\":\"1\",\"value\":\"IzEgMSA3IDEK\"}],\"count\":\"1\"}}]}";
+
+pub const STANDS_2: &str = "\
+    {\"header\":{\"cluster_id\":\"6001611773266757492\",\"member_id\":\"13049071153751544597\",\
+    \"revision\":\"3\",\"raft_term\":\"2\"},\"succeeded\":true,\"responses\":[{\
+    \"response_put\":{\"header\":{\"revision\":\"3\"}}}]}";
+
+// The records are told: two; the first of two; none.
+pub const BOTH: &str = "\
+    {\"header\":{\"cluster_id\":\"6001611773266757492\",\"member_id\":\"13049071153751544597\",\
+    \"revision\":\"3\",\"raft_term\":\"2\"},\"kvs\":[{\"key\":\"aHgvMDAwMDAwMDAwMDAx\",\
+    \"create_revision\":\"2\",\"mod_revision\":\"2\",\"version\":\"1\",\
+    \"value\":\"IzEgMSA3IDEK\"},{\"key\":\"aHgvMDAwMDAwMDAwMDAy\",\"create_revision\":\"3\",\
+    \"mod_revision\":\"3\",\"version\":\"1\",\"value\":\"IzIgMSA3IDEKb25lCnR3bwo=\"}],\
+    \"count\":\"2\"}";
+
+pub const ONE: &str = "\
+    {\"header\":{\"cluster_id\":\"6001611773266757492\",\"member_id\":\"13049071153751544597\",\
+    \"revision\":\"3\",\"raft_term\":\"2\"},\"kvs\":[{\"key\":\"aHgvMDAwMDAwMDAwMDAx\",\
+    \"create_revision\":\"2\",\"mod_revision\":\"2\",\"version\":\"1\",\
+    \"value\":\"IzEgMSA3IDEK\"}],\"more\":true,\"count\":\"2\"}";
+
+pub const NONE: &str = "\
+    {\"header\":{\"cluster_id\":\"6001611773266757492\",\"member_id\":\"13049071153751544597\",\
+    \"revision\":\"3\",\"raft_term\":\"2\"}}";
+
+// What stands in front of a body that has a length, up to that length.
+pub const ANSWER_HEAD: &str = "HTTP/1.1 200 OK\r\n\
+    Access-Control-Allow-Headers: accept, content-type, authorization\r\n\
+    Access-Control-Allow-Methods: POST, GET, OPTIONS, PUT, DELETE\r\n\
+    Access-Control-Allow-Origin: *\r\nContent-Type: application/json\r\n\
+    Grpc-Metadata-Content-Type: application/grpc\r\n\
+    Date: Sat, 28 Nov 2026 10:46:16 GMT\r\nContent-Length: ";
+
+// A whole answer that comes in chunks, with a field behind them: nothing was asked for.
+pub const NO_KEY: &str = "HTTP/1.1 400 Bad Request\r\n\
+    Access-Control-Allow-Headers: accept, content-type, authorization\r\n\
+    Access-Control-Allow-Methods: POST, GET, OPTIONS, PUT, DELETE\r\n\
+    Access-Control-Allow-Origin: *\r\nContent-Type: application/json\r\n\
+    Trailer: Grpc-Trailer-Content-Type\r\nDate: Sat, 28 Nov 2026 10:46:18 GMT\r\n\
+    Transfer-Encoding: chunked\r\n\r\n60\r\n\
+    {\"error\":\"etcdserver: key is not provided\",\
+    \"message\":\"etcdserver: key is not provided\",\"code\":3}\r\n\
+    0\r\nGrpc-Trailer-Content-Type: application/grpc\r\n\r\n";
+
+// Its body.
+pub const NO_KEY_BODY: &str = "{\"error\":\"etcdserver: key is not provided\",\
+    \"message\":\"etcdserver: key is not provided\",\"code\":3}";
