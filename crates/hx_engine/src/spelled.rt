@@ -45,7 +45,7 @@ impl Records {
         }
     }
 
-    /// None, with room for so many records of so many bytes together.
+    /// None, with room for this many records of this many bytes together.
     pub fn with_capacity(alloc: Global, count: usize, bytes: usize) -> Result<Records, AllocError>
         ensures { IfOk result (λ r. r ≡ []) }
     {
@@ -82,7 +82,7 @@ impl Records {
         Ok(())
     }
 
-    /// Takes all but the first so many away.
+    /// Takes all but the first ones, this many away.
     pub fn truncate(&mut self, count: usize)
         ensures { self.new ≡ take count self.old }
     {

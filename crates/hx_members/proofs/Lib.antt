@@ -12,6 +12,3 @@ pub mod SetupLines
 pub mod BadLines
 pub mod TextLaws
 pub mod Packing
-pub mod Walks
-pub mod Indexes
-pub mod Cells

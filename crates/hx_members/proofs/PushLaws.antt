@@ -68,7 +68,7 @@ sound-pushed rows r s n e =
           (subst (λ l. AreChained (tokens_of rows ++ used_of r ∷ []) l) (sym (places_of-pushed rows r)) (chained-pushed rows (used_of r) r.1.chain s.chained e));
     }
 
-pub slice_get-last : {X : Type 0} (xs : List X) (x : X) → slice_get (xs ++ x ∷ []) (length xs) ≡ Some x
+slice_get-last : {X : Type 0} (xs : List X) (x : X) → slice_get (xs ++ x ∷ []) (length xs) ≡ Some x
 slice_get-last [] x = refl
 slice_get-last (y ∷ ys) x = slice_get-last ys x
 

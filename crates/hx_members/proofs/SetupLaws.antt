@@ -1,5 +1,5 @@
 -- Indexes of lists with keys that differ, and logins.
-use Rattle.std.proofs.Common.{◌≡◌, ℕ, ◌+◌, ◌<◌, ◌∷◌, [], List, Bool, true, false, cond, not, ◌==◌, ◌&&◌, ◌||◌, nat_lt, zero, suc, length, map, take, drop, Option, Some, None, slice_get, refl, ap, sym, ◌∙◌, inl, inr, arith, ltb-true, ltb-false, get_or, Bor, is_some}
+use Rattle.std.proofs.Common.{◌≡◌, ℕ, ◌+◌, ◌<◌, ◌∷◌, [], List, Bool, true, false, cond, not, ◌==◌, ◌&&◌, ◌||◌, nat_lt, zero, suc, length, map, take, Option, Some, None, slice_get, refl, ap, sym, ◌∙◌, inl, inr, arith, ltb-true, ltb-false, get_or, Bor, is_some}
 use Rattle.std.specs.List.{find, list_any, list_all}
 use Rattle.std.specs.Map.{lookup}
 use Rattle.std.specs.Option.{option_map, option_map_or, IfSome}
@@ -129,11 +129,6 @@ pub locate-at : (setup : Setup) (locate : ℕ) (s : Stock) (symbol : Symbol) →
     → locate_of setup symbol ≡ Some locate
 locate-at setup zero s symbol d h e = absurd cc
 locate-at setup (suc place) s symbol d h e = locate_from-at 1 setup.stocks place (suc place) s symbol (apart-names setup.stocks d) h e (omega arith)
-
-pub drop-next : {A : Type 0} (xs : List A) (i : ℕ) (x : A) → slice_get xs i ≡ Some x → drop i xs ≡ x ∷ drop (suc i) xs
-drop-next [] i x h = absurd cc
-drop-next (y ∷ ys) zero x h = λ j. some_same y x h j ∷ ys
-drop-next (y ∷ ys) (suc i) x h = drop-next ys i x h
 
 -- texts of the same length are the same, if they are so without the spaces on their right
 pub without_back-same : (a b : List ℕ) → length a ≡ length b → without_back a ≡ without_back b → a ≡ b

@@ -8,7 +8,7 @@ use Rattle.hx_members.specs.declared.name.ChainFacts.{ChainFacts}
 use Rattle.hx_members.specs.declared.name.TokenState.{TokenState}
 use Rattle.hx_members.specs.Chains.{Used, Chain, is_use, is_used, entered_of, entered_at, place_of, is_chain, executed_by, entered_used, replacing_used, IsEnteredAt, IsChainAt}
 use Rattle.hx_members.specs.declared.name.Name.{Name}
-use Rattle.hx_members.specs.Rows.{Row, is_name, name_of, row_place, IsUnused, row_state, told_of, used_of, tokens_of, places_of, live_keys_of, key_of, row_facts, is_entered, chain_of, chains_of, AreDistinct, IsSound}
+use Rattle.hx_members.specs.Rows.{Row, is_name, is_at, name_of, row_place, IsUnused, row_state, told_of, used_of, tokens_of, places_of, live_keys_of, key_of, row_facts, is_entered, chain_of, chains_of, AreDistinct, IsSound}
 use Rattle.hx_members.specs.Tokens.{facts_of, key_at, state_of, name_at}
 use Rattle.hx_members.proofs.ChainLaws.{is_same-flip, is_same-parts, is_same-itself, is_token-itself, slice_get-place_of, is_used-at}
 
@@ -85,7 +85,7 @@ slice_get-tokens_of (e ∷ es) zero r h = ap (λ (x : Row). Some (used_of x)) (s
 slice_get-tokens_of (e ∷ es) (suc i) r h = slice_get-tokens_of es i r h
 
 -- the row that has the name is at its place
-pub row_place-at : (n : Name) (rows : List Row) (i : ℕ) (r : Row) → AreDistinct (tokens_of rows) → slice_get rows i ≡ Some r → is_name n r.0 ≡ true → row_place n rows ≡ Some i
+row_place-at : (n : Name) (rows : List Row) (i : ℕ) (r : Row) → AreDistinct (tokens_of rows) → slice_get rows i ≡ Some r → is_name n r.0 ≡ true → row_place n rows ≡ Some i
 row_place-at n rows i r d h e =
     let u : Used = used_of r in
     let at : slice_get (tokens_of rows) i ≡ Some u = slice_get-tokens_of rows i r h in
@@ -94,6 +94,13 @@ row_place-at n rows i r d h e =
     ∙ row_place-place_of u.member u.token rows
     ∙ ap (λ b. cond b (Some (place_of (tokens_of rows) u.member u.token)) None) (is_used-at (tokens_of rows) i u at)
     ∙ ap Some (place_of-distinct (tokens_of rows) i u d at)
+
+pub row_place-is_at : (n : Name) (rows : List Row) (i : ℕ) → AreDistinct (tokens_of rows) → is_at rows n i ≡ true → row_place n rows ≡ Some i
+row_place-is_at n rows i d has = of (slice_get rows i) refl has
+  where
+    of : (o : Option Row) → slice_get rows i ≡ o → option_map_or (λ (row : Row). is_name n row.0) o false ≡ true → row_place n rows ≡ Some i
+    of None g h = absurd (true≢false (sym h))
+    of (Some row) g h = row_place-at n rows i row d g h
 
 -- what is told of a token
 

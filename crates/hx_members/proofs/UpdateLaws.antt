@@ -4,6 +4,7 @@ use Rattle.std.specs.Option.{option_map_or}
 use Rattle.std.proofs.lemmas.Bool.{true≢false}
 use Rattle.hx_units.specs.declared.names.Token.{Token}
 use Rattle.hx_members.specs.declared.rows.UsedToken.{UsedToken}
+use Rattle.indexmap.specs.Layout.{set_value_at}
 use Rattle.hx_members.specs.Chains.{Used, Chain, is_use, is_used, place_of, note, noted, noted_at, entered_used, IsEnteredAt}
 use Rattle.hx_members.specs.Rows.{Row, updated, noted_rows, settled_rows, with_note, with_key, key_of, used_of, tokens_of, places_of, live_keys_of, is_entered, chain_of, chains_of, AreDistinct, AreChained, IsSound}
 use Rattle.hx_members.proofs.ChainLaws.{is_same-parts}
@@ -13,12 +14,12 @@ use Rattle.hx_members.proofs.TokenLaws.{ChainRow, entered-row, some_same}
 pub updated-next : (g : UsedToken → UsedToken) (x : Row) (xs : List Row) (n : ℕ) → updated g (suc n) (x ∷ xs) ≡ x ∷ updated g n xs
 updated-next g x xs n = at (slice_get xs n)
   where
-    at : (o : Option Row) → option_map_or (λ row. x ∷ slice_set xs n (row.0, g row.1)) o (x ∷ xs) ≡ x ∷ option_map_or (λ row. slice_set xs n (row.0, g row.1)) o xs
+    at : (o : Option Row) → option_map_or (λ row. x ∷ set_value_at xs n (g row.1)) o (x ∷ xs) ≡ x ∷ option_map_or (λ row. set_value_at xs n (g row.1)) o xs
     at None = refl
     at (Some r) = refl
 
 -- what does not see the change is as before
-pub unseen : {X : Type 0} (f : Row → X) (all : List Row → List X) → ((r : Row) (rows : List Row) → all (r ∷ rows) ≡ f r ∷ all rows) → (g : UsedToken → UsedToken) → ((r : Row) → f (r.0, g r.1) ≡ f r)
+unseen : {X : Type 0} (f : Row → X) (all : List Row → List X) → ((r : Row) (rows : List Row) → all (r ∷ rows) ≡ f r ∷ all rows) → (g : UsedToken → UsedToken) → ((r : Row) → f (r.0, g r.1) ≡ f r)
     → (n : ℕ) (rows : List Row) → all (updated g n rows) ≡ all rows
 unseen f all each g same n [] = refl
 unseen f all each g same zero (x ∷ xs) = each (x.0, g x.1) xs ∙ ap (λ y. y ∷ all xs) (same x) ∙ sym (each x xs)

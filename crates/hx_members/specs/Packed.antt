@@ -1,9 +1,15 @@
 -- A name in two words.
-use Rattle.std.specs.Prelude.{◌≡◌, ℕ, ◌+◌, ◌*◌, ◌/◌, ◌%◌, ◌^◌, ◌<◌, ◌++◌, [], ◌∷◌, slice_index}
+use Rattle.std.specs.Prelude.{◌≡◌, ℕ, ◌+◌, ◌*◌, ◌/◌, ◌%◌, ◌^◌, ◌<◌, ◌==◌, ◌++◌, [], ◌∷◌, slice_index}
+use Rattle.std.specs.Bool.{Decides}
 use Rattle.std.specs.Int.{w16, w32, w64, to_le_bytes, from_le_bytes}
 use Rattle.std.proofs.Common.{ap, ◌∙◌}
 use Rattle.std.proofs.lemmas.Nat.{pow_pos, shr_split, mod_below, from_le_bytes-to_le_bytes_2, from_le_bytes-to_le_bytes_4, from_le_bytes-to_le_bytes_8}
+use Rattle.std.proofs.lemmas.Bool.{and_parts, and_from}
+use Rattle.std.proofs.lemmas.Bool.Decides.{Decides-eqb}
+use Rattle.std.proofs.lemmas.Slice.Eq.{bytes_eq-Decides}
+use Rattle.hx_units.specs.Names.{is_token}
 use Rattle.hx_members.specs.declared.name.Name.{Name}
+use Rattle.hx_members.specs.Rows.{is_name}
 
 -- the low word of a name: its token's fifth and sixth letter, above these the first four, and above them its member
 abbrev pub low_of : Name → ℕ
@@ -19,6 +25,10 @@ high_of name =
     let t = name.token.0 in
     from_le_bytes w64 (slice_index t 6 ∷ slice_index t 7 ∷ slice_index t 8 ∷ slice_index t 9
     ∷ slice_index t 10 ∷ slice_index t 11 ∷ slice_index t 12 ∷ slice_index t 13 ∷ [])
+
+-- the number of sixteen bytes that a name's words make
+abbrev pub number_of : Name → ℕ
+number_of name = high_of name * 2 ^ 64 + low_of name
 
 -- the name of two words
 abbrev pub name_of_words : (low high : ℕ) → Name
@@ -48,3 +58,17 @@ low_of-words low high h =
 
 pub high_of-words : (low high : ℕ) → high < 2 ^ 64 → high_of (name_of_words low high) ≡ high
 high_of-words low high h = from_le_bytes-to_le_bytes_8 high h
+
+-- names are the same where the test says so
+pub names_decide : (a b : Name) → Decides (is_name a b) (a ≡ b)
+names_decide a b =
+    let member = Decides-eqb a.member b.member in
+    let letters = bytes_eq-Decides a.token.0 b.token.0 in
+    let parts = and_parts (a.member == b.member) (is_token a.token b.token) in
+    let whole = and_from (a.member == b.member) (is_token a.token b.token) in (
+      λ h i. record {
+        member = member.0 (parts h).0 i;
+        token = record { 0 = letters.0 (parts h).1 i };
+      },
+      λ e. whole (member.1 (λ i. (e i).member)) (letters.1 (λ i. (e i).token.0)),
+    )

@@ -1,5 +1,5 @@
 -- The rows of the used tokens, in order of use.
-use Rattle.std.specs.Prelude.{◌≡◌, ℕ, ◌+◌, ◌==◌, ◌&&◌, ◌||◌, nat_lt, Bool, false, List, [], ◌∷◌, Option, Some, None, slice_get, slice_set, unwrap_or, is_some, suc, if◌then◌else◌}
+use Rattle.std.specs.Prelude.{◌≡◌, ℕ, ◌+◌, ◌==◌, ◌&&◌, ◌||◌, nat_lt, Bool, false, List, [], ◌∷◌, Option, Some, None, slice_get, unwrap_or, is_some, suc, if◌then◌else◌}
 use Rattle.std.specs.Option.{option_map, option_map_or}
 use Rattle.hx_units.specs.Names.{is_token}
 use Rattle.hx_units.specs.declared.names.Token.{Token}
@@ -9,6 +9,7 @@ use Rattle.hx_members.specs.declared.rows.UsedToken.{UsedToken}
 use Rattle.hx_members.specs.declared.name.ChainFacts.{ChainFacts}
 use Rattle.hx_members.specs.declared.name.TokenState.{TokenState}
 use Rattle.hx_members.specs.Chains.{Used, Chain, is_used, IsEnteredAt}
+use Rattle.indexmap.specs.Layout.{set_value_at}
 
 -- a row: a member's token, and what is kept of it
 abbrev pub Row : Type 0
@@ -32,6 +33,10 @@ abbrev pub row_place : Name → List Row → Option ℕ
 row_place name [] = None
 row_place name (row ∷ rows) =
     if is_name name row.0 then Some 0 else option_map suc (row_place name rows)
+
+-- whether the row at a place has the name
+abbrev pub is_at : List Row → Name → (place : ℕ) → Bool
+is_at rows name place = option_map_or (λ row. is_name name row.0) (slice_get rows place) false
 
 -- no row has the name
 abbrev pub IsUnused : Name → List Row → Type 0
@@ -83,7 +88,7 @@ with_key key used = record used { key = unwrap_or key 0; has_key = is_some key }
 -- the rows with the used token at a place changed, where there is one
 abbrev pub updated : (UsedToken → UsedToken) → ℕ → List Row → List Row
 updated change place rows =
-    option_map_or (λ row. slice_set rows place (row.0, change row.1)) (slice_get rows place) rows
+    option_map_or (λ row. set_value_at rows place (change row.1)) (slice_get rows place) rows
 
 -- the rows after the chain whose entered token stands at the place did so much more
 abbrev pub noted_rows : (chain shares : ℕ) → (displayed : Bool) → List Row → List Row

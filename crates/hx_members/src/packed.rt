@@ -1,9 +1,14 @@
 //! Names in two words.
 ghost use Rattle.std.specs.Prelude.{◌≡◌};
+ghost use Rattle.std.specs.Cmp.{decided, partial_equiv_from_equiv};
+ghost use Rattle.std.specs.Hash as fed;
+ghost use Rattle.std.proofs.Common.{ap};
 ghost use Rattle.hx_members.specs.Rows.{name_of, is_name};
+ghost use Rattle.hx_members.specs.Packed.{number_of, names_decide};
 
 use crate::name::Name;
 use hx_units::{MemberNo, Token};
+use std::hash::{Hash, Hasher};
 use std::marker::Model;
 
 /// A name in two words, so that two names are compared in two steps: in the low one the token's fifth and sixth letter,
@@ -35,11 +40,6 @@ impl Model for PackedName {
     } };
 }
 
-// What is added to the words, so that few names make one 0; by the first a sum is multiplied besides.
-const LOW_ADDED: u64 = 0x9e37_79b9_7f4a_7c15;
-
-const HIGH_ADDED: u64 = 0xd1b5_4a32_d192_ed03;
-
 // Where digits stand in a word of letters, and then numbers of two digits, and of four.
 const DIGITS: u64 = 0x0f0f_0f0f_0f0f_0f0f;
 
@@ -47,10 +47,34 @@ const TWOS: u64 = 0x00ff_00ff_00ff_00ff;
 
 const FOURS: u64 = 0x0000_ffff_0000_ffff;
 
-impl PackedName {
-    ghost use Rattle.hx_members.specs.Seeds.{fixed_hash};
-    ghost use Rattle.hx_members.specs.Series.{number_of};
+impl PartialEq for PackedName {
+    ghost eq = { is_name };
 
+    ghost laws = { partial_equiv_from_equiv (decided is_name names_decide) };
+
+    #[inline(always)]
+    fn eq(&self, other: &PackedName) -> bool {
+        self.low == other.low && self.high == other.high
+    }
+}
+
+impl Eq for PackedName {
+    ghost laws = { decided is_name names_decide };
+}
+
+// By hand, so that a name is hashed as one number of sixteen bytes.
+impl Hash for PackedName {
+    ghost hash_input = { λ name. fed.u128 (number_of name) };
+
+    ghost respects_eq = { λ x y e. ap (λ n. fed.u128 (number_of n)) ((names_decide x y).0 e) };
+
+    #[inline(always)]
+    fn hash<H: Hasher>(&self, state: &mut H) {
+        state.write_u128(u128::from(self.high) * 0x1_0000_0000_0000_0000 + u128::from(self.low));
+    }
+}
+
+impl PackedName {
     /// A member's token in two words. Its letters are read four, two and eight at once.
     #[inline(always)]
     pub(crate) fn of(member: MemberNo, token: &Token) -> PackedName
@@ -67,49 +91,23 @@ impl PackedName {
         }
     }
 
-    /// The hash under the fixed seed.
+    // The number that its token's last eight letters spell, where they are digits. Of any letter the lower four bits are
+    // taken for a digit. Digits become numbers of two digits each, these numbers of four, and these the number.
     #[inline(always)]
-    pub(crate) fn fixed_hash(self) -> u32
-        ensures { result ≡ fixed_hash self }
-    {
-        let left = u128::from(self.low.wrapping_add(LOW_ADDED));
-        let right = u128::from(self.high.wrapping_add(HIGH_ADDED));
-        let product = left * right;
-        let lower = (product % 0x1_0000_0000_0000_0000) as u64;
-        let upper = (product / 0x1_0000_0000_0000_0000) as u64;
-        let mixed = lower.wrapping_add(upper).wrapping_mul(LOW_ADDED);
-        (mixed / 0x1_0000_0000) as u32
-    }
-
-    /// The number of its member.
-    #[inline(always)]
-    pub(crate) fn member(self) -> usize
-        ensures { result ≡ self.member }
-    {
-        (self.low / 0x1_0000 / 0x1_0000_0000) as usize
-    }
-
-    /// The number that its token's last eight letters spell, where they are digits. Of any letter the lower four bits are
-    /// taken for a digit. Digits become numbers of two digits each, these numbers of four, and these the number.
-    #[inline(always)]
-    pub(crate) fn number(self) -> u64
-        ensures { result ≡ number_of self }
-    {
+    fn number(self) -> u64 {
         let digits = self.high & DIGITS;
         let twos = digits.wrapping_mul(10).wrapping_add(digits / 0x100) & TWOS;
         let fours = twos.wrapping_mul(100).wrapping_add(twos / 0x1_0000) & FOURS;
         fours
             .wrapping_mul(10_000)
             .wrapping_add(fours / 0x1_0000_0000)
-            % 0x1_0000_0000
     }
 
-    /// Whether two names are the same.
+    /// Where its row is probably found: its member's number in the upper half, and in the lower the number that its token's
+    /// last letters spell. Several names may have one hint. Nothing is promised of it.
     #[inline(always)]
-    pub(crate) fn is(self, other: PackedName) -> bool
-        ensures { result ≡ is_name self other }
-    {
-        self.low == other.low && self.high == other.high
+    pub(crate) fn hint(self) -> u64 {
+        self.low / 0x1_0000_0000_0000 * 0x1_0000_0000 + self.number() % 0x1_0000_0000
     }
 
     /// The name in its usual form.

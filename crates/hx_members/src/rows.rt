@@ -1,18 +1,16 @@
 //! The rows of the used tokens, in order of use.
-ghost use Rattle.std.specs.Prelude.{◌≡◌, ◌+◌, ◌%◌, ◌<◌, ◌≤◌, ◌^◌, ◌++◌, [], ◌∷◌, length, Some, None, true, IsSome, IfSome, IfNone, IfOk, OnOk, OnErr, slice_get};
+ghost use Rattle.std.specs.Prelude.{◌≡◌, ◌+◌, ◌<◌, ◌^◌, ◌++◌, [], ◌∷◌, length, Some, None, IsSome, OnOk, OnErr, slice_get};
 ghost use Rattle.std.specs.Option.{option_map, option_copied};
 ghost use Rattle.hx_members.specs.declared.name.Name.{Name};
-ghost use Rattle.hx_members.specs.declared.series.AllSeries.{AllSeries as SeriesValue};
 ghost use Rattle.hx_members.specs.Chains.{entered_at, IsChainAt};
-ghost use Rattle.hx_members.specs.Rows.{Row, AreDistinct, tokens_of, row_place, row_state, noted_rows, settled_rows};
-ghost use Rattle.hx_members.specs.Slots.{HavePlaces, IsLedToNone, IsSpot, is_at, is_word_of};
+ghost use Rattle.hx_members.specs.Rows.{Row, AreDistinct, IsUnused, is_at, tokens_of, row_place, row_state, noted_rows, settled_rows};
 
 use crate::name::{ChainFacts, Name, TokenState};
 use crate::packed::PackedName;
 use crate::seed::Seed;
 use crate::series::AllSeries;
-use crate::slots::{Slots, word_of};
-use hx_units::{Known, NoMemory, Token, reserve_ahead};
+use hx_units::{Known, NoMemory, Token};
+use indexmap::IndexMap;
 use std::alloc::Global;
 use std::marker::Model;
 
@@ -87,176 +85,38 @@ impl UsedToken {
     }
 }
 
-/// The most rows that there may be, so that one more than a place fits into half a word.
-const MOST: usize = 0xffff_ffff;
-
-/// How the next row will be found: by the cell of its name, or by a slot, with the word for that slot.
-#[derive(Clone, Copy)]
-pub(crate) enum Spot {
-    InSeries,
-    InSlots { at: usize, word: u64 },
-}
-
-/// The place of the next row: its name, and how it is found.
-#[derive(Drop)]
-pub(crate) struct Reserved {
-    name: PackedName,
-    spot: Spot,
-}
-
-/// The rows, and the name for which a place is reserved. A row is found by the cell of its name in the series, from the
-/// name's number. Where there is no such cell, or the row of another name is in it, it is found by the slots, from the hash
-/// of the name.
+/// The rows, and the name for which a place is reserved. A row is found by a guess from its name's hint, where the row to
+/// which that leads has the very name, and else by the map.
 #[derive(Drop)]
 pub(crate) struct Rows {
-    rows: Vec<(PackedName, UsedToken)>,
-    series: AllSeries,
-    slots: Slots,
-    // How many rows are found by the slots.
-    slotted: usize,
-    place: Option<Reserved>,
-    seed: Seed,
+    map: IndexMap<PackedName, UsedToken, Seed>,
+    guesses: AllSeries,
+    place: Option<PackedName>,
     alloc: Global,
 }
 
 impl Model for Rows {
     ghost use Rattle.hx_members.specs.Rows.{RowList};
-    ghost use Rattle.hx_members.specs.Slots.{IsIndex, IsSpot};
-    ghost use Rattle.std.specs.Prelude.{◌<◌, ◌≤◌, vec_len, vec_capacity, IfSome};
-    ghost use Rattle.std.specs.Option.{option_map};
+    ghost use Rattle.indexmap.specs.IndexMap.{spare};
+    ghost use Rattle.std.specs.Prelude.{IsSome, ◌<◌};
 
     ghost Value = { RowList };
 
-    ghost view = { λ r. record { rows = r.rows.items; place = option_map (λ p. p.name) r.place } };
+    ghost view = { λ r. record { rows = r.map.entries; place = r.place } };
 
-    ghost invariant = { λ r. IsIndex r.seed r.series r.slots r.rows.items
-        × IfSome r.place (λ p. IsSpot r.seed r.series r.slots (vec_len r.rows) p.name p.spot
-        × (vec_len r.rows < vec_capacity r.rows)) × (r.slotted ≤ vec_len r.rows) };
-}
-
-// Whether the row at a place has the name.
-#[inline(always)]
-fn is_at(rows: &[(PackedName, UsedToken)], place: usize, name: PackedName) -> bool
-    ensures { result ≡ is_at rows.now name place }
-{
-    match rows.get(place) {
-        Some((other, _)) => name.is(*other),
-        None => false,
-    }
-}
-
-// Whether a word is that of a hash, and the row at its place has the name.
-#[inline(always)]
-fn is_word_of(rows: &[(PackedName, UsedToken)], word: u64, hash: u32, name: PackedName) -> bool
-    requires { 0 < word % 2 ^ 32 }
-    ensures { result ≡ is_word_of rows.now hash name word }
-{
-    word / 0x1_0000_0000 == u64::from(hash)
-        && is_at(rows, (word % 0x1_0000_0000) as usize - 1, name)
-}
-
-// Whether one row more that is found by the slots would use more than two of three, and there may be more of them.
-#[inline(always)]
-fn is_full(slotted: usize, slots: usize) -> bool
-    requires slotted { slotted < 2 ^ 32 }
-    requires slots { slots ≤ 2 ^ 32 }
-{
-    slots < Slots::MOST && (slotted + 1) * 3 > slots * 2
-}
-
-// The place of a row of this name behind so many rows, where its walk comes to a free slot and the place fits.
-#[inline(always)]
-fn place_for(
-    slots: &Slots,
-    seed: &Seed,
-    name: PackedName,
-    rows: usize,
-) -> Result<Reserved, NoMemory>
-    ensures name { IfOk result (λ place. place.name ≡ name) }
-
-    // A slot does whatever the series are.
-    ensures spot { (series : SeriesValue) → IfOk result (λ place.
-        IsSpot seed.now series slots.now rows name place.spot) }
-{
-    if rows >= MOST {
-        return Err(NoMemory);
-    }
-    let hash = seed.hash(name);
-    match slots.free(hash) {
-        Some(at) => Ok(Reserved {
-            name,
-            spot: Spot::InSlots {
-                at,
-                word: word_of(hash, rows as u32),
-            },
-        }),
-        None => Err(NoMemory),
-    }
-}
-
-// The place of a row of this name to which the slots lead.
-#[inline(never)]
-fn led_place(
-    rows: &[(PackedName, UsedToken)],
-    slots: &Slots,
-    seed: &Seed,
-    name: PackedName,
-) -> Option<usize>
-    requires few { length rows.now < 2 ^ 32 }
-    requires places { HavePlaces slots.now }
-    ensures some { IfSome result (λ place. is_at rows.now name place ≡ true) }
-    ensures none { IfNone result (IsLedToNone seed.now slots.now rows.now name) }
-{
-    let hash = seed.hash(name);
-    let mut at = slots.home(hash);
-    for steps in 0..slots.len() {
-        let word = slots.word(at);
-        if word == 0 {
-            return None;
-        }
-        if is_word_of(rows, word, hash, name) {
-            return Some((word % 0x1_0000_0000) as usize - 1);
-        }
-        at = slots.behind(at);
-    }
-    None
-}
-
-// Sets the key at a place.
-#[inline(always)]
-fn settle_at(rows: &mut [(PackedName, UsedToken)], place: usize, key: Option<usize>)
-    ensures { rows.new ≡ settled_rows place key rows.old }
-{
-    if place < rows.len() {
-        rows[place].1.settle(key);
-    }
-}
-
-// Adds to what the chain at a place has done.
-#[inline(always)]
-fn note_at(rows: &mut [(PackedName, UsedToken)], chain: usize, shares: u32, displayed: bool)
-    requires { (row : Row) × (slice_get rows.old chain ≡ Some row)
-        × (row.1.executed + shares < 2 ^ 32) }
-    ensures { rows.new ≡ noted_rows chain shares displayed rows.old }
-{
-    if chain < rows.len() {
-        rows[chain].1.note(shares, displayed);
-    }
+    ghost invariant = { λ r. IsSome r.place → 0 < spare r.map };
 }
 
 impl Rows {
-    /// No rows, and no reserved place, with this seed. It takes no memory.
+    /// No rows, and no reserved place, in a map of this seed. It takes no memory.
     pub(crate) fn new(alloc: Global, seed: Seed) -> Self
         ensures rows { result.rows ≡ [] }
         ensures place { result.place ≡ None }
     {
         Rows {
-            rows: Vec::new(alloc),
-            series: AllSeries::new(alloc),
-            slots: Slots::new(alloc),
-            slotted: 0,
+            map: IndexMap::with_hasher(alloc, seed),
+            guesses: AllSeries::new(alloc),
             place: None,
-            seed,
             alloc,
         }
     }
@@ -266,7 +126,7 @@ impl Rows {
     pub(crate) fn len(&self) -> u64
         ensures { result ≡ length self.now.rows }
     {
-        self.rows.len() as u64
+        self.map.len() as u64
     }
 
     /// Makes room for one more row, of this name.
@@ -276,38 +136,9 @@ impl Rows {
         ensures ok { OnOk result (self.new.place ≡ Some name) }
         ensures err { OnErr result (self.new.place ≡ self.old.place) }
     {
-        if !self.series.reserve(self.alloc, name)? {
-            return self.reserve_slot(name);
-        }
-        reserve_ahead(&mut self.rows, 1)?;
-        if self.rows.len() >= MOST {
-            return Err(NoMemory);
-        }
-        self.place = Some(Reserved {
-            name,
-            spot: Spot::InSeries,
-        });
-        Ok(())
-    }
-
-    // Makes room for one more row, of a name without a free cell: it will be found by a slot.
-    #[inline(never)]
-    fn reserve_slot(&mut self, name: PackedName) -> Result<(), NoMemory>
-        ensures rows { self.new.rows ≡ self.old.rows }
-        ensures ok { OnOk result (self.new.place ≡ Some name) }
-        ensures err { OnErr result (self.new.place ≡ self.old.place) }
-    {
-        reserve_ahead(&mut self.rows, 1)?;
-        let rows = self.rows.len();
-        if is_full(self.slotted, self.slots.len()) {
-            let slots = self.slots.grown(self.alloc)?;
-            let place = place_for(&slots, &self.seed, name, rows)?;
-            self.slots = slots;
-            self.place = Some(place);
-            return Ok(());
-        }
-        let place = place_for(&self.slots, &self.seed, name, rows)?;
-        self.place = Some(place);
+        self.guesses.reserve(self.alloc, name.hint())?;
+        self.map.reserve(1)?;
+        self.place = Some(name);
         Ok(())
     }
 
@@ -315,38 +146,40 @@ impl Rows {
     #[inline(always)]
     pub(crate) fn push(&mut self, used: UsedToken)
         requires place { IsSome self.old.place }
+        requires unused { (name : Name) → self.old.place ≡ Some name
+            → IsUnused name self.old.rows }
         ensures rows { (name : Name) → self.old.place ≡ Some name
             → self.new.rows ≡ self.old.rows ++ (name, used) ∷ [] }
         ensures place { self.new.place ≡ None }
     {
-        if let Some(place) = self.place.take() {
-            let Reserved { name, spot } = place;
-            match spot {
-                Spot::InSeries => self.series.set(name, self.rows.len() as u32 + 1),
-                Spot::InSlots { at, word } => {
-                    self.slots.set(at, word);
-                    self.slotted += 1;
-                }
-            }
-            self.rows.push_reserved((name, used));
+        if let Some(name) = self.place.take() {
+            self.guesses.tell(name.hint(), self.map.len());
+            let _ = self.map.insert(name, used);
         }
     }
 
-    /// The place of a name. Its cell is looked at first: where that leads to the name's row, and where there are no slots,
-    /// nothing is hashed. A cell that leads to the row of another name is passed over.
+    // Whether the row at a place has the name.
+    #[inline(always)]
+    fn is_at(&self, place: usize, name: PackedName) -> bool
+        ensures { result ≡ is_at self.now.rows name place }
+    {
+        match self.map.get_index(place) {
+            Some((other, _)) => name == *other,
+            None => false,
+        }
+    }
+
+    /// The place of a name. The guess is looked at first: where it leads to the name's row, nothing is hashed.
     #[inline(always)]
     pub(crate) fn place(&self, name: PackedName) -> Option<usize>
         requires { AreDistinct (tokens_of self.now.rows) }
         ensures { result ≡ row_place name self.now.rows }
     {
-        let at = (self.series.place(name) as usize).wrapping_sub(1);
-        if is_at(&self.rows, at, name) {
-            return Some(at);
+        let guess = self.guesses.guess(name.hint()).wrapping_sub(1);
+        if self.is_at(guess, name) {
+            return Some(guess);
         }
-        if self.slots.len() == 0 {
-            return None;
-        }
-        led_place(&self.rows, &self.slots, &self.seed, name)
+        self.map.get_index_of(&name)
     }
 
     /// The place of a name. The last row is looked at first.
@@ -355,8 +188,8 @@ impl Rows {
         requires { AreDistinct (tokens_of self.now.rows) }
         ensures { result ≡ row_place name self.now.rows }
     {
-        let last = self.rows.len().saturating_sub(1);
-        if is_at(&self.rows, last, name) {
+        let last = self.map.len().saturating_sub(1);
+        if self.is_at(last, name) {
             return Some(last);
         }
         self.place(name)
@@ -367,7 +200,7 @@ impl Rows {
         ensures { option_copied result
             ≡ option_map (λ (row : Row). row.1) (slice_get self.now.rows place) }
     {
-        let (_, used) = self.rows.get(place)?;
+        let (_, used) = self.map.get_index(place)?;
         Some(used)
     }
 
@@ -375,7 +208,7 @@ impl Rows {
     pub(crate) fn name_at(&self, place: usize) -> Option<Name>
         ensures { result ≡ option_map (λ (row : Row). row.0) (slice_get self.now.rows place) }
     {
-        let (name, _) = self.rows.get(place)?;
+        let (name, _) = self.map.get_index(place)?;
         Some(name.name())
     }
 
@@ -410,7 +243,9 @@ impl Rows {
         ensures rows { self.new.rows ≡ settled_rows place key self.old.rows }
         ensures place { self.new.place ≡ self.old.place }
     {
-        settle_at(&mut self.rows, place, key);
+        if let Some(used) = self.map.get_index_mut(place) {
+            used.settle(key);
+        }
     }
 
     /// Adds to what the chain at a place has done.
@@ -420,32 +255,34 @@ impl Rows {
         ensures rows { self.new.rows ≡ noted_rows chain shares displayed self.old.rows }
         ensures place { self.new.place ≡ self.old.place }
     {
-        note_at(&mut self.rows, chain, shares, displayed);
+        if let Some(used) = self.map.get_index_mut(chain) {
+            used.note(shares, displayed);
+        }
     }
 
-    /// Looks at the cells to which hints lead, and at nothing else in between, so that they are waited for together. Nothing
-    /// is promised of the answer.
+    /// Looks at the guesses of hints, and at nothing else in between, so that they are waited for together. Nothing is
+    /// promised of the answer.
     #[inline(always)]
     pub(crate) fn sum_of_cells(&self, hints: &[u64]) -> u64 {
         let mut sum: u64 = 0;
         for hint in hints {
-            sum = sum.wrapping_add(u64::from(self.series.guess(*hint)));
+            sum = sum.wrapping_add(self.guesses.guess(*hint) as u64);
         }
         sum
     }
 
-    // For each hint what is in the cell to which it leads: one more than a place, or 0.
+    // For each hint its guess: one more than a place, or 0.
     #[inline(always)]
     fn likely_places(&self, hints: &[u64]) -> [usize; 16] {
         let mut places = [0; 16];
         for (place, hint) in places.iter_mut().zip(hints) {
-            *place = self.series.guess(*hint) as usize;
+            *place = self.guesses.guess(*hint);
         }
         places
     }
 
     /// For each of up to sixteen hints the key of the row to which it probably leads, and that of the first row where there
-    /// is none. Nothing is promised: it brings cells and rows near before their turn.
+    /// is none. Nothing is promised: it brings guesses and rows near before their turn.
     #[inline(always)]
     pub(crate) fn likely_keys(&self, hints: &[u64]) -> [usize; 16] {
         let places = self.likely_places(hints);
@@ -459,7 +296,7 @@ impl Rows {
     // The key at the row before a place, or at the first row: which of them it is, is chosen without a branch.
     #[inline(always)]
     fn key_before(&self, place: usize) -> usize {
-        match self.rows.get(place.saturating_sub(1)) {
+        match self.map.get_index(place.saturating_sub(1)) {
             Some((_, used)) => used.key,
             None => usize::MAX,
         }

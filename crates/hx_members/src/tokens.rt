@@ -40,7 +40,7 @@ impl Model for Tokens {
 }
 
 impl Tokens {
-    /// No token is used, and no place is reserved; the table has the fixed seed.
+    /// No token is used, and no place is reserved; the map has the fixed seed.
     pub fn new(alloc: Global) -> Self
         ensures tokens { result.tokens ≡ [] }
         ensures chains { result.chains ≡ [] }
@@ -50,7 +50,7 @@ impl Tokens {
         Tokens::seeded(alloc, Seed::Fixed)
     }
 
-    /// No token is used, and no place is reserved; the table has this seed.
+    /// No token is used, and no place is reserved; the map has this seed.
     pub fn seeded(alloc: Global, seed: Seed) -> Self
         ensures tokens { result.tokens ≡ [] }
         ensures chains { result.chains ≡ [] }
@@ -183,13 +183,12 @@ pub fn is_same_name(member: MemberNo, token: &Token, other: MemberNo, other_toke
     ensures { result
         ≡ is_name (name_of member token.now) (name_of other other_token.now) }
 {
-    PackedName::of(member, token).is(PackedName::of(other, other_token))
+    PackedName::of(member, token) == PackedName::of(other, other_token)
 }
 
 /// Where a member's token is probably found, for `glance` and `likely_keys`: the member's number in the upper half, and in
 /// the lower the number that the token's last letters spell. Nothing is promised of it.
 #[inline(always)]
 pub fn name_hint(member: MemberNo, token: &Token) -> u64 {
-    let number = PackedName::of(member, token).number();
-    u64::from(member.get()) * 0x1_0000_0000 + number % 0x1_0000_0000
+    PackedName::of(member, token).hint()
 }

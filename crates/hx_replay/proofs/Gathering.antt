@@ -67,7 +67,7 @@ all_written c d text w v u gathered rest h wrote = record {
   wrote = subst (Appends w u) (sym h.output_is) (Appends-trans w v u h.written gathered h.wrote wrote);
 }
 
--- not all of them are written, for want of memory or since the writer fails to take them
+-- not all of them are written, when out of memory or since the writer fails to take them
 pub stops_gathering : (c d : Progress) (text : List ℕ) (w v u : Option (List ℕ)) (gathered rest : List ℕ) (e : TapeError) → Gathers c d text w v gathered rest → ((left : List ℕ) × Writes v u gathered left) → IsUnwritten e
     → Stops ⊥ c text w u e
 stops_gathering c d text w v u gathered rest e h some is =

@@ -1,9 +1,16 @@
 use Rattle.std.proofs.Common.{◌++◌, ◌∷◌, [], None, ap, sym, ◌∙◌, subst}
 use Rattle.std.specs.Option.{option_map_or}
 use Rattle.hx_members.specs.Chains.{is_used, replacing_used, entered_at, IsEnteredAt}
-use Rattle.hx_members.specs.Rows.{name_of, fresh, tokens_of, chains_of, live_keys_of, IsSound}
+use Rattle.hx_members.specs.Rows.{name_of, fresh, tokens_of, chains_of, live_keys_of, IsUnused, IsSound}
+use Rattle.hx_members.proofs.TokenLaws.{unused, some_same}
 use Rattle.hx_members.proofs.PushLaws.{joined_row, sound-joined, tokens_of-pushed, live_keys_of-pushed, chains-joined}
 use Rattle.hx_members.proofs.tokens.Tokens.join_chain.Goals as goal
+
+pub push-requires-clause-unused : goal.push-requires-clause-unused
+push-requires-clause-unused c name is =
+    let rows = c.self.inside.kept.rows in
+    subst (λ n. IsUnused n rows) (some_same (name_of c.args.member c.args.token.now) name (sym (ap (λ v. v.place) c.self.view_is ∙ c.requires.place) ∙ is))
+    (unused c.args.member c.args.token.now rows (ap (λ v. is_used v.tokens c.args.member c.args.token.now) c.self.view_is ∙ c.requires.unused))
 
 pub invariant_of-self : goal.invariant_of-self
 invariant_of-self c =
