@@ -4,7 +4,7 @@ ghost use Rattle.std.specs.Prelude.{◌≡◌, ◌<◌, ◌≤◌, [], ◌∷◌
 use std::alloc::{AllocError, Global};
 use std::marker::Model;
 
-/// Records, one behind the other in one text. Contracts see a list of texts.
+/// Records in one text, in turn. Contracts see a list of texts.
 #[derive(Drop)]
 pub struct Records {
     text: Vec<u8>,
@@ -82,7 +82,7 @@ impl Records {
         Ok(())
     }
 
-    /// Takes all but the first ones, this many away.
+    /// Takes all but the first `count` away.
     pub fn truncate(&mut self, count: usize)
         ensures { self.new ≡ take count self.old }
     {

@@ -59,7 +59,7 @@ executed_by [] member entered = 0
 executed_by (c ∷ chains) member entered =
     if is_chain member entered c then c.executed else executed_by chains member entered
 
--- a chain with so many more executed shares, which perhaps was displayed
+-- a chain with this many more executed shares, which perhaps was displayed
 abbrev pub noted : ℕ → Bool → Chain → Chain
 noted shares displayed c =
     record c {

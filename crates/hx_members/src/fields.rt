@@ -67,7 +67,7 @@ fn are_visible(text: &[u8]) -> bool
     text.iter().all(|b| matches!(b, 0x21..=0x7e))
 }
 
-// The bytes, where they are so many.
+// The bytes, where they are this many.
 fn exactly<const N: usize>(text: &[u8]) -> Option<[u8; N]>
     ensures { MatchOption result (length text.now ≢ N)
         (λ bytes. (length bytes ≡ N) × (bytes ≡ text.now)) }

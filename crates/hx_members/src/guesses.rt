@@ -25,7 +25,7 @@ fn hash(symbol: Symbol) -> usize {
 }
 
 impl Guesses {
-    /// The guesses of these stocks, whose locates count from 1. It fails only for want of memory.
+    /// The guesses of these stocks, whose locates count from 1. It fails only when out of memory.
     pub(crate) fn of(alloc: Global, stocks: &[Stock]) -> Result<Guesses, NoMemory> {
         let mut locates = Vec::new(alloc);
         locates.resize(HASHES, 0)?;

@@ -3,7 +3,7 @@
 use hx_units::{NoMemory, reserve_ahead};
 use std::alloc::Global;
 
-/// So many cells a series gets at least where it grows.
+/// This many cells a series gets at least where it grows.
 const CELLS: usize = 64;
 
 /// So far from its first number a series reaches, however few places it was told.

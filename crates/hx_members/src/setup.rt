@@ -130,7 +130,7 @@ impl Setup {
     /// case, and a limit from 1 to 4,294,967,295. One space stands between fields, numbers are decimal without leading
     /// zeros, and each line ends with a line feed.
     ///
-    /// `Bad` names the first line that does not fit, or that is missing; `NoMemory` is answered for want of memory alone.
+    /// `Bad` names the first line that does not fit, or that is missing; `NoMemory` is answered when out of memory alone.
     pub fn read(alloc: Global, text: &[u8]) -> Result<Self, SetupError>
         ensures ok { IfOk result (λ setup. HasText setup × (text.now ≡ setup_text setup)) }
         ensures err { IfErr result (λ e. IsFault text.now e) }
@@ -154,7 +154,7 @@ impl Setup {
         Ok(Setup::of(alloc, session, start_open, stocks, members)?)
     }
 
-    /// The standard setup: two stocks, three members, and a day that begins open. It fails only for want of memory.
+    /// The standard setup: two stocks, three members, and a day that begins open. It fails only when out of memory.
     pub fn standard(alloc: Global) -> Result<Self, NoMemory>
         ensures { IfOk result (λ setup. setup ≡ standard) }
     {
@@ -167,7 +167,7 @@ impl Setup {
         Setup::of(alloc, *b"HX00000001", true, stocks, members)
     }
 
-    /// An equal setup. It fails only for want of memory.
+    /// An equal setup. It fails only when out of memory.
     pub fn copy(&self, alloc: Global) -> Result<Self, NoMemory>
         ensures equal { IfOk result (λ setup. setup ≡ self.now) }
         ensures is_setup { OnOk result (IsSetup self.now) }

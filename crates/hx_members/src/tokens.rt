@@ -146,7 +146,7 @@ impl Tokens {
         }
     }
 
-    /// Adds to what the chain of the entered token at this place has done: so many shares executed, and displayed or
+    /// Adds to what the chain of the entered token at this place has done: this many shares executed, and displayed or
     /// not. A chain trades by its first executed share.
     #[inline(always)]
     pub fn note(&mut self, chain: u64, shares: u32, displayed: bool)

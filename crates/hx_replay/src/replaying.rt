@@ -82,7 +82,7 @@ pub fn write_many<W: Write>(writer: &mut W, lines: &mut OutputText) -> Result<()
 }
 
 /// Plays the whole lines of the text, writes their output lines and flushes the writer, and returns the bytes behind them.
-/// Where a line fails, what was told before it is written.
+/// Where a line fails, the output before it is written.
 pub fn play_lines<'a, B: Book + Drop, W: Write>(
     run: &mut Run<B>,
     room: &mut Room,

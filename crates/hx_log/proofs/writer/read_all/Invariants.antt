@@ -3,7 +3,7 @@ use Rattle.hx_journal.specs.Lines.{text_of}
 use Rattle.hx_terms.specs.Terms.{after_all, taken}
 use Rattle.hx_log.proofs.writer.read_all.Given as goal
 
--- so many records are read, and the text is the lines that are taken of them
+-- this many records are read, and the text is the lines that are taken of them
 abbrev pub invariant-loop-found : goal.invariant-loop-found
 invariant-loop-found l = record {
   reading : l.reading ≡ after_all l.fn.reading (take l.found-index l.records);
