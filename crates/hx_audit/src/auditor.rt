@@ -60,7 +60,7 @@ impl Selection for Auditor {
 }
 
 impl Auditor {
-    /// An auditor of the empty history. It fails only for want of memory.
+    /// An auditor of the empty history. It fails only when out of memory.
     pub fn new(alloc: Global, setup: &Setup, whose: Whose) -> Result<Auditor, NoMemory>
         ensures setup { IfOk result (λ a. a.setup ≡ setup.now) }
         ensures whose { IfOk result (λ a. a.whose ≡ whose) }

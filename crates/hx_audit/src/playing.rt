@@ -12,7 +12,7 @@ use hx_members::Setup;
 use hx_units::NoMemory;
 use std::alloc::Global;
 
-/// The opening market of a setup. It fails only for want of memory.
+/// The opening market of a setup. It fails only when out of memory.
 pub(crate) fn open(alloc: Global, setup: &Setup) -> Result<Market<LevelBook>, NoMemory>
     ensures setup { IfOk result (λ m. m.setup ≡ setup.now) }
     ensures market { IfOk result (λ m. m.market ≡ opening setup.now) }

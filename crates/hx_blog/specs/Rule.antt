@@ -32,6 +32,6 @@ module _ {E : Type 0} where
     pub seats : (seat : ℕ) (v : View E) → get_elem? s.views seat ≡ some v → v.gone ≡ false
         → KnowsABeginning room writer w.known seat v
 
-  -- The rule of the log with room for so many messages: some seat is the writer's, and the words and all seats agree with it.
+  -- The rule of the log with room for this many messages: some seat is the writer's, and the words and all seats agree with it.
   abbrev pub RuleOfTheLog : ℕ → LogState E → Type 0
   RuleOfTheLog room s = (writer : ℕ) × (w : View E) × IsWrittenBy room s writer w

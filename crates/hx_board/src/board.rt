@@ -10,10 +10,10 @@ use bytes::ByteStr;
 use hx_units::Symbol;
 use std::alloc::{AllocError, Global};
 
-// So many executions of a stock are kept, the newest.
+// This many executions of a stock are kept, the newest.
 const TRADES: usize = 4096;
 
-// So many changes of its best prices are kept: where there are more, every second is left out.
+// This many changes of its best prices are kept: where there are more, every second is left out.
 const QUOTES: usize = 4096;
 
 /// A stock of the board.

@@ -15,7 +15,7 @@ use std::mem;
 use std::sync::Wait;
 use std::time::{Clock, Instant};
 
-// So many executions of a stock are among its last.
+// This many executions of a stock are among its last.
 const LAST: usize = 20;
 
 // What was seen of a stock.

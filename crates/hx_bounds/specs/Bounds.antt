@@ -27,7 +27,7 @@ chains_by tokens chain (e ∷ es) chains =
 abbrev pub noted_if : Bool → List Used → ℕ → List Chain → List Chain
 noted_if shown tokens chain chains = if shown then noted_at tokens chain 0 true chains else chains
 
--- a chain has this number, and can count so many shares more
+-- a chain has this number, and can count this many shares more
 pub record CanNote (tokens : List Used) (place shares : ℕ) (chains : List Chain) : Type 0 where
   pub there : IsChainAt tokens place
   pub room : executed_at tokens chains place + shares < 2 ^ 32

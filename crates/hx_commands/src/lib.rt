@@ -3,5 +3,8 @@
 
 mod commands;
 mod journal;
+mod operate;
+mod serve;
+mod watch;
 
 pub use commands::command;

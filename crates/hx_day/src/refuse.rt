@@ -53,7 +53,7 @@ fn limit_of(setup: &Setup, event: &Event) -> Option<u32>
     }
 }
 
-/// The number under which an event is recorded, unless it is refused, at so many recorded events of each number.
+/// The number under which an event is recorded, unless it is refused, at this many recorded events of each number.
 pub fn admit(setup: &Setup, recorded: &EventCounts, event: &Event) -> Result<u16, PrepareError>
     ensures number { IfOk result (λ number. number ≡ sender event.now) }
     ensures may_record { IfOk result (λ number. MayRecord recorded.now number) }

@@ -31,7 +31,7 @@ impl Model for Trading {
 }
 
 impl Trading {
-    /// No stock is halted, of so many, and nothing is executed. `NoMemory` where the states find no room.
+    /// No stock is halted, of this many, and nothing is executed. `NoMemory` where the states find no room.
     pub fn new(alloc: Global, stocks: u16) -> Result<Trading, NoMemory>
         ensures halted { IfOk result (λ t. t.halted ≡ replicate (suc stocks) false) }
         ensures executions { IfOk result (λ t. t.executions ≡ []) }

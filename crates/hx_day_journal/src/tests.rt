@@ -11,7 +11,7 @@ use std::test::*;
 struct SmallDisk {
     bytes: Vec<u8>,
     room: usize,
-    // So many writes find no room.
+    // This many writes find no room.
     refused: u32,
     syncs: u32,
 }

@@ -125,7 +125,7 @@ end_from xs n k e = whole (drop k xs) (length xs - k) (length-drop k xs) ∙ dro
     whole (y ∷ ys) zero h = absurd (omega arith)
     whole (y ∷ ys) (suc m) h = ap (λ z. y ∷ z) (whole ys m (omega arith))
 
--- so many of the replies from a place on, cut where they end
+-- this many of the replies from a place on, cut where they end
 pub page_end : (rows : List (List ℕ)) (end part : List (ArrayVec ℕ)) (n m c : ℕ) → texts end ≡ drop n rows → c ≡ min m (length end) → part ≡ take c end → texts part ≡ take m (drop n rows)
 page_end rows end part n m c is count cut =
     ap texts cut
@@ -165,7 +165,7 @@ pub room_left : (rows : List (Vec (ArrayVec ℕ))) (i : ℕ) (x y : Vec (ArrayVe
 room_left rows i x y ms in' small is len capacity room m l =
     room_set row_spare rows i y (λ k. times k ms) m in' (omega (arith, has_room rows i x ms in' small is room)) (inl (omega (arith, room m l)))
 
--- the first replies of a row, where so many are told
+-- the first replies of a row, where this many are told
 pub row_told : (rows : List (Vec (ArrayVec ℕ))) (counts : List ℕ) (m : ℕ) (row : Vec (ArrayVec ℕ)) (items : List (ArrayVec ℕ)) (n k : ℕ) → m < length rows → m < length counts
     → row ≡ get_or rows m row → items ≡ row.items → n ≡ get_or counts m n → k ≡ min n (length items)
     → texts (take k items) ≡ take (slice_index counts m) (row_of (map row_texts rows) m)

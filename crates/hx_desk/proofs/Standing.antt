@@ -426,7 +426,7 @@ still_staged setup h n =
     ∙ sym (feed-append (take n whole) (drop n whole))
     ∙ ap blog.feed (take-append-drop n whole)
 
--- so many they are
+-- this many they are
 pub flying_count : (setup : Setup) (h : List Entry) (told sealed : Mark) → told.entries ≤ sealed.entries → IsMark setup h told → IsMark setup h sealed
     → sealed.messages ≡ told.messages + length (blog.feed (drop told.entries (take sealed.entries (ledger setup h))))
 flying_count setup h told sealed order t s =

@@ -140,7 +140,7 @@ free_of d event = room_of d.log - reached_of d - kept_from d.kept event
 abbrev pub needed_of : DeskState → Event → ℕ
 needed_of d event = length (step d.setup d.market event).told.feed
 
--- why the market refuses an event, but for want of memory
+-- why the market refuses an event, but when out of memory
 abbrev pub refusal_of : DeskState → Event → Option PrepareError
 refusal_of d event = refusal d.setup d.market.recorded event
 
@@ -182,7 +182,8 @@ pub record Restores (old new : DeskState) (event : Event) : Type 0 where
 -- A desk that was resumed from these events: they are its history, under no pass, all of it is told, and
 -- no slots are kept.
 -- Since it stands, its market, its feed and its members' rows are those of these events.
-pub record IsResumed (id : LogId) (rules : Setup) (events : List Event) (d : DeskState) : Type 0 where
+pub record IsResumed (id : LogId) (rules : Setup) (events : List Event)
+    (d : DeskState) : Type 0 where
   pub log : d.log ≡ id
   pub setup : d.setup ≡ rules
   pub history : d.history ≡ restored events
@@ -199,7 +200,7 @@ pub record IsFull (d : DeskState) (event : Event) (free needed : ℕ) : Type 0 w
   pub exceeds : free < needed
 
 -- Why an event is refused: for its time, its member or a limit, as the market says; else, where none
--- of these is wrong, because its messages exceed the free slots, or for want of memory.
+-- of these is wrong, because its messages exceed the free slots, or when out of memory.
 abbrev pub Faults : DeskState → Event → DeskError → Type 0
 Faults d event fault.BadTime = refusal_of d event ≡ Some market.BadTime
 Faults d event fault.NoMember = refusal_of d event ≡ Some market.NoMember

@@ -20,7 +20,7 @@ Part = List (List ℕ) → List (List ℕ)
 abbrev pub from_number : (number : ℕ) → Part
 from_number number replies = drop (number - 1) replies
 
--- at most so many of them, from this number on
+-- at most this many of them, from this number on
 abbrev pub page : (number most : ℕ) → Part
 page number most replies = take most (drop (number - 1) replies)
 
@@ -59,7 +59,7 @@ pub record RoomyRows : Type 0 where
   pub spare : List ℕ
   pub told : List ℕ
 
--- the first ones of each row, so many as these counts say
+-- the first ones of each row, this many as these counts say
 abbrev pub shown : (counts : List ℕ) → RowList → RowList
 shown [] rows = []
 shown (n ∷ counts) [] = []

@@ -51,7 +51,7 @@ pub struct Desk {
     // To whom the replies to the entries in flight go, and those to the entries behind them.
     flying: Vec<MemberNo>,
     waiting: Vec<MemberNo>,
-    // So many slots of the log are kept for the codes of the hours and for ticks.
+    // This many slots of the log are kept for the codes of the hours and for ticks.
     kept: u64,
     alloc: Global,
 }
@@ -313,7 +313,7 @@ impl Desk {
         Ok(desk)
     }
 
-    /// Why the event is refused where there is no memory for it: as `submit` would refuse it, or for want of memory.
+    /// Why the event is refused where there is no memory for it: as `submit` would refuse it, or when out of memory.
     pub fn refuse(&mut self, event: &Event) -> DeskError
         ensures same { self.new ≡ self.old }
         ensures refused { Faults self.old event.now result }
@@ -366,7 +366,7 @@ impl Desk {
         self.rows.from(member, from)
     }
 
-    /// At most so many replies to a member, from this number on. It takes memory where there are any.
+    /// At most this many replies to a member, from this number on. It takes memory where there are any.
     pub fn replies_page(
         &self,
         member: MemberNo,

@@ -220,7 +220,7 @@ impl Rows {
         copy_of(self.alloc, self.end(member, from))
     }
 
-    /// At most so many replies to a member, from this number on. It takes memory where there are any.
+    /// At most this many replies to a member, from this number on. It takes memory where there are any.
     pub fn page(
         &self,
         member: MemberNo,

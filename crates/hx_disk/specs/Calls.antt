@@ -33,7 +33,7 @@ faults_of ((kind, place, true, bytes) ∷ calls) = faults_of calls
 faults_of ((kind, place, false, bytes) ∷ calls) = suc (faults_of calls)
 
 -- What its reader sees of a file, once this call succeeded.
-abbrev pub seen_by : ℕ → ℕ → List ℕ → List ℕ → List ℕ
+abbrev pub seen_by : (kind : ℕ) → (at : ℕ) → (bytes : List ℕ) → (file : List ℕ) → List ℕ
 seen_by zero place bytes file = bytes
 seen_by (suc zero) at bytes file = take at file ++ bytes ++ drop (at + length bytes) file
 seen_by (suc (suc zero)) len bytes file = take len file
@@ -67,7 +67,7 @@ leaves_of [] c = c ≡ []
 leaves_of ((kind, place, ok, bytes) ∷ calls) c =
     LeavesAfter kind place ok bytes (faults_of calls) (seen_of calls) (leaves_of calls) c
 
--- what a crash after so many calls, or later, may have left
+-- what a crash after this many calls, or later, may have left
 abbrev pub left_of : List Event → ℕ → List ℕ → Type 0
 left_of [] t c = leaves_of [] c
 left_of (call ∷ calls) t c = leaves_of (call ∷ calls) c ⊎ ((t ≤ length calls) × left_of calls t c)

@@ -4,7 +4,7 @@ use Rattle.hx_disk.specs.declared.device.DeviceError.{DeviceError}
 use Rattle.hx_disk.specs.declared.device.DeviceError.TheVariants.{NoRoom, Failed}
 
 -- new is old with these bytes at this offset
-abbrev pub Holds : List ℕ → ℕ → List ℕ → List ℕ → Type 0
+abbrev pub Holds : (old : List ℕ) → (at : ℕ) → (bytes : List ℕ) → (new : List ℕ) → Type 0
 Holds old at bytes new = new ≡ take at old ++ bytes ++ drop (at + length bytes) old
 
 -- the byte at a place of a file, and zero where there is none

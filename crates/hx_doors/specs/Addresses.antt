@@ -15,7 +15,8 @@ abbrev pub IsLoopback : SocketAddr → Type 0
 IsLoopback a = MatchIp (socket_ip a) IsLoopbackV4 IsLoopbackV6
 
 -- no other machine sees anything of the day
-abbrev pub AreLoopback : (listen : SocketAddr) (feeds : List SocketAddr) (requests : SocketAddr) → Type 0
+abbrev pub AreLoopback : (listen : SocketAddr) (feeds : List SocketAddr)
+    (requests : SocketAddr) → Type 0
 AreLoopback listen feeds requests = IsLoopback listen × IsLoopback requests × All IsLoopback feeds
 
 -- the feed may go there: it is a port, and not that of requests, which would take the feed for requests
@@ -23,7 +24,8 @@ abbrev pub IsFeed : (requests feed : SocketAddr) → Type 0
 IsFeed requests feed = (1 ≤ socket_port feed) × (socket_port feed ≢ socket_port requests)
 
 -- a day can have these addresses
-abbrev pub AreAddresses : (listen : SocketAddr) (feeds : List SocketAddr) (requests : SocketAddr) → Type 0
+abbrev pub AreAddresses : (listen : SocketAddr) (feeds : List SocketAddr)
+    (requests : SocketAddr) → Type 0
 AreAddresses listen feeds requests =
     (1 ≤ socket_port listen) × (1 ≤ socket_port requests)
     × (1 ≤ length feeds) × (length feeds ≤ most_feeds) × All (IsFeed requests) feeds
@@ -31,7 +33,8 @@ AreAddresses listen feeds requests =
 -- a datagram gets there from a socket at this address: both are of one family, and what is sent from loopback does not
 -- leave the machine
 abbrev pub Reaches : (from to : SocketAddr) → Type 0
-Reaches from to = (is_ipv4 (socket_ip from) ≡ is_ipv4 (socket_ip to)) × (IsLoopback from → IsLoopback to)
+Reaches from to = (is_ipv4 (socket_ip from) ≡ is_ipv4 (socket_ip to))
+    × (IsLoopback from → IsLoopback to)
 
 -- the digits of a port, before which a plus may stand
 abbrev pub IsPortAlone : (word : List ℕ) (port : ℕ) → Type 0
@@ -42,5 +45,6 @@ IsPortAlone word port =
 -- the word is a port alone, which is one of 127.0.0.1, or an address and its port, as of RFC 3986, 3.2.2, and 3.2.3
 abbrev pub Names : (word : List ℕ) (a : SocketAddr) → Type 0
 Names word a =
-    (IsPortAlone word (socket_port a) × IsV4And (socket_ip a) (λ ip. ipv4_octets ip ≡ 127 ∷ 0 ∷ 0 ∷ 1 ∷ []))
+    (IsPortAlone word (socket_port a)
+    × IsV4And (socket_ip a) (λ ip. ipv4_octets ip ≡ 127 ∷ 0 ∷ 0 ∷ 1 ∷ []))
     ⊎ IsSocketText word a

@@ -10,10 +10,10 @@ use std::io::{ErrorKind, Read, Write};
 use std::net::{Shutdown, SocketAddr, TcpStream};
 use std::time::Duration;
 
-// Before his login a member's input is waited for in steps of so many milliseconds: the day may end meanwhile.
+// Before his login a member's input is waited for in steps of this many milliseconds: the day may end meanwhile.
 const READ_LIMIT: u64 = 50;
 
-// A member who takes nothing for so many seconds has his session ended.
+// A member who takes nothing for this many seconds has his session ended.
 const WRITE_LIMIT: u64 = 10;
 
 // At its end a connection is read so often at most, and waited for so many times the time between two looks.

@@ -15,10 +15,10 @@ use std::net::{IpAddr, SocketAddr, TcpListener, TcpStream};
 use std::sync::Wait;
 use std::time::{Clock, Instant};
 
-// So many wait at the door at most. One more, and one of the address of which most came goes.
+// This many wait at the door at most. One more, and one of the address of which most came goes.
 const ROOM: usize = 256;
 
-// So many connections are taken at most before those that wait are looked at again.
+// This many connections are taken at most before those that wait are looked at again.
 const BURST: u32 = 64;
 
 // The door is looked at so often, in milliseconds, and at once where a connection has come.
@@ -129,7 +129,7 @@ impl<'a> Door<'a> {
         let _ = self.visitors.push(Visitor::new(stream, from, now, beside));
     }
 
-    // Takes the connections that have come, and answers what there is behind them.
+    // Takes the connections that have come, and returns what there is behind them.
     fn welcome<B: DoorBoard, T: Wait + Clock>(
         &mut self,
         rt: &T,

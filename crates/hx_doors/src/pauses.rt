@@ -93,7 +93,7 @@ impl Pauses {
         let _ = self.take(source);
     }
 
-    // Takes the failed logins of an address out, and answers how many there were.
+    // Takes the failed logins of an address out, and returns how many there were.
     fn take(&mut self, source: IpAddr) -> u32 {
         match self.place_of(source) {
             Some(place) if place < self.failed.len() => self.failed.remove(place).logins,

@@ -7,7 +7,7 @@ use std::os::fd::AsRawFd;
 use std::thread;
 use std::time::{Clock, Duration};
 
-// So many of them may wait, where the system allows it: behind them a connection is tried again only after a second.
+// This many of them may wait, where the system allows it: behind them a connection is tried again only after a second.
 const MOST: i32 = 4_096;
 
 /// What there is to be taken.

@@ -4,7 +4,7 @@ ghost use Rattle.std.specs.Prelude.{◌≤◌};
 
 use std::net::SocketAddr;
 
-// So many sources are told apart in one second; those behind them share what is left in all.
+// This many sources are told apart in one second; those behind them share what is left in all.
 const SOURCES: usize = 64;
 
 // So many times as many answers go out in all as to one source.
@@ -32,7 +32,7 @@ pub struct Rate {
 }
 
 impl Rate {
-    /// At most so many answers a second to each source, and eight times as many in all.
+    /// At most this many answers a second to each source, and eight times as many in all.
     pub fn of(each: u32) -> Rate {
         Rate {
             each,
@@ -72,7 +72,7 @@ impl Rate {
         }
     }
 
-    /// Counts an answer to a source at the time of day, in nanoseconds, and answers whether it may go out.
+    /// Counts an answer to a source at the time of day, in nanoseconds, and returns whether it may go out.
     pub fn allows(&mut self, from: SocketAddr, now: u64) -> bool {
         self.turn(now);
         let each = u64::from(self.each);

@@ -14,7 +14,7 @@ use std::time::Duration;
 
 /// Datagrams that go out and come in, without waiting.
 pub trait Datagrams {
-    /// Sends a datagram, and answers how many of its bytes went out.
+    /// Sends a datagram, and returns how many of its bytes went out.
     fn send(&self, bytes: &[u8], to: SocketAddr) -> io::Result<usize>;
 
     /// The next datagram, as far as there is room for it, and who sent it.

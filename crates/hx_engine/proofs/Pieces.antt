@@ -47,7 +47,7 @@ piece_at s t (e ∷ es) (suc i) (low, within, are) in' =
     ap (λ (l : List ℕ). take (get_or es i 0 - start) l) (ap (λ n. drop n t) far ∙ sym (drop-drop (start - e) (e - s) t))
     ∙ piece_at e (drop (e - s) t) es i are (omega (arith, in'))
 
--- The first so many of them.
+-- The first this many of them.
 
 shorter : (n m : ℕ) (xs : List ℕ) → n ≤ m → take n (take m xs) ≡ take n xs
 shorter zero m xs l = refl

@@ -128,7 +128,7 @@ got [] i event other g is = absurd (let z : ◌≡◌ {A = Option Event} None (S
 got (e ∷ events) zero event other g is = is ∙ (let z : Some e ≡ Some other = g in cc)
 got (e ∷ events) (suc i) event other g is = got events i event other g is
 
--- the one behind so many is refused
+-- the one behind this many is refused
 pub refused_at : (setup : Setup) (events : List Event) (i : ℕ) (event : Event) (error : SubmitError) → i < length events → event ≡ get_or events i event → AllByRecursion (IsInOrder setup) (take i events)
     → IsRefusedOutright setup event (Err error) → AreAdmittedUpTo setup events i (Some error)
 refused_at setup events i event error l is all r = (l, all, λ other g. subst (λ (e : Event). IsRefusedOutright setup e (Err error)) (got events i event other g is) r)

@@ -88,7 +88,8 @@ SendsFirst setup old new events (suc n) =
 
 -- The events were admitted behind a history, of which what is known is a beginning.
 pub record Enters
-    (setup : Setup) (number : ℕ) (events : List Event) (known : Entries Entry) (entered : Entries Entry)
+    (setup : Setup) (number : ℕ) (events : List Event) (known : Entries Entry)
+    (entered : Entries Entry)
     (done : Done)
     : Type 0 where
   pub before : List Entry
@@ -129,7 +130,7 @@ abbrev pub IsInOrder : Setup → Event → Type 0
 IsInOrder setup event =
     (is_bad_time event ≡ false) × (is_from_stranger setup event ≡ false)
 
--- So many of the events were refused neither for their time nor for their member; they are all, or the
+-- This many of the events were refused neither for their time nor for their member; they are all, or the
 -- one behind them is refused, for these exactly where they are wrong.
 abbrev pub AreAdmittedUpTo :
     Setup → List Event → (count : ℕ) → (refused : Option SubmitError) → Type 0

@@ -42,7 +42,7 @@ is_any_waiting (p ∷ passes) = if length p.waiting == 0 then is_any_waiting pas
 
 -- The market accepts the history, which begins with what was kept before, and has exactly as many
 -- entries more as the passes sent events; the entries of each pass are its events, each once, at its
--- places, in its order; what a pass knew is a beginning of the history with its feed; and so many
+-- places, in its order; what a pass knew is a beginning of the history with its feed; and this many
 -- messages of the feed it gave.
 pub record IsFinished
     (setup : Setup) (kept_before : List Event) (passes : List PassState) (history : List Entry)

@@ -52,7 +52,7 @@ StandsAt number history x =
 abbrev pub sent_by : (number : ℕ) → List Event → List Entry
 sent_by number events = map (entry_of number) events
 
--- events with their places, behind so many entries
+-- events with their places, behind this many entries
 abbrev pub placed : (behind : ℕ) → List Event → List Sent
 placed behind [] = []
 placed behind (e ∷ events) = (behind + 1, e) ∷ placed (behind + 1) events

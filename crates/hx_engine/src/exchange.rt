@@ -11,11 +11,11 @@ ghost use Rattle.hx_engine.specs.Finish.{is_any_waiting, AreAllOnce, IsMissing, 
 ghost use Rattle.hx_engine.specs.Journals.{lines, unspoken, IsLeft};
 
 use crate::answers::{Audit, FinishError, Finished};
-use crate::handed_in::{is_any_waiting, missing, take_all_back};
-use crate::held::Held;
 use crate::keeper::Keeper;
+use crate::locked::Held;
 use crate::pass::Pass;
 use crate::pass_count::PassCount;
+use crate::returned_passes::{is_any_waiting, missing, take_all_back};
 use crate::venue::Venue;
 use hx_bells::{Bell, Bells};
 use hx_blog::{Log, Reader, Receipt};

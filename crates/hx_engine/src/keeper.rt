@@ -107,10 +107,12 @@ impl<V: Venue, J: Journal + Drop> Keeper<V, J> {
             k.writer.published ≡ self.writer.published ++ N.entries) }
         ensures any_moment { IfOk result (λ k. Leaves (J.moment self.journal)
             (J.moment k.journal) (J.left_since self.journal) (J.left_since k.journal)
-            (J.kept self.journal) (J.appended self.journal ++ lines record_of (history_of N.entries))) }
+            (J.kept self.journal) (J.appended self.journal
+            ++ lines record_of (history_of N.entries))) }
         ensures failing { IfErr result (λ e. Leaves (J.moment self.journal)
             (J.moment e.0) (J.left_since self.journal) (J.left_since e.0)
-            (J.kept self.journal) (J.appended self.journal ++ lines record_of (history_of N.entries))) }
+            (J.kept self.journal) (J.appended self.journal
+            ++ lines record_of (history_of N.entries))) }
     {
         let Keeper {
             mut journal,

@@ -7,8 +7,8 @@ ghost use Rattle.hx_engine.specs.Opening.{IsNewLog, most_passes};
 ghost use Rattle.hx_engine.specs.Passes.{new_passes};
 
 use crate::exchange::Exchange;
-use crate::held::Held;
 use crate::keeper::{Keeper, write_before};
+use crate::locked::Held;
 use crate::pass::{Pass, make_passes};
 use crate::pass_count::PassCount;
 use crate::venue::Venue;

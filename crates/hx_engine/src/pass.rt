@@ -17,7 +17,7 @@ use std::sync::ledger::Share;
 #[derive(Drop)]
 pub struct Pass<V: Venue> {
     pub(crate) number: u16,
-    // Its events that were admitted, of which so many are told; the others wait.
+    // Its events that were admitted, of which this many are told; the others wait.
     pub(crate) sent: Vec<(u64, Event)>,
     pub(crate) told: usize,
     pub(crate) knows: Receipt<Entry>,

@@ -24,7 +24,7 @@ impl<V: Venue> Model for PassCount<V> {
 }
 
 impl<V: Venue> PassCount<V> {
-    /// So many.
+    /// This many.
     pub fn of(count: u16) -> PassCount<V>
         requires { (count ≡ V.parts) × (count ≤ most_passes) }
         ensures { result ≡ count }

@@ -8,7 +8,7 @@ ghost use Rattle.hx_engine.specs.Exchanges.{AreKnownReplies, IsNews};
 
 use crate::answers::{Counts, News};
 use crate::exchange::Exchange;
-use crate::held::Held;
+use crate::locked::Held;
 use crate::pass::Pass;
 use crate::venue::Venue;
 use arrayvec::ArrayVec;
@@ -109,7 +109,7 @@ impl<V: Venue, J: Journal + Drop> Exchange<V, J> {
         held.desk.replies_from(member, from)
     }
 
-    /// At most so many replies to a member, from this number on: it holds the lock no longer than these take. It takes
+    /// At most this many replies to a member, from this number on: it holds the lock no longer than these take. It takes
     /// memory where there are any.
     pub fn replies_page(
         &self,

@@ -4,7 +4,7 @@ ghost use Rattle.std.specs.Prelude.{◌≡◌, ◌<◌, ◌≤◌, [], ◌∷◌
 use std::alloc::{AllocError, Global};
 use std::marker::Model;
 
-/// Records, one behind the other in one text. Contracts see a list of texts.
+/// Records in one text, in turn. Contracts see a list of texts.
 #[derive(Drop)]
 pub struct Records {
     text: Vec<u8>,
@@ -45,7 +45,7 @@ impl Records {
         }
     }
 
-    /// None, with room for so many records of so many bytes together.
+    /// None, with room for this many records of this many bytes together.
     pub fn with_capacity(alloc: Global, count: usize, bytes: usize) -> Result<Records, AllocError>
         ensures { IfOk result (λ r. r ≡ []) }
     {
@@ -82,7 +82,7 @@ impl Records {
         Ok(())
     }
 
-    /// Takes all but the first so many away.
+    /// Takes all but the first `count` away.
     pub fn truncate(&mut self, count: usize)
         ensures { self.new ≡ take count self.old }
     {

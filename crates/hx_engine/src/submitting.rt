@@ -13,7 +13,7 @@ use crate::answers::SubmitError;
 use crate::entered::Entered;
 use crate::exchange::Exchange;
 use crate::flight::Flight;
-use crate::held::{Held, ToldNews};
+use crate::locked::{Held, ToldNews};
 use crate::pass::Pass;
 use crate::spelled::Records;
 use crate::venue::Venue;

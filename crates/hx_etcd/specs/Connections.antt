@@ -27,7 +27,7 @@ writer_of c = c.writer
 abbrev pub unread_of : {R W : Type 0} → Connection R W → List ℕ
 unread_of c = c.inlet.unread.items
 
--- so many bytes of a body may come, with what frames it
+-- this many bytes of a body may come, with what frames it
 abbrev pub most_body : ℕ
 most_body = 2147483648
 
@@ -39,7 +39,7 @@ pub record Comes (known later : Option (List ℕ)) (before after : List ℕ) : T
   pub consumed : Consumes known later came
   pub added : after ≡ before ++ came
 
--- at least one came, and so many
+-- at least one came, and this many
 pub record Fills (known later : Option (List ℕ)) (before after : List ℕ) (count : ℕ) : Type 0 where
   pub comes : Comes known later before after
   pub counted : length after ≡ length before + count

@@ -3,7 +3,7 @@ use Rattle.std.specs.Prelude.{ℕ, ◌-◌, List, ◌++◌, length, replicate, c
 use Rattle.std.specs.Fmt.{decimal}
 use Rattle.hx_units.specs.Letters.{letter}
 
--- the noughts in front of a number that is spelled by so many digits
+-- the noughts in front of a number that is spelled by this many digits
 abbrev pub noughts : (size n : ℕ) → List ℕ
 noughts size n = replicate (size - length (decimal n)) (letter "0")
 

@@ -48,7 +48,7 @@ HasBadHead input NoMemory = ⊥
 
 -- ---- bodies
 
--- behind so many bytes of the input, which had this data, the new decoder waits for just what is
+-- behind this many bytes of the input, which had this data, the new decoder waits for just what is
 -- left of the body
 pub record GoesOn (old : Decoder) (input : List ℕ) (new : Decoder) (len : ℕ) (content : List ℕ)
     : Type 0 where
@@ -68,7 +68,7 @@ abbrev pub HasNotEnded : Decoder → List ℕ → Type 0
 HasNotEnded old input =
     old ≢ UntilClose → (body : Body) (rest : List ℕ) → ¬ (Completes old input body rest)
 
--- the body ends behind so many bytes of the input, which had this data
+-- the body ends behind this many bytes of the input, which had this data
 pub record ComesToEnd (old : Decoder) (input : List ℕ) (len : ℕ) (content : List ℕ) : Type 0 where
   pub trailers : List Field
   pub few : length trailers ≤ most_fields

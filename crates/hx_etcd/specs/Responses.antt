@@ -12,11 +12,11 @@ use Rattle.http1.specs.Message.{known_of}
 
 -- ---- limits
 
--- a head takes at most so many bytes; so do the extensions of chunks, and the fields behind them
+-- a head takes at most this many bytes; so do the extensions of chunks, and the fields behind them
 abbrev pub most_head : ℕ
 most_head = 16384
 
--- a head has at most so many fields; so have the fields behind chunks
+-- a head has at most this many fields; so have the fields behind chunks
 abbrev pub most_fields : ℕ
 most_fields = 64
 

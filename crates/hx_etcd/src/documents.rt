@@ -118,7 +118,7 @@ pub(crate) fn append_body(alloc: Global, appended: &LogRecord) -> Result<Vec<u8>
     transaction(alloc, key.as_str(), value.as_str())
 }
 
-// The question for the records from a number on, at most so many.
+// The question for the records from a number on, at most this many.
 pub(crate) fn range_body(alloc: Global, from: u64, most: u64) -> Result<Vec<u8>, NoMemory>
     ensures { IfOk result (λ body. body.items ≡ range_text from most) }
 {

@@ -6,10 +6,10 @@ use crate::response::{CallError, Head, decoder_of, read_head, read_piece};
 use std::alloc::{AllocError, Global};
 use std::io::Read;
 
-// So many bytes are read at once, at most.
+// This many bytes are read at once, at most.
 const MOST_READ: usize = 16 * 1024;
 
-// So many bytes of a body may come, with what frames it.
+// This many bytes of a body may come, with what frames it.
 const MOST_BODY: usize = 2 * 1024 * 1024 * 1024;
 
 // What is read, and what has come of it.

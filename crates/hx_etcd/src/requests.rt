@@ -38,7 +38,7 @@ pub fn append_request(alloc: Global, appended: &LogRecord) -> Result<Vec<u8>, No
     request(alloc, b"/v3/kv/txn", &body)
 }
 
-/// The request for the records from a number on, in the order of their keys, and at most so many; where that is 0, all.
+/// The request for the records from a number on, in the order of their keys, and at most this many; where that is 0, all.
 /// `read_range_answer` reads the answer.
 pub fn range_request(alloc: Global, from: u64, most: u64) -> Result<Vec<u8>, NoMemory>
     ensures { IfOk result (λ text.

@@ -14,10 +14,10 @@ use httparse::spans::{EMPTY_HEADER_SPAN, parse_response};
 use std::alloc::AllocError;
 use std::io;
 
-// A head takes at most so many bytes.
+// A head takes at most this many bytes.
 const MOST_HEAD: usize = 16 * 1024;
 
-// A head has at most so many fields; so have the fields behind chunks.
+// A head has at most this many fields; so have the fields behind chunks.
 const MOST_FIELDS: usize = 64;
 
 /// Why a call has no answer.
@@ -110,7 +110,7 @@ pub(crate) fn read_head(input: &[u8]) -> Result<Option<Head>, CallError>
 // How far a body was read.
 #[derive(Clone, Copy, Drop)]
 pub(crate) struct Piece {
-    // So many bytes of the input are done with.
+    // This many bytes of the input are done with.
     pub(crate) len: usize,
     // Whether the body ends there.
     pub(crate) is_last: bool,

@@ -24,7 +24,7 @@ most_answers = 1000000
 abbrev pub IsWithin : (most number : ℕ) → Type 0
 IsWithin most number = (1 ≤ number) × (number ≤ most)
 
--- three ports, and how much is taken, with so many sessions at most: the feed does not go to the port of requests
+-- three ports, and how much is taken, with this many sessions at most: the feed does not go to the port of requests
 abbrev pub AreWithin : (most port feed requests sessions capacity turns : ℕ) → Type 0
 AreWithin most port feed requests sessions capacity turns =
     (1 ≤ port) × (1 ≤ feed) × (1 ≤ requests) × (feed ≢ requests)

@@ -8,7 +8,7 @@ use std::sync::atomic::{AtomicBool, AtomicU8, Ordering};
 // The codes of the hours, in their order (ITCH 5.0, System Event Message).
 const HOURS: [u8; 6] = *b"OSQMEC";
 
-// So many of them are past where a setup begins with `start open`: `O` and `S`.
+// This many of them are past where a setup begins with `start open`: `O` and `S`.
 const OPEN: u8 = 2;
 
 // A stock is halted (ITCH 5.0, Stock Trading Action Message).

@@ -89,9 +89,9 @@ pub enum Notice {
     },
     /// The day goes on from its journal.
     Resumed {
-        /// With so many events.
+        /// With this many events.
         events: u64,
-        /// And so many messages of the feed.
+        /// And this many messages of the feed.
         feed: u64,
     },
     /// The disk has no room for the journal: nothing is told until there is room.
@@ -312,7 +312,7 @@ pub trait Board {
     /// Tells the operator.
     fn post(&self, notice: Notice);
 
-    /// The journal was brought to the disk, which took so many nanoseconds.
+    /// The journal was brought to the disk, which took this many nanoseconds.
     fn synced(&self, _nanoseconds: u64) {}
 }
 

@@ -6,7 +6,7 @@ use std::net::SocketAddr;
 use std::sync::atomic::{AtomicBool, Ordering};
 use std::sync::{Mutex, Wait};
 
-// So many numbers a member may have, and the operator's 0.
+// This many numbers a member may have, and the operator's 0.
 const NUMBERS: usize = 4096;
 
 /// A session that runs.

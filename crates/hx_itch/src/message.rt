@@ -2,6 +2,7 @@
 ghost use Rattle.std.specs.Prelude.{◌≡◌, ◌<◌, ◌^◌, ◌↔◌, Some, IsSome, IfSome, IsTrue};
 ghost use Rattle.hx_itch.specs.Message.{feed_message_of, feed_bytes, is_feed_message, feed_time};
 
+mod kinds;
 mod read;
 mod write;
 

@@ -27,7 +27,7 @@ IsRefusal (Damaged at) = Unit {0}
 IsRefusal (OtherHead part) = Unit {0}
 
 -- a fault of the device is told only where a call of it has failed since
-abbrev pub IsOpenCause : ℕ → ℕ → OpenError → Type 0
+abbrev pub IsOpenCause : (before : ℕ) → (now : ℕ) → OpenError → Type 0
 IsOpenCause before now (Journal error) = IsCause before now error
 IsOpenCause before now (Damaged at) = Unit {0}
 IsOpenCause before now (OtherHead part) = Unit {0}

@@ -12,7 +12,7 @@ before_damage file (Some at) = take at file
 abbrev pub marks_of : List (List ℕ) → List (List ℕ)
 marks_of lines = filter is_mark lines
 
--- Behind a place of a file stand so many bytes, of which the last is not zero, and then so many
+-- Behind a place of a file stand this many bytes, of which the last is not zero, and then this many
 -- zeros up to its end.
 pub record StandsBehind (file : List ℕ) (place some zeros : ℕ) : Type 0 where
   pub all : place + some + zeros ≡ length file

@@ -175,7 +175,7 @@ fn word_divided(word: u32) -> u32 {
         ^ remainder(0, fourth >> 4)
 }
 
-// What remains of the low half of a byte, with so many halves behind it, fewer than eight.
+// What remains of the low half of a byte, with this many halves behind it, fewer than eight.
 fn remainder(behind: usize, half: u8) -> u32 {
     REMAINDERS[behind % 8][(half % 16) as usize]
 }

@@ -31,7 +31,7 @@ type MemoryJournal = FileJournal<Noted<MemoryFile>>;
 
 type Opened = Result<(MemoryJournal, Vec<u8>), OpenError>;
 
-// Opens a file in memory, whose calls fail after so many, as the journal of a day.
+// Opens a file in memory, whose calls fail after this many, as the journal of a day.
 fn opened_for(alloc: Global, day: &[u8], bytes: &[u8], calls: u64) -> Result<Opened, Fail> {
     let head = Head::new(alloc, b"HX00000006", day, b"9fc2")?;
     let file = Noted::opened(MemoryFile::new(alloc, bytes, calls)?, bytes);
@@ -157,7 +157,7 @@ fn a_crash_at_each_call_leaves_what_was_told(rt: HostRuntime) -> Result<(), Fail
     Ok(())
 }
 
-// A file whose calls fail after so many is not opened, and what a crash then leaves of it is read as
+// A file whose calls fail after this many is not opened, and what a crash then leaves of it is read as
 // before.
 fn fails_to_open(
     rt: &impl Abort,

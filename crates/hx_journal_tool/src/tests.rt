@@ -43,7 +43,7 @@ fn opened(alloc: Global, bytes: &[u8]) -> Result<Opened, Fail> {
 
 type Answer = Result<Option<Cut>, ToolError>;
 
-// Cuts a file in memory whose calls fail after so many: the answer, and the file then.
+// Cuts a file in memory whose calls fail after this many: the answer, and the file then.
 fn cut(alloc: Global, bytes: &[u8], calls: u64) -> Result<(Answer, Vec<u8>), Fail> {
     let mut file = Noted::opened(MemoryFile::new(alloc, bytes, calls)?, bytes);
     let survey = survey_of(alloc, bytes)?;

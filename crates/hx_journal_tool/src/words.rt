@@ -18,7 +18,7 @@ impl Display for Word<'_> {
     }
 }
 
-// So many of something.
+// This many of something.
 #[derive(Clone, Copy)]
 struct Number<'a>(usize, &'a str);
 

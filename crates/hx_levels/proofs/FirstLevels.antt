@@ -2,12 +2,12 @@
 use Rattle.std.proofs.Common.{◌≡◌, ℕ, ◌+◌, ◌<◌, ◌≤◌, Bool, true, false, inl, inr, eqb, Option, Some, None, refl, sym, ap, ◌∙◌, arith, eqb-true}
 use Rattle.std.specs.Option.{IfSome, MatchOption}
 use Rattle.std.proofs.lemmas.Bool.{true≢false, eqb-false, cases_lt}
-use Rattle.hx_levels.specs.declared.levels.Level.{Level}
-use Rattle.hx_levels.specs.Rung.{Rung}
-use Rattle.hx_levels.specs.Levels.{Tiers, level_at, ends_in, first_at, IsFirstFrom, IsFirstLevel, IsEmptyLevel}
+use Rattle.hx_levels.specs.declared.level_book.levels.Level.{Level}
+use Rattle.hx_levels.specs.Rung.{LevelKey}
+use Rattle.hx_levels.specs.Levels.{LevelStore, level_at, ends_in, first_at, IsFirstFrom, IsFirstLevel, IsEmptyLevel}
 
 -- the first order of a level, where no level before it has one
-pub first_key : (levels : Tiers) (from : Rung) (limit distance : ℕ) (level : Level) (found : Option ℕ)
+pub first_key : (levels : LevelStore) (from : LevelKey) (limit distance : ℕ) (level : Level) (found : Option ℕ)
     → from.distance ≤ distance → distance ≤ limit → level_at levels (record from { distance = distance }) ≡ Some level
     → ((d : ℕ) (s : Bool) → from.distance ≤ d → d < distance → first_at levels from.locate from.buy d s ≡ None)
     → MatchOption level.shown.first (found ≡ level.hidden.first) (λ key. found ≡ Some key)
@@ -37,7 +37,7 @@ first_key levels from limit distance level found above below there before = by l
     }
 
 -- no order stands before the second level, where the first is empty
-pub before_second : (levels : Tiers) (from : Rung) (limit : ℕ) (e f : ℕ × Level) → IsFirstLevel levels from limit e → IsEmptyLevel e.1
+pub before_second : (levels : LevelStore) (from : LevelKey) (limit : ℕ) (e f : ℕ × Level) → IsFirstLevel levels from limit e → IsEmptyLevel e.1
     → IsFirstLevel levels (record from { distance = e.0 + 1 }) limit f
     → (d : ℕ) (s : Bool) → from.distance ≤ d → d < f.0 → first_at levels from.locate from.buy d s ≡ None
 before_second levels from limit e f one empty two d s a l = elim (cases_lt d e.0) [

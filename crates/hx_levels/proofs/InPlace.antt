@@ -4,10 +4,10 @@ use Rattle.std.proofs.lemmas.Bool.{eqb-false, true≢false}
 use Rattle.std.specs.Option.{IsSome, is_some, option_map, unwrap_or}
 use Rattle.std.specs.BTreeMap.{is_at}
 use Rattle.slab.specs.Slab.{Slab, get}
-use Rattle.hx_levels.specs.declared.levels.Level.{Level}
-use Rattle.hx_levels.specs.declared.tiers.Tier.{Tier}
-use Rattle.hx_levels.specs.Rung.{Rung, rung_cmp}
-use Rattle.hx_levels.specs.Levels.{Tiers, AreInPlace, slot_of, rung_in, level_in, level_at, on_level}
+use Rattle.hx_levels.specs.declared.level_book.levels.Level.{Level}
+use Rattle.hx_levels.specs.declared.level_book.level_store.Tier.{Tier}
+use Rattle.hx_levels.specs.Rung.{LevelKey, rung_cmp}
+use Rattle.hx_levels.specs.Levels.{LevelStore, AreInPlace, slot_of, rung_in, level_in, level_at, on_level}
 use Rattle.hx_levels.proofs.Rungs.{apart, one_rung}
 
 same_some : {A : Type 0} {x y : A} → Some x ≡ Some y → x ≡ y
@@ -22,7 +22,7 @@ has_slot slab None h = h
 has_slot slab (Some slot) h = refl
 
 -- and in that slot there is a tier
-pub is_there : (tiers : Tiers) → AreInPlace tiers → (at : Rung) (slot : ℕ) → slot_of tiers at ≡ Some slot → IsSome (get tiers.slab slot)
+pub is_there : (tiers : LevelStore) → AreInPlace tiers → (at : LevelKey) (slot : ℕ) → slot_of tiers at ≡ Some slot → IsSome (get tiers.slab slot)
 is_there tiers book at slot h = by (get tiers.slab slot) (book.leads at slot h)
   where
     by : (o : Option Tier) → option_map (λ (t : Tier). t.at) o ≡ Some at → IsSome o
@@ -30,7 +30,7 @@ is_there tiers book at slot h = by (get tiers.slab slot) (book.leads at slot h)
     by (Some t) e = refl
 
 -- and so there is a level
-pub has_level : (tiers : Tiers) → AreInPlace tiers → (at : Rung) → IsSome (slot_of tiers at) → IsSome (level_at tiers at)
+pub has_level : (tiers : LevelStore) → AreInPlace tiers → (at : LevelKey) → IsSome (slot_of tiers at) → IsSome (level_at tiers at)
 has_level tiers book at = by (slot_of tiers at) refl
   where
     with_level : (o : Option Tier) → IsSome o → IsSome (option_map (λ (t : Tier). t.level) o)
@@ -42,7 +42,7 @@ has_level tiers book at = by (slot_of tiers at) refl
     by (Some slot) h s = with_level (get tiers.slab slot) (is_there tiers book at slot h)
 
 -- a rung whose slot, or else a vacant one, is the vacant one has none
-pub is_vacant : (tiers : Tiers) → AreInPlace tiers → (at : Rung) (slot vacant : ℕ) → get tiers.slab vacant ≡ None
+pub is_vacant : (tiers : LevelStore) → AreInPlace tiers → (at : LevelKey) (slot vacant : ℕ) → get tiers.slab vacant ≡ None
     → slot ≡ unwrap_or (slot_of tiers at) vacant → slot ≡ vacant → slot_of tiers at ≡ None
 is_vacant tiers book at slot vacant none is same = by (slot_of tiers at) refl is
   where
@@ -53,7 +53,7 @@ is_vacant tiers book at slot vacant none is same = by (slot_of tiers at) refl is
         absurd (true≢false (sym there ∙ ap is_some (ap (get tiers.slab) (sym e ∙ same) ∙ none)))
 
 -- and otherwise it has that slot
-pub is_taken : (tiers : Tiers) (at : Rung) (slot vacant : ℕ) → slot ≡ unwrap_or (slot_of tiers at) vacant → (slot ≡ vacant → ⊥) → slot_of tiers at ≡ Some slot
+pub is_taken : (tiers : LevelStore) (at : LevelKey) (slot vacant : ℕ) → slot ≡ unwrap_or (slot_of tiers at) vacant → (slot ≡ vacant → ⊥) → slot_of tiers at ≡ Some slot
 is_taken tiers at slot vacant is other = by (slot_of tiers at) is
   where
     by : (o : Option ℕ) → slot ≡ unwrap_or o vacant → o ≡ Some slot
@@ -62,11 +62,11 @@ is_taken tiers at slot vacant is other = by (slot_of tiers at) is
 
 -- the level in a slot is written
 
-module _ (old new : Tiers) (at : Rung) (slot : ℕ) (change : Level → Level)
+module _ (old new : LevelStore) (at : LevelKey) (slot : ℕ) (change : Level → Level)
     (book : AreInPlace old) (here : slot_of old at ≡ Some slot) (slots : new.slots ≡ old.slots)
     (changed : get new.slab slot ≡ option_map (on_level change) (get old.slab slot))
     (others : (k : ℕ) → eqb k slot ≡ false → get new.slab k ≡ get old.slab k) where
-  slots_same : (q : Rung) → slot_of new q ≡ slot_of old q
+  slots_same : (q : LevelKey) → slot_of new q ≡ slot_of old q
   slots_same q = ap (λ s. slot_of (record new { slots = s }) q) slots
 
   rungs_same : (k : ℕ) → rung_in new k ≡ rung_in old k
@@ -97,7 +97,7 @@ module _ (old new : Tiers) (at : Rung) (slot : ℕ) (change : Level → Level)
       on None = refl
       on (Some tier) = refl
 
-  pub written_others : (q : Rung) → (q ≡ at → ⊥) → level_at new q ≡ level_at old q
+  pub written_others : (q : LevelKey) → (q ≡ at → ⊥) → level_at new q ≡ level_at old q
   written_others q n = ap (level_in new.slab) (slots_same q) ∙ by (slot_of old q) refl
     where
       by : (o : Option ℕ) → slot_of old q ≡ o → level_in new.slab o ≡ level_in old.slab o
@@ -108,17 +108,17 @@ module _ (old new : Tiers) (at : Rung) (slot : ℕ) (change : Level → Level)
 
 -- a level is put into a vacant slot
 
-module _ (old new : Tiers) (at : Rung) (slot : ℕ) (level : Level)
+module _ (old new : LevelStore) (at : LevelKey) (slot : ℕ) (level : Level)
     (book : AreInPlace old) (none : slot_of old at ≡ None) (vacant : get old.slab slot ≡ None)
-    (slot_is : slot_of new at ≡ Some slot) (slots_others : (q : Rung) → is_at (rung_cmp at) q ≡ false → slot_of new q ≡ slot_of old q)
+    (slot_is : slot_of new at ≡ Some slot) (slots_others : (q : LevelKey) → is_at (rung_cmp at) q ≡ false → slot_of new q ≡ slot_of old q)
     (tier_is : get new.slab slot ≡ Some (record { at = at; level = level })) (others : (k : ℕ) → (k ≡ slot → ⊥) → get new.slab k ≡ get old.slab k) where
-  not_vacant : (q : Rung) (s : ℕ) → rung_in old s ≡ Some q → s ≡ slot → ⊥
+  not_vacant : (q : LevelKey) (s : ℕ) → rung_in old s ≡ Some q → s ≡ slot → ⊥
   not_vacant q s h e = none_some (ap (option_map (λ (t : Tier). t.at)) (sym vacant) ∙ sym (ap (rung_in old) e) ∙ h)
 
   pub inserted : AreInPlace new
   inserted = record { leads = λ q s h. leads q s h (is_at (rung_cmp at) q) refl; stands = λ q s h. stands q s h (eqb s slot) refl }
     where
-      leads : (q : Rung) (s : ℕ) → slot_of new q ≡ Some s → (b : Bool) → is_at (rung_cmp at) q ≡ b → rung_in new s ≡ Some q
+      leads : (q : LevelKey) (s : ℕ) → slot_of new q ≡ Some s → (b : Bool) → is_at (rung_cmp at) q ≡ b → rung_in new s ≡ Some q
       leads q s h true e =
           let r : q ≡ at = one_rung at q e in
           let k : slot ≡ s = same_some (sym slot_is ∙ ap (slot_of new) (sym r) ∙ h) in
@@ -127,7 +127,7 @@ module _ (old new : Tiers) (at : Rung) (slot : ℕ) (level : Level)
           let l = book.leads q s (sym (slots_others q e) ∙ h) in
           ap (option_map (λ (t : Tier). t.at)) (others s (not_vacant q s l)) ∙ l
 
-      stands : (q : Rung) (s : ℕ) → rung_in new s ≡ Some q → (b : Bool) → eqb s slot ≡ b → slot_of new q ≡ Some s
+      stands : (q : LevelKey) (s : ℕ) → rung_in new s ≡ Some q → (b : Bool) → eqb s slot ≡ b → slot_of new q ≡ Some s
       stands q s h true e =
           let k : s ≡ slot = eqb-true s slot e in
           let r : at ≡ q = same_some (ap (option_map (λ (t : Tier). t.at)) (sym tier_is) ∙ ap (rung_in new) (sym k) ∙ h) in
@@ -139,7 +139,7 @@ module _ (old new : Tiers) (at : Rung) (slot : ℕ) (level : Level)
   pub inserted_at : level_at new at ≡ Some level
   inserted_at = ap (level_in new.slab) slot_is ∙ ap (option_map (λ (t : Tier). t.level)) tier_is
 
-  pub inserted_others : (q : Rung) → (q ≡ at → ⊥) → level_at new q ≡ level_at old q
+  pub inserted_others : (q : LevelKey) → (q ≡ at → ⊥) → level_at new q ≡ level_at old q
   inserted_others q n = ap (level_in new.slab) (slots_others q (apart at q n)) ∙ by (slot_of old q) refl
     where
       by : (o : Option ℕ) → slot_of old q ≡ o → level_in new.slab o ≡ level_in old.slab o
@@ -148,29 +148,29 @@ module _ (old new : Tiers) (at : Rung) (slot : ℕ) (level : Level)
 
 -- a level is taken out of its slot
 
-module _ (old new : Tiers) (at : Rung) (slot : ℕ)
+module _ (old new : LevelStore) (at : LevelKey) (slot : ℕ)
     (book : AreInPlace old) (here : slot_of old at ≡ Some slot)
-    (gone : slot_of new at ≡ None) (slots_others : (q : Rung) → is_at (rung_cmp at) q ≡ false → slot_of new q ≡ slot_of old q)
+    (gone : slot_of new at ≡ None) (slots_others : (q : LevelKey) → is_at (rung_cmp at) q ≡ false → slot_of new q ≡ slot_of old q)
     (tier_gone : get new.slab slot ≡ None) (others : (k : ℕ) → (k ≡ slot → ⊥) → get new.slab k ≡ get old.slab k) where
-  other_slot : (q : Rung) (s : ℕ) → (q ≡ at → ⊥) → rung_in old s ≡ Some q → s ≡ slot → ⊥
+  other_slot : (q : LevelKey) (s : ℕ) → (q ≡ at → ⊥) → rung_in old s ≡ Some q → s ≡ slot → ⊥
   other_slot q s n h e = n (same_some (sym h ∙ ap (rung_in old) e ∙ book.leads at slot here))
 
   pub removed : AreInPlace new
   removed = record { leads = leads; stands = λ q s h. stands q s h (eqb s slot) refl }
     where
-      leads : (q : Rung) (s : ℕ) → slot_of new q ≡ Some s → rung_in new s ≡ Some q
+      leads : (q : LevelKey) (s : ℕ) → slot_of new q ≡ Some s → rung_in new s ≡ Some q
       leads q s h =
           let n : q ≡ at → ⊥ = λ r. none_some (sym gone ∙ ap (slot_of new) (sym r) ∙ h) in
           let l = book.leads q s (sym (slots_others q (apart at q n)) ∙ h) in
           ap (option_map (λ (t : Tier). t.at)) (others s (other_slot q s n l)) ∙ l
 
-      stands : (q : Rung) (s : ℕ) → rung_in new s ≡ Some q → (b : Bool) → eqb s slot ≡ b → slot_of new q ≡ Some s
+      stands : (q : LevelKey) (s : ℕ) → rung_in new s ≡ Some q → (b : Bool) → eqb s slot ≡ b → slot_of new q ≡ Some s
       stands q s h true e = absurd (none_some (ap (option_map (λ (t : Tier). t.at)) (sym tier_gone) ∙ ap (rung_in new) (sym (eqb-true s slot e)) ∙ h))
       stands q s h false e =
           let l = book.stands q s (ap (option_map (λ (t : Tier). t.at)) (sym (others s (eqb-false s slot e))) ∙ h) in
           slots_others q (apart at q (λ r. eqb-false s slot e (same_some (sym l ∙ ap (slot_of old) r ∙ here)))) ∙ l
 
-  pub removed_others : (q : Rung) → (q ≡ at → ⊥) → level_at new q ≡ level_at old q
+  pub removed_others : (q : LevelKey) → (q ≡ at → ⊥) → level_at new q ≡ level_at old q
   removed_others q n = ap (level_in new.slab) (slots_others q (apart at q n)) ∙ by (slot_of old q) refl
     where
       by : (o : Option ℕ) → slot_of old q ≡ o → level_in new.slab o ≡ level_in old.slab o

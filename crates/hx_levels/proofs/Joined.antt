@@ -7,8 +7,8 @@ use Rattle.std.proofs.lemmas.Option.{slice_get_within, slice_get_past, slice_get
 use Rattle.slab.proofs.SlabLemmas.{Updates-with_value, ContainsKey-within}
 use Rattle.slab.specs.Slab.{Slab, get, slab_len, ContainsKey, HasRoomFor, Updates, with_value}
 use Rattle.hx_levels.specs.declared.order.Order.{Order}
-use Rattle.hx_levels.specs.declared.nodes.Node.{Node}
-use Rattle.hx_levels.specs.declared.nodes.Both.{Both}
+use Rattle.hx_levels.specs.declared.level_book.linked_orders.Node.{Node}
+use Rattle.hx_levels.specs.declared.level_book.linked_orders.Both.{Both}
 use Rattle.hx_levels.specs.Book.{with_less}
 use Rattle.hx_levels.specs.Chain.{is_key}
 use Rattle.hx_levels.specs.Nodes.{node_at, joined, nodes_of, HaveLinks, with_links, less_at, time_links, queue_links}

@@ -7,15 +7,15 @@ use Rattle.std.proofs.lemmas.Bool.Decides.{nat_tests}
 use Rattle.slab.specs.Slab.{Slab, get}
 use Rattle.hx_levels.specs.declared.order.Live.{Live}
 use Rattle.hx_levels.specs.declared.order.Terms.{Terms}
-use Rattle.hx_levels.specs.declared.nodes.Node.{Node}
-use Rattle.hx_levels.specs.declared.nodes.Ends.{Ends}
-use Rattle.hx_levels.specs.declared.levels.Level.{Level}
+use Rattle.hx_levels.specs.declared.level_book.linked_orders.Node.{Node}
+use Rattle.hx_levels.specs.declared.level_book.linked_orders.Ends.{Ends}
+use Rattle.hx_levels.specs.declared.level_book.levels.Level.{Level}
 use Rattle.hx_levels.specs.Lists.{head_of, behind_first}
 use Rattle.hx_levels.specs.Rank.{first_of}
 use Rattle.hx_levels.specs.Chain.{has}
 use Rattle.hx_levels.specs.Nodes.{queue_links, time_links}
-use Rattle.hx_levels.specs.Rung.{Rung}
-use Rattle.hx_levels.specs.Levels.{Tiers, level_at, ends_in, first_at, IsFirstFrom}
+use Rattle.hx_levels.specs.Rung.{LevelKey}
+use Rattle.hx_levels.specs.Levels.{LevelStore, level_at, ends_in, first_at, IsFirstFrom}
 use Rattle.hx_units.specs.Side.{is_buy}
 use Rattle.hx_levels.specs.Book.{is_under, is_ahead, crosses, has_key, IsRanked, next_by_rank, next_by_time, is_candidate, is_equal, terms_of}
 use Rattle.hx_levels.specs.LevelBook.{keys_of, is_in, rung_of, contra, limit_of, to_key, IsBook}
@@ -57,7 +57,7 @@ has_first p orders key h = at (find p orders) refl (sym (head-keys (filter p ord
     at None f e = cc
     at (Some x) f e = record { live = x; found = f; key_is = cc }
 
-module _ (nodes : Slab Node) (levels : Tiers) (time : Ends) (place : Option Terms) (kept : Option Rung) (orders : List Live)
+module _ (nodes : Slab Node) (levels : LevelStore) (time : Ends) (place : Option Terms) (kept : Option LevelKey) (orders : List Live)
     (book : IsBook nodes levels time place kept orders) (terms : Terms) where
   queue_first : (d : ℕ) (s : Bool) → first_at levels terms.locate (not (is_buy terms.side)) d s ≡ head_of (keys_of (filter (is_in (contra terms d) s) orders))
   queue_first d s = (book.in_level (contra terms d) s).first
@@ -67,7 +67,7 @@ module _ (nodes : Slab Node) (levels : Tiers) (time : Ends) (place : Option Term
   not_there y d e c n = c (no_queue (is_in (rung_of (terms_of y.order)) y.order.shown) orders
       (ap (λ r. head_of (keys_of (filter (is_in r y.order.shown) orders))) e ∙ sym (queue_first d y.order.shown) ∙ n))
 
-  pub one_empty : (a b : Rung) → (level : Level) × (level_at levels a ≡ Some level) × ((level.shown.first ≡ None) × (level.hidden.first ≡ None))
+  pub one_empty : (a b : LevelKey) → (level : Level) × (level_at levels a ≡ Some level) × ((level.shown.first ≡ None) × (level.hidden.first ≡ None))
       → (level : Level) × (level_at levels b ≡ Some level) × ((level.shown.first ≡ None) × (level.hidden.first ≡ None)) → a ≡ b
   one_empty a b p q = let h : Some a ≡ Some b = sym (book.filled a p.0 p.1 p.2) ∙ book.filled b q.0 q.1 q.2 in cc
 
@@ -86,12 +86,12 @@ module _ (nodes : Slab Node) (levels : Tiers) (time : Ends) (place : Option Term
         inside : (y : Live) → is_in (contra terms f.distance) f.shown y ≡ true → IsPriced y → T y ≡ true
         inside y q p =
             let u = is_in_at (contra terms f.distance) f.shown y q in
-            within y (rung-crosses terms y f.distance p u.0 f.below) p (subst (λ n. from ≤ n) (sym (ap (λ (r : Rung). r.distance) u.0)) f.above)
+            within y (rung-crosses terms y f.distance p u.0 f.below) p (subst (λ n. from ≤ n) (sym (ap (λ (r : LevelKey). r.distance) u.0)) f.above)
 
         at_level : (y : Live) → rung_of (terms_of y.order) ≡ contra terms f.distance → InClass orders y → (s t : Bool) → f.shown ≡ s → y.order.shown ≡ t
             → (is_in (contra terms f.distance) f.shown y ≡ true) ⊎ ((f.distance < distance_of y) ⊎ ((distance_of y ≡ f.distance) × (f.shown ≡ true) × (y.order.shown ≡ false)))
         at_level y r c true true es et = inl (in_queue (contra terms f.distance) f.shown y r (et ∙ sym es))
-        at_level y r c true false es et = inr (inr (ap (λ (v : Rung). v.distance) r, es, et))
+        at_level y r c true false es et = inr (inr (ap (λ (v : LevelKey). v.distance) r, es, et))
         at_level y r c false true es et = absurd (not_there y f.distance r c (ap (first_at levels terms.locate (not (is_buy terms.side)) f.distance) et ∙ f.hidden es))
         at_level y r c false false es et = inl (in_queue (contra terms f.distance) f.shown y r (et ∙ sym es))
 
@@ -192,19 +192,19 @@ equal-in terms a y pa py c =
     (λ i. let u = is_in_at (rung_of (terms_of a.order)) a.order.shown y i in
     let r = crosses-rung terms a pa c in
     let x = rung-crosses terms y (distance_of a) py (u.0 ∙ r.0) r.1 in
-    let o : is_buy y.order.side ≡ is_buy a.order.side = ap (λ (v : Rung). v.buy) u.0 in
-    let d : y.order.price ≡ a.order.price = same_distance (is_buy y.order.side) y.order.price a.order.price py pa (ap (λ (v : Rung). v.distance) u.0 ∙ ap (λ t. cond t (2000000000 - a.order.price) a.order.price) (sym o)) in
+    let o : is_buy y.order.side ≡ is_buy a.order.side = ap (λ (v : LevelKey). v.buy) u.0 in
+    let d : y.order.price ≡ a.order.price = same_distance (is_buy y.order.side) y.order.price a.order.price py pa (ap (λ (v : LevelKey). v.distance) u.0 ∙ ap (λ t. cond t (2000000000 - a.order.price) a.order.price) (sym o)) in
     and_from (crosses terms y.order && eqb y.order.price a.order.price) (cond y.order.shown a.order.shown (not a.order.shown))
     (and_from (crosses terms y.order) (eqb y.order.price a.order.price) x (eq-eqb y.order.price a.order.price d)) (is_shown y.order.shown a.order.shown u.1))
     (λ e. let p = and_parts (crosses terms y.order && eqb y.order.price a.order.price) (cond y.order.shown a.order.shown (not a.order.shown)) e in
     let q = and_parts (crosses terms y.order) (eqb y.order.price a.order.price) p.0 in
     let r = crosses-rung terms a pa c in
     let s = crosses-rung terms y py q.0 in
-    let o : is_buy y.order.side ≡ is_buy a.order.side = ap (λ (v : Rung). v.buy) s.0 ∙ sym (ap (λ (v : Rung). v.buy) r.0) in
+    let o : is_buy y.order.side ≡ is_buy a.order.side = ap (λ (v : LevelKey). v.buy) s.0 ∙ sym (ap (λ (v : LevelKey). v.buy) r.0) in
     let d : distance_of y ≡ distance_of a = ap (λ n. cond (is_buy y.order.side) (2000000000 - n) n) (eqb-true y.order.price a.order.price q.1) ∙ ap (λ t. cond t (2000000000 - a.order.price) a.order.price) o in
     in_queue (rung_of (terms_of a.order)) a.order.shown y (s.0 ∙ ap (contra terms) d ∙ sym r.0) (shown_is y.order.shown a.order.shown p.1))
 
-module _ (nodes : Slab Node) (levels : Tiers) (time : Ends) (place : Option Terms) (kept : Option Rung) (orders : List Live)
+module _ (nodes : Slab Node) (levels : LevelStore) (time : Ends) (place : Option Terms) (kept : Option LevelKey) (orders : List Live)
     (book : IsBook nodes levels time place kept orders) (terms : Terms) (key : ℕ) (ranked : IsRanked terms key orders) (node : Node) (stored : get nodes key ≡ Some node) where
   pub rank : Ranked terms key orders
   rank = next-some terms key orders book.differ ranked
@@ -346,11 +346,11 @@ pub to_keys : (r : Option ℕ) (o : Option Live) → r ≡ option_map (λ (y : L
 to_keys r None e = ap (option_map to_key) e
 to_keys r (Some x) e = ap (option_map to_key) e
 
-pub time_first : (nodes : Slab Node) (levels : Tiers) (time : Ends) (place : Option Terms) (kept : Option Rung) (orders : List Live) → IsBook nodes levels time place kept orders
+pub time_first : (nodes : Slab Node) (levels : LevelStore) (time : Ends) (place : Option Terms) (kept : Option LevelKey) (orders : List Live) → IsBook nodes levels time place kept orders
     → option_map to_key time.first ≡ next_by_time None orders
 time_first nodes levels time place kept orders b = to_keys time.first (head_of orders) (b.in_time.first ∙ head-keys orders)
 
-pub time_behind : (nodes : Slab Node) (levels : Tiers) (time : Ends) (place : Option Terms) (kept : Option Rung) (orders : List Live) → IsBook nodes levels time place kept orders
+pub time_behind : (nodes : Slab Node) (levels : LevelStore) (time : Ends) (place : Option Terms) (kept : Option LevelKey) (orders : List Live) → IsBook nodes levels time place kept orders
     → (key : ℕ) (node : Node) → has_key key orders ≡ true → get nodes key ≡ Some node → option_map to_key node.time.after ≡ next_by_time (Some (record { 0 = key })) orders
 time_behind nodes levels time place kept orders b key node h e =
     to_keys node.time.after (head_of (behind_first (is_under key) orders))
@@ -372,7 +372,7 @@ pub record Found (nodes : Slab Node) (orders : List Live) (key : ℕ) : Type 0 w
   pub stored : get nodes key ≡ Some node
   pub order : node.order ≡ live.order
 
-pub node_found : (nodes : Slab Node) (levels : Tiers) (time : Ends) (place : Option Terms) (kept : Option Rung) (orders : List Live) → IsBook nodes levels time place kept orders
+pub node_found : (nodes : Slab Node) (levels : LevelStore) (time : Ends) (place : Option Terms) (kept : Option LevelKey) (orders : List Live) → IsBook nodes levels time place kept orders
     → (key : ℕ) → has_key key orders ≡ true → Found nodes orders key
 node_found nodes levels time place kept orders b key h =
     let s = some_found key orders h in

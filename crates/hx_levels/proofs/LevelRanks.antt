@@ -6,7 +6,7 @@ use Rattle.std.proofs.lemmas.Bool.{cond_both, cond-true, cond-false, true≢fals
 use Rattle.std.proofs.lemmas.Bool.Decides.{nat_tests}
 use Rattle.hx_levels.specs.declared.order.Live.{Live}
 use Rattle.hx_levels.specs.declared.order.Terms.{Terms}
-use Rattle.hx_levels.specs.Rung.{Rung}
+use Rattle.hx_levels.specs.Rung.{LevelKey}
 use Rattle.hx_levels.specs.Rank.{first_of, higher}
 use Rattle.hx_units.specs.Side.{is_buy}
 use Rattle.hx_levels.specs.Book.{is_ahead, crosses, terms_of}
@@ -127,7 +127,7 @@ crosses-rung terms y b h =
 pub rung-crosses : (terms : Terms) (y : Live) (d : ℕ) → y.order.price ≤ 1999999900 → rung_of (terms_of y.order) ≡ contra terms d → d ≤ limit_of terms → crosses terms y.order ≡ true
 rung-crosses terms y d b e l =
     crossed (is_buy terms.side) (is_buy y.order.side) terms.locate y.order.locate y.order.price terms.price b
-    (ap (λ (r : Rung). r.locate) e) (ap (λ (r : Rung). r.buy) e) (subst (λ n. n ≤ limit_of terms) (sym (ap (λ (r : Rung). r.distance) e)) l)
+    (ap (λ (r : LevelKey). r.locate) e) (ap (λ (r : LevelKey). r.buy) e) (subst (λ n. n ≤ limit_of terms) (sym (ap (λ (r : LevelKey). r.distance) e)) l)
 
 ranks : (buy ox oy sx sy : Bool) (p q : ℕ) → p ≤ 1999999900 → q ≤ 1999999900 → ox ≡ not buy → oy ≡ not buy
     → (cond buy (ltb p q) (ltb q p) || (eqb p q && sx && not sy))
@@ -146,14 +146,14 @@ ranks false true true false false p q a b h k = grind (arith, nat_tests)
 pub ahead-distance : (terms : Terms) (x y : Live) (d e : ℕ) → x.order.price ≤ 1999999900 → y.order.price ≤ 1999999900 → rung_of (terms_of x.order) ≡ contra terms d → rung_of (terms_of y.order) ≡ contra terms e
     → is_ahead terms.side x y ≡ (ltb d e || (eqb d e && x.order.shown && not y.order.shown))
 ahead-distance terms x y d e a b h k =
-    ranks (is_buy terms.side) (is_buy x.order.side) (is_buy y.order.side) x.order.shown y.order.shown x.order.price y.order.price a b (ap (λ (r : Rung). r.buy) h) (ap (λ (r : Rung). r.buy) k)
-    ∙ ap (λ n. ltb n (distance_of y) || (eqb n (distance_of y) && x.order.shown && not y.order.shown)) (ap (λ (r : Rung). r.distance) h)
-    ∙ ap (λ n. ltb d n || (eqb d n && x.order.shown && not y.order.shown)) (ap (λ (r : Rung). r.distance) k)
+    ranks (is_buy terms.side) (is_buy x.order.side) (is_buy y.order.side) x.order.shown y.order.shown x.order.price y.order.price a b (ap (λ (r : LevelKey). r.buy) h) (ap (λ (r : LevelKey). r.buy) k)
+    ∙ ap (λ n. ltb n (distance_of y) || (eqb n (distance_of y) && x.order.shown && not y.order.shown)) (ap (λ (r : LevelKey). r.distance) h)
+    ∙ ap (λ n. ltb d n || (eqb d n && x.order.shown && not y.order.shown)) (ap (λ (r : LevelKey). r.distance) k)
 
 abbrev pub IsPriced : Live → Type 0
 IsPriced y = y.order.price ≤ 1999999900
 
-pub in_queue : (at : Rung) (s : Bool) (y : Live) → rung_of (terms_of y.order) ≡ at → y.order.shown ≡ s → is_in at s y ≡ true
+pub in_queue : (at : LevelKey) (s : Bool) (y : Live) → rung_of (terms_of y.order) ≡ at → y.order.shown ≡ s → is_in at s y ≡ true
 in_queue at s y e f = subst (λ r. is_in r s y ≡ true) e (subst (λ t. is_in (rung_of (terms_of y.order)) t y ≡ true) f (is_in_own y))
 
 -- the first of the best queue is the first by rank of all that pass

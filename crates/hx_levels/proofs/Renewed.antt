@@ -4,8 +4,8 @@ use Rattle.std.specs.Option.{IsSome, is_some}
 use Rattle.std.proofs.lemmas.Bool.{true≢false, eqb-false, cases_lt}
 use Rattle.std.proofs.lemmas.List.{get_or-set_other}
 use Rattle.std.proofs.lemmas.Grind.{get_or-set_at}
-use Rattle.hx_levels.specs.Rung.{Rung, side_number}
-use Rattle.hx_levels.specs.Levels.{Tiers, level_at}
+use Rattle.hx_levels.specs.Rung.{LevelKey, side_number}
+use Rattle.hx_levels.specs.Levels.{LevelStore, level_at}
 use Rattle.hx_levels.specs.Bests.{bound_of, NoneBetter}
 
 same_number : (l m : ℕ) (b c : Bool) → l * 2 + cond b 1 0 ≡ m * 2 + cond c 1 0 → (l ≡ m) × (b ≡ c)
@@ -15,18 +15,18 @@ same_number l m false true h = absurd (omega arith)
 same_number l m false false h = (omega arith, refl)
 
 -- a rung of the same stock and side
-beside : (at q : Rung) → side_number q ≡ side_number at → record at { distance = q.distance } ≡ q
+beside : (at q : LevelKey) → side_number q ≡ side_number at → record at { distance = q.distance } ≡ q
 beside at q h =
     let s = same_number q.locate at.locate q.buy at.buy h in
     ap (λ n. record { locate = n; buy = at.buy; distance = q.distance }) (sym s.0)
     ∙ ap (λ b. record { locate = q.locate; buy = b; distance = q.distance }) (sym s.1)
 
-pub renewed : (levels : Tiers) (distances : List ℕ) (at : Rung) (best : ℕ) → side_number at < length distances
+pub renewed : (levels : LevelStore) (distances : List ℕ) (at : LevelKey) (best : ℕ) → side_number at < length distances
     → ((d : ℕ) → d < best → level_at levels (record at { distance = d }) ≡ None)
     → NoneBetter levels distances → NoneBetter levels (set distances (side_number at) best)
 renewed levels distances at best there none better = λ q s. by q s (eqb (side_number q) (side_number at)) refl
   where
-    by : (q : Rung) → IsSome (level_at levels q) → (b : Bool) → eqb (side_number q) (side_number at) ≡ b
+    by : (q : LevelKey) → IsSome (level_at levels q) → (b : Bool) → eqb (side_number q) (side_number at) ≡ b
         → bound_of (set distances (side_number at) best) q ≤ q.distance
     by q s true e =
         let h = eqb-true (side_number q) (side_number at) e in

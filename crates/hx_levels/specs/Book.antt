@@ -69,7 +69,7 @@ KeysDiffer (live ∷ rest) = (has_key live.key.0 rest ≡ false) × KeysDiffer r
 abbrev pub order_of : ℕ → List Live → Option Order
 order_of key orders = option_map (λ live. live.order) (find (is_under key) orders)
 
--- the order with so many open shares less
+-- the order with this many open shares less
 abbrev pub with_less : ℕ → Order → Order
 with_less by order = record order { shares = order.shares - by }
 

@@ -5,12 +5,20 @@ ghost use Rattle.hx_units.specs.Limits.{greatest_price};
 ghost use Rattle.hx_levels.specs.Book.{terms_of, has_key, order_of, KeysDiffer, IsRanked, next_by_rank, next_by_time, without, reduced};
 ghost use Rattle.std.specs.Option.{option_copied, option_map, is_some};
 
+mod best_bounds;
+mod level_key;
+mod level_store;
+mod levels;
+mod link;
+mod linked_orders;
+mod sides;
+
 use crate::book::Book;
-use crate::ladders::Ladders;
-use crate::link::Link;
-use crate::nodes::{Ends, Nodes, link_last, store, take_shares, unlink};
+use crate::level_book::level_key::LevelKey;
+use crate::level_book::link::Link;
+use crate::level_book::linked_orders::{Ends, LinkedOrders, link_last, store, take_shares, unlink};
+use crate::level_book::sides::Sides;
 use crate::order::{Key, Order, Terms};
-use crate::rung::Rung;
 use hx_units::{NoMemory, Price, Side};
 use std::alloc::Global;
 use std::marker::Model;
@@ -21,12 +29,12 @@ const ABOVE_PRICES: u32 = 2_000_000_000;
 /// A book by levels of price: the orders in a slab, linked in time order, and in queues by price and by
 /// whether they are shown. A call takes time in proportion to the logarithm of the number of levels at most.
 pub struct LevelBook {
-    nodes: Nodes,
-    ladders: Ladders,
+    nodes: LinkedOrders,
+    ladders: Sides,
     time: Ends,
     place: Option<Terms>,
     // The level of the reserved place. It stays also where it is empty.
-    kept: Option<Rung>,
+    kept: Option<LevelKey>,
 }
 
 // By hand, so that where a value is dropped its owner's proof sees one call.
@@ -61,8 +69,8 @@ impl LevelBook {
         ensures place { result.place ≡ None }
     {
         LevelBook {
-            nodes: Nodes::new(alloc),
-            ladders: Ladders::new(alloc),
+            nodes: LinkedOrders::new(alloc),
+            ladders: Sides::new(alloc),
             time: Ends::none(),
             place: None,
             kept: None,
@@ -93,13 +101,13 @@ impl LevelBook {
 }
 
 // The level of an order.
-fn rung_of(order: &Order) -> Rung
+fn rung_of(order: &Order) -> LevelKey
     ensures rung { result ≡ rung_of (terms_of order.now) }
     ensures priced { order.now.price ≤ greatest_price }
 {
     let buy = order.side.is_buy();
     let price = order.price.get();
-    Rung::of(
+    LevelKey::of(
         order.locate,
         buy,
         if buy { ABOVE_PRICES - price } else { price },
@@ -107,14 +115,14 @@ fn rung_of(order: &Order) -> Rung
 }
 
 // The contra side of the terms: its rungs begin at this one, and go up to the distance.
-fn contra_of(terms: &Terms) -> (Rung, u32)
+fn contra_of(terms: &Terms) -> (LevelKey, u32)
     ensures rung { result.0 ≡ contra terms.now 0 }
     ensures limit { result.1 ≡ limit_of terms.now }
     ensures small { result.1 ≤ above_prices }
 {
     let buy = terms.side.is_buy();
     let price = terms.price.get();
-    let rung = Rung::of(terms.locate, !buy, 0);
+    let rung = LevelKey::of(terms.locate, !buy, 0);
     (rung, if buy { price } else { ABOVE_PRICES - price })
 }
 
@@ -229,12 +237,12 @@ impl LevelBook {
 }
 
 // The level of the terms.
-fn rung_at(terms: &Terms) -> Rung
+fn rung_at(terms: &Terms) -> LevelKey
     ensures { result ≡ rung_of terms.now }
 {
     let buy = terms.side.is_buy();
     let price = terms.price.get();
-    Rung::of(
+    LevelKey::of(
         terms.locate,
         buy,
         if buy { ABOVE_PRICES - price } else { price },

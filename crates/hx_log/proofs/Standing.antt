@@ -12,9 +12,10 @@ use Rattle.hx_terms.specs.declared.reading.Verdict.{Verdict}
 use Rattle.hx_terms.specs.declared.reading.Verdict.TheVariants as verdict
 use Rattle.hx_terms.specs.declared.record.RecordError.{RecordError}
 use Rattle.hx_terms.specs.declared.record.RecordError.TheVariants as lines
-use Rattle.hx_terms.specs.Lines.{IsRecordFault}
+use Rattle.hx_terms.specs.Lines.{AreTapeLines, IsRecordFault}
 use Rattle.hx_terms.specs.Records.{Record, IsHead}
 use Rattle.hx_terms.specs.Terms.{IsReason, is_later, is_by_who_stands, counts, start, after, after_all, taking, passing, taken, next_of, takeover_of}
+use Rattle.hx_terms.proofs.Fronts.{are_append}
 use Rattle.hx_terms.proofs.Standing.{next_counts, takeover_counts}
 use Rattle.hx_log.specs.declared.writer.LogWriter.{LogWriter}
 use Rattle.hx_log.specs.Logs.{AreNumbered, Stands}
@@ -103,6 +104,18 @@ text_same at rs i d text lt it_does_not is =
     ∙ ap text_of (sym (taken_more at front (r ∷ [])))
     ∙ ap (λ (l : List Record). text_of (taken at l)) (sym (take_more rs i d lt))
 
+-- whether or not, they are lines of a tape
+pub lines_more : (at : Reading) (rs : List Record) (i : ℕ) (d : Record) → i < length rs → AreTapeLines (taken at (take i rs)) → AreTapeLines (get_or rs i d).lines → AreTapeLines (taken at (take (i + 1) rs))
+lines_more at rs i d lt front good =
+    let r = get_or rs i d in
+    let read = take i rs in
+    subst AreTapeLines (sym (ap (taken at) (take_more rs i d lt) ∙ taken_more at read (r ∷ [])))
+    (are_append (taken at read) (taken (after_all at read) (r ∷ [])) front (are_append (cond (counts (after_all at read) r.head) r.lines []) [] (by_test (counts (after_all at read) r.head)) tt))
+  where
+    by_test : (b : Bool) → AreTapeLines (cond b (get_or rs i d).lines [])
+    by_test true = good
+    by_test false = tt
+
 -- ---- a record of those that are read
 
 module _ (at : Reading) (rs : List Record) (i : ℕ) (now : Reading) (r : Record) (lt : i < length rs) (is : r ≡ get_or rs i r) (now_is : now ≡ after_all at (take i rs)) where
@@ -111,6 +124,9 @@ module _ (at : Reading) (rs : List Record) (i : ℕ) (now : Reading) (r : Record
 
   as_there : counts (after_all at (take i rs)) (get_or rs i r).head ≡ counts now r.head
   as_there = ap (λ (a : Reading). counts a (get_or rs i r).head) (sym now_is) ∙ ap (λ (x : Record). counts now x.head) (sym is)
+
+  pub lines_on : AreTapeLines (taken at (take i rs)) → AreTapeLines r.lines → AreTapeLines (taken at (take (i + 1) rs))
+  lines_on front good = lines_more at rs i r lt front (subst (λ (x : Record). AreTapeLines x.lines) is good)
 
   pub adds : (old new : List ℕ) → counts now r.head ≡ true → old ≡ text_of (taken at (take i rs)) → new ≡ old ++ text_of r.lines → new ≡ text_of (taken at (take (i + 1) rs))
   adds old new it_does old_is new_is = new_is ∙ ap (λ (x : Record). old ++ text_of x.lines) is ∙ text_more at rs i r old lt (as_there ∙ it_does) old_is
@@ -179,14 +195,15 @@ told_more known at r is it_does =
     (ap (λ (b : Bool). cond b r.lines [] ++ []) (ap (λ (a : Reading). counts a r.head) (sym is) ∙ it_does) ∙ append-nil r.lines)
 
 pub keeps : (old new known : List Record) (a b : LogWriter) (r : Record) (text : List ℕ) → IsAt old known a.reading → IsPrefix old new → Stands new r → a.reading.writer ≡ a.writer → r.head ≡ next_of a.reading
-    → b.reading ≡ after a.reading r → text ≡ text_of r.lines → Keeps new known a b text
-keeps old new known a b r text h grows stands office head is text_is =
+    → b.reading ≡ after a.reading r → AreTapeLines r.lines → text ≡ text_of r.lines → Keeps new known a b text
+keeps old new known a b r text h grows stands office head is good text_is =
     let it_does : counts a.reading r.head ≡ true = ap (counts a.reading) head ∙ next_counts a.reading in
     record {
       kept = r;
       at = kept_at old new known a.reading b.reading r h grows stands (ap (λ (k : Head). k.number) head) is;
       by = ap (λ (k : Head). k.writer) head ∙ office;
       counts_now = it_does;
+      lines = good;
       text_is = text_is;
       told = told_more known a.reading r h.reading it_does;
     }
@@ -214,8 +231,8 @@ takes_over old new known a b r h grows stands head is who none =
 
 -- records from the next number on stand behind what is read
 pub follows : (old new known more : List Record) (at now : Reading) (text : List ℕ) → IsAt old known at → IsPrefix old new → IsPrefix more (drop (at.number - 1) new)
-    → now ≡ after_all at more → text ≡ text_of (taken at more) → Follows new known at now text
-follows old new known more at now text h grows behind is text_is =
+    → now ≡ after_all at more → AreTapeLines (taken at more) → text ≡ text_of (taken at more) → Follows new known at now text
+follows old new known more at now text h grows behind is good text_is =
     let number_is : at.number ≡ 1 + length known = ap (λ (a : Reading). a.number) h.reading ∙ number_after_all start known in
     let place : at.number - 1 ≡ length known = omega (arith, number_is) in
     let begins = joined known old new h.begins grows in
@@ -227,6 +244,7 @@ follows old new known more at now text h grows behind is text_is =
         begins = (behind.0, append_assoc known more behind.0 ∙ ap (λ (l : List Record). known ++ l) (behind.1 ∙ rest) ∙ begins.1);
         reading = is ∙ ap (λ (a : Reading). after_all a more) h.reading ∙ sym (after_more start known more);
       };
+      lines = good;
       text_is = text_is;
       told = taken_more start known more ∙ ap (λ (a : Reading). taken start known ++ taken a more) (sym h.reading);
     }
@@ -234,6 +252,13 @@ follows old new known more at now text h grows behind is text_is =
     drop_front : (xs ys : List Record) → drop (length xs) (xs ++ ys) ≡ ys
     drop_front [] ys = refl
     drop_front (x ∷ xs) ys = drop_front xs ys
+
+-- who stands where it stood has read nothing
+pub none_more : (at now : Reading) (more : List Record) → now ≡ after_all at more → now ≡ at → more ≡ []
+none_more at now [] is same = refl
+none_more at now (r ∷ more) is same =
+    let number : now.number ≡ at.number + length (r ∷ more) = ap (λ (a : Reading). a.number) is ∙ number_after_all at (r ∷ more) in
+    absurd (omega (arith, number, ap (λ (a : Reading). a.number) same))
 
 -- ---- what goes wrong
 
@@ -277,10 +302,10 @@ pushed rs r number = record { front = rs; is = ([], append-nil (rs ++ r ∷ []))
 
 -- ---- what a call gives
 
-pub kept_ok : {T E : Type 0} (result : Result T E) (old new : List Record) (a b : LogWriter) (r : Record) (text : List ℕ) → IsPrefix old new → a.reading.writer ≡ a.writer → r.head ≡ next_of a.reading → text ≡ text_of r.lines
+pub kept_ok : {T E : Type 0} (result : Result T E) (old new : List Record) (a b : LogWriter) (r : Record) (text : List ℕ) → IsPrefix old new → a.reading.writer ≡ a.writer → r.head ≡ next_of a.reading → AreTapeLines r.lines → text ≡ text_of r.lines
     → OnOk result (b.reading ≡ after a.reading r) → OnOk result (Stands new r) → OnOk result ((known : List Record) → IsAt old known a.reading → Keeps new known a b text)
-kept_ok (Ok x) old new a b r text grows office head text_is is stands = λ known h. keeps old new known a b r text h grows stands office head is text_is
-kept_ok (Err e) old new a b r text grows office head text_is is stands = tt
+kept_ok (Ok x) old new a b r text grows office head good text_is is stands = λ known h. keeps old new known a b r text h grows stands office head is good text_is
+kept_ok (Err e) old new a b r text grows office head good text_is is stands = tt
 
 pub took_over_ok : {T E : Type 0} (result : Result T E) (old new : List Record) (a b : LogWriter) (r : Record) → IsPrefix old new → r.head ≡ takeover_of a.writer a.reading → b.writer ≡ a.writer → [] ≡ text_of r.lines
     → OnOk result (b.reading ≡ after a.reading r) → OnOk result (Stands new r) → OnOk result ((known : List Record) → IsAt old known a.reading → TakesOver new known a b)

@@ -29,7 +29,7 @@ record IsOfFront (log : List Record) (text : List ℕ) : Type 0 where
 pub stands_on : WhatIsReadStands
 stands_on earlier later known at grows h = record { begins = joined known earlier later h.begins grows; reading = h.reading }
 
--- so many lines more may be told
+-- this many lines more may be told
 told_on : (known : List Record) (text more : List ℕ) (all : List Record) (lines : List (List ℕ)) → text ≡ text_of (taken start known) → more ≡ text_of lines → taken start all ≡ taken start known ++ lines
     → text ++ more ≡ text_of (taken start all)
 told_on known text more all lines is more_is told =

@@ -3,6 +3,7 @@ use Rattle.std.specs.Prelude.{◌≡◌, ℕ, ◌+◌, true, List, [], ◌∷◌
 use mathlib.Core.List.{IsPrefix}
 use Rattle.hx_journal.specs.Lines.{text_of}
 use Rattle.hx_terms.specs.declared.reading.Reading.{Reading}
+use Rattle.hx_terms.specs.Lines.{AreTapeLines}
 use Rattle.hx_terms.specs.Records.{Record}
 use Rattle.hx_terms.specs.Terms.{counts, start, after_all, taken}
 use Rattle.hx_log.specs.declared.writer.LogWriter.{LogWriter}
@@ -17,6 +18,7 @@ pub record IsAt (log known : List Record) (at : Reading) : Type 0 where
 pub record Follows (log known : List Record) (old new : Reading) (text : List ℕ) : Type 0 where
   pub more : List Record
   pub at : IsAt log (known ++ more) new
+  pub lines : AreTapeLines (taken old more)
   pub text_is : text ≡ text_of (taken old more)
   pub told : taken start (known ++ more) ≡ taken start known ++ taken old more
 
@@ -27,6 +29,7 @@ pub record Keeps (log known : List Record) (old new : LogWriter) (text : List �
   pub at : IsAt log (known ++ kept ∷ []) new.reading
   pub by : kept.head.writer ≡ old.writer
   pub counts_now : counts old.reading kept.head ≡ true
+  pub lines : AreTapeLines kept.lines
   pub text_is : text ≡ text_of kept.lines
   pub told : taken start (known ++ kept ∷ []) ≡ taken start known ++ kept.lines
 

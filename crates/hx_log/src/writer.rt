@@ -1,7 +1,8 @@
 //! A writer of a log.
-ghost use Rattle.std.specs.Prelude.{◌≡◌, ◌↔◌, List, IsTrue, IfOk, IfErr, OnOk, OnErr};
+ghost use Rattle.std.specs.Prelude.{◌≡◌, ◌↔◌, ◌<◌, List, length, IsTrue, IfOk, IfErr, OnOk, OnErr};
 ghost use mathlib.Core.List.{IsPrefix};
 ghost use Rattle.hx_journal.specs.Lines.{text_of};
+ghost use Rattle.hx_terms.specs.Lines.{AreTapeLines};
 ghost use Rattle.hx_terms.specs.Records.{Record};
 ghost use Rattle.hx_terms.specs.Terms.{start, after, after_all, taken};
 ghost use Rattle.hx_log.specs.Logs.{Stands, AreNumbered};
@@ -49,6 +50,8 @@ impl LogWriter {
         ensures ok { IfOk result (λ text. (known : List Record)
             → IsAt (L.committed log.old) known self.old.reading
             → Follows (L.committed log.new) known self.old.reading self.new.reading text.items) }
+        ensures some { OnOk result (self.new.reading ≡ self.old.reading
+            → length (L.committed log.old) < self.old.reading.number) }
         ensures err { OnErr result (self.new ≡ self.old) }
         ensures grows { IsPrefix (L.committed log.old) (L.committed log.new) }
     {
@@ -138,9 +141,11 @@ fn read_all(
     ensures after { OnOk result (reading.new ≡ after_all reading.old records.now) }
     ensures text { IfOk result (λ text.
         text.items ≡ text_of (taken reading.old records.now)) }
+    ensures lines { OnOk result (AreTapeLines (taken reading.old records.now)) }
 {
     let mut text = Vec::new(alloc);
     for found in records {
+        let _of_log = found.head();
         if let Verdict::Counts = reading.read(found) {
             text.extend_from_slice(found.text())?;
         }

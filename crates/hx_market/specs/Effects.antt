@@ -150,7 +150,7 @@ pub record IsExpiry (orders : List Live) (e : Expiry) : Type 0 where
   pub due : e.orders.items ≡ filter (λ live. is_due e.due e.time live.order) orders
   pub differ : KeysDiffer orders
 
--- the orders end, so many hours codes are past, and this is told
+-- the orders end, this many hours codes are past, and this is told
 abbrev pub ended_by : Market → Expiry → Outcome
 ended_by market e =
     record {
@@ -198,7 +198,7 @@ IsOf member (Break b) = ⊤
 abbrev pub IsUnused : List Used → ℕ → Token → Type 0
 IsUnused tokens member token = is_used tokens member token ≡ false
 
--- the replacement token is not used before, and so many shares are executed of the chain of the
+-- the replacement token is not used before, and this many shares are executed of the chain of the
 -- existing one
 pub record SuitsReplacement (tokens : List Used) (chains : List Chain)
     (a : Replacement) : Type 0 where

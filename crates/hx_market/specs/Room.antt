@@ -6,16 +6,16 @@ use Rattle.hx_rules.specs.Outputs.{Told}
 use Rattle.hx_market.specs.declared.effect.Effect.{Effect}
 use Rattle.hx_market.specs.declared.effect.Effect.TheVariants.{Nothing, Reject, Accept, Fail, Replace, Cancel, End, Halt, Break}
 
--- room behind what stands in the lists for so many messages of the feed, and so many replies
+-- room behind what stands in the lists for this many messages of the feed, and this many replies
 pub record RoomFor (feed replies : ℕ) (out : Output) : Type 0 where
   pub feed_room : vec_len out.feed + feed ≤ vec_capacity out.feed
   pub replies_room : vec_len out.replies + replies ≤ vec_capacity out.replies
 
--- room for all that so many fills tell, and for what else an event tells that ends no order
+-- room for all that this many fills tell, and for what else an event tells that ends no order
 abbrev pub RoomForFills : (fills : ℕ) → Output → Type 0
 RoomForFills fills out = RoomFor (fills + 2) (2 * fills + 2) out
 
--- room for all that an effect of so many fills tells
+-- room for all that an effect of this many fills tells
 abbrev pub HasRoom : Effect → (fills : ℕ) → Output → Type 0
 HasRoom Nothing fills out = RoomForFills fills out
 HasRoom (Reject r) fills out = RoomForFills fills out

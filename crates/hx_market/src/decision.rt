@@ -12,17 +12,17 @@ ghost use Rattle.hx_market.specs.Expiries.{AreEntered};
 
 mod break_trade;
 mod cancel;
-mod ending;
+mod due_orders;
+mod end_orders;
 mod enter;
-mod expiry;
 mod halt;
 mod hours;
 mod replace;
 
 use crate::decision::break_trade::break_effect;
 use crate::decision::cancel::cancel_effect;
+use crate::decision::end_orders::tick_effect;
 use crate::decision::enter::enter_effect;
-use crate::decision::expiry::tick_effect;
 use crate::decision::halt::halt_effect;
 use crate::decision::hours::hours_effect;
 use crate::decision::replace::replace_effect;

@@ -6,7 +6,7 @@ use hx_rules::Event;
 use hx_units::fields::array_at;
 use hx_units::{MemberNo, Token};
 
-/// So many events are looked at together: the memory of each is waited for beside that of the others.
+/// This many events are looked at together: the memory of each is waited for beside that of the others.
 const BATCH: usize = 16;
 
 // The first byte of a message.

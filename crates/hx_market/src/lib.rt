@@ -8,10 +8,10 @@ mod effect;
 mod glance;
 mod live_orders;
 mod market;
-mod messages;
 mod next_step;
 mod order_by_token;
 mod prepare;
+mod reports;
 mod state;
 
 pub use hx_laws as laws;

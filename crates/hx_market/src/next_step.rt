@@ -66,7 +66,7 @@ pub fn empty(out: &mut Output)
     out.replies.clear();
 }
 
-/// Makes room for what an effect of so many fills tells, behind what stands in the lists.
+/// Makes room for what an effect of this many fills tells, behind what stands in the lists.
 #[inline(always)]
 pub fn make_room(out: &mut Output, effect: &Effect, fills: usize) -> Result<(), NoMemory>
     requires { fills < 2 ^ 60 }

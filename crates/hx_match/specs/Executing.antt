@@ -15,7 +15,7 @@ fill_of f = record { key = f.order.key; shares = f.shares; price = f.order.order
 abbrev pub fills_of : Incoming → List Live → List Fill
 fills_of incoming orders = map fill_of (matched_live incoming orders).fills
 
--- the list after so many shares of x, which stands under the key, are executed: they are off, or x is out
+-- the list after this many shares of x, which stands under the key, are executed: they are off, or x is out
 abbrev pub taken : (key shares : ℕ) → Order → List Live → List Live
 taken key shares x orders =
     if nat_lt shares x.shares then reduced key shares orders else without key orders

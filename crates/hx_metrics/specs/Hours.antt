@@ -10,7 +10,7 @@ codes_of_a_day =
     StartOfMessages ∷ StartOfSystemHours ∷ StartOfMarketHours
     ∷ EndOfMarketHours ∷ EndOfSystemHours ∷ EndOfMessages ∷ []
 
--- the last of so many
+-- the last of this many
 abbrev pub last_of : ℕ → Option Hours
 last_of zero = None
 last_of (suc before) = slice_get codes_of_a_day before

@@ -11,7 +11,7 @@ use std::io::{ErrorKind, Read};
 use std::net::{Shutdown, TcpListener, TcpStream};
 use std::time::{Clock, Duration, Instant};
 
-// So many are there at most. One more, and the one that came first goes.
+// This many are there at most. One more, and the one that came first goes.
 const ROOM: usize = 16;
 
 // A connection is closed this number of seconds after its last request.
@@ -20,7 +20,7 @@ const PATIENCE: u64 = 5;
 // How often a connection is read and written in one look at most.
 const TURNS: u32 = 16;
 
-// So many bytes that come behind a last answer are thrown away in one look.
+// This many bytes that come behind a last answer are thrown away in one look.
 const THROWN: usize = 4096;
 
 // The limits of a connection.

@@ -31,7 +31,7 @@ message_at zero messages = None
 message_at (suc k) messages =
     if nat_le (suc k) (length messages) then Some (slice_index_or messages k []) else None
 
--- the messages that are asked for, at most so many from the first number on (MoldUDP64 1.00, Request Packet)
+-- the messages that are asked for, at most this many from the first number on (MoldUDP64 1.00, Request Packet)
 abbrev pub wanted : (first most : ℕ) → List (List ℕ) → List (List ℕ)
 wanted n most messages = take most (drop (n - 1) messages)
 

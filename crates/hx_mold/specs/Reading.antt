@@ -21,7 +21,7 @@ packet_with session sequence count rest =
     else if is_whole count rest then Some (mold.Blocks session sequence (messages_in count rest))
     else None
 
--- the same of so many bytes, which are none where they are fewer than a header's
+-- the same of this many bytes, which are none where they are fewer than a header's
 abbrev pub packet_from : (size : ℕ) → (session : List ℕ) → (sequence count : ℕ) → (rest : List ℕ)
     → Option MoldPacket
 packet_from size session sequence count rest =

@@ -10,7 +10,8 @@ use std::marker::Model;
 // The first block's message, and what follows the block.
 fn split_block(bytes: &[u8]) -> Option<(&[u8], &[u8])>
     ensures some { IfSome result (λ p. (block_len bytes.now ≤ length bytes.now)
-        × (p.0.now ≡ text_at 2 (number_at 0 2 bytes.now) bytes.now) × (p.1.now ≡ drop (block_len bytes.now) bytes.now)) }
+        × (p.0.now ≡ text_at 2 (number_at 0 2 bytes.now) bytes.now)
+        × (p.1.now ≡ drop (block_len bytes.now) bytes.now)) }
     ensures none { IfNone result (length bytes.now < block_len bytes.now) }
 {
     if bytes.len() < 2 {
@@ -23,7 +24,7 @@ fn split_block(bytes: &[u8]) -> Option<(&[u8], &[u8])>
     Some((&bytes[2..end], &bytes[end..]))
 }
 
-// Whether the bytes are so many blocks and nothing else.
+// Whether the bytes are this many blocks and nothing else.
 pub(crate) fn are_blocks(count: u16, bytes: &[u8]) -> bool
     ensures { result ≡ is_whole count bytes.now }
 {

@@ -111,7 +111,7 @@ pub fn cut(
     Ok(packets)
 }
 
-// Writes the blocks of the messages from a number on that fit, at most so many.
+// Writes the blocks of the messages from a number on that fit, at most this many.
 fn collect<M: Messages>(
     body: &mut ArrayVec<u8, 1380>,
     messages: &mut M,

@@ -55,7 +55,7 @@ line_cut line others lacks = slice_split_at is_line_feed line 10 others (none_pa
 pub line_last : (line : List ℕ) → Lacks 10 line → lines_of line ≡ line ∷ []
 line_last line lacks = slice_split_none is_line_feed line (none_passes 10 line lacks)
 
--- so many lines of the text are read, and the rest is not
+-- this many lines of the text are read, and the rest is not
 pub record ReadsOn (text rest : List ℕ) (number : ℕ) (es : List Entry) : Type 0 where
   pub before : List (List ℕ)
   pub lines : lines_of text ≡ before ++ lines_of rest

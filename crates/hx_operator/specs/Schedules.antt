@@ -112,7 +112,7 @@ left_of now [] = []
 left_of now (entry ∷ entries) =
     if nat_le entry.time now then entries else entry ∷ entries
 
--- what is left of a schedule where the first codes of the day, so many, are past
+-- what is left of a schedule where the first codes of the day, this many, are past
 abbrev pub behind_past : (past : ℕ) → List Entry → List Entry
 behind_past past [] = []
 behind_past past (entry ∷ entries) =

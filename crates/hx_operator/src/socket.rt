@@ -12,10 +12,10 @@ use std::time::{Clock, Instant};
 use std::{fs, io};
 use thiserror::Error;
 
-// So many are heard at once. Who comes while there are as many waits.
+// This many are heard at once. Who comes while there are as many waits.
 const ROOM: usize = 8;
 
-// So many connections may wait.
+// This many connections may wait.
 const BACKLOG: i32 = 64;
 
 // Its owner may read and write: who may write to a socket's file may connect.

@@ -16,7 +16,7 @@ const ROOM: usize = LONGEST + 1;
 // A connection has this number of seconds.
 const LIMIT: u64 = 5;
 
-// So many writes at most are made at once.
+// This many writes at most are made at once.
 const WRITES: u32 = 16;
 
 /// Who carries out what the operator says.

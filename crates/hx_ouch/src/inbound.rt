@@ -3,6 +3,7 @@ ghost use Rattle.std.specs.Prelude.{◌≡◌, ◌↔◌, Some, IsSome, IfSome, 
 ghost use Rattle.hx_ouch.specs.Inbound.{inbound_of, inbound_bytes, is_inbound, IsInbound};
 ghost use Rattle.hx_ouch.specs.declared.inbound.Inbound.{Inbound};
 
+mod kinds;
 mod read;
 mod write;
 

@@ -3,6 +3,7 @@ ghost use Rattle.std.specs.Prelude.{◌≡◌, ◌↔◌, Some, IsSome, IfSome, 
 ghost use Rattle.hx_ouch.specs.Outbound.{outbound_of, outbound_bytes, is_outbound, IsOutbound};
 ghost use Rattle.hx_ouch.specs.declared.outbound.Outbound.{Outbound};
 
+mod kinds;
 mod read;
 mod write;
 

@@ -24,10 +24,10 @@ const FRAMES: u32 = 16;
 // How often a browser is read and written in one look at most.
 const TURNS: u32 = 16;
 
-// Behind so many seconds without a word a browser is asked whether it is there.
+// Behind this many seconds without a word a browser is asked whether it is there.
 const QUIET: u64 = 15;
 
-// Behind so many it is gone.
+// Behind this many it is gone.
 const GONE: u64 = 40;
 
 /// A browser.

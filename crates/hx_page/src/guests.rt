@@ -12,22 +12,22 @@ use std::net::{Shutdown, TcpListener, TcpStream};
 use std::time::{Clock, Duration, Instant};
 use std::{io, mem};
 
-// So many who ask are there at most. One more, and the one that came first goes.
+// This many who ask are there at most. One more, and the one that came first goes.
 const ASKERS: usize = 64;
 
-// So many browsers are told of changes at most.
+// This many browsers are told of changes at most.
 const BROWSERS: usize = 128;
 
-// A connection is closed so many seconds behind its last request.
+// A connection is closed this many seconds behind its last request.
 const PATIENCE: u64 = 5;
 
 // How often a connection is read and written in one look at most.
 const TURNS: u32 = 4;
 
-// For so many milliseconds requests are answered in one look.
+// For this many milliseconds requests are answered in one look.
 const BUDGET: u64 = 5;
 
-// So many bytes that come behind a last answer are thrown away in one look.
+// This many bytes that come behind a last answer are thrown away in one look.
 const THROWN: usize = 4096;
 
 // The limits of a connection.
@@ -281,7 +281,7 @@ impl Guests {
         }
     }
 
-    /// Answers what was asked, one after the other, for a short time; whoever is not looked at is
+    /// Returns what was asked, one after the other, for a short time; whoever is not looked at is
     /// the first next time. Those go who have ended, or who asked nothing for too long.
     pub fn answer<T: Clock>(&mut self, rt: &T, board: &Board, now: Instant) {
         let count = self.guests.len();

@@ -12,7 +12,7 @@ use std::{io, thread};
 // Those who read are looked at so often, in milliseconds.
 const LOOK_AGAIN: u64 = 10;
 
-// Behind the end they get what they are owed for so many milliseconds.
+// Behind the end they get what they are owed for this many milliseconds.
 const REST: u64 = 1000;
 
 // Looks once.

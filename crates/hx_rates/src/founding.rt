@@ -38,7 +38,7 @@ pub struct Sending {
 }
 
 impl Sending {
-    /// So many passes and so many events a call.
+    /// This many passes and this many events a call.
     pub fn of(passes: u64, each: u64) -> Result<Sending, Failure> {
         if passes == 0 || passes > u64::from(MEMBERS) || each == 0 {
             return Err(Failure::Words);

@@ -2,10 +2,10 @@
 //! took, in nanoseconds, on standard error. The words say what is measured:
 //!
 //! - `market`, `desk`: the events of a tape, through the market alone or through a desk;
-//! - `exchange PASSES EACH [FILE]`: the events of a tape through an exchange, by so many passes, in a thread each, with
-//!   so many events a call; over a journal in a file, if one is named;
+//! - `exchange PASSES EACH [FILE]`: the events of a tape through an exchange, by this many passes, in a thread each, with
+//!   this many events a call; over a journal in a file, if one is named;
 //! - `log MESSAGES`: messages through the log of a feed;
-//! - `reader ORDERS RESTING`: the feed of so many orders through a vendor's screen, with so many of them at rest;
+//! - `reader ORDERS RESTING`: the feed of this many orders through a vendor's screen, with this many of them at rest;
 //! - `transport MESSAGES`: packets through a framer, and messages through a publisher;
 //! - `journal FILE GROUPS RECORDS AHEAD`: groups of records through a journal in a file, with zeros laid ahead;
 //! - `small`: a little of each of these.

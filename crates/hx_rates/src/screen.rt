@@ -97,7 +97,7 @@ fn show_all(screen: &mut Screen, packets: &[Packet]) -> u64 {
     shown
 }
 
-/// The rate of a screen that is sent the feed of this number of orders, with at most so many of them in the book.
+/// The rate of a screen that is sent the feed of this number of orders, with at most this many of them in the book.
 pub fn screen_rate<R: Print + Eprint + Clock>(
     rt: &R,
     alloc: Global,

@@ -32,9 +32,10 @@ pub fn read_tape(alloc: Global, input: &mut impl Read) -> Result<Vec<Event>, Fai
     let mut text = Vec::new(alloc);
     input.read_to_end(&mut text)?;
     let mut events = Vec::new(alloc);
+    let mut room = Vec::new(alloc);
     let mut rest = text.as_slice();
     while let Some((line, others)) = split_once(rest, b'\n') {
-        let Some(event) = read_event(alloc, Bytes::none(), line)? else {
+        let Some(event) = read_event(alloc, &mut room, Bytes::none(), line)? else {
             return Err(Failure::Tape);
         };
         events.push(event)?;

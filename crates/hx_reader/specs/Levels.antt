@@ -21,22 +21,22 @@ rung_cmp a b =
 abbrev pub level_at : BTreeMap Rung Level → Rung → Option Level
 level_at levels at = get rung_cmp levels at
 
--- the level that a number of orders with so many shares make, none where there is no order
+-- the level that a number of orders with this many shares make, none where there is no order
 abbrev pub level_with : (orders shares : ℕ) → Option Level
 level_with zero shares = None
 level_with (suc n) shares = Some (record { shares = shares; orders = suc n })
 
--- a level with an order of so many shares more
+-- a level with an order of this many shares more
 abbrev pub grown : (shares : ℕ) → Option Level → Option Level
 grown shares None = level_with 1 shares
 grown shares (Some l) = level_with (suc l.orders) (l.shares + shares)
 
--- a level with an order of so many shares less
+-- a level with an order of this many shares less
 abbrev pub lessened : (shares : ℕ) → Option Level → Option Level
 lessened shares None = None
 lessened shares (Some l) = level_with (l.orders - 1) (l.shares - shares)
 
--- a level whose orders have so many shares fewer
+-- a level whose orders have this many shares fewer
 abbrev pub reduced : (shares : ℕ) → Option Level → Option Level
 reduced shares None = None
 reduced shares (Some l) = Some (record l { shares = l.shares - shares })

@@ -28,7 +28,7 @@ pub record Reading : Type 0 where
   -- message number next + i, where it has come and was not handed out; the length never changes
   pub window : List (Option (List ℕ))
 
--- a reader of the session that has seen nothing, with so many places
+-- a reader of the session that has seen nothing, with this many places
 abbrev pub opening : (session : List ℕ) → (places : ℕ) → Reading
 opening session places =
     record {

@@ -20,7 +20,7 @@ abbrev pub orders_in : Entries → List ShownOrder
 orders_in es = map (λ e. e.1) es
 
 -- whether an entry has this number
-abbrev pub is_number : ℕ → ℕ → Bool
+abbrev pub is_number : (number : ℕ) → (at : ℕ) → Bool
 is_number number = is_at (nat_cmp number)
 
 -- the order under a number

@@ -90,7 +90,7 @@ impl Model for FeedReader {
 }
 
 impl FeedReader {
-    /// A reader of a session that has seen nothing, with so many places, each for one message. It
+    /// A reader of a session that has seen nothing, with this many places, each for one message. It
     /// takes all its memory here; its only error is that there is none.
     #[tactic(auto, using(crate::proofs::Windows::slots_replicate))]
     pub fn new(alloc: Global, session: [u8; 10], places: usize) -> Result<Self, NoMemory>

@@ -21,7 +21,7 @@ pub struct Screen {
 }
 
 impl Screen {
-    /// A screen of a session that has seen nothing, whose reader has so many places. It takes memory;
+    /// A screen of a session that has seen nothing, whose reader has this many places. It takes memory;
     /// its only error is that there is none.
     pub fn new(alloc: Global, session: [u8; 10], places: usize) -> Result<Screen, NoMemory>
         ensures reader { IfOk result (λ s. s.reader ≡ opening session places) }

@@ -71,9 +71,10 @@ fn events_of<P: Progress>(
     ensures { IfOk result (λ events. tape.now ≡ text_of (map record_of events.items)) }
 {
     let mut events = Vec::new(alloc);
+    let mut room = Vec::new(alloc);
     let mut rest = tape;
     while let Some((line, others)) = split_once(rest, b'\n') {
-        let Some(event) = read_event(alloc, Bytes::none(), line)? else {
+        let Some(event) = read_event(alloc, &mut room, Bytes::none(), line)? else {
             return Err(no_event(events.len()));
         };
         events.push(event)?;

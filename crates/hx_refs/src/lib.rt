@@ -48,7 +48,7 @@ impl Refs {
     /// How many member numbers there are, with 0, which is nobody's.
     const NUMBERS: usize = 4096;
 
-    /// No number is drawn yet. It fails only for want of memory.
+    /// No number is drawn yet. It fails only when out of memory.
     pub fn new(alloc: Global) -> Result<Self, NoMemory>
         ensures { IfOk result (λ refs. refs ≡ opening_numbers) }
     {

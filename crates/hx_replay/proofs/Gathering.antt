@@ -67,7 +67,7 @@ all_written c d text w v u gathered rest h wrote = record {
   wrote = subst (Appends w u) (sym h.output_is) (Appends-trans w v u h.written gathered h.wrote wrote);
 }
 
--- not all of them are written, for want of memory or since the writer fails to take them
+-- not all of them are written, when out of memory or since the writer fails to take them
 pub stops_gathering : (c d : Progress) (text : List ℕ) (w v u : Option (List ℕ)) (gathered rest : List ℕ) (e : TapeError) → Gathers c d text w v gathered rest → ((left : List ℕ) × Writes v u gathered left) → IsUnwritten e
     → Stops ⊥ c text w u e
 stops_gathering c d text w v u gathered rest e h some is =
@@ -79,7 +79,7 @@ stops_gathering c d text w v u gathered rest e h some is =
       | inr memory ↦ subst (Stops ⊥ c text w u) (sym memory) (stops fault.NoMemory (some.0, g.output_is))
     ]
 
--- the same at a line that fails: what was told before it is written, or not
+-- the same at a line that fails: the output before it is written, or not
 pub stops_behind : (c d : Progress) (text : List ℕ) (w v u : Option (List ℕ)) (gathered told rest l others : List ℕ) (e : TapeError) → Gathers c d text w v gathered rest → rest ≡ l ++ 10 ∷ others → Lacks 10 l → Faults d l e → told ≡ gathered → Appends v u told
     → Stops ⊥ c text w u e
 stops_behind c d text w v u gathered told rest l others e h cut lacks fails same wrote =

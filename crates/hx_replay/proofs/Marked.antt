@@ -3,8 +3,8 @@ use Rattle.std.proofs.Common.{◌≡◌, ◌<◌, ℕ, zero, suc, ◌+◌, lengt
 use Rattle.hx_itch.specs.declared.message.Feed.{Feed}
 use Rattle.hx_refs.specs.Numbers.{raised}
 use Rattle.hx_market.specs.Outputs.{Reply}
-use Rattle.hx_replay.specs.declared.messages.Mark.{Mark}
-use Rattle.hx_replay.specs.declared.messages.Marked.TheVariants as mark
+use Rattle.hx_replay.specs.declared.unwritten.Mark.{Mark}
+use Rattle.hx_replay.specs.declared.unwritten.Marked.TheVariants as mark
 use Rattle.hx_replay.specs.Marks.{lines_of, AreMarked, feed_marks, reply_marks, HaveRoomForTimes}
 use Rattle.hx_replay.specs.Output.{feed_line, reply_line, feed_lines, reply_lines}
 use Rattle.hx_replay.specs.Seen.{Numbered, text_of, texts_of}

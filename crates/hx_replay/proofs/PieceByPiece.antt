@@ -158,7 +158,7 @@ stops_in_read setup r s s' w v c pending h kept = stops_between setup fault.Read
 pub stops_after_turns : (setup : Setup) (r s w v : Option (List ℕ)) (c : Progress) (pending : List ℕ) → SoFar setup r s w v c pending → StopsAt setup fault.Turns r s w v
 stops_after_turns setup r s w v c pending h = stops_between setup fault.Turns r s s w v c pending (λ _. (refl, h.no_feed)) h (Keeps-refl s)
 
--- nothing is read, for want of memory
+-- nothing is read, when out of memory
 pub stops_at_start : (setup : Setup) (r w : Option (List ℕ)) → StopsAt setup fault.NoMemory r r w w
 stops_at_start setup r w = record {
   text = [];

@@ -5,7 +5,7 @@ use Rattle.std.proofs.KnownBytes.{Appends-nil, Appends-trans}
 use Rattle.std.proofs.lemmas.List.{append-nil, nil_from_length}
 use Rattle.hx_itch.specs.declared.message.Feed.{Feed}
 use Rattle.hx_market.specs.Outputs.{Reply}
-use Rattle.hx_replay.specs.declared.messages.Mark.{Mark}
+use Rattle.hx_replay.specs.declared.unwritten.Mark.{Mark}
 use Rattle.hx_replay.specs.Marks.{lines_of}
 use Rattle.hx_replay.specs.Seen.{texts_of}
 use Rattle.hx_replay.specs.Run.{Writes}

@@ -23,7 +23,7 @@ moved_to_front xs moved text seen at n same is within seen_is =
     ap (λ (l : List ℕ). take n l) (same ∙ is) ∙ ap (λ i. take i (paste xs 0 (drop at xs) left)) copied
     ∙ take-paste xs 0 (drop at xs) left (omega arith) (omega (arith, within, length-drop at xs)) ∙ ap (λ i. take i (drop at xs)) (sym size) ∙ seen_is
 
--- so many bytes are read behind them
+-- this many bytes are read behind them
 pub read_behind : (size n m : ℕ) (text items buf others : List ℕ) → n ≤ length text → m ≤ length buf → n + m ≤ size
     → take (n + m) (take size ((take n text ++ (buf ++ others)) ++ drop (length (take n text ++ (buf ++ others))) items)) ≡ take n text ++ take m buf
 read_behind size n m text items buf others within read fits =

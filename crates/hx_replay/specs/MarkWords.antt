@@ -1,7 +1,7 @@
 -- A mark in one word.
 use Rattle.std.specs.Prelude.{ℕ, ◌+◌, ◌*◌, ◌/◌, ◌%◌, ◌==◌, if◌then◌else◌}
-use Rattle.hx_replay.specs.declared.messages.Marked.{Marked}
-use Rattle.hx_replay.specs.declared.messages.Marked.TheVariants.{OfFeed, OfMember}
+use Rattle.hx_replay.specs.declared.unwritten.Marked.{Marked}
+use Rattle.hx_replay.specs.declared.unwritten.Marked.TheVariants.{OfFeed, OfMember}
 
 -- what a word marks: its half is the number, and an odd one is of a member's reply
 abbrev pub marked_by : ℕ → Marked

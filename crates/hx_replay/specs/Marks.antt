@@ -5,8 +5,8 @@ use Rattle.hx_itch.specs.declared.message.Feed.{Feed}
 use Rattle.hx_itch.specs.Message.{feed_time}
 use Rattle.hx_refs.specs.Numbers.{raised}
 use Rattle.hx_market.specs.Outputs.{Reply}
-use Rattle.hx_replay.specs.declared.messages.Mark.{Mark}
-use Rattle.hx_replay.specs.declared.messages.Marked.TheVariants as mark
+use Rattle.hx_replay.specs.declared.unwritten.Mark.{Mark}
+use Rattle.hx_replay.specs.declared.unwritten.Marked.TheVariants as mark
 use Rattle.hx_replay.specs.Seen.{Numbered}
 use Rattle.hx_replay.specs.Seen.Numbered.{OfFeed, OfMember}
 
@@ -35,7 +35,7 @@ abbrev pub feed_marks : ℕ → List Feed → List Mark
 feed_marks n [] = []
 feed_marks n (message ∷ messages) = mark.OfFeed (n + 1) ∷ feed_marks (n + 1) messages
 
--- the marks of replies, after so many others of each member
+-- the marks of replies, after this many others of each member
 abbrev pub reply_marks : List ℕ → List Reply → List Mark
 reply_marks counts [] = []
 reply_marks counts (reply ∷ replies) =

@@ -26,7 +26,7 @@ abbrev pub feed_lines : ℕ → List Feed → List ℕ
 feed_lines n [] = []
 feed_lines n (message ∷ messages) = feed_line (n + 1) message ++ feed_lines (n + 1) messages
 
--- replies, after so many others of each member
+-- replies, after this many others of each member
 abbrev pub reply_lines : List ℕ → List Reply → List ℕ
 reply_lines counts [] = []
 reply_lines counts (reply ∷ replies) =

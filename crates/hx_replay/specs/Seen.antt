@@ -29,7 +29,7 @@ abbrev pub texts_of : List Numbered → List ℕ
 texts_of [] = []
 texts_of (line ∷ lines) = text_of line ++ texts_of lines
 
--- the lines with their numbers, after n messages of the feed and so many replies to each member
+-- the lines with their numbers, after n messages of the feed and this many replies to each member
 abbrev pub numbered : ℕ → List ℕ → List Line → List Numbered
 numbered n counts [] = []
 numbered n counts (ToFeed message ∷ lines) = OfFeed (n + 1) message ∷ numbered (n + 1) counts lines

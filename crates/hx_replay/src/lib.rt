@@ -1,16 +1,16 @@
 //! Tapes: a replay from a tape's lines to its output lines.
 #![tactic(auto)]
 
-mod delivery;
+mod buffers;
 mod fault;
 pub mod laws;
-mod messages;
+mod output_text;
 mod pending;
 mod pieces;
 mod replaying;
-mod room;
 mod run;
-mod telling;
+mod unwritten;
+mod write_output;
 
 pub use fault::TapeError;
 pub use hx_tape_lines::Kind;
@@ -18,11 +18,11 @@ pub use replaying::{replay, replay_on};
 pub use run::Counts;
 
 // What a replay is made of, for those that share its work among threads, or read a tape in another way.
-pub use delivery::{spell_told, write_before, write_told};
-pub use messages::Messages;
+pub use buffers::Room;
+pub use output_text::OutputText;
 pub use pending::Pending;
 pub use pieces::{MOST_LINES, MOST_READS, finish, keep_rest};
 pub use replaying::{play_lines, write_whole};
-pub use room::Room;
 pub use run::{Run, fault_of};
-pub use telling::Lines;
+pub use unwritten::Unwritten;
+pub use write_output::{spell_told, write_before, write_told};

@@ -54,7 +54,7 @@ impl Pending {
         &self.bytes[self.start..self.start + self.count]
     }
 
-    // Moves them to the front, reads a piece behind them, and answers how many bytes that gave.
+    // Moves them to the front, reads a piece behind them, and returns how many bytes that gave.
     fn read_piece<R: Read>(&mut self, reader: &mut R) -> io::Result<usize>
         requires { length self.old ≤ longest_line }
         ensures piece { IfOk result (λ count. (piece : List ℕ)
@@ -77,7 +77,7 @@ impl Pending {
         }
     }
 
-    /// Reads a piece behind them, if the reader is not interrupted, and answers whether there may be more: `false` at the
+    /// Reads a piece behind them, if the reader is not interrupted, and returns whether there may be more: `false` at the
     /// end of what is read.
     pub fn read<R: Read>(&mut self, reader: &mut R) -> Result<bool, TapeError>
         requires { length self.old ≤ longest_line }
@@ -97,7 +97,7 @@ impl Pending {
         }
     }
 
-    /// Lets all go but the last ones, so many.
+    /// Lets all go but the last ones, this many.
     pub fn keep(&mut self, count: usize)
         requires { count ≤ length self.old }
         ensures { self.new ≡ drop (length self.old - count) self.old }

@@ -9,13 +9,13 @@ use crate::pending::Pending;
 use crate::run::Counts;
 use hx_tape_lines::{Kind, LONGEST_LINE};
 
-/// So many reads of a tape are too many.
+/// This many reads of a tape are too many.
 pub const MOST_READS: u64 = 1_000_000_000;
 
 /// More lines of a tape are too many.
 pub const MOST_LINES: u64 = 1 << 47;
 
-/// Of the bytes that are pending, keeps the last ones, so many, for the next piece to be read behind them: those behind the
+/// Of the bytes that are pending, keeps the last ones, this many, for the next piece to be read behind them: those behind the
 /// last whole line. Where they are more than the longest line has, the line that they begin is bad.
 pub fn keep_rest(pending: &mut Pending, rest: usize, counts: Counts) -> Result<(), TapeError>
     requires within { rest ≤ length pending.old }

@@ -7,13 +7,13 @@ ghost use Rattle.hx_replay.specs.Run.{Writes, Replays, Stops, IsFew};
 ghost use Rattle.hx_replay.specs.Whole.{ReplaysAll, StopsAt};
 ghost use Rattle.hx_replay.specs.declared.fault.TapeError.TheVariants as fault;
 
-use crate::delivery::{write_before, write_told};
+use crate::buffers::Room;
 use crate::fault::TapeError;
+use crate::output_text::OutputText;
 use crate::pending::Pending;
 use crate::pieces::{MOST_LINES, MOST_READS, finish, keep_rest};
-use crate::room::Room;
 use crate::run::{Counts, Run};
-use crate::telling::Lines;
+use crate::write_output::{write_before, write_told};
 use hx_levels::{Book, LevelBook};
 use hx_members::Setup;
 use hx_text::split_once;
@@ -63,11 +63,11 @@ fn send_out<W: Write>(writer: &mut W) -> Result<(), TapeError>
     Err(TapeError::Write)
 }
 
-// So many bytes of output lines are written at once, or more.
+// This many bytes of output lines are written at once, or more.
 const MANY: usize = 65_536;
 
 // Writes the output lines where they are many. Where it fails, a front of them was written.
-pub fn write_many<W: Write>(writer: &mut W, lines: &mut Lines) -> Result<(), TapeError>
+pub fn write_many<W: Write>(writer: &mut W, lines: &mut OutputText) -> Result<(), TapeError>
     ensures ok { OnOk result
         (Writes (W.contents writer.old) (W.contents writer.new) lines.old lines.new) }
     ensures write { IfErr result (λ e. e ≡ fault.Write) }
@@ -81,8 +81,8 @@ pub fn write_many<W: Write>(writer: &mut W, lines: &mut Lines) -> Result<(), Tap
     Ok(())
 }
 
-/// Plays the whole lines of the text, writes their output lines and flushes the writer, and answers the bytes behind them.
-/// Where a line fails, what was told before it is written.
+/// Plays the whole lines of the text, writes their output lines and flushes the writer, and returns the bytes behind them.
+/// Where a line fails, the output before it is written.
 pub fn play_lines<'a, B: Book + Drop, W: Write>(
     run: &mut Run<B>,
     room: &mut Room,
@@ -110,7 +110,7 @@ pub fn play_lines<'a, B: Book + Drop, W: Write>(
     Ok(rest)
 }
 
-// So many bytes are read at once, or fewer.
+// This many bytes are read at once, or fewer.
 const PIECE: usize = 65_536;
 
 /// Replays a tape over the market of a setup: reads it to its end, and before it reads on it writes the output lines of
@@ -124,10 +124,12 @@ pub fn replay<R: Read, W: Write>(
 ) -> Result<Counts, TapeError>
     // All was read, and the output text of its events was written; in it quiet orders leave no trace.
     ensures ok { IfOk result (λ counts.
-        ReplaysAll setup.now counts (R.remaining reader.old) (R.remaining reader.new) (W.contents writer.old) (W.contents writer.new)) }
+        ReplaysAll setup.now counts (R.remaining reader.old) (R.remaining reader.new)
+        (W.contents writer.old) (W.contents writer.new)) }
     // What was read, and which part of the output text of its events was written; the same of it.
     ensures err { IfErr result (λ e.
-        StopsAt setup.now e (R.remaining reader.old) (R.remaining reader.new) (W.contents writer.old) (W.contents writer.new)) }
+        StopsAt setup.now e (R.remaining reader.old) (R.remaining reader.new)
+        (W.contents writer.old) (W.contents writer.new)) }
 {
     replay_on(alloc, setup, LevelBook::new(alloc), reader, writer)
 }
@@ -142,9 +144,11 @@ pub fn replay_on<B: Book + Drop, R: Read, W: Write>(
 ) -> Result<Counts, TapeError>
     requires { B.orders book ≡ [] }
     ensures ok { IfOk result (λ counts.
-        ReplaysAll setup.now counts (R.remaining reader.old) (R.remaining reader.new) (W.contents writer.old) (W.contents writer.new)) }
+        ReplaysAll setup.now counts (R.remaining reader.old) (R.remaining reader.new)
+        (W.contents writer.old) (W.contents writer.new)) }
     ensures err { IfErr result (λ e.
-        StopsAt setup.now e (R.remaining reader.old) (R.remaining reader.new) (W.contents writer.old) (W.contents writer.new)) }
+        StopsAt setup.now e (R.remaining reader.old) (R.remaining reader.new)
+        (W.contents writer.old) (W.contents writer.new)) }
 {
     let mut run = Run::new(alloc, setup.copy(alloc)?, book)?;
     let mut pending = Pending::new(alloc, PIECE)?;

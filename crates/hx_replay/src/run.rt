@@ -5,13 +5,13 @@ ghost use Rattle.hx_tape_lines.specs.Events.{IsKnown, event_of};
 ghost use Rattle.hx_tape_lines.specs.Text.{Entry, line};
 ghost use Rattle.hx_replay.specs.Run.{fault_of, counts_of, start, Plays, Faults, IsFew};
 
+use crate::buffers::Room;
 use crate::fault::TapeError;
-use crate::messages::{Messages, ToldCounts};
-use crate::room::Room;
+use crate::unwritten::{ToldCounts, Unwritten};
 use hx_levels::Book;
 use hx_market::{Event, Market, PrepareError};
 use hx_members::Setup;
-use hx_tape_lines::{Kind, read_event};
+use hx_tape_lines::Kind;
 use hx_units::NoMemory;
 use std::alloc::{AllocError, Global};
 use std::marker::Model;
@@ -155,7 +155,7 @@ impl<B: Book + Drop> Run<B> {
             line,
             kind: Kind::Bad,
         };
-        let Some(event) = read_event(self.alloc, room.place(), text)? else {
+        let Some(event) = room.read(self.alloc, text)? else {
             return Err(bad);
         };
         self.play_event(&event, &mut room.lines)?;
@@ -164,8 +164,8 @@ impl<B: Book + Drop> Run<B> {
     }
 
     /// Plays the event of the next line, and appends its output lines to others. Where the line fails, the others stay, but
-    /// for want of memory.
-    pub fn play_event(&mut self, event: &Event, lines: &mut Messages) -> Result<(), TapeError>
+    /// when out of memory.
+    pub fn play_event(&mut self, event: &Event, lines: &mut Unwritten) -> Result<(), TapeError>
         requires events { self.old.events < 2 ^ 48 }
         requires few { IsFew self.old }
         ensures ok { OnOk result ((e : Entry) → IsKnown e → event.now ≡ event_of e

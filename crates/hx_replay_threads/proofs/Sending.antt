@@ -3,7 +3,7 @@ use Rattle.std.proofs.Common.{◌≡◌, ℕ, ◌^◌, ◌≤◌, ◌<◌, Bool,
 use Rattle.std.proofs.KnownBytes.{Appends-nil}
 use Rattle.std.proofs.lemmas.List.{append-nil, length-append, nil_from_length}
 use Rattle.hx_rules.specs.declared.event.Event.{Event}
-use Rattle.hx_replay_threads.specs.declared.turn.Turn.{Turn}
+use Rattle.hx_replay_threads.specs.declared.batch.Batch.{Batch}
 use Rattle.hx_replay.specs.Run.{Writes}
 use Rattle.hx_replay_threads.specs.Ahead.{IsAhead, TakesLines}
 use Rattle.hx_replay_threads.specs.Turns.{events_of, told_of, MayFollow}
@@ -15,23 +15,23 @@ use Rattle.hx_replay_threads.proofs.Turning.{ahead_shorter}
 -- ---- one turn more
 
 -- one without lines
-pub events_same : (turns more : List Turn) (t : Turn) → more ≡ turns ++ t ∷ [] → t.ahead ≡ [] → events_of more ≡ events_of turns
+pub events_same : (turns more : List Batch) (t : Batch) → more ≡ turns ++ t ∷ [] → t.ahead ≡ [] → events_of more ≡ events_of turns
 events_same turns more t is none =
-    ap (λ (l : List Turn). events_of l) is ∙ events_with turns t ∙ ap (λ (l : List Event). events_of turns ++ l) none ∙ append-nil (events_of turns)
+    ap (λ (l : List Batch). events_of l) is ∙ events_with turns t ∙ ap (λ (l : List Event). events_of turns ++ l) none ∙ append-nil (events_of turns)
 
 -- ---- what is written, but for what is spelled and waits
 
-pub writes_first : (w : Option (List ℕ)) (turns : List Turn) (spelled : List ℕ) → turns ≡ [] → spelled ≡ [] → Writes w w (told_of turns) spelled
-writes_first w turns spelled none empty = record { front = []; bytes_are = ap (λ (l : List Turn). told_of l) none ∙ sym empty; wrote = Appends-nil w }
+pub writes_first : (w : Option (List ℕ)) (turns : List Batch) (spelled : List ℕ) → turns ≡ [] → spelled ≡ [] → Writes w w (told_of turns) spelled
+writes_first w turns spelled none empty = record { front = []; bytes_are = ap (λ (l : List Batch). told_of l) none ∙ sym empty; wrote = Appends-nil w }
 
 -- no turn comes
-pub writes_same : (w v : Option (List ℕ)) (turns more : List Turn) (spelled : List ℕ) → more ≡ turns → Writes w v (told_of turns) spelled → Writes w v (told_of more) spelled
-writes_same w v turns more spelled is wrote = subst (λ (l : List Turn). Writes w v (told_of l) spelled) (sym is) wrote
+pub writes_same : (w v : Option (List ℕ)) (turns more : List Batch) (spelled : List ℕ) → more ≡ turns → Writes w v (told_of turns) spelled → Writes w v (told_of more) spelled
+writes_same w v turns more spelled is wrote = subst (λ (l : List Batch). Writes w v (told_of l) spelled) (sym is) wrote
 
 -- what another turn tells is spelled behind it, and some of both is written
-pub writes_turn : (w v u : Option (List ℕ)) (turns more : List Turn) (t : Turn) (spelled rest : List ℕ) → more ≡ turns ++ t ∷ [] → Writes w v (told_of turns) spelled → Writes v u (spelled ++ t.told) rest → Writes w u (told_of more) rest
+pub writes_turn : (w v u : Option (List ℕ)) (turns more : List Batch) (t : Batch) (spelled rest : List ℕ) → more ≡ turns ++ t ∷ [] → Writes w v (told_of turns) spelled → Writes v u (spelled ++ t.told) rest → Writes w u (told_of more) rest
 writes_turn w v u turns more t spelled rest is wrote told =
-    let same : told_of more ≡ told_of turns ++ t.told = ap (λ (l : List Turn). told_of l) is ∙ told_with turns t in
+    let same : told_of more ≡ told_of turns ++ t.told = ap (λ (l : List Batch). told_of l) is ∙ told_with turns t in
     let both : Writes w v (told_of turns ++ t.told) (spelled ++ t.told) = record {
       front = wrote.front;
       bytes_are = ap (λ (l : List ℕ). l ++ t.told) wrote.bytes_are ∙ append_assoc wrote.front spelled t.told;
@@ -41,12 +41,12 @@ writes_turn w v u turns more t spelled rest is wrote told =
 
 -- ---- what is read
 
-pub sent_first : (text : List ℕ) (turns : List Turn) → turns ≡ [] → IsAhead text (events_of turns) text
-sent_first text turns none = subst (λ (l : List Turn). IsAhead text (events_of l) text) (sym none) (ahead_none text)
+pub sent_first : (text : List ℕ) (turns : List Batch) → turns ≡ [] → IsAhead text (events_of turns) text
+sent_first text turns none = subst (λ (l : List Batch). IsAhead text (events_of l) text) (sym none) (ahead_none text)
 
 -- no turn is sent
-pub sent_same : (text : List ℕ) (turns more : List Turn) (rest : List ℕ) → more ≡ turns → IsAhead text (events_of turns) rest → IsAhead text (events_of more) rest
-sent_same text turns more rest is h = subst (λ (l : List Turn). IsAhead text (events_of l) rest) (sym is) h
+pub sent_same : (text : List ℕ) (turns more : List Batch) (rest : List ℕ) → more ≡ turns → IsAhead text (events_of turns) rest → IsAhead text (events_of more) rest
+sent_same text turns more rest is h = subst (λ (l : List Batch). IsAhead text (events_of l) rest) (sym is) h
 
 -- the rest is the lines of more events, and a rest
 pub ahead_on : (text : List ℕ) (old new : List Event) (rest rest' : List ℕ) → IsAhead text old rest → IsAhead rest new rest' → IsAhead text (old ++ new) rest'
@@ -55,9 +55,9 @@ ahead_on text old new rest rest' h k =
     ahead_then text rest old (old ++ new) rest' h takes
 
 -- a turn is sent with the next lines
-pub sent_turn : (text : List ℕ) (turns more : List Turn) (turn : Turn) (rest rest' : List ℕ) → more ≡ turns ++ turn ∷ [] → IsAhead text (events_of turns) rest → IsAhead rest turn.ahead rest' → IsAhead text (events_of more) rest'
+pub sent_turn : (text : List ℕ) (turns more : List Batch) (turn : Batch) (rest rest' : List ℕ) → more ≡ turns ++ turn ∷ [] → IsAhead text (events_of turns) rest → IsAhead rest turn.ahead rest' → IsAhead text (events_of more) rest'
 sent_turn text turns more turn rest rest' is h k =
-    let same : events_of turns ++ turn.ahead ≡ events_of more = sym (events_with turns turn) ∙ ap (λ (l : List Turn). events_of l) (sym is) in
+    let same : events_of turns ++ turn.ahead ≡ events_of more = sym (events_with turns turn) ∙ ap (λ (l : List Batch). events_of l) (sym is) in
     subst (λ (l : List Event). IsAhead text l rest') same (ahead_on text (events_of turns) turn.ahead rest rest' h k)
 
 -- there are no more lines
@@ -80,7 +80,7 @@ sent_few {A} {E} result text events rest fits ok err =
       | Err e ↦ (λ a b. ahead_few text events b.0 fits b.1)
     ] ok err
 
-pub may_follow : (text : List ℕ) (turns : List Turn) (turn : Turn) (rest rest' : List ℕ) → length text ≤ 16777216 → IsAhead text (events_of turns) rest → IsAhead rest turn.ahead rest' → MayFollow turns turn
+pub may_follow : (text : List ℕ) (turns : List Batch) (turn : Batch) (rest rest' : List ℕ) → length text ≤ 16777216 → IsAhead text (events_of turns) rest → IsAhead rest turn.ahead rest' → MayFollow turns turn
 may_follow text turns turn rest rest' fits h k =
     let all = ahead_on text (events_of turns) turn.ahead rest rest' h k in
     record {
@@ -90,7 +90,7 @@ may_follow text turns turn rest rest' fits h k =
     }
 
 -- a turn without lines may always follow
-pub may_follow_last : (turns : List Turn) (turn : Turn) → turn.ahead ≡ [] → length (events_of turns) ≤ 2 ^ 45 → MayFollow turns turn
+pub may_follow_last : (turns : List Batch) (turn : Batch) → turn.ahead ≡ [] → length (events_of turns) ≤ 2 ^ 45 → MayFollow turns turn
 may_follow_last turns turn none few = record { entries = []; are = record { are_known = tt; events_are = none }; few = omega (arith, few, ap length none) }
 
 -- a ring that is not full

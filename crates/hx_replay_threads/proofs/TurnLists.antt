@@ -7,7 +7,7 @@ use Rattle.rtrb.specs.Ring.{SameConsumer, SameProducer}
 use Rattle.rtrb.specs.declared.consumer.Consumer.{Consumer}
 use Rattle.rtrb.specs.declared.producer.Producer.{Producer}
 use Rattle.hx_rules.specs.declared.event.Event.{Event}
-use Rattle.hx_replay_threads.specs.declared.turn.Turn.{Turn}
+use Rattle.hx_replay_threads.specs.declared.batch.Batch.{Batch}
 use Rattle.hx_tape_lines.specs.Text.{Entry}
 use Rattle.hx_tape_lines.specs.Events.{IsKnown, event_of}
 use Rattle.hx_replay_threads.specs.Ahead.{AreOf}
@@ -24,18 +24,18 @@ module _ {T A P : Type 0} where
 
 -- ---- events, one turn's behind another's
 
-pub events_append : (xs ys : List Turn) → events_of (xs ++ ys) ≡ events_of xs ++ events_of ys
-events_append xs ys = flat_map-append (λ (t : Turn). t.ahead) xs ys
+pub events_append : (xs ys : List Batch) → events_of (xs ++ ys) ≡ events_of xs ++ events_of ys
+events_append xs ys = flat_map-append (λ (t : Batch). t.ahead) xs ys
 
-pub told_append : (xs ys : List Turn) → told_of (xs ++ ys) ≡ told_of xs ++ told_of ys
-told_append xs ys = flat_map-append (λ (t : Turn). t.told) xs ys
+pub told_append : (xs ys : List Batch) → told_of (xs ++ ys) ≡ told_of xs ++ told_of ys
+told_append xs ys = flat_map-append (λ (t : Batch). t.told) xs ys
 
 -- one turn more
-pub events_with : (before : List Turn) (turn : Turn) → events_of (before ++ turn ∷ []) ≡ events_of before ++ turn.ahead
-events_with before turn = flat_map-append (λ (t : Turn). t.ahead) before (turn ∷ []) ∙ ap (λ (x : List Event). events_of before ++ x) (append-nil turn.ahead)
+pub events_with : (before : List Batch) (turn : Batch) → events_of (before ++ turn ∷ []) ≡ events_of before ++ turn.ahead
+events_with before turn = flat_map-append (λ (t : Batch). t.ahead) before (turn ∷ []) ∙ ap (λ (x : List Event). events_of before ++ x) (append-nil turn.ahead)
 
-pub told_with : (before : List Turn) (turn : Turn) → told_of (before ++ turn ∷ []) ≡ told_of before ++ turn.told
-told_with before turn = flat_map-append (λ (t : Turn). t.told) before (turn ∷ []) ∙ ap (λ (x : List ℕ). told_of before ++ x) (append-nil turn.told)
+pub told_with : (before : List Batch) (turn : Batch) → told_of (before ++ turn ∷ []) ≡ told_of before ++ turn.told
+told_with before turn = flat_map-append (λ (t : Batch). t.told) before (turn ∷ []) ∙ ap (λ (x : List ℕ). told_of before ++ x) (append-nil turn.told)
 
 -- ---- entries, some behind others
 

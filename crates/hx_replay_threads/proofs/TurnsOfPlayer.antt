@@ -2,7 +2,7 @@
 use Rattle.std.proofs.Common.{◌≡◌, ℕ, ◌+◌, ◌^◌, ◌≤◌, List, [], ◌∷◌, ◌++◌, length, sym, ap, ◌∙◌, subst, arith}
 use Rattle.std.proofs.lemmas.List.{append-nil, length-append, length-map, nil_from_length}
 use Rattle.hx_rules.specs.declared.event.Event.{Event}
-use Rattle.hx_replay_threads.specs.declared.turn.Turn.{Turn}
+use Rattle.hx_replay_threads.specs.declared.batch.Batch.{Batch}
 use Rattle.hx_tape_lines.specs.Text.{Entry}
 use Rattle.hx_tape_lines.specs.Events.{event_of}
 use Rattle.hx_replay.specs.Run.{Progress, after_all, output_all, AreEvents, IsFew}
@@ -25,14 +25,14 @@ plays_on c d e es fs output more h k = record {
 -- ---- turns
 
 -- these turns came and were played, and few events came in them
-pub record CameAndPlayed (old new : Progress) (came sent : List Turn) : Type 0 where
+pub record CameAndPlayed (old new : Progress) (came sent : List Batch) : Type 0 where
   pub entries : List Entry
   pub are : AreOf entries (events_of came)
   pub plays : PlaysTurns old new came sent
   pub few : length (events_of came) ≤ 2 ^ 45
 
 -- none came yet
-pub came_none : (c : Progress) (came sent : List Turn) → came ≡ [] → told_of sent ≡ [] → CameAndPlayed c c came sent
+pub came_none : (c : Progress) (came sent : List Batch) → came ≡ [] → told_of sent ≡ [] → CameAndPlayed c c came sent
 came_none c came sent none untold =
     let no_events : events_of came ≡ [] = ap events_of none in
     record {
@@ -45,7 +45,7 @@ came_none c came sent none untold =
     }
 
 -- how many events were played
-pub came_counts : (c d : Progress) (came sent : List Turn) → CameAndPlayed c d came sent → IsFew c → (d.events ≤ c.events + 2 ^ 45) × IsFew d
+pub came_counts : (c d : Progress) (came sent : List Batch) → CameAndPlayed c d came sent → IsFew c → (d.events ≤ c.events + 2 ^ 45) × IsFew d
 came_counts c d came sent h few =
     let p : PlaysAll c d h.entries (told_of sent) = h.plays h.entries h.are in
     let count : d.events ≡ c.events + length h.entries = ap (λ (x : Progress). x.events) p.after_is ∙ events_counted c h.entries in
@@ -53,11 +53,11 @@ came_counts c d came sent h few =
     (omega (arith, h.few), plays_few c d h.entries (told_of sent) p few)
 
 -- one more came, was played and is sent on with what it told
-pub came_next : (c d e : Progress) (came sent came' still sent' : List Turn) (turn last : Turn) (output : List ℕ) → CameAndPlayed c d came sent → MayFollow came turn → came' ≡ came ++ turn ∷ []
+pub came_next : (c d e : Progress) (came sent came' still sent' : List Batch) (turn last : Batch) (output : List ℕ) → CameAndPlayed c d came sent → MayFollow came turn → came' ≡ came ++ turn ∷ []
     → ((es : List Entry) → AreOf es turn.ahead → PlaysAll d e es output) → still ≡ sent → sent' ≡ still ++ last ∷ [] → last.told ≡ output → CameAndPlayed c e came' sent'
 came_next c d e came sent came' still sent' turn last output h may comes played same sends tells =
     let events : events_of came' ≡ events_of came ++ turn.ahead = ap events_of comes ∙ events_with came turn in
-    let told : told_of sent' ≡ told_of sent ++ output = ap told_of sends ∙ ap (λ (l : List Turn). told_of (l ++ last ∷ [])) same ∙ told_with sent last ∙ ap (λ (x : List ℕ). told_of sent ++ x) tells in
+    let told : told_of sent' ≡ told_of sent ++ output = ap told_of sends ∙ ap (λ (l : List Batch). told_of (l ++ last ∷ [])) same ∙ told_with sent last ∙ ap (λ (x : List ℕ). told_of sent ++ x) tells in
     record {
       entries = h.entries ++ may.entries;
       are = subst (λ (l : List Event). AreOf (h.entries ++ may.entries) l) (sym events) (are_joined h.entries may.entries (events_of came) turn.ahead h.are may.are);
@@ -69,7 +69,7 @@ came_next c d e came sent came' still sent' turn last output h may comes played 
     }
 
 -- one without lines came
-pub came_last : (c d : Progress) (came sent came' sent' : List Turn) (turn : Turn) → CameAndPlayed c d came sent → came' ≡ came ++ turn ∷ [] → length turn.ahead ≡ 0 → sent' ≡ sent → PlaysTurns c d came' sent'
+pub came_last : (c d : Progress) (came sent came' sent' : List Batch) (turn : Batch) → CameAndPlayed c d came sent → came' ≡ came ++ turn ∷ [] → length turn.ahead ≡ 0 → sent' ≡ sent → PlaysTurns c d came' sent'
 came_last c d came sent came' sent' turn h comes empty sends es are =
     let events : events_of came' ≡ events_of came = ap events_of comes ∙ events_with came turn ∙ ap (λ (x : List Event). events_of came ++ x) (nil_from_length turn.ahead empty) ∙ append-nil (events_of came) in
-    subst (λ (l : List Turn). PlaysAll c d es (told_of l)) (sym sends) (h.plays es (subst (λ (l : List Event). AreOf es l) events are))
+    subst (λ (l : List Batch). PlaysAll c d es (told_of l)) (sym sends) (h.plays es (subst (λ (l : List Event). AreOf es l) events are))

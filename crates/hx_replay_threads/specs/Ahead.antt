@@ -32,7 +32,7 @@ pub record PlaysAll (old new : Progress) (events : List Entry) (output : List �
   pub after_is : new ≡ after_all old events
   pub output_is : output ≡ output_all old events
 
--- the events before one that fails were played, and but for want of memory this is their output text
+-- the events before one that fails were played, and but when out of memory this is their output text
 pub record FailsAmong (old : Progress) (events : List Entry) (output : List ℕ)
     (e : TapeError) : Type 0 where
   pub played : List Entry

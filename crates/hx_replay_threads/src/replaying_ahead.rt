@@ -3,7 +3,7 @@ ghost use Rattle.std.specs.Prelude.{◌≤◌, ◌<◌, ◌^◌, ◌+◌, IfOk, 
 ghost use Rattle.hx_replay.specs.Run.{Replays, Stops, IsFew};
 ghost use Rattle.hx_replay.specs.Whole.{ReplaysAll, StopsAt};
 
-use crate::turns::{Turns, play_turns};
+use crate::two_threads::{Turns, play_turns};
 use hx_levels::{Book, LevelBook};
 use hx_members::Setup;
 use hx_replay::{
@@ -13,10 +13,10 @@ use std::alloc::Global;
 use std::io::{Read, Write};
 use std::thread::Threads;
 
-// A text of so many bytes, or fewer, is not worth a thread.
+// A text of this many bytes, or fewer, is not worth a thread.
 const FEW: usize = 65_536;
 
-// So many bytes are read at once, or fewer.
+// This many bytes are read at once, or fewer.
 const PIECE: usize = 4_198_400;
 
 // Plays lines of what is pending in turns, where they are worth a thread.
@@ -56,10 +56,12 @@ pub fn replay_ahead<T: Threads, R: Read, W: Write + Send>(
 ) -> Result<Counts, TapeError>
     // All was read, and the output text of its events was written; in it quiet orders leave no trace.
     ensures ok { IfOk result (λ counts.
-        ReplaysAll setup.now counts (R.remaining reader.old) (R.remaining reader.new) (W.contents writer.old) (W.contents writer.new)) }
+        ReplaysAll setup.now counts (R.remaining reader.old) (R.remaining reader.new)
+        (W.contents writer.old) (W.contents writer.new)) }
     // What was read, and which part of the output text of its events was written; the same of it.
     ensures err { IfErr result (λ e.
-        StopsAt setup.now e (R.remaining reader.old) (R.remaining reader.new) (W.contents writer.old) (W.contents writer.new)) }
+        StopsAt setup.now e (R.remaining reader.old) (R.remaining reader.new)
+        (W.contents writer.old) (W.contents writer.new)) }
 {
     let mut run = Run::new(alloc, setup.copy(alloc)?, LevelBook::new(alloc))?;
     let mut pending = Pending::new(alloc, PIECE)?;

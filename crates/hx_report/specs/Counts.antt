@@ -50,7 +50,7 @@ trades_of setup member events = count_by is_execution (replies setup member even
 abbrev pub non_display : ℕ
 non_display = letter "N"
 
--- an order of this token and so many shares, where it is not shown
+-- an order of this token and this many shares, where it is not shown
 abbrev pub hidden_if : (display : ℕ) → Token → (shares : ℕ) → Option Hidden
 hidden_if display token shares =
     if display == non_display then Some (record { token = token; shares = shares }) else None

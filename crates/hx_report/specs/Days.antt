@@ -43,7 +43,8 @@ IsNoDay setup text fault.Turns = ⊤
 -- day beside what he gets without them.
 pub record IsCheck (setup : Setup) (es : List Entry) (whose : Whose) (look : Look) (check : Check)
     : Type 0 where
-  pub struck : check.struck ≡ counted (length (chosen_among (choice_of whose (run setup (map event_of es))) es))
+  pub struck : check.struck
+      ≡ counted (length (chosen_among (choice_of whose (run setup (map event_of es))) es))
   pub compares :
       Compares (pick_of look) (output_all (start setup) es)
       (output_all (start setup) (left_by setup whose es)) check.comparison

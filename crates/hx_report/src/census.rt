@@ -140,13 +140,18 @@ impl Notes {
     }
 }
 
-// Takes the event of a line.
-fn take_line(alloc: Global, notes: &mut Notes, text: &[u8]) -> Result<(), NoMemory>
+// Takes the event of a line, whose digits are read into a room.
+fn take_line(
+    alloc: Global,
+    room: &mut Vec<u8>,
+    notes: &mut Notes,
+    text: &[u8],
+) -> Result<(), NoMemory>
     ensures { OnOk result ((setup : SetupOf) (es : List Entry) (e : Entry) → IsKnown e
         → text.now ≡ line_of e → HasNoted notes.old setup (map event_of es)
         → HasNoted notes.new setup (map event_of (es ++ e ∷ []))) }
 {
-    let Some(event) = read_event(alloc, Bytes::none(), text)? else {
+    let Some(event) = read_event(alloc, room, Bytes::none(), text)? else {
         return Err(NoMemory);
     };
     notes.take(&event)?;
@@ -159,9 +164,10 @@ fn take_lines(alloc: Global, setup: &Setup, text: &[u8]) -> Result<Notes, NoMemo
         → text.now ≡ tape es → HasNoted notes setup.now (map event_of es)) }
 {
     let mut notes = Notes::new(alloc, setup)?;
+    let mut room = Vec::new(alloc);
     let mut rest = text;
     while let Some((line, others)) = split_once(rest, b'\n') {
-        take_line(alloc, &mut notes, line)?;
+        take_line(alloc, &mut room, &mut notes, line)?;
         rest = others;
     }
     Ok(notes)

@@ -25,7 +25,7 @@ pub struct Check {
     pub comparison: Comparison,
 }
 
-// What the tape of a day's events tells; of such a tape only memory can be wanting. It has room for so many bytes.
+// What the tape of a day's events tells; of such a tape only memory can be wanting. It has room for this many bytes.
 fn output_of(alloc: Global, setup: &Setup, text: &[u8], room: usize) -> Result<Vec<u8>, NoMemory>
     ensures { IfOk result (λ output. (es : List Entry) → AreEvents (start setup.now) es
         → text.now ≡ tape es → output.items ≡ output_all (start setup.now) es) }

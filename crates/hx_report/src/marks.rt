@@ -48,14 +48,19 @@ fn sender_of(event: &Event) -> u16
     }
 }
 
-// Takes the event of the next line.
-fn take_line(alloc: Global, taken: &mut TakenLines, text: &[u8]) -> Result<(), NoMemory>
+// Takes the event of the next line, whose digits are read into a room.
+fn take_line(
+    alloc: Global,
+    room: &mut Vec<u8>,
+    taken: &mut TakenLines,
+    text: &[u8],
+) -> Result<(), NoMemory>
     ensures setup { taken.new.auditor.setup ≡ taken.old.auditor.setup }
     ensures whose { taken.new.auditor.whose ≡ taken.old.auditor.whose }
     ensures ok { OnOk result ((es : List Entry) (e : Entry) → IsKnown e → text.now ≡ line_of e
         → HasTakenLines taken.old es → HasTakenLines taken.new (es ++ e ∷ [])) }
 {
-    let Some(event) = read_event(alloc, Bytes::none(), text)? else {
+    let Some(event) = read_event(alloc, room, Bytes::none(), text)? else {
         return Err(NoMemory);
     };
     if taken.auditor.take(&event).is_err() {
@@ -79,9 +84,10 @@ fn take_lines(alloc: Global, setup: &Setup, text: &[u8]) -> Result<TakenLines, N
         auditor: Auditor::new(alloc, setup, Whose::OfAll)?,
         lines: Vec::new(alloc),
     };
+    let mut room = Vec::new(alloc);
     let mut rest = text;
     while let Some((line, others)) = split_once(rest, b'\n') {
-        take_line(alloc, &mut taken, line)?;
+        take_line(alloc, &mut room, &mut taken, line)?;
         rest = others;
     }
     Ok(taken)

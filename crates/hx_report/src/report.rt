@@ -33,7 +33,7 @@ pub struct Report {
     pub all: Check,
 }
 
-// So many members are checked at once.
+// This many members are checked at once.
 const AT_ONCE: usize = 4;
 
 // The row of the member at a place.

@@ -24,7 +24,7 @@ struct Hidden {
 // The display of an order that is not shown.
 const NON_DISPLAY: u8 = b'N';
 
-// An order of this token and so many shares, where it is not shown.
+// An order of this token and this many shares, where it is not shown.
 fn hidden_if(display: u8, token: Token, shares: u32) -> Option<Hidden>
     ensures { result ≡ hidden_if display token shares }
 {

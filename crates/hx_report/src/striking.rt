@@ -41,7 +41,7 @@ impl Mark {
 }
 
 impl Struck {
-    // Nothing yet, and room for so many bytes.
+    // Nothing yet, and room for this many bytes.
     fn new(alloc: Global, room: usize) -> Result<Struck, NoMemory>
         ensures { IfOk result (λ struck. (choice : Choice) → HasStruck choice struck []) }
     {

@@ -35,7 +35,7 @@ is_idle executed c order = some_applies (cancel_idles executed c order)
 
 -- ---- What a Cancel does
 
--- so many shares are off
+-- this many shares are off
 abbrev pub take_off : Market → (member time : ℕ) (token : Token) (by : ℕ) → Order → Outcome
 take_off market member time token by x =
     record {

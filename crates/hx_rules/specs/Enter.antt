@@ -54,7 +54,7 @@ abbrev pub first_reason : List Reason → Option ℕ
 first_reason [] = None
 first_reason (r ∷ rs) = if r.applies then Some r.letter else first_reason rs
 
--- the reasons in their order, with so many hours codes past and these stocks halted (Rejected Order
+-- the reasons in their order, with this many hours codes past and these stocks halted (Rejected Order
 -- Message, Reason)
 abbrev pub reasons : Setup → (hours : ℕ) (halted : List Bool) → Enter → List Reason
 reasons setup hours halted e =

@@ -122,7 +122,7 @@ incoming_of x =
       minimum = x.minimum;
     }
 
--- what rests of an order with so many shares left, as a list: nothing of an immediate one
+-- what rests of an order with this many shares left, as a list: nothing of an immediate one
 abbrev pub resting_of : Order → (immediate : Bool) (left : ℕ) → List Order
 resting_of x immediate left =
     if nat_lt 0 left && not immediate then record x { shares = left } ∷ [] else []

@@ -101,7 +101,7 @@ hours_by setup market time code true =
     end_orders (ends_by_code code) time
     (record market { hours = market.hours + 1 }) (told_by_code setup time code)
 
--- whether the code is the next one, so many being past
+-- whether the code is the next one, this many being past
 abbrev pub is_next : (hours code : ℕ) → Bool
 is_next hours code = nat_lt hours 6 && (slice_index hours_codes hours == code)
 

@@ -1,4 +1,5 @@
 pub mod Letters
+pub mod Blocks
 pub mod Limits
 pub mod Orders
 pub mod Markets

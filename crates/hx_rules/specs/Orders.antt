@@ -41,7 +41,7 @@ is_immediate time_in_force = time_in_force == immediate
 abbrev pub is_shown : (display time_in_force : ℕ) → Bool
 is_shown display time_in_force = is_visible display && not (is_immediate time_in_force)
 
--- how long an order lives that comes at a time: so many seconds, the market hours, or else the
+-- how long an order lives that comes at a time: this many seconds, the market hours, or else the
 -- system hours (Time in Force)
 abbrev pub life_of : (time time_in_force : ℕ) → Life
 life_of time time_in_force =

@@ -33,7 +33,7 @@ limit_of setup (Hours time code) = operator_limit
 limit_of setup (Halt time stock state reason) = operator_limit
 limit_of setup (Break time number) = operator_limit
 
--- why the market refuses an event, at so many recorded events of each number: a time that is not
+-- why the market refuses an event, at this many recorded events of each number: a time that is not
 -- within the day, no such member, or a limit that is met
 abbrev pub refusal : Setup → List ℕ → Event → Option PrepareError
 refusal setup recorded event =

@@ -1,28 +1,42 @@
-//! The bytes of messages.
-ghost use Rattle.std.specs.Prelude.{◌≡◌, ◌<◌, [], length, IfOk, IfErr};
+//! The bytes of messages, each message's in one block of memory.
+ghost use Rattle.std.specs.Prelude.{◌≡◌, ◌<◌, [], length, true, IfOk, IfErr, IfSome, IfNone};
+ghost use Rattle.std.specs.Arc.{arc_value};
+ghost use Rattle.hx_rules.specs.Blocks.{most_in_block};
 
+use arrayvec::ArrayVec;
 use hx_units::NoMemory;
 use std::alloc::Global;
 use std::marker::Model;
-use std::mem::replace;
 use std::sync::Arc;
+
+// The most bytes that lie in one block. An Enter Order of OUCH 4.2, the longest message of a member, has 49.
+const MOST: usize = 52;
+
+// Where bytes lie, with the count of those who share them.
+#[derive(Drop)]
+enum Block {
+    // There are none.
+    Empty,
+    // In the block itself.
+    Short(Arc<ArrayVec<u8, 52>>),
+    // More than those, behind one pointer more.
+    Long(Arc<Vec<u8>>),
+}
 
 /// The bytes of a message, as they came. Contracts see the list of them. Copies share it: a day keeps the bytes of an
 /// event once, wherever the event stands.
 #[derive(Drop)]
 pub struct Bytes {
-    // `None`: no bytes.
-    shared: Option<Arc<Vec<u8>>>,
+    block: Block,
 }
 
 impl Model for Bytes {
-    ghost use Rattle.std.specs.Prelude.{ℕ, List, Vec, [], option_map, unwrap_or};
-    ghost use Rattle.std.specs.Arc.{arc_value};
-    ghost use Rattle.std.specs.declared.alloc.Global.{Global};
+    ghost use Rattle.std.specs.Prelude.{ℕ, List};
+    ghost use Rattle.hx_rules.specs.Blocks.{bytes_of};
 
     ghost Value = { List ℕ };
 
-    ghost view = { λ b. unwrap_or (option_map (λ a. (arc_value {X = Vec ℕ Global} a).items) b.shared) [] };
+    ghost view = { λ b. bytes_of b.block };
 }
 
 impl Bytes {
@@ -30,55 +44,59 @@ impl Bytes {
     pub fn none() -> Bytes
         ensures { result ≡ [] }
     {
-        Bytes { shared: None }
+        Bytes {
+            block: Block::Empty,
+        }
     }
 
-    /// These bytes. `NoMemory` where there is no room to share them: none take no memory.
-    pub fn of(alloc: Global, items: Vec<u8>) -> Result<Bytes, NoMemory>
-        ensures bytes { IfOk result (λ bytes. bytes ≡ items.items) }
-        ensures memory { IfErr result (λ _. 0 < length items.items) }
+    /// These bytes. `NoMemory` where there is no room for them: none take no memory.
+    pub fn of(alloc: Global, items: &[u8]) -> Result<Bytes, NoMemory>
+        ensures bytes { IfOk result (λ bytes. bytes ≡ items.now) }
+        ensures memory { IfErr result (λ _. 0 < length items.now) }
     {
         if items.is_empty() {
             return Ok(Bytes::none());
         }
-        Ok(Bytes {
-            shared: Some(Arc::new(alloc, items)?),
-        })
+        let block = match short_of(items) {
+            Some(short) => Block::Short(Arc::new(alloc, short)?),
+            None => Block::Long(Arc::new(alloc, Vec::from_slice(alloc, items)?)?),
+        };
+        Ok(Bytes { block })
     }
 
-    /// These bytes in the place of others, which take no more memory unless somebody shares them.
-    pub fn replaced_by(self, alloc: Global, items: Vec<u8>) -> Result<Bytes, NoMemory>
-        ensures bytes { IfOk result (λ bytes. bytes ≡ items.items) }
-        ensures memory { IfErr result (λ _. 0 < length items.items) }
+    /// These bytes in the place of others, which take no more memory where they fit there and nobody shares it.
+    pub fn replaced_by(self, alloc: Global, items: &[u8]) -> Result<Bytes, NoMemory>
+        ensures bytes { IfOk result (λ bytes. bytes ≡ items.now) }
+        ensures memory { IfErr result (λ _. 0 < length items.now) }
     {
-        if let Some(mut shared) = self.shared {
-            if let Some(place) = Arc::get_mut(&mut shared) {
-                *place = items;
-                return Ok(Bytes {
-                    shared: Some(shared),
-                });
+        match self.block {
+            Block::Short(mut short) => {
+                if write_short(&mut short, items) {
+                    return Ok(Bytes {
+                        block: Block::Short(short),
+                    });
+                }
             }
+            Block::Long(mut long) => {
+                if write_long(&mut long, items) {
+                    return Ok(Bytes {
+                        block: Block::Long(long),
+                    });
+                }
+            }
+            Block::Empty => {}
         }
         Bytes::of(alloc, items)
-    }
-
-    /// A list with room for other bytes, where nobody shares these. What stands in it is of no use.
-    pub fn take_room(&mut self, alloc: Global) -> Vec<u8> {
-        if let Some(shared) = &mut self.shared {
-            if let Some(items) = Arc::get_mut(shared) {
-                return replace(items, Vec::new(alloc));
-            }
-        }
-        Vec::new(alloc)
     }
 
     /// The bytes, as a slice.
     pub fn as_slice(&self) -> &[u8]
         ensures { result.now ≡ self.now }
     {
-        match &self.shared {
-            Some(shared) => shared.as_slice(),
-            None => &[],
+        match &self.block {
+            Block::Empty => &[],
+            Block::Short(short) => short.as_slice(),
+            Block::Long(long) => long.as_slice(),
         }
     }
 
@@ -87,11 +105,49 @@ impl Bytes {
         ensures equal { IfOk result (λ bytes. bytes ≡ self.now) }
         ensures memory { IfErr result (λ _. 0 < length self.now) }
     {
-        match &self.shared {
-            Some(shared) if !shared.is_empty() => Ok(Bytes {
-                shared: Some(Arc::try_clone(shared)?),
-            }),
-            _ => Ok(Bytes::none()),
-        }
+        let block = match &self.block {
+            Block::Short(short) if !short.is_empty() => Block::Short(Arc::try_clone(short)?),
+            Block::Long(long) if !long.is_empty() => Block::Long(Arc::try_clone(long)?),
+            _ => Block::Empty,
+        };
+        Ok(Bytes { block })
     }
+}
+
+// Bytes that lie in one block, where they are not too many.
+fn short_of(items: &[u8]) -> Option<ArrayVec<u8, 52>>
+    ensures some { IfSome result (λ short. short.items ≡ items.now) }
+    ensures none { IfNone result (most_in_block < length items.now) }
+{
+    let mut short = ArrayVec::new();
+    match short.try_extend_from_slice(items) {
+        Ok(()) => Some(short),
+        Err(_) => None,
+    }
+}
+
+// Writes bytes into a block in place of those there, where nobody shares it and they are not too many, and returns whether
+// it did. If not, what stands there is of no use.
+fn write_short(short: &mut Arc<ArrayVec<u8, 52>>, items: &[u8]) -> bool
+    ensures { result ≡ true → (arc_value short.new).items ≡ items.now }
+{
+    let Some(place) = Arc::get_mut(short) else {
+        return false;
+    };
+    place.clear();
+    place.try_extend_from_slice(items).is_ok()
+}
+
+// The same of a longer block. Bytes that are few go into no such block.
+fn write_long(long: &mut Arc<Vec<u8>>, items: &[u8]) -> bool
+    ensures { result ≡ true → (arc_value long.new).items ≡ items.now }
+{
+    if items.len() <= MOST {
+        return false;
+    }
+    let Some(place) = Arc::get_mut(long) else {
+        return false;
+    };
+    place.clear();
+    place.extend_from_slice(items).is_ok()
 }

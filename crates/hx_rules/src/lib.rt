@@ -4,6 +4,7 @@
 mod bytes;
 mod event;
 mod fault;
+pub mod letters;
 mod lives;
 mod matches;
 mod operator;

@@ -3,6 +3,7 @@ ghost use Rattle.std.specs.Prelude.{◌≡◌};
 ghost use Rattle.hx_rules.specs.Orders.{expiry_of};
 ghost use Rattle.hx_rules.specs.Hours.{is_over, is_to_market, ends_by_code};
 
+use crate::letters;
 use hx_levels::{Life, Order};
 
 /// When an order of this life ends, where that is a time, in nanoseconds since midnight.
@@ -38,5 +39,6 @@ fn is_to_market(life: Life) -> bool
 pub fn ends_by_code(code: u8, order: &Order) -> bool
     ensures { result ≡ ends_by_code code order.now }
 {
-    (code == b'M' && is_to_market(order.life)) || code == b'E'
+    (code == letters::END_OF_MARKET_HOURS && is_to_market(order.life))
+        || code == letters::END_OF_SYSTEM_HOURS
 }

@@ -3,6 +3,7 @@ ghost use Rattle.std.specs.Prelude.{◌≡◌};
 ghost use Rattle.hx_rules.specs.OperatorMessages.{event_of_letter, operator_event};
 
 use crate::event::Event;
+use crate::letters;
 use hx_units::Symbol;
 use hx_units::fields::{array_at, u64_at};
 
@@ -11,8 +12,13 @@ fn event_of_letter(time: u64, letter: u8) -> Option<Event>
     ensures { result ≡ event_of_letter time letter }
 {
     match letter {
-        b'K' => Some(Event::Tick { time }),
-        b'O' | b'S' | b'Q' | b'M' | b'E' | b'C' => Some(Event::Hours { time, code: letter }),
+        letters::TICK => Some(Event::Tick { time }),
+        letters::START_OF_MESSAGES
+        | letters::START_OF_SYSTEM_HOURS
+        | letters::START_OF_MARKET_HOURS
+        | letters::END_OF_MARKET_HOURS
+        | letters::END_OF_SYSTEM_HOURS
+        | letters::END_OF_MESSAGES => Some(Event::Hours { time, code: letter }),
         _ => None,
     }
 }
@@ -25,13 +31,13 @@ pub fn decode_operator(time: u64, payload: &[u8]) -> Option<Event>
 {
     let letter = *payload.first()?;
     match (letter, payload.len()) {
-        (b'H', 14) => Some(Event::Halt {
+        (letters::HALT, 14) => Some(Event::Halt {
             time,
             stock: Symbol(array_at(payload, 1)),
             state: payload[9],
             reason: array_at(payload, 10),
         }),
-        (b'B', 9) => Some(Event::Break {
+        (letters::BREAK, 9) => Some(Event::Break {
             time,
             number: u64_at(payload, 1),
         }),

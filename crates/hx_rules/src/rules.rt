@@ -6,9 +6,16 @@ ghost use Rattle.hx_rules.specs.Markets.{is_open, is_halted};
 ghost use Rattle.hx_rules.specs.Enter.{rejection, is_bad_shares, is_bad_price, is_late};
 ghost use Rattle.hx_rules.specs.Replace.{replace_fails};
 
+use crate::letters;
 use hx_levels::Life;
 use hx_ouch::{Enter, Replace};
-use hx_units::Side;
+use hx_units::{Price, Shares, Side};
+
+// The most seconds that an order can ask for: a day (OUCH 4.2, Enter Order: Time in Force).
+const MOST_SECONDS: u32 = 86400;
+
+// The time in force that ends with the market hours.
+const MARKET_HOURS: u32 = 99998;
 
 /// The side of an order's letter.
 pub fn side_of(letter: u8) -> Side
@@ -44,9 +51,9 @@ pub fn life_of(time: u64, time_in_force: u32) -> Life
     requires { time < 2 ^ 62 }
     ensures { result ≡ life_of time time_in_force }
 {
-    if 1 <= time_in_force && time_in_force <= 86400 {
+    if 1 <= time_in_force && time_in_force <= MOST_SECONDS {
         Life::Until(time + time_in_force as u64 * 1_000_000_000)
-    } else if time_in_force == 99998 {
+    } else if time_in_force == MARKET_HOURS {
         Life::Market
     } else {
         Life::System
@@ -56,13 +63,13 @@ pub fn life_of(time: u64, time_in_force: u32) -> Life
 fn is_visible(display: u8) -> bool
     ensures { result ≡ is_visible display }
 {
-    display == b'Y' || display == b'A'
+    display == letters::ANONYMOUS || display == letters::ATTRIBUTABLE
 }
 
 fn is_display(display: u8) -> bool
     ensures { result ≡ is_display display }
 {
-    is_visible(display) || display == b'N'
+    is_visible(display) || display == letters::NON_DISPLAY
 }
 
 fn is_side(letter: u8) -> bool
@@ -74,13 +81,13 @@ fn is_side(letter: u8) -> bool
 fn is_bad_shares(shares: u32) -> bool
     ensures { result ≡ is_bad_shares shares }
 {
-    shares == 0 || shares > 999_999
+    shares == 0 || shares > Shares::MAX
 }
 
 fn is_bad_price(price: u32) -> bool
     ensures { result ≡ is_bad_price price }
 {
-    price == 0 || price > 1_999_999_900 || (price >= 10_000 && price % 100 != 0)
+    price == 0 || price > Price::MAX || (price >= 10_000 && price % 100 != 0)
 }
 
 fn is_open(hours: u8) -> bool
@@ -92,7 +99,7 @@ fn is_open(hours: u8) -> bool
 fn is_late(hours: u8, time_in_force: u32) -> bool
     ensures { result ≡ is_late hours time_in_force }
 {
-    time_in_force == 99998 && hours >= 4
+    time_in_force == MARKET_HOURS && hours >= 4
 }
 
 /// Whether the stock of this locate is halted.
@@ -113,31 +120,31 @@ pub fn rejection(locate: Option<u16>, hours: u8, halted: &[bool], enter: &Enter)
         → result ≡ rejection setup hours halted.now enter.now }
 {
     if !is_open(hours) || is_late(hours, enter.time_in_force) {
-        return Some(b'C');
+        return Some(letters::CLOSED);
     }
     let Some(locate) = locate else {
-        return Some(b'S');
+        return Some(letters::INVALID_STOCK);
     };
     if is_halted(halted, locate) {
-        Some(b'H')
-    } else if !is_side(enter.side) || enter.cross_type != b'N' {
-        Some(b'O')
+        Some(letters::STOCK_HALTED)
+    } else if !is_side(enter.side) || enter.cross_type != letters::NO_CROSS {
+        Some(letters::OTHER_REASON)
     } else if !is_display(enter.display) {
-        Some(b'D')
+        Some(letters::INVALID_DISPLAY)
     } else if is_bad_shares(enter.shares) {
-        Some(b'Z')
+        Some(letters::INVALID_SHARES)
     } else if is_bad_price(enter.price) {
-        Some(b'X')
+        Some(letters::INVALID_PRICE)
     } else if enter.minimum_quantity > enter.shares
         || (enter.minimum_quantity > 0 && is_shown(enter.display, enter.time_in_force))
     {
-        Some(b'N')
+        Some(letters::INVALID_MINIMUM)
     } else {
         None
     }
 }
 
-/// Whether a Replace fails, at this many hours codes past and so many executed shares of its chain.
+/// Whether a Replace fails, at this many hours codes past and this many executed shares of its chain.
 pub fn replace_fails(hours: u8, executed: u32, replace: &Replace) -> bool
     ensures { result ≡ replace_fails hours executed replace.now }
 {

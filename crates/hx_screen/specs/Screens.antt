@@ -68,7 +68,7 @@ CarriesFeed setup events session steps =
     AllByRecursion IsFeed (feed setup events)
     × AllByRecursion (TellsOf (spelled_feed setup events) session) steps
 
--- the book of these messages is that of the venue after so many events
+-- the book of these messages is that of the venue after this many events
 abbrev pub IsBookAfter : Setup → List Event → (n : ℕ) → (seen : List Feed) → Type 0
 IsBookAfter setup events n seen =
     (shown_book seen ≡ shown_orders setup (run setup (take n events)).live)

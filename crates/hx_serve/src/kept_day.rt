@@ -5,9 +5,9 @@ ghost use Rattle.hx_desk.specs.Entries.{restored};
 ghost use Rattle.hx_engine.specs.Journals.{lines};
 
 use crate::beginning::{Beginning, Day};
+use crate::day::serve_from;
 use crate::fault::ServeError;
 use crate::history::write_history;
-use crate::serving::serve_from;
 use hx_doors::Doors;
 use hx_engine::Journal;
 use hx_floor::{Board, Hosting, Notice};

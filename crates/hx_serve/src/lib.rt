@@ -3,8 +3,9 @@
 //! the door is open all day: its places serve one session after another.
 #![tactic(auto)]
 
+mod backoff;
 mod beginning;
-mod crew;
+mod day;
 mod director;
 mod ending;
 mod fault;
@@ -15,15 +16,15 @@ mod kept_day;
 mod open_day;
 mod operating;
 mod operator;
+mod parts;
 mod places;
 mod publishing;
-mod rest;
 mod sending;
-mod serving;
 mod watching;
 mod workers;
 
 pub use beginning::{Beginning, Day};
+pub use day::{serve, serve_day, serve_from};
 pub use director::Duties;
 pub use ending::{fault_of_day, write_last_line};
 pub use fault::ServeError;
@@ -36,4 +37,3 @@ pub use hx_floor::{
 };
 pub use kept_day::{keep_history, new_history, serve_kept};
 pub use operator::operate;
-pub use serving::{serve, serve_day, serve_from};

@@ -15,7 +15,7 @@ use std::time::{Clock, Duration};
 // The codes of the hours, in their order (ITCH 5.0, System Event Message).
 const HOURS: [u8; 6] = *b"OSQMEC";
 
-// Where the last codes are not recorded for want of memory they are tried again, after so many milliseconds.
+// Where the last codes are not recorded when out of memory they are tried again, after this many milliseconds.
 const AGAIN: u64 = 200;
 
 // How many bytes are read at once.
@@ -119,7 +119,7 @@ impl<V: Venue> Conductor<V> {
         Ok(())
     }
 
-    // Reads the input to its end, or to a fault of it, in at most so many reads.
+    // Reads the input to its end, or to a fault of it, in at most this many reads.
     fn read_all<J: Journal + Drop, B: Board, R: Read, T: Wait>(
         &mut self,
         rt: &T,

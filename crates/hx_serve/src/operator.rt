@@ -119,7 +119,7 @@ impl<V: Venue> Operator<V> {
         Ok(())
     }
 
-    // Reads once, and sends the events of the lines that are whole then. Answers whether the input goes on.
+    // Reads once, and sends the events of the lines that are whole then. Returns whether the input goes on.
     fn read_once<J: Journal + Drop, T: Wait, R: Read>(
         &mut self,
         rt: &T,
@@ -157,7 +157,7 @@ impl<V: Venue> Operator<V> {
         }
     }
 
-    // Reads the input to its end, or to a fault, in at most so many reads.
+    // Reads the input to its end, or to a fault, in at most this many reads.
     fn read_all<J: Journal + Drop, T: Wait, R: Read>(
         &mut self,
         rt: &T,
@@ -187,7 +187,7 @@ impl<V: Venue> Operator<V> {
 }
 
 /// Reads the operator's input, and sends the event of each line by his pass, up to the end of the input, the first line
-/// that is bad or refused, or a journal that has failed. Answers the pass, and the fault.
+/// that is bad or refused, or a journal that has failed. Returns the pass, and the fault.
 pub fn operate<V: Venue, J: Journal + Drop, T: Wait, R: Read>(
     rt: &T,
     alloc: Global,

@@ -20,13 +20,13 @@ use std::time::{Clock, Duration, Instant};
 // An answer that finds no room is tried again so often.
 const ANSWER_TRIES: u32 = 100;
 
-// Once all who write have ended and all is sent, so many datagrams are looked at, whatever comes.
+// Once all who write have ended and all is sent, this many datagrams are looked at, whatever comes.
 const LAST_ANSWERS: u32 = 1_000;
 
-// So many packets go out at most before it is looked whether there is a request.
+// This many packets go out at most before it is looked whether there is a request.
 const BURST: u32 = 64;
 
-// A heartbeat is due after so many nanoseconds without a packet.
+// A heartbeat is due after this many nanoseconds without a packet.
 const SILENCE: u64 = 1_000_000_000;
 
 // A request has 20 bytes; what is longer is none.
@@ -86,7 +86,7 @@ impl<'a, V: Venue> Publishing<'a, V> {
         }
     }
 
-    // Sends the next packet, where there is one. Answers whether there was: where there was none, all that the
+    // Sends the next packet, where there is one. Returns whether there was: where there was none, all that the
     // publisher knows of is sent.
     fn publish<T: Clock, D: Datagrams>(&mut self, rt: &T, socket: &D, now: u64) -> bool
         ensures known { IsPrefix self.old.publisher.messages.known
@@ -102,7 +102,7 @@ impl<'a, V: Venue> Publishing<'a, V> {
         true
     }
 
-    // Sends packets while there are any, up to a limit. Answers whether there may be more.
+    // Sends packets while there are any, up to a limit. Returns whether there may be more.
     fn publish_some<T: Clock, D: Datagrams>(&mut self, rt: &T, socket: &D, now: u64) -> bool {
         for _ in 0..BURST {
             if !self.publish(rt, socket, now) {
@@ -125,7 +125,7 @@ impl<'a, V: Venue> Publishing<'a, V> {
         Duration::from_nanos(SILENCE.saturating_sub(silent))
     }
 
-    // Answers the next request, where there is one. Answers whether there was any datagram. An answer that cannot be
+    // Returns the next request, where there is one. Returns whether there was any datagram. An answer that cannot be
     // sent is the trouble of who asked.
     fn answer<T: Clock, D: Datagrams, B: Board>(
         &mut self,
@@ -214,7 +214,7 @@ impl<'a, V: Venue> Publishing<'a, V> {
         self.publisher.learn(receipt);
     }
 
-    // Sends what is left. Answers whether all that the publisher knows of is sent.
+    // Sends what is left. Returns whether all that the publisher knows of is sent.
     fn drain<T: Clock, D: Datagrams>(&mut self, rt: &T, socket: &D, now: u64) -> bool
         ensures known { IsPrefix self.old.publisher.messages.known
             self.new.publisher.messages.known }
@@ -229,7 +229,7 @@ impl<'a, V: Venue> Publishing<'a, V> {
         false
     }
 
-    /// Sends what is left, and the packet that ends the session. Answers whether no datagram failed: then all that the
+    /// Sends what is left, and the packet that ends the session. Returns whether no datagram failed: then all that the
     /// publisher knows of is sent.
     pub fn finish<T: Clock, D: Datagrams>(&mut self, rt: &T, socket: &D) -> bool
         ensures known { IsPrefix self.old.publisher.messages.known
@@ -246,7 +246,7 @@ impl<'a, V: Venue> Publishing<'a, V> {
         !self.failed
     }
 
-    /// Repeats the packet that ends the session once a second, for so many seconds, and answers requests meanwhile: who
+    /// Repeats the packet that ends the session once a second, for this many seconds, and answers requests meanwhile: who
     /// lost the last packets hears of them so, and gets them. To be called behind `finish`.
     pub fn linger<T: Clock, D: Datagrams, B: Board>(
         &mut self,

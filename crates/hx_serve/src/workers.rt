@@ -1,7 +1,7 @@
 //! The workers of a day, all at once: the publisher, the operator, and one for each session.
-use crate::crew::{Member, Served};
 use crate::fault::ServeError;
 use crate::operator::operate;
+use crate::parts::{Member, Served};
 use crate::publishing::Publishing;
 use hx_doors::Datagrams;
 use hx_engine::{Exchange, Journal, Pass, Venue};

@@ -3,14 +3,14 @@ ghost use Rattle.std.specs.Prelude.{◌≡◌, ◌<◌, ◌+◌, ◌^◌, false,
 ghost use Rattle.hx_units.specs.Fields.{texts};
 
 use arrayvec::ArrayVec;
-use hx_soup::frame;
+use hx_soup::{frame, kinds};
 use hx_units::is_heartbeat_due;
 use std::marker::Model;
 
 /// The most bytes of a packet that goes out: its head of 3 bytes, and a reply.
 pub const LONGEST_FRAME: usize = 3 + 80;
 
-// A heartbeat is due after so many nanoseconds without a packet.
+// A heartbeat is due after this many nanoseconds without a packet.
 const SILENCE: u64 = 1_000_000_000;
 
 /// What a turn gives.
@@ -87,12 +87,12 @@ impl Delivery {
         }
         let packet = if let [row, ..] = rows {
             self.next += 1;
-            frame(b'S', row.as_slice())
+            frame(kinds::SEQUENCED_DATA, row.as_slice())
         } else if ended {
             self.over = true;
-            frame(b'Z', &[])
+            frame(kinds::END_OF_SESSION, &[])
         } else if is_heartbeat_due(self.last, now) {
-            frame(b'H', &[])
+            frame(kinds::SERVER_HEARTBEAT, &[])
         } else {
             return Turn::Idle;
         };

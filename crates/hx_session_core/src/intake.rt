@@ -3,7 +3,7 @@ ghost use Rattle.std.specs.Prelude.{◌≡◌};
 ghost use Rattle.hx_session_core.specs.declared.intake.Intake.TheVariants.{Waiting};
 ghost use Rattle.hx_session_core.specs.Intakes.{Means, FirstMeans, later_action, after};
 
-use hx_soup::{LoginRequest, SoupPacket, decode_login};
+use hx_soup::{LoginRequest, SoupPacket, decode_login, kinds};
 
 /// What a packet of the client asks for.
 #[derive(Clone, Copy, Debug, PartialEq, Eq)]
@@ -65,7 +65,7 @@ impl Intake {
 fn first_action(packet: &SoupPacket) -> Action
     ensures { FirstMeans packet.now result }
 {
-    if packet.kind != b'L' {
+    if packet.kind != kinds::LOGIN_REQUEST {
         return Action::Fault;
     }
     match decode_login(packet.payload.as_slice()) {
@@ -79,10 +79,10 @@ fn later_action(packet: &SoupPacket) -> Action
     ensures { result ≡ later_action packet.now }
 {
     match packet.kind {
-        b'U' if packet.payload.as_slice().is_empty() => Action::Ignore,
-        b'U' => Action::Submit,
-        b'R' | b'+' => Action::Ignore,
-        b'O' => Action::Logout,
+        kinds::UNSEQUENCED_DATA if packet.payload.as_slice().is_empty() => Action::Ignore,
+        kinds::UNSEQUENCED_DATA => Action::Submit,
+        kinds::CLIENT_HEARTBEAT | kinds::DEBUG => Action::Ignore,
+        kinds::LOGOUT_REQUEST => Action::Logout,
         _ => Action::Fault,
     }
 }

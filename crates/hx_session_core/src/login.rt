@@ -6,7 +6,7 @@ use crate::opening::Start;
 use hx_members::Setup;
 use hx_soup::{LoginRequest, NOT_AUTHORIZED, SESSION_NOT_AVAILABLE, trimmed};
 
-/// The answer to a login, where so many replies to that member are there (SoupBinTCP 3.00, Login Request
+/// The answer to a login, where this many replies to that member are there (SoupBinTCP 3.00, Login Request
 /// Packet). The first reply is the one that was asked for, or the next one where 0 or a number above it was
 /// asked. An error is the letter of the rejection: `NOT_AUTHORIZED` for a user name or a password that no
 /// member has; else `SESSION_NOT_AVAILABLE` for a session that is neither blank nor the setup's.

@@ -105,7 +105,7 @@ abbrev pub KnowsItsOwn : PassState → (known : Entries Entry) → Result Ended 
 KnowsItsOwn pass known result = result ≡ Ok ended.Logout → IsPrefix pass.known known
 
 -- Behind the login: the packets that were read, what was submitted for them, and what was written.
--- Bytes are lost only for want of memory.
+-- Bytes are lost only when out of memory.
 pub record Converses
     (setup : Setup) (member first : ℕ) (answer : List ℕ) (old new : Side)
     (result : Result Ended Fault)

@@ -16,7 +16,7 @@ use Rattle.hx_sessions.specs.Asked.{asked, HasLogout, IsStream, AreMessages, Sub
 use Rattle.hx_sessions.specs.Frames.{Sent, SentSome}
 
 -- How both ended, as one: a fault before an ending, the inbound fault first, and the end of the day before the other
--- endings. Where neither ended by itself there was no session, as for want of memory.
+-- endings. Where neither ended by itself there was no session, as when out of memory.
 abbrev pub both_of : (inbound outbound : Stop) → Result Ended Fault
 both_of (stop.Faulted f) out = Err f
 both_of (stop.Ended e) (stop.Faulted f) = Err f
@@ -124,7 +124,7 @@ Why left packets done (stop.Ended ended.ReaderEnd) = (done ≡ asked packets) ×
 Why left packets done (stop.Ended ended.DayEnd) = ⊥
 Why left packets done (stop.Faulted f) = IsPrefix done (asked packets)
 
--- What was taken in when it stops. `lost` are bytes that were read and not taken apart for want of memory.
+-- What was taken in when it stops. `lost` are bytes that were read and not taken apart when out of memory.
 pub record Received (member : ℕ) (old new : Option (List ℕ)) (before after : List (ℕ × Event))
     (s : Stop) : Type 0 where
   pub bytes : List ℕ

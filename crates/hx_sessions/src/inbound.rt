@@ -7,8 +7,8 @@ ghost use Rattle.hx_sessions.specs.Workers.{ActedUntil, Acted, Gathers, Takes, T
 ghost use Rattle.hx_sessions.specs.declared.ending.Fault.TheVariants as faults;
 ghost use Rattle.hx_sessions.specs.declared.ending.Stop.TheVariants as stops;
 
+use crate::clock_and_gate::{Clock, Gate};
 use crate::ending::{Ended, Fault, Stop};
-use crate::ports::{Clock, Gate};
 use hx_bells::Source;
 use hx_engine::{DeskError, Exchange, Journal, Pass, SubmitError, Venue};
 use hx_market::{Bytes, Event};
@@ -86,7 +86,7 @@ fn add_message(
     ensures err { OnErr result (events.new.items ≡ events.old.items) }
 {
     events.reserve(1)?;
-    let bytes = Bytes::of(alloc, payload.into_vec())?;
+    let bytes = Bytes::of(alloc, payload.as_slice())?;
     events.push_reserved(Event::Message {
         member: member.get(),
         time,

@@ -2,23 +2,23 @@
 //! their messages, sends the member's replies, and sleeps where there is nothing to do.
 #![tactic(auto)]
 
+mod clock_and_gate;
 mod copies;
 mod ending;
 mod inbound;
 pub mod laws;
 mod opening;
 mod outbound;
-mod pair;
 mod part;
-mod ports;
 mod serving;
 mod session;
+mod workers;
 mod writing;
 
+pub use clock_and_gate::{Clock, Gate};
 pub use copies::{DropCopy, Logins};
 pub use ending::{Ended, Fault};
 pub use hx_session_core::{Action, Delivery, Intake, Start, Turn, start};
 pub use part::Part;
-pub use ports::{Clock, Gate};
 pub use serving::serve_all;
 pub use session::Session;

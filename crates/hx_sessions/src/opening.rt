@@ -61,7 +61,7 @@ fn read_more<R: Read>(
     }
 }
 
-/// Reads the first packet, which must be a login, and no byte behind it. Answers the reads that are left. Behind each
+/// Reads the first packet, which must be a login, and no byte behind it. Returns the reads that are left. Behind each
 /// read that leaves less than a login it looks whether the day is over, or the journal has failed, and stops there: who is
 /// silent keeps no day.
 pub fn read_login<V: Venue, J: Journal + Drop, R: Read, T: Wait>(
@@ -115,7 +115,8 @@ pub fn open<V: Venue, J: Journal + Drop, T: Wait>(
     requires { reader.old.log ≡ V.log }
     ensures log { reader.new.log ≡ V.log }
     ensures known { IsPrefix reader.old.known reader.new.known }
-    ensures ok { IfOk result (λ s. Opens V.setup logins.now.setup.now logins.now.copies.now login.now
+    ensures ok { IfOk result
+        (λ s. Opens V.setup logins.now.setup.now logins.now.copies.now login.now
         reader.new.known s) }
     ensures err { IfErr result (λ reason.
         (replies : ℕ) × (start_of logins.now.setup.now login.now replies ≡ Err reason)) }
@@ -137,7 +138,7 @@ pub struct Line<R, W> {
     pub output: W,
 }
 
-/// Logs a client in, and answers him. Answers where his session begins and the reads that are left, or how it ends
+/// Logs a client in, and answers him. Returns where his session begins and the reads that are left, or how it ends
 /// here.
 pub fn admit<V: Venue, J: Journal + Drop, R: Read, W: Write, T: Wait>(
     rt: &T,
@@ -152,10 +153,12 @@ pub fn admit<V: Venue, J: Journal + Drop, R: Read, W: Write, T: Wait>(
     ensures log { reader.new.log ≡ V.log }
     ensures known { IsPrefix reader.old.known reader.new.known }
     ensures ok { IfOk result (λ r.
-        Admits V.setup logins.now.setup.now logins.now.copies.now (R.remaining line.old.input) (R.remaining line.new.input)
+        Admits V.setup logins.now.setup.now logins.now.copies.now (R.remaining line.old.input)
+        (R.remaining line.new.input)
         (W.contents line.old.output) (W.contents line.new.output) reader.new.known r.0) }
     ensures err { IfErr result
-        (Dismisses V.setup logins.now.setup.now logins.now.copies.now (R.remaining line.old.input) (R.remaining line.new.input)
+        (Dismisses V.setup logins.now.setup.now logins.now.copies.now
+        (R.remaining line.old.input) (R.remaining line.new.input)
         (W.contents line.old.output) (W.contents line.new.output) reader.new.known) }
 {
     let (login, left) = match read_login(rt, alloc, exchange, &mut line.input, reader, turns) {

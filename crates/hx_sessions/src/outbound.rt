@@ -6,8 +6,8 @@ ghost use Rattle.hx_desk.specs.Known.{known_replies};
 ghost use Rattle.hx_sessions.specs.Frames.{day_over, IsNextOf, Sends, Sent, WritesAll, WritesSome};
 ghost use Rattle.hx_sessions.specs.Workers.{SendsMore, StopsIn, SentRound, SentUntil};
 
+use crate::clock_and_gate::Clock;
 use crate::ending::{Ended, Fault, Stop};
-use crate::ports::Clock;
 use crate::writing::{Broken, write_whole};
 use arrayvec::ArrayVec;
 use hx_blog::{Reader, Receipt};

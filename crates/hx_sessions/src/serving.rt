@@ -4,10 +4,10 @@ ghost use Rattle.std.specs.List.{cons_option};
 ghost use Rattle.std.specs.Thread.{IsSend, IsSync};
 ghost use Rattle.hx_sessions.specs.Served.{ServesWaiting, ServesAll};
 
+use crate::clock_and_gate::{Clock, Gate};
 use crate::copies::Logins;
 use crate::ending::{Ended, Fault};
 use crate::part::Part;
-use crate::ports::{Clock, Gate};
 use crate::session::Session;
 use hx_bells::Source;
 use hx_engine::{Exchange, Journal, Venue};

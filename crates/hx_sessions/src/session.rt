@@ -7,14 +7,14 @@ ghost use Rattle.hx_sessions.specs.Frames.{IsNextOf};
 ghost use Rattle.hx_sessions.specs.Workers.{both_of};
 ghost use Rattle.hx_sessions.specs.Served.{Converses, Serves};
 
+use crate::clock_and_gate::{Clock, Gate};
 use crate::copies::{Logins, may_send, read_by};
 use crate::ending::{Ended, Fault, Stop};
 use crate::inbound::{Inbox, Sender, Trader};
 use crate::opening::{Line, admit};
 use crate::outbound::{Outbox, finish};
-use crate::pair::work;
 use crate::part::Part;
-use crate::ports::{Clock, Gate};
+use crate::workers::work;
 use hx_bells::Source;
 use hx_blog::Reader;
 use hx_engine::{Entry, Exchange, Journal, Pass, Venue};
@@ -25,7 +25,7 @@ use std::io::{Read, Write};
 use std::sync::Wait;
 
 /// How both directions ended, as one: a fault before an ending, the inbound fault first, and the end of the day before
-/// the other endings. Where neither ended by itself there was no session, as for want of memory.
+/// the other endings. Where neither ended by itself there was no session, as when out of memory.
 pub fn both(inbound: Stop, outbound: Stop) -> Result<Ended, Fault>
     ensures { result ≡ both_of inbound outbound }
 {

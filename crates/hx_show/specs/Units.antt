@@ -4,7 +4,7 @@ use Rattle.std.specs.Fmt.{decimal}
 use Rattle.hx_units.specs.Letters.{letter}
 use Rattle.hx_text.specs.Spaces.{trimmed}
 
--- a number in decimal with so many digits or more, filled with noughts in front
+-- a number in decimal with this many digits or more, filled with noughts in front
 abbrev pub zero_filled : (width number : ℕ) → List ℕ
 zero_filled width number =
     replicate (width - length (decimal number)) (letter "0") ++ decimal number
@@ -17,7 +17,7 @@ time_of_day t =
     ++ (codes ":" ++ (zero_filled 2 (t / 1000000000 % 60)
     ++ (codes "." ++ zero_filled 9 (t % 1000000000))))))
 
--- so many shares
+-- this many shares
 abbrev pub shares_words : ℕ → List ℕ
 shares_words n = decimal n ++ codes " shares"
 

@@ -13,7 +13,7 @@ pub const WHO_WIDTH: usize = 25;
 /// The width of a message's name: `Add Order with Attribution`.
 pub const NAME_WIDTH: usize = 26;
 
-/// Appends a byte so many times.
+/// Appends a byte this many times.
 pub fn put_repeated(out: &mut Vec<u8>, byte: u8, count: usize) -> Result<(), AllocError>
     ensures { OnOk result (out.new.items ≡ out.old.items ++ replicate count byte) }
 {

@@ -26,9 +26,9 @@ pub enum Part {
     Letter(Label, u8),
     /// A number without a unit.
     Number(Label, u64),
-    /// So many shares.
+    /// This many shares.
     Shares(u32),
-    /// So many shares of a kind.
+    /// This many shares of a kind.
     Counted(Label, u32),
     /// A price, in units of 1/10,000 dollar.
     Price(u32),

@@ -139,7 +139,8 @@ fn show_parsed(
     line: &Parsed<'_>,
 ) -> Result<(), NoMemory>
     ensures { OnOk result (out.new.items ≡ out.old.items
-        ++ shown_parsed choice.now (record { head = line.now.head; digits = line.now.digits.now })) }
+        ++ shown_parsed choice.now
+        (record { head = line.now.head; digits = line.now.digits.now })) }
 {
     if !choice.has(line.head) {
         return Ok(());

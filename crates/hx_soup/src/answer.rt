@@ -4,6 +4,7 @@ ghost use Rattle.hx_soup.specs.Packets.{framed};
 ghost use Rattle.hx_soup.specs.Kinds.{login_accepted, login_rejected};
 ghost use Rattle.hx_soup.specs.Logins.{padded};
 
+use crate::kinds;
 use crate::packet::frame;
 use arrayvec::ArrayVec;
 use hx_units::fields::put;
@@ -26,7 +27,7 @@ pub fn accepted(session: [u8; 10], next: u64) -> ArrayVec<u8, 1026>
     let mut payload: ArrayVec<u8, 30> = ArrayVec::new();
     put(&mut payload, &session);
     put(&mut payload, &padded(next));
-    frame(b'A', payload.as_slice())
+    frame(kinds::LOGIN_ACCEPTED, payload.as_slice())
 }
 
 // A number's digits, with spaces before them.
@@ -43,5 +44,5 @@ fn padded(number: u64) -> [u8; 20]
 pub fn rejected(reason: u8) -> ArrayVec<u8, 1026>
     ensures { result.items ≡ framed login_rejected (reason ∷ []) }
 {
-    frame(b'J', &[reason])
+    frame(kinds::LOGIN_REJECTED, &[reason])
 }

@@ -16,7 +16,8 @@ pub fn one_cut()
 /// A stream with a fault has one list of packets before it, and one length that is no packet's.
 pub fn one_fault()
     ensures { (stream : List ℕ) (packets others : List SoupPacket) (length other : ℕ) →
-        HasFault stream packets length → HasFault stream others other → (packets ≡ others) × (length ≡ other) }
+        HasFault stream packets length → HasFault stream others other → (packets ≡ others)
+        × (length ≡ other) }
 {}
 
 /// No stream is both.
@@ -29,7 +30,8 @@ pub fn cut_or_fault()
 /// the same bytes or has failed, where memory is ample.
 pub fn any_pieces()
     ensures { (pieces others : List (List ℕ)) (packets more : List SoupPacket)
-        (new other : Option (List ℕ)) → concat pieces ≡ concat others → GivesAll (Some []) new pieces packets → GivesAll (Some []) other others more →
+        (new other : Option (List ℕ)) → concat pieces ≡ concat others
+        → GivesAll (Some []) new pieces packets → GivesAll (Some []) other others more →
         (packets ≡ more) × (new ≡ other) }
 {}
 

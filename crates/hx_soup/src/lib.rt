@@ -5,6 +5,7 @@
 
 mod answer;
 mod framer;
+pub mod kinds;
 pub mod laws;
 mod login;
 mod packet;

@@ -31,11 +31,4 @@ impl Payload {
     {
         &self.bytes
     }
-
-    /// The bytes, given back.
-    pub fn into_vec(self) -> Vec<u8>
-        ensures { result.items ≡ self }
-    {
-        self.bytes
-    }
 }

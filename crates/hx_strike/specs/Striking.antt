@@ -9,7 +9,7 @@ use Rattle.hx_replay.specs.declared.run.Counts.{Counts}
 use Rattle.hx_replay.specs.Run.{start, AreEvents, IsFront}
 use Rattle.hx_replay.specs.FirstFaults.{StopsBefore, ReadsSome}
 
--- so many lines, and nothing else
+-- this many lines, and nothing else
 abbrev pub counts_of_lines : ℕ → Counts
 counts_of_lines lines = record { events = lines; feed = 0; replies = 0 }
 

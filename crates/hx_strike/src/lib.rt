@@ -1,7 +1,7 @@
 //! A tape without the messages of quiet chains.
 #![tactic(auto)]
 
-mod striking;
-mod taking;
+mod reading;
+mod strike;
 
-pub use striking::{strike_all_tape, strike_tape};
+pub use strike::{strike_all_tape, strike_tape};

@@ -1,6 +1,9 @@
-//! The commands over tapes, each with its options.
+//! The commands over tapes, each with its arguments.
 
-use clap::{Arg, ArgAction, ArgGroup, Command, value_parser};
+use crate::argument::{Argument, FLAG, OPTION, WORD};
+use crate::subcommand::{Choice, Subcommand, with_subcommands};
+use clap::Command;
+use clap::builder::ValueParser;
 use std::alloc::{AllocError, Global};
 
 // The program's name.
@@ -10,98 +13,109 @@ const PROGRAM: &str = "hx_tape";
 const VERSION: &str = "0.1.0, proved with rattle-kit-13f logic dac8208d650f15bf";
 
 /// The option that names the file of the setup, `--setup`.
-pub fn setup_file<'a>(alloc: Global) -> Arg<'a> {
-    Arg::new(alloc, "setup")
-        .long("setup")
-        .value_name("FILE")
-        .help("The setup of the day, in place of the standard one")
-}
-
-fn replay_command<'a>(alloc: Global) -> Result<Command<'a>, AllocError> {
-    Command::new(alloc, "replay")
-        .about("Writes the output lines of a tape")
-        .arg(setup_file(alloc))
-}
+pub const SETUP_FILE: Argument = Argument {
+    name: "setup",
+    value: "FILE",
+    help: "The setup of the day, in place of the standard one",
+    ..OPTION
+};
 
 // The number of a member.
-fn member<'a>(alloc: Global) -> Arg<'a> {
-    Arg::new(alloc, "member")
-        .long("member")
-        .value_name("N")
-        .value_parser(value_parser!(u16).range(1..=4095))
-        .help("The number of the member")
-}
+const MEMBER: Argument = Argument {
+    name: "member",
+    value: "N",
+    takes: ValueParser::Signed(1, 4095),
+    help: "The number of the member",
+    ..OPTION
+};
+
+const REPLAY: Subcommand = Subcommand {
+    name: "replay",
+    about: "Writes the output lines of a tape",
+    arguments: &[SETUP_FILE],
+    choice: None,
+};
 
 // One member, or all: the one or the other.
-fn strike_command<'a>(alloc: Global) -> Result<Command<'a>, AllocError> {
-    let all = Arg::new(alloc, "all")
-        .long("all")
-        .action(ArgAction::SetTrue)
-        .help("All members at once");
-    let whose = ArgGroup::new(alloc, "whose")
-        .required(true)
-        .arg("member")?
-        .arg("all")?;
-    Command::new(alloc, "strike")
-        .about("Writes a tape without the messages of quiet chains, of a member or of all")
-        .arg(member(alloc))?
-        .arg(all)?
-        .group(whose)?
-        .arg(setup_file(alloc))
-}
+const STRIKE: Subcommand = Subcommand {
+    name: "strike",
+    about: "Writes a tape without the messages of quiet chains, of a member or of all",
+    arguments: &[
+        MEMBER,
+        Argument {
+            name: "all",
+            help: "All members at once",
+            ..FLAG
+        },
+        SETUP_FILE,
+    ],
+    choice: Some(Choice {
+        name: "whose",
+        between: ["member", "all"],
+        is_required: true,
+    }),
+};
 
 // The feed or a member, or neither of them.
-fn show_command<'a>(alloc: Global) -> Result<Command<'a>, AllocError> {
-    let feed = Arg::new(alloc, "feed")
-        .long("feed")
-        .action(ArgAction::SetTrue)
-        .help("The messages of the feed alone");
-    let which = ArgGroup::new(alloc, "which").arg("member")?.arg("feed")?;
-    Command::new(alloc, "show")
-        .about("Writes a tape, or the output of replay, in words")
-        .arg(member(alloc))?
-        .arg(feed)?
-        .group(which)
-}
+const SHOW: Subcommand = Subcommand {
+    name: "show",
+    about: "Writes a tape, or the output of replay, in words",
+    arguments: &[
+        MEMBER,
+        Argument {
+            name: "feed",
+            help: "The messages of the feed alone",
+            ..FLAG
+        },
+    ],
+    choice: Some(Choice {
+        name: "which",
+        between: ["member", "feed"],
+        is_required: false,
+    }),
+};
 
-fn completions_command<'a>(alloc: Global) -> Result<Command<'a>, AllocError> {
-    let shell = Arg::new(alloc, "shell")
-        .value_name("SHELL")
-        .required(true)
-        .value_parser(["bash", "zsh", "fish"].as_slice())
-        .help("The shell");
-    Command::new(alloc, "completions")
-        .about("Writes how a shell completes the words of this program")
-        .arg(shell)
-}
+const COMPLETIONS: Subcommand = Subcommand {
+    name: "completions",
+    about: "Writes how a shell completes the words of this program",
+    arguments: &[Argument {
+        name: "shell",
+        value: "SHELL",
+        takes: ValueParser::Names(&["bash", "zsh", "fish"]),
+        help: "The shell",
+        ..WORD
+    }],
+    choice: None,
+};
 
 // Where the report goes, and in which form.
-fn audit_command<'a>(alloc: Global) -> Result<Command<'a>, AllocError> {
-    let json = Arg::new(alloc, "json")
-        .long("json")
-        .action(ArgAction::SetTrue)
-        .help("Writes one object of JSON, in place of a text");
-    let html = Arg::new(alloc, "html")
-        .long("html")
-        .value_name("FILE")
-        .help("Writes a page of HTML to this file as well");
-    Command::new(alloc, "audit")
-        .about("Reports a tape's day: its quiet chains, and that others get the same without them")
-        .arg(json)?
-        .arg(html)?
-        .arg(setup_file(alloc))
-}
+const AUDIT: Subcommand = Subcommand {
+    name: "audit",
+    about: "Reports a tape's day: its quiet chains, and that others get the same without them",
+    arguments: &[
+        Argument {
+            name: "json",
+            help: "Writes one object of JSON, in place of a text",
+            ..FLAG
+        },
+        Argument {
+            name: "html",
+            value: "FILE",
+            help: "Writes a page of HTML to this file as well",
+            ..OPTION
+        },
+        SETUP_FILE,
+    ],
+    choice: None,
+};
+
+const COMMANDS: &[Subcommand] = &[REPLAY, STRIKE, SHOW, COMPLETIONS, AUDIT];
 
 /// The command line of the commands over tapes: replay, strike, show, audit and completions. Its texts name the program
 /// `hx_tape`, whatever its file is called.
 pub fn tape_command<'a>(alloc: Global) -> Result<Command<'a>, AllocError> {
-    Command::new(alloc, PROGRAM)
+    let program = Command::new(alloc, PROGRAM)
         .version(VERSION)
-        .subcommand_required(true)
-        .subcommand(replay_command(alloc)?)?
-        .subcommand(strike_command(alloc)?)?
-        .subcommand(show_command(alloc)?)?
-        .subcommand(completions_command(alloc)?)?
-        .subcommand(audit_command(alloc)?)?
-        .bin_name(PROGRAM)
+        .subcommand_required(true);
+    with_subcommands(alloc, program, COMMANDS)?.bin_name(PROGRAM)
 }

@@ -61,7 +61,8 @@ pub record IsOnlyLineOf (text : List ℕ) (event : Event) : Type 0 where
 -- an event that a member or the operator can send, within the day
 abbrev pub CanBeSent : Event → Type 0
 CanBeSent (Message member time bytes) =
-    IsNanos time × IsMember member × (0 < length bytes) × (length bytes ≤ most_bytes) × IsBytes bytes
+    IsNanos time × IsMember member × (0 < length bytes) × (length bytes ≤ most_bytes)
+    × IsBytes bytes
 CanBeSent (Tick time) = IsNanos time
 CanBeSent (Hours time code) = IsNanos time × (list_any (λ x. x == code) hours_codes ≡ true)
 CanBeSent (Halt time stock state reason) =

@@ -16,7 +16,7 @@ pub record Entry : Type 0 where
   pub bytes : List ℕ
 
 abbrev pub entry_of : Fields → Entry
-entry_of e = record { time = e.time; member = e.member; bytes = e.bytes.items }
+entry_of e = record { time = e.time; member = e.member; bytes = e.bytes.now }
 
 -- what a line says of an event: the operator's events are of member 0, each by its bytes
 abbrev pub entry_of_event : Event → Entry

@@ -8,7 +8,7 @@ use crate::vectors::{block_bytes, block_digits};
 use hx_units::fields::array_at;
 use std::alloc::AllocError;
 
-/// Writes the digits of some bytes so that they end at `end`, and answers where they start.
+/// Writes the digits of some bytes so that they end at `end`, and returns where they start.
 pub fn write_bytes(bytes: &[u8], text: &mut [u8], end: usize) -> usize
     requires { (2 * length bytes.now ≤ end) × (end ≤ length text.old) }
     ensures start { result + 2 * length bytes.now ≡ end }
@@ -26,7 +26,7 @@ pub fn write_bytes(bytes: &[u8], text: &mut [u8], end: usize) -> usize
     start
 }
 
-// Writes the digits of whole blocks of the bytes, the last ones first, and answers how many bytes are left in front. The
+// Writes the digits of whole blocks of the bytes, the last ones first, and returns how many bytes are left in front. The
 // digits of them all would start at `start`.
 fn write_blocks<const N: usize, const M: usize>(
     bytes: &[u8],
@@ -74,25 +74,21 @@ fn digits_of<const N: usize, const M: usize>(bytes: [u8; N]) -> [u8; M]
     array_at(&block_digits(block), 0)
 }
 
-/// The bytes of a text of such digits, in the room of others.
-pub fn read_bytes(room: Vec<u8>, text: &[u8]) -> Result<Option<Vec<u8>>, AllocError>
-    ensures some { IfOk result (λ o. IfSome o (λ v.
-        (text.now ≡ encode_lower v.items) × IsBytes v.items)) }
-    ensures none { IfOk result (λ o.
-        IfNone o ((bytes : List ℕ) → IsBytes bytes → text.now ≢ encode_lower bytes)) }
+/// Reads the bytes of a text of such digits into a room, in place of what stood there, and returns whether it is one.
+pub fn read_bytes(room: &mut Vec<u8>, text: &[u8]) -> Result<bool, AllocError>
+    ensures yes { IfOk result (λ found. found ≡ true
+        → (text.now ≡ encode_lower room.new.items) × IsBytes room.new.items) }
+    ensures no { IfOk result (λ found. found ≡ false
+        → (bytes : List ℕ) → IsBytes bytes → text.now ≢ encode_lower bytes) }
 {
     if text.len() % 2 > 0 {
-        return Ok(None);
+        return Ok(false);
     }
-    let mut bytes = room;
-    bytes.resize(text.len() / 2, 0)?;
-    if !read_all(text, &mut bytes) {
-        return Ok(None);
-    }
-    Ok(Some(bytes))
+    room.resize(text.len() / 2, 0)?;
+    Ok(read_all(text, room))
 }
 
-// Reads the bytes of the digits, the last ones first, and answers whether all are digits.
+// Reads the bytes of the digits, the last ones first, and returns whether all are digits.
 fn read_all(text: &[u8], bytes: &mut [u8]) -> bool
     requires { length text.now ≡ 2 * length bytes.old }
     ensures yes { result ≡ true → (text.now ≡ encode_lower bytes.new) × IsBytes bytes.new }
@@ -116,7 +112,7 @@ fn read_all(text: &[u8], bytes: &mut [u8]) -> bool
     read_block(text, bytes, 0)
 }
 
-// Reads the sixteen bytes that begin at a place, where those behind them are read, and answers whether their digits are
+// Reads the sixteen bytes that begin at a place, where those behind them are read, and returns whether their digits are
 // digits.
 fn read_block(text: &[u8], bytes: &mut [u8], place: usize) -> bool
     requires size { length text.now ≡ 2 * length bytes.old }
@@ -133,7 +129,7 @@ fn read_block(text: &[u8], bytes: &mut [u8], place: usize) -> bool
     true
 }
 
-// Reads the bytes of the digits, and answers whether all are digits. It reads to the end in any case.
+// Reads the bytes of the digits, and returns whether all are digits. It reads to the end in any case.
 fn read_into(text: &[u8], bytes: &mut [u8]) -> bool
     requires { length text.now ≡ 2 * length bytes.old }
     ensures all { result ≡ true → text.now ≡ encode_lower bytes.new }

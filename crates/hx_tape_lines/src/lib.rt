@@ -8,8 +8,8 @@ pub mod laws;
 pub mod line;
 mod operator;
 mod reading;
-mod spelling;
 mod vectors;
+mod writing;
 
 pub use decimal::digit_count;
 pub use fault::Kind;
@@ -17,4 +17,4 @@ pub use hexadecimal::write_bytes;
 pub use line::{Fields, LONGEST_LINE};
 pub use operator::read_operator_line;
 pub use reading::{event_of, read_event};
-pub use spelling::{write_event, write_record};
+pub use writing::{write_event, write_record};

@@ -4,17 +4,17 @@ ghost use Rattle.hx_tape_lines.specs.Text.{Entry, entry_of, IsEntry, line, HasPa
 
 use crate::decimal::{split_long_number, split_number};
 use crate::hexadecimal::read_bytes;
-use std::alloc::{AllocError, Global};
+use std::alloc::AllocError;
 
 /// The bytes of the longest line, without its line feed.
 pub const LONGEST_LINE: usize = 2066;
 
-/// A timed message of a member.
+/// A timed message of a member. Its bytes stand in the room that they were read into.
 #[derive(Debug, Drop)]
-pub struct Fields {
+pub struct Fields<'a> {
     pub time: u64,
     pub member: u16,
-    pub bytes: Vec<u8>,
+    pub bytes: &'a [u8],
 }
 
 // The time and the member of a line, and the digits of his message.
@@ -25,17 +25,9 @@ struct Parts<'a> {
     digits: &'a [u8],
 }
 
-/// The event of a line, where it is the event's one line.
-pub fn read(alloc: Global, text: &[u8]) -> Result<Option<Fields>, AllocError>
-    ensures found { IfOk result (λ o. IfSome o (λ e.
-        (text.now ≡ line (entry_of e)) × IsEntry (entry_of e))) }
-    ensures only { IfOk result (λ o. IfNone o ((e : Entry) → IsEntry e → text.now ≢ line e)) }
-{
-    read_in(Vec::new(alloc), text)
-}
-
-/// The same, its bytes in the room of others.
-pub fn read_in(room: Vec<u8>, text: &[u8]) -> Result<Option<Fields>, AllocError>
+/// What a line says, where it is the event's one line. Its bytes are read into a room, in place of what stood there: that
+/// takes memory only where they are more than ever stood there.
+pub fn read_in<'a>(room: &'a mut Vec<u8>, text: &[u8]) -> Result<Option<Fields<'a>>, AllocError>
     ensures found { IfOk result (λ o. IfSome o (λ e.
         (text.now ≡ line (entry_of e)) × IsEntry (entry_of e))) }
     ensures only { IfOk result (λ o. IfNone o ((e : Entry) → IsEntry e → text.now ≢ line e)) }
@@ -43,13 +35,13 @@ pub fn read_in(room: Vec<u8>, text: &[u8]) -> Result<Option<Fields>, AllocError>
     let Some(parts) = parts_of(text) else {
         return Ok(None);
     };
-    let Some(bytes) = read_bytes(room, parts.digits)? else {
+    if !read_bytes(room, parts.digits)? {
         return Ok(None);
-    };
+    }
     Ok(Some(Fields {
         time: parts.time,
         member: parts.member,
-        bytes,
+        bytes: room.as_slice(),
     }))
 }
 

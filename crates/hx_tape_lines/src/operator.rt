@@ -2,7 +2,7 @@
 ghost use Rattle.std.specs.Prelude.{◌≡◌, IfOk, IfSome, IfNone};
 ghost use Rattle.hx_tape_lines.specs.Operators.{IsOperatorLine, IsNoOperatorLine};
 
-use crate::line;
+use crate::line::read_in;
 use hx_rules::{Event, decode_operator};
 use std::alloc::{AllocError, Global};
 
@@ -11,11 +11,12 @@ pub fn read_operator_line(alloc: Global, text: &[u8]) -> Result<Option<Event>, A
     ensures some { IfOk result (λ o. IfSome o (IsOperatorLine text.now)) }
     ensures none { IfOk result (λ o. IfNone o (IsNoOperatorLine text.now)) }
 {
-    let Some(fields) = line::read(alloc, text)? else {
+    let mut room = Vec::new(alloc);
+    let Some(fields) = read_in(&mut room, text)? else {
         return Ok(None);
     };
     if fields.member != 0 {
         return Ok(None);
     }
-    Ok(decode_operator(fields.time, &fields.bytes))
+    Ok(decode_operator(fields.time, fields.bytes))
 }

@@ -10,13 +10,14 @@ use std::alloc::Global;
 
 /// The event of an entry: a member's message, its bytes in the place of others, or what the operator's bytes say, where
 /// they say something.
-pub fn event_of(alloc: Global, place: Bytes, fields: Fields) -> Result<Option<Event>, NoMemory>
-    ensures event { IfOk result (λ o. IfSome o (λ event. event ≡ event_of (entry_of fields))) }
-    ensures known { IfOk result (λ o. OnSome o (is_unknown (entry_of fields) ≡ false)) }
-    ensures unknown { IfOk result (λ o. IfNone o (is_unknown (entry_of fields) ≡ true)) }
+pub fn event_of(alloc: Global, place: Bytes, fields: Fields<'_>) -> Result<Option<Event>, NoMemory>
+    ensures event { IfOk result (λ o.
+        IfSome o (λ event. event ≡ event_of (entry_of fields.entry))) }
+    ensures known { IfOk result (λ o. OnSome o (is_unknown (entry_of fields.entry) ≡ false)) }
+    ensures unknown { IfOk result (λ o. IfNone o (is_unknown (entry_of fields.entry) ≡ true)) }
 {
     if fields.member == 0 {
-        return Ok(decode_operator(fields.time, &fields.bytes));
+        return Ok(decode_operator(fields.time, fields.bytes));
     }
     Ok(Some(Event::Message {
         member: fields.member,
@@ -25,13 +26,17 @@ pub fn event_of(alloc: Global, place: Bytes, fields: Fields) -> Result<Option<Ev
     }))
 }
 
-/// The event of a line, where it is one, its bytes in the place of others.
-pub fn read_event(alloc: Global, place: Bytes, text: &[u8]) -> Result<Option<Event>, NoMemory>
+/// The event of a line, where it is one: its digits are read into a room, and its bytes stand in the place of others.
+pub fn read_event(
+    alloc: Global,
+    room: &mut Vec<u8>,
+    place: Bytes,
+    text: &[u8],
+) -> Result<Option<Event>, NoMemory>
     ensures some { IfOk result (λ o. IfSome o (IsLineOf text.now)) }
     ensures none { IfOk result (λ o. IfNone o (IsNoLine text.now)) }
 {
-    let mut place = place;
-    let Some(fields) = read_in(place.take_room(alloc), text)? else {
+    let Some(fields) = read_in(room, text)? else {
         return Ok(None);
     };
     event_of(alloc, place, fields)

@@ -14,13 +14,13 @@ use Rattle.hx_terms.specs.Records.{Record, IsHead}
 abbrev pub AreTapeLines : List (List ℕ) → Type 0
 AreTapeLines lines = AllByRecursion IsRecord lines
 
--- a text is these lines, with a line feed behind each, and there are so many
+-- a text is these lines, with a line feed behind each, and there are this many
 pub record AreTheLines (text : List ℕ) (count : ℕ) : Type 0 where
   pub is : text ≡ text_of (lines_of text)
   pub lines : AreTapeLines (lines_of text)
   pub counted : count ≡ length (lines_of text)
 
--- so many such lines stand in front of the rest of a text
+-- this many such lines stand in front of the rest of a text
 pub record StandInFront (count : ℕ) (text rest : List ℕ) : Type 0 where
   pub front : List (List ℕ)
   pub is : text ≡ text_of front ++ rest
@@ -51,7 +51,7 @@ IsLineFault text Number = ⊥
 IsLineFault text (Line number) = IsBadLine text number
 IsLineFault text Unended = IsUnended text
 
--- the places of so many lines are numbers of heads
+-- the places of this many lines are numbers of heads
 abbrev pub HasPlaces : Head → (count : ℕ) → Type 0
 HasPlaces head count = head.place + count ≤ 10 ^ 14
 

@@ -25,7 +25,7 @@ pub fn event_of(alloc: Global, line: &[u8]) -> Result<Event, Fail> {
     Ok(Event::Message {
         member,
         time,
-        bytes: Bytes::of(alloc, bytes)?,
+        bytes: Bytes::of(alloc, &bytes)?,
     })
 }
 
@@ -81,7 +81,7 @@ pub fn count_lines(text: &[u8], beginning: &[u8]) -> u64 {
     count
 }
 
-/// The text behind so many lines at its front.
+/// The text behind this many lines at its front.
 pub fn last_lines(text: &[u8], but: u64) -> &[u8] {
     let mut rest = text;
     for _ in 0..but {
@@ -92,12 +92,12 @@ pub fn last_lines(text: &[u8], but: u64) -> &[u8] {
     rest
 }
 
-/// So many lines at the front of a text.
+/// This many lines at the front of a text.
 pub fn first_lines(text: &[u8], count: u64) -> &[u8] {
     &text[..text.len().saturating_sub(last_lines(text, count).len())]
 }
 
-/// So many bytes at the front of a text, or all where it is shorter.
+/// This many bytes at the front of a text, or all where it is shorter.
 pub fn front(text: &[u8], count: usize) -> &[u8] {
     &text[..count.min(text.len())]
 }

@@ -88,7 +88,7 @@ pub struct Input<'a> {
     pub bytes: &'a [u8],
     /// No read goes on behind this place.
     pub cut: usize,
-    /// A read gives at most so many bytes.
+    /// A read gives at most this many bytes.
     pub most: usize,
     pub behind: Behind<'a>,
     pub bad: Bad,
@@ -168,7 +168,7 @@ impl Read for Input<'_> {
 pub struct Output<'a> {
     /// What it has taken.
     pub taken: Vec<u8>,
-    /// A write takes at most so many bytes.
+    /// A write takes at most this many bytes.
     pub most: usize,
     pub bad: Bad,
     pub calls: u64,

@@ -46,7 +46,7 @@ pub fn message(alloc: Global, member: u16, time: u64, bytes: &[u8]) -> Result<Ev
     Ok(Event::Message {
         member,
         time,
-        bytes: Bytes::of(alloc, Vec::from_slice(alloc, bytes)?)?,
+        bytes: Bytes::of(alloc, bytes)?,
     })
 }
 

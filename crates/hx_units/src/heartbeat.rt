@@ -2,7 +2,7 @@
 ghost use Rattle.std.specs.Prelude.{◌≡◌};
 ghost use Rattle.hx_units.specs.Heartbeats.{is_due};
 
-// A heartbeat is due after so many nanoseconds without a packet.
+// A heartbeat is due after this many nanoseconds without a packet.
 const SILENCE: u64 = 1_000_000_000;
 
 /// Whether a heartbeat is due at the time `now`, where the last packet went out at the time `last`, both in

@@ -21,10 +21,10 @@ impl<T: Drop> From<AllocFailed<T>> for NoMemory {
     }
 }
 
-/// A list of so many elements is long.
+/// A list of this many elements is long.
 const MANY: usize = 2_000;
 
-/// How many places more a full list of so many elements gets beside those that it needs: none where it is short, and
+/// How many places more a full list of this many elements gets beside those that it needs: none where it is short, and
 /// fifteen times as many as it has where it is long. To move a list costs every thread of the program, and places that
 /// nobody has touched yet cost nothing.
 pub fn places_ahead(len: usize) -> usize {
@@ -34,7 +34,7 @@ pub fn places_ahead(len: usize) -> usize {
     len.saturating_mul(15)
 }
 
-/// Makes room for so many elements more behind those of a list. One that is full gets the places ahead, too, where these are to
+/// Makes room for this many elements more behind those of a list. One that is full gets the places ahead, too, where these are to
 /// be had. After `NoMemory` the list has the same elements.
 #[inline(always)]
 pub fn reserve_ahead<T>(list: &mut Vec<T>, more: usize) -> Result<(), NoMemory>

@@ -3,7 +3,7 @@
 use hx_mold::Request;
 use std::time::{Duration, Instant};
 
-// What was asked for is asked for again after so many milliseconds.
+// What was asked for is asked for again after this many milliseconds.
 const AGAIN: u64 = 20;
 
 /// What was asked for so far.

@@ -57,7 +57,7 @@ impl Display for Best {
     }
 }
 
-/// The orders of a stock by price, the best first: so many bids, then so many offers.
+/// The orders of a stock by price, the best first: this many bids, then this many offers.
 #[derive(Clone, Copy)]
 pub struct Depth<'a> {
     /// The book.

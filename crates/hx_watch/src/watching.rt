@@ -23,10 +23,10 @@ use std::time::{Clock, Duration, Instant};
 // The most bytes of a datagram.
 const DATAGRAM: usize = 65_536;
 
-// A datagram is waited for so many milliseconds.
+// A datagram is waited for this many milliseconds.
 const WAIT: u64 = 5;
 
-// A feed that is silent for so many seconds has no sender: it would send heartbeats.
+// A feed that is silent for this many seconds has no sender: it would send heartbeats.
 const SILENCE: u64 = 5;
 
 // How many messages ahead of a missing one are kept.

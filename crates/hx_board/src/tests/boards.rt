@@ -45,7 +45,7 @@ fn execute(match_number: u64) -> Trade {
     }
 }
 
-/// News of a stock: so many executions from a number on, and one change of its prices for each.
+/// News of a stock: this many executions from a number on, and one change of its prices for each.
 pub fn news_of(alloc: Global, text: &'static str, from: u64, count: u64) -> Result<News, Fail> {
     let mut news = News::none(alloc);
     news.feed = Some(ByteStr::from_static("{}"));
@@ -92,7 +92,7 @@ fn pass_on<R: Wait + Clock>(
     Ok(())
 }
 
-// The text of the stock begins so, and so many changes of its prices were told.
+// The text of the stock begins so, and this many changes of its prices were told.
 fn shows(board: &Board, beginning: &str, quotes: usize) -> bool {
     match board.sheet(1) {
         Some(sheet) => sheet.text.as_str().starts_with(beginning) && sheet.quotes.len() == quotes,

@@ -186,7 +186,7 @@ fn expect_feed<V: Venue, R: Abort>(
     Ok(())
 }
 
-// An exchange goes on from the first so many events.
+// An exchange goes on from the first few events.
 fn go_on_from<R: Wait + Abort>(rt: &R, alloc: Global, count: u64) -> Result<(), Fail> {
     let (log, writer, reader) = Log::<Entry>::new(alloc, 100)?;
     let logs = logs_of(alloc, log, writer)?;

@@ -137,7 +137,7 @@ impl Scenario for OnePassMissing {
     }
 }
 
-/// The exchange ends with so many entries, and so many messages of the feed.
+/// The exchange ends with this many entries, and this many messages of the feed.
 pub fn ends<V: Venue, J: Journal + Drop, R: Abort>(
     rt: &R,
     exchange: Exchange<V, J>,

@@ -54,7 +54,7 @@ fn start<S: Scenario, V: Venue + Send + Sync, R: Threads + Wait + Clock + Abort 
     S::play(rt, alloc, exchange, given, reader)
 }
 
-/// Plays a scenario over a new exchange of this setup, with a log of so many slots and so many passes.
+/// Plays a scenario over a new exchange of this setup, with a log of this many slots and this many passes.
 pub fn play<S: Scenario, R: Threads + Wait + Clock + Abort + Sync>(
     rt: &R,
     alloc: Global,

@@ -6,7 +6,7 @@ use std::io::Read;
 use std::process::Abort;
 use std::test::Fail;
 
-// What etcd sends, answer by answer, and so many bytes a read at most. Behind the last one the line is closed.
+// What etcd sends, answer by answer, and this many bytes a read at most. Behind the last one the line is closed.
 #[derive(Drop)]
 struct Inlet<'a> {
     answers: &'a [&'a str],

@@ -4,7 +4,7 @@ ghost use Rattle.hx_itch.specs.Message.{feed_message_of, system_event_of, stock_
 
 use super::{
     AddOrder, AddOrderWithAttribution, BrokenTrade, Feed, OrderCancel, OrderDelete, OrderExecuted,
-    OrderReplace, StockDirectory, StockTradingAction, SystemEvent, Trade,
+    OrderReplace, StockDirectory, StockTradingAction, SystemEvent, Trade, kinds,
 };
 use hx_units::fields::{array_at, u16_at, u32_at, u48_at, u64_at};
 use hx_units::{Firm, Symbol};
@@ -15,17 +15,21 @@ pub fn read(bytes: &[u8]) -> Option<Feed>
 {
     let kind = *bytes.first()?;
     match (kind, bytes.len()) {
-        (b'S', 12) => Some(Feed::SystemEvent(read_system_event(bytes))),
-        (b'R', 39) => Some(Feed::StockDirectory(read_stock_directory(bytes))),
-        (b'A', 36) => Some(Feed::AddOrder(read_add_order(bytes))),
-        (b'F', 40) => Some(Feed::AddOrderWithAttribution(read_add_order_with_attribution(bytes))),
-        (b'E', 31) => Some(Feed::OrderExecuted(read_order_executed(bytes))),
-        (b'X', 23) => Some(Feed::OrderCancel(read_order_cancel(bytes))),
-        (b'D', 19) => Some(Feed::OrderDelete(read_order_delete(bytes))),
-        (b'U', 35) => Some(Feed::OrderReplace(read_order_replace(bytes))),
-        (b'P', 44) => Some(Feed::Trade(read_trade(bytes))),
-        (b'H', 25) => Some(Feed::StockTradingAction(read_stock_trading_action(bytes))),
-        (b'B', 19) => Some(Feed::BrokenTrade(read_broken_trade(bytes))),
+        (kinds::SYSTEM_EVENT, 12) => Some(Feed::SystemEvent(read_system_event(bytes))),
+        (kinds::STOCK_DIRECTORY, 39) => Some(Feed::StockDirectory(read_stock_directory(bytes))),
+        (kinds::ADD_ORDER, 36) => Some(Feed::AddOrder(read_add_order(bytes))),
+        (kinds::ADD_ORDER_WITH_ATTRIBUTION, 40) => Some(Feed::AddOrderWithAttribution(
+            read_add_order_with_attribution(bytes),
+        )),
+        (kinds::ORDER_EXECUTED, 31) => Some(Feed::OrderExecuted(read_order_executed(bytes))),
+        (kinds::ORDER_CANCEL, 23) => Some(Feed::OrderCancel(read_order_cancel(bytes))),
+        (kinds::ORDER_DELETE, 19) => Some(Feed::OrderDelete(read_order_delete(bytes))),
+        (kinds::ORDER_REPLACE, 35) => Some(Feed::OrderReplace(read_order_replace(bytes))),
+        (kinds::TRADE, 44) => Some(Feed::Trade(read_trade(bytes))),
+        (kinds::STOCK_TRADING_ACTION, 25) => Some(Feed::StockTradingAction(
+            read_stock_trading_action(bytes),
+        )),
+        (kinds::BROKEN_TRADE, 19) => Some(Feed::BrokenTrade(read_broken_trade(bytes))),
         _ => None,
     }
 }

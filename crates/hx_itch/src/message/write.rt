@@ -4,7 +4,7 @@ ghost use Rattle.hx_itch.specs.Message.{feed_bytes, IsFeed, feed_time, system_ev
 
 use super::{
     AddOrder, AddOrderWithAttribution, BrokenTrade, Feed, OrderCancel, OrderDelete, OrderExecuted,
-    OrderReplace, StockDirectory, StockTradingAction, SystemEvent, Trade,
+    OrderReplace, StockDirectory, StockTradingAction, SystemEvent, Trade, kinds,
 };
 use arrayvec::ArrayVec;
 use hx_units::fields::{put, u16_bytes, u32_bytes, u48_bytes, u64_bytes};
@@ -36,7 +36,7 @@ fn write_system_event(m: SystemEvent) -> ArrayVec<u8, 44>
     ensures fits { IsSystemEvent m }
 {
     let mut out = ArrayVec::new();
-    out.push(b'S');
+    out.push(kinds::SYSTEM_EVENT);
     put(&mut out, &u16_bytes(m.locate));
     put(&mut out, &[0, 0]);
     put(&mut out, &u48_bytes(m.time));
@@ -50,7 +50,7 @@ fn write_stock_directory(m: StockDirectory) -> ArrayVec<u8, 44>
     ensures fits { IsStockDirectory m }
 {
     let mut out = ArrayVec::new();
-    out.push(b'R');
+    out.push(kinds::STOCK_DIRECTORY);
     put(&mut out, &u16_bytes(m.locate));
     put(&mut out, &[0, 0]);
     put(&mut out, &u48_bytes(m.time));
@@ -65,7 +65,7 @@ fn write_add_order(m: AddOrder) -> ArrayVec<u8, 44>
     ensures fits { IsAddOrder m }
 {
     let mut out = ArrayVec::new();
-    out.push(b'A');
+    out.push(kinds::ADD_ORDER);
     put(&mut out, &u16_bytes(m.locate));
     put(&mut out, &[0, 0]);
     put(&mut out, &u48_bytes(m.time));
@@ -83,7 +83,7 @@ fn write_add_order_with_attribution(m: AddOrderWithAttribution) -> ArrayVec<u8, 
     ensures fits { IsAddOrderWithAttribution m }
 {
     let mut out = ArrayVec::new();
-    out.push(b'F');
+    out.push(kinds::ADD_ORDER_WITH_ATTRIBUTION);
     put(&mut out, &u16_bytes(m.locate));
     put(&mut out, &[0, 0]);
     put(&mut out, &u48_bytes(m.time));
@@ -102,7 +102,7 @@ fn write_order_executed(m: OrderExecuted) -> ArrayVec<u8, 44>
     ensures fits { IsOrderExecuted m }
 {
     let mut out = ArrayVec::new();
-    out.push(b'E');
+    out.push(kinds::ORDER_EXECUTED);
     put(&mut out, &u16_bytes(m.locate));
     put(&mut out, &[0, 0]);
     put(&mut out, &u48_bytes(m.time));
@@ -118,7 +118,7 @@ fn write_order_cancel(m: OrderCancel) -> ArrayVec<u8, 44>
     ensures fits { IsOrderCancel m }
 {
     let mut out = ArrayVec::new();
-    out.push(b'X');
+    out.push(kinds::ORDER_CANCEL);
     put(&mut out, &u16_bytes(m.locate));
     put(&mut out, &[0, 0]);
     put(&mut out, &u48_bytes(m.time));
@@ -133,7 +133,7 @@ fn write_order_delete(m: OrderDelete) -> ArrayVec<u8, 44>
     ensures fits { IsOrderDelete m }
 {
     let mut out = ArrayVec::new();
-    out.push(b'D');
+    out.push(kinds::ORDER_DELETE);
     put(&mut out, &u16_bytes(m.locate));
     put(&mut out, &[0, 0]);
     put(&mut out, &u48_bytes(m.time));
@@ -147,7 +147,7 @@ fn write_order_replace(m: OrderReplace) -> ArrayVec<u8, 44>
     ensures fits { IsOrderReplace m }
 {
     let mut out = ArrayVec::new();
-    out.push(b'U');
+    out.push(kinds::ORDER_REPLACE);
     put(&mut out, &u16_bytes(m.locate));
     put(&mut out, &[0, 0]);
     put(&mut out, &u48_bytes(m.time));
@@ -164,7 +164,7 @@ fn write_trade(m: Trade) -> ArrayVec<u8, 44>
     ensures fits { IsTrade m }
 {
     let mut out = ArrayVec::new();
-    out.push(b'P');
+    out.push(kinds::TRADE);
     put(&mut out, &u16_bytes(m.locate));
     put(&mut out, &[0, 0]);
     put(&mut out, &u48_bytes(m.time));
@@ -183,7 +183,7 @@ fn write_stock_trading_action(m: StockTradingAction) -> ArrayVec<u8, 44>
     ensures fits { IsStockTradingAction m }
 {
     let mut out = ArrayVec::new();
-    out.push(b'H');
+    out.push(kinds::STOCK_TRADING_ACTION);
     put(&mut out, &u16_bytes(m.locate));
     put(&mut out, &[0, 0]);
     put(&mut out, &u48_bytes(m.time));
@@ -200,7 +200,7 @@ fn write_broken_trade(m: BrokenTrade) -> ArrayVec<u8, 44>
     ensures fits { IsBrokenTrade m }
 {
     let mut out = ArrayVec::new();
-    out.push(b'B');
+    out.push(kinds::BROKEN_TRADE);
     put(&mut out, &u16_bytes(m.locate));
     put(&mut out, &[0, 0]);
     put(&mut out, &u48_bytes(m.time));

@@ -24,7 +24,7 @@ fn first_chains(
     Ok(all)
 }
 
-// There are so many chains, of so many tokens each, and each has done this.
+// There are this many chains, of this many tokens each, and each has done this.
 fn expect_chains<R: Abort>(
     rt: &R,
     chains: &[Chain],

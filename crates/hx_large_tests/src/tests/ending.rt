@@ -107,7 +107,7 @@ fn some_of_many_orders_end(rt: HostRuntime) -> Result<(), Fail> {
     Ok(())
 }
 
-// So many places, of which the later ones end sooner: place 0 at 10,000, the last one at 1.
+// This many places, of which the later ones end sooner: place 0 at 10,000, the last one at 1.
 fn enter_places(alloc: Global) -> Result<Expiries, Fail> {
     let mut ends = Expiries::new(alloc);
     for place in 0..10_000 {

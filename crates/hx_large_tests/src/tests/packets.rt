@@ -30,7 +30,7 @@ fn messages(alloc: Global) -> Result<Vec<ArrayVec<u8, 44>>, NoMemory> {
     Ok(messages)
 }
 
-// The packet of so many messages from this one on: session, number, count, and each message behind its length.
+// The packet of this many messages from this one on: session, number, count, and each message behind its length.
 fn packet(alloc: Global, first: u64, count: u16) -> Result<Vec<u8>, NoMemory> {
     let mut bytes = Vec::from_slice(alloc, &SESSION)?;
     bytes.extend_from_slice(&first.to_be_bytes())?;

@@ -54,7 +54,7 @@ impl Script {
         writeln!(self.words, "{time} {member} {sent}")
     }
 
-    /// So many nanoseconds pass until the next line.
+    /// This many nanoseconds pass until the next line.
     pub fn pass(&mut self, nanoseconds: u64) {
         self.time = self.time.saturating_add(nanoseconds);
     }

@@ -11,7 +11,7 @@ use std::alloc::{AllocError, Global};
 use std::process::Abort;
 use std::test::Fail;
 
-// The tape without so many lines of quiet chains.
+// The tape without this many lines of quiet chains.
 fn without_quiet(alloc: Global, tape: &[u8], quiet: u64) -> Result<Vec<u8>, AllocError> {
     let mut left = Vec::from_slice(alloc, first_lines(tape, BEFORE_QUIET))?;
     left.extend_from_slice(last_lines(tape, BEFORE_QUIET.saturating_add(quiet)))?;

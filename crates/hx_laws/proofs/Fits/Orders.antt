@@ -43,7 +43,7 @@ lessened_sized public m t by (x ∷ xs) all = choose (is_called m t x) (lessened
     choose true ih = all_append (Sized public) (less x by) xs (less_sized public x by all.0) all.1
     choose false ih = (all.0, ih)
 
--- an execution of such an order, for so many shares at most
+-- an execution of such an order, for this many shares at most
 abbrev pub IsFill : (public r : ℕ) → Execution → Type 0
 IsFill public r e = Sized public e.order × (e.shares ≤ r)
 

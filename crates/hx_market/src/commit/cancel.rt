@@ -10,11 +10,11 @@ ghost use Rattle.hx_market.specs.Room.{RoomForFills, Tells};
 ghost use Rattle.hx_market.specs.declared.effect.Effect.TheVariants.{Cancel};
 
 use crate::effect::Reduction;
-use crate::messages::{delete, tell_canceled};
+use crate::reports::{delete, tell_canceled};
 use crate::state::State;
 use hx_itch::{Feed, OrderCancel};
 use hx_levels::Book;
-use hx_rules::Output;
+use hx_rules::{Output, letters};
 
 // Takes the shares off, or the order out.
 #[inline(always)]
@@ -33,7 +33,7 @@ fn take_off<B: Book>(book: &mut B, effect: &Reduction)
     }
 }
 
-// In the feed: so many shares are off, or the order is gone.
+// In the feed: this many shares are off, or the order is gone.
 #[inline(always)]
 fn tell_feed(out: &mut Output, effect: &Reduction)
     requires { vec_len out.old.feed < vec_capacity out.old.feed }
@@ -71,6 +71,6 @@ pub fn cancel<B: Book>(state: &mut State<B>, out: &mut Output, effect: &Reductio
         effect.member,
         effect.token,
         effect.by,
-        b'U',
+        letters::BY_USER,
     );
 }

@@ -10,12 +10,12 @@ ghost use Rattle.hx_market.specs.Prepared.{CanCommit};
 use crate::commit::execute::Arriving;
 use crate::commit::incoming::{arrive, draw};
 use crate::effect::AcceptedEnter;
-use crate::messages::publish;
+use crate::reports::publish;
 use crate::state::State;
 use hx_levels::{Book, Order};
 use hx_match::Fill;
 use hx_ouch::{Accepted, Outbound};
-use hx_rules::{Output, is_shown, life_of};
+use hx_rules::{Output, is_shown, letters, life_of};
 use hx_units::MemberNo;
 
 // The reply that an order is accepted.
@@ -42,8 +42,8 @@ fn accepted(order: &Order, effect: &AcceptedEnter) -> (MemberNo, Outbound)
             intermarket_sweep: enter.intermarket_sweep,
             minimum_quantity: enter.minimum_quantity,
             cross_type: enter.cross_type,
-            order_state: b'L',
-            bbo_weight: b' ',
+            order_state: letters::ORDER_LIVE,
+            bbo_weight: letters::NO_WEIGHT,
         }),
     )
 }

@@ -12,7 +12,7 @@ use hx_itch::{Feed, OrderExecuted, Trade};
 use hx_levels::{Book, Order};
 use hx_match::Fill;
 use hx_ouch::{Executed, Outbound};
-use hx_rules::{Match, Output};
+use hx_rules::{Match, Output, letters};
 use hx_units::Symbol;
 
 /// An order that arrives.
@@ -89,7 +89,11 @@ fn tell(out: &mut Output, arriving: &Arriving, order: &Order, shares: u32, numbe
             token: order.token,
             shares,
             price,
-            liquidity_flag: if order.shown { b'A' } else { b'J' },
+            liquidity_flag: if order.shown {
+                letters::ADDED
+            } else {
+                letters::ADDED_HIDDEN
+            },
             match_number: number,
         }),
     ));
@@ -100,7 +104,7 @@ fn tell(out: &mut Output, arriving: &Arriving, order: &Order, shares: u32, numbe
             token: arriving.order.token,
             shares,
             price,
-            liquidity_flag: b'R',
+            liquidity_flag: letters::REMOVED,
             match_number: number,
         }),
     ));

@@ -29,7 +29,7 @@ fn remove_ended<B: Book>(book: &mut B, effect: &Expiry)
     }
 }
 
-// Tells the feed so many messages.
+// Tells the feed this many messages.
 fn tell_feed(feed: &mut Vec<Feed>, told: &[Feed])
     requires { vec_len feed.old + length told.now ≤ vec_capacity feed.old }
     ensures { feed.new.items ≡ feed.old.items ++ told.now }
@@ -39,7 +39,7 @@ fn tell_feed(feed: &mut Vec<Feed>, told: &[Feed])
     }
 }
 
-// Gives so many replies.
+// Gives this many replies.
 fn give_replies(replies: &mut Vec<(MemberNo, Outbound)>, told: &[(MemberNo, Outbound)])
     requires { vec_len replies.old + length told.now ≤ vec_capacity replies.old }
     ensures { replies.new.items ≡ replies.old.items ++ told.now }
@@ -49,7 +49,7 @@ fn give_replies(replies: &mut Vec<(MemberNo, Outbound)>, told: &[(MemberNo, Outb
     }
 }
 
-/// The orders end, so many hours codes are past, and what was prepared is told.
+/// The orders end, this many hours codes are past, and what was prepared is told.
 pub fn end<B: Book>(state: &mut State<B>, out: &mut Output, effect: &Expiry)
     requires ended { IsExpiry state.old.orders effect.now }
     requires room { RoomFor (length effect.now.told.feed.items)

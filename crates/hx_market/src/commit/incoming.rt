@@ -8,12 +8,12 @@ ghost use Rattle.hx_market.specs.MarketModel.{listed};
 ghost use Rattle.hx_market.specs.Room.{RoomFor, Tells};
 
 use crate::commit::execute::{Arriving, execute};
-use crate::messages::tell_canceled;
+use crate::reports::tell_canceled;
 use crate::state::State;
 use hx_levels::{Book, Order};
 use hx_match::Fill;
 use hx_refs::Refs;
-use hx_rules::Output;
+use hx_rules::{Output, letters};
 use hx_units::MemberNo;
 
 /// Draws the reference of an order.
@@ -31,7 +31,7 @@ pub fn draw(refs: &mut Refs, member: MemberNo, shown: bool) -> u64
     }
 }
 
-// The order with so many open shares.
+// The order with this many open shares.
 #[inline(always)]
 fn with_shares(order: &Order, shares: u32) -> Order
     ensures { result ≡ record order.now { shares = shares } }
@@ -82,7 +82,14 @@ pub fn arrive<B: Book>(
     }
     let order = &arriving.order;
     if arriving.immediate {
-        tell_canceled(out, arriving.time, order.member, order.token, left, b'I');
+        tell_canceled(
+            out,
+            arriving.time,
+            order.member,
+            order.token,
+            left,
+            letters::IMMEDIATE_OR_CANCEL,
+        );
         return None;
     }
     Some(rest_of(state, order, left))

@@ -18,13 +18,13 @@ ghost use Rattle.hx_market.specs.Prepared.{CanCommit, IsChainOf};
 use crate::commit::execute::Arriving;
 use crate::commit::incoming::{arrive, draw};
 use crate::effect::{FailedReplace, Replacement, is_one_display};
-use crate::messages::{delete, publish, tell_canceled};
+use crate::reports::{delete, publish, tell_canceled};
 use crate::state::State;
 use hx_itch::{Feed, OrderReplace};
 use hx_levels::{Book, Live, Order};
 use hx_match::Fill;
 use hx_ouch::{Outbound, Replaced};
-use hx_rules::{Output, is_shown, life_of};
+use hx_rules::{Output, is_shown, letters, life_of};
 use hx_units::{MemberNo, Token};
 
 // The replacement token is used, in the chain of the existing one, and the existing order is gone.
@@ -77,7 +77,7 @@ pub fn fail<B: Book>(state: &mut State<B>, out: &mut Output, effect: &FailedRepl
         effect.member,
         effect.existing,
         old.shares,
-        b'U',
+        letters::BY_USER,
     );
 }
 
@@ -136,10 +136,10 @@ fn replaced(order: &Order, effect: &Replacement) -> (MemberNo, Outbound)
             capacity: order.capacity,
             intermarket_sweep: replace.intermarket_sweep,
             minimum_quantity: order.minimum,
-            cross_type: b'N',
-            order_state: b'L',
+            cross_type: letters::NO_CROSS,
+            order_state: letters::ORDER_LIVE,
             previous_token: replace.existing_token,
-            bbo_weight: b' ',
+            bbo_weight: letters::NO_WEIGHT,
         }),
     )
 }

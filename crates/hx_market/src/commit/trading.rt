@@ -11,7 +11,7 @@ use crate::state::State;
 use hx_itch::{BrokenTrade, Feed, StockTradingAction};
 use hx_levels::Book;
 use hx_ouch::Outbound;
-use hx_rules::Output;
+use hx_rules::{Output, letters};
 use hx_units::{MemberNo, Token};
 
 /// A stock is halted, or trades again: the feed is told.
@@ -22,7 +22,7 @@ pub fn set_state<B: Book>(state: &mut State<B>, out: &mut Output, effect: &State
 {
     state
         .trading
-        .set_halted(effect.locate, effect.state == b'H');
+        .set_halted(effect.locate, effect.state == letters::HALTED);
     out.feed.push_reserved(Feed::StockTradingAction(StockTradingAction {
         locate: effect.locate,
         time: effect.time,
@@ -47,7 +47,7 @@ fn tell_broken(out: &mut Output, time: u64, member: MemberNo, token: Token, numb
             time,
             token,
             match_number: number,
-            reason: b'S',
+            reason: letters::SUPERVISORY,
         }),
     ));
 }

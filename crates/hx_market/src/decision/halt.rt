@@ -9,13 +9,14 @@ ghost use Rattle.hx_market.specs.Prepared.{SuitsMarket};
 
 use crate::effect::{Effect, StateChange};
 use hx_members::Setup;
+use hx_rules::letters;
 use hx_units::Symbol;
 
 // Whether the letter is a state of a stock.
 fn is_trading_state(state: u8) -> bool
     ensures { result ≡ is_trading_state state }
 {
-    state == b'H' || state == b'T'
+    state == letters::HALTED || state == letters::TRADING
 }
 
 /// What a halt does, or its end, in the place of the effect before: nothing for a stock that the setup does not have, or

@@ -5,15 +5,15 @@ ghost use Rattle.hx_rules.specs.Hours.{next_hours, is_next, directory, to_all, t
 ghost use Rattle.hx_market.specs.Effects.{outcome_of};
 ghost use Rattle.hx_market.specs.Prepared.{SuitsMarket};
 
-use crate::decision::ending::orders_by_code;
-use crate::decision::expiry::end_orders;
+use crate::decision::due_orders::orders_by_code;
+use crate::decision::end_orders::end_orders;
 use crate::effect::{Due, Effect};
 use crate::state::State;
 use hx_itch::{Feed, StockDirectory, SystemEvent};
 use hx_levels::Book;
 use hx_members::{Member, Setup, Stock};
 use hx_ouch::Outbound;
-use hx_rules::Output;
+use hx_rules::{Output, letters};
 use hx_units::{MemberNo, NoMemory};
 use std::alloc::Global;
 
@@ -67,10 +67,10 @@ fn told_by_code(alloc: Global, setup: &Setup, time: u64, code: u8) -> Result<Out
     });
     let mut feed = vec![in alloc; event]?;
     let mut replies = Vec::new(alloc);
-    if code == b'O' {
+    if code == letters::START_OF_MESSAGES {
         tell_stocks(&mut feed, time, setup.stocks())?;
     }
-    if code == b'S' || code == b'E' {
+    if code == letters::START_OF_SYSTEM_HOURS || code == letters::END_OF_SYSTEM_HOURS {
         tell_members(&mut replies, time, code, setup.members())?;
     }
     Ok(Output { feed, replies })
@@ -78,7 +78,7 @@ fn told_by_code(alloc: Global, setup: &Setup, time: u64, code: u8) -> Result<Out
 
 const CODES: [u8; 6] = *b"OSQMEC";
 
-// Whether the code is the next one, so many being past.
+// Whether the code is the next one, this many being past.
 fn is_next(hours: u8, code: u8) -> bool
     ensures { result ≡ is_next hours code }
 {

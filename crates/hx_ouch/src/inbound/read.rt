@@ -2,7 +2,7 @@
 ghost use Rattle.std.specs.Prelude.{◌≡◌, length};
 ghost use Rattle.hx_ouch.specs.Inbound.{inbound_of, enter_of, replace_of, cancel_of};
 
-use super::{Cancel, Enter, Inbound, Replace};
+use super::{Cancel, Enter, Inbound, Replace, kinds};
 use hx_units::fields::{array_at, u32_at};
 use hx_units::{Firm, Symbol, Token};
 
@@ -12,9 +12,9 @@ pub fn read(bytes: &[u8]) -> Option<Inbound>
 {
     let kind = *bytes.first()?;
     match (kind, bytes.len()) {
-        (b'O', 49) => Some(Inbound::Enter(read_enter(bytes))),
-        (b'U', 47) => Some(Inbound::Replace(read_replace(bytes))),
-        (b'X', 19) => Some(Inbound::Cancel(read_cancel(bytes))),
+        (kinds::ENTER_ORDER, 49) => Some(Inbound::Enter(read_enter(bytes))),
+        (kinds::REPLACE_ORDER, 47) => Some(Inbound::Replace(read_replace(bytes))),
+        (kinds::CANCEL_ORDER, 19) => Some(Inbound::Cancel(read_cancel(bytes))),
         _ => None,
     }
 }

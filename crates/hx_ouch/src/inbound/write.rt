@@ -2,7 +2,7 @@
 ghost use Rattle.std.specs.Prelude.{◌≡◌, ◌<◌, ◌^◌};
 ghost use Rattle.hx_ouch.specs.Inbound.{inbound_bytes, IsInbound, enter_bytes, replace_bytes, cancel_bytes, IsEnter, IsReplace, IsCancel};
 
-use super::{Cancel, Enter, Inbound, Replace};
+use super::{Cancel, Enter, Inbound, Replace, kinds};
 use arrayvec::ArrayVec;
 use hx_units::fields::{put, u32_bytes};
 
@@ -23,7 +23,7 @@ fn write_enter(m: Enter) -> ArrayVec<u8, 49>
     ensures fits { IsEnter m }
 {
     let mut out = ArrayVec::new();
-    out.push(b'O');
+    out.push(kinds::ENTER_ORDER);
     put(&mut out, &m.token.0);
     out.push(m.side);
     put(&mut out, &u32_bytes(m.shares));
@@ -45,7 +45,7 @@ fn write_replace(m: Replace) -> ArrayVec<u8, 49>
     ensures fits { IsReplace m }
 {
     let mut out = ArrayVec::new();
-    out.push(b'U');
+    out.push(kinds::REPLACE_ORDER);
     put(&mut out, &m.existing_token.0);
     put(&mut out, &m.replacement_token.0);
     put(&mut out, &u32_bytes(m.shares));
@@ -62,7 +62,7 @@ fn write_cancel(m: Cancel) -> ArrayVec<u8, 49>
     ensures fits { IsCancel m }
 {
     let mut out = ArrayVec::new();
-    out.push(b'X');
+    out.push(kinds::CANCEL_ORDER);
     put(&mut out, &m.token.0);
     put(&mut out, &u32_bytes(m.shares));
     out

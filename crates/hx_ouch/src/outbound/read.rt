@@ -2,7 +2,9 @@
 ghost use Rattle.std.specs.Prelude.{◌≡◌, length};
 ghost use Rattle.hx_ouch.specs.Outbound.{outbound_of, system_event_of, accepted_of, replaced_of, canceled_of, executed_of, rejected_of, broken_trade_of};
 
-use super::{Accepted, BrokenTrade, Canceled, Executed, Outbound, Rejected, Replaced, SystemEvent};
+use super::{
+    Accepted, BrokenTrade, Canceled, Executed, Outbound, Rejected, Replaced, SystemEvent, kinds,
+};
 use hx_units::fields::{array_at, u32_at, u64_at};
 use hx_units::{Firm, Symbol, Token};
 
@@ -12,13 +14,13 @@ pub fn read(bytes: &[u8]) -> Option<Outbound>
 {
     let kind = *bytes.first()?;
     match (kind, bytes.len()) {
-        (b'S', 10) => Some(Outbound::SystemEvent(read_system_event(bytes))),
-        (b'A', 66) => Some(Outbound::Accepted(read_accepted(bytes))),
-        (b'U', 80) => Some(Outbound::Replaced(read_replaced(bytes))),
-        (b'C', 28) => Some(Outbound::Canceled(read_canceled(bytes))),
-        (b'E', 40) => Some(Outbound::Executed(read_executed(bytes))),
-        (b'J', 24) => Some(Outbound::Rejected(read_rejected(bytes))),
-        (b'B', 32) => Some(Outbound::BrokenTrade(read_broken_trade(bytes))),
+        (kinds::SYSTEM_EVENT, 10) => Some(Outbound::SystemEvent(read_system_event(bytes))),
+        (kinds::ACCEPTED, 66) => Some(Outbound::Accepted(read_accepted(bytes))),
+        (kinds::REPLACED, 80) => Some(Outbound::Replaced(read_replaced(bytes))),
+        (kinds::CANCELED, 28) => Some(Outbound::Canceled(read_canceled(bytes))),
+        (kinds::EXECUTED, 40) => Some(Outbound::Executed(read_executed(bytes))),
+        (kinds::REJECTED, 24) => Some(Outbound::Rejected(read_rejected(bytes))),
+        (kinds::BROKEN_TRADE, 32) => Some(Outbound::BrokenTrade(read_broken_trade(bytes))),
         _ => None,
     }
 }

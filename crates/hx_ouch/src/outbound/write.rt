@@ -2,7 +2,9 @@
 ghost use Rattle.std.specs.Prelude.{◌≡◌, ◌<◌, ◌^◌};
 ghost use Rattle.hx_ouch.specs.Outbound.{outbound_bytes, IsOutbound, system_event_bytes, accepted_bytes, replaced_bytes, canceled_bytes, executed_bytes, rejected_bytes, broken_trade_bytes, IsSystemEvent, IsAccepted, IsReplaced, IsCanceled, IsExecuted, IsRejected, IsBrokenTrade};
 
-use super::{Accepted, BrokenTrade, Canceled, Executed, Outbound, Rejected, Replaced, SystemEvent};
+use super::{
+    Accepted, BrokenTrade, Canceled, Executed, Outbound, Rejected, Replaced, SystemEvent, kinds,
+};
 use arrayvec::ArrayVec;
 use hx_units::fields::{put, u32_bytes, u64_bytes};
 
@@ -27,7 +29,7 @@ fn write_system_event(m: SystemEvent) -> ArrayVec<u8, 80>
     ensures fits { IsSystemEvent m }
 {
     let mut out = ArrayVec::new();
-    out.push(b'S');
+    out.push(kinds::SYSTEM_EVENT);
     put(&mut out, &u64_bytes(m.time));
     out.push(m.event_code);
     out
@@ -38,7 +40,7 @@ fn write_accepted(m: Accepted) -> ArrayVec<u8, 80>
     ensures fits { IsAccepted m }
 {
     let mut out = ArrayVec::new();
-    out.push(b'A');
+    out.push(kinds::ACCEPTED);
     put(&mut out, &u64_bytes(m.time));
     put(&mut out, &m.token.0);
     out.push(m.side);
@@ -63,7 +65,7 @@ fn write_replaced(m: Replaced) -> ArrayVec<u8, 80>
     ensures fits { IsReplaced m }
 {
     let mut out = ArrayVec::new();
-    out.push(b'U');
+    out.push(kinds::REPLACED);
     put(&mut out, &u64_bytes(m.time));
     put(&mut out, &m.replacement_token.0);
     out.push(m.side);
@@ -89,7 +91,7 @@ fn write_canceled(m: Canceled) -> ArrayVec<u8, 80>
     ensures fits { IsCanceled m }
 {
     let mut out = ArrayVec::new();
-    out.push(b'C');
+    out.push(kinds::CANCELED);
     put(&mut out, &u64_bytes(m.time));
     put(&mut out, &m.token.0);
     put(&mut out, &u32_bytes(m.shares));
@@ -102,7 +104,7 @@ fn write_executed(m: Executed) -> ArrayVec<u8, 80>
     ensures fits { IsExecuted m }
 {
     let mut out = ArrayVec::new();
-    out.push(b'E');
+    out.push(kinds::EXECUTED);
     put(&mut out, &u64_bytes(m.time));
     put(&mut out, &m.token.0);
     put(&mut out, &u32_bytes(m.shares));
@@ -117,7 +119,7 @@ fn write_rejected(m: Rejected) -> ArrayVec<u8, 80>
     ensures fits { IsRejected m }
 {
     let mut out = ArrayVec::new();
-    out.push(b'J');
+    out.push(kinds::REJECTED);
     put(&mut out, &u64_bytes(m.time));
     put(&mut out, &m.token.0);
     out.push(m.reason);
@@ -129,7 +131,7 @@ fn write_broken_trade(m: BrokenTrade) -> ArrayVec<u8, 80>
     ensures fits { IsBrokenTrade m }
 {
     let mut out = ArrayVec::new();
-    out.push(b'B');
+    out.push(kinds::BROKEN_TRADE);
     put(&mut out, &u64_bytes(m.time));
     put(&mut out, &m.token.0);
     put(&mut out, &u64_bytes(m.match_number));

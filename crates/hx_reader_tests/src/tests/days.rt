@@ -65,7 +65,7 @@ fn feed_of(alloc: Global, day: &Day) -> Result<Vec<Message>, Fail> {
     Ok(feed)
 }
 
-// A feed in packets of so many messages, over each network that does one thing wrong.
+// A feed in packets of this many messages, over each network that does one thing wrong.
 fn expect_feed<R: AllocGlobal + Abort>(
     rt: &R,
     feed: Vec<Message>,

@@ -31,7 +31,7 @@ pub struct Sent {
     server: ListMessages,
 }
 
-// The packets of a feed, each of so many messages but for the last.
+// The packets of a feed, each of this many messages but for the last.
 fn packets_of(alloc: Global, feed: &[Message], size: usize) -> Result<Vec<Packet>, Fail> {
     let mut packets = Vec::new(alloc);
     for place in (0..feed.len()).step_by(size.max(1)) {
@@ -44,7 +44,7 @@ fn packets_of(alloc: Global, feed: &[Message], size: usize) -> Result<Vec<Packet
 }
 
 impl Sent {
-    /// A feed in packets of so many messages, but for the last.
+    /// A feed in packets of this many messages, but for the last.
     pub fn of(alloc: Global, feed: Vec<Message>, size: usize) -> Result<Sent, Fail> {
         let packets = packets_of(alloc, &feed, size)?;
         let mut server = ListMessages::new(alloc);
@@ -62,7 +62,7 @@ impl Sent {
     }
 }
 
-// Hands out what has come: the next messages of the feed, behind so many. It answers how many were handed out in all.
+// Hands out what has come: the next messages of the feed, behind this many. It answers how many were handed out in all.
 fn hand_out<R: Abort>(
     rt: &R,
     screen: &mut Screen,
@@ -116,7 +116,7 @@ fn expect_best<R: Abort>(rt: &R, book: &FeedBook, wanted: &FeedBook) {
     }
 }
 
-/// The feed comes over the network to a screen, which asks for what it missed after each so many packets and in the
+/// The feed comes over the network to a screen, which asks for what it missed after each this many packets and in the
 /// end. All messages were handed out then, in order, each once, and the book is that of the feed.
 pub fn expect_all<R: AllocGlobal + Abort>(
     rt: &R,

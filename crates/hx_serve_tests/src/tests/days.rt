@@ -12,7 +12,7 @@ use std::test::*;
 use std::thread::join;
 use std::time::Clock;
 
-/// The arguments of a day with so many sessions.
+/// The arguments of a day with this many sessions.
 pub fn args_of(
     ports: (u16, u16),
     feed: u16,

@@ -127,7 +127,7 @@ fn a_day_without_its_port_makes_no_file(rt: HostRuntime) -> Result<(), Fail> {
     Ok(())
 }
 
-// A file with room for so many bytes.
+// A file with room for this many bytes.
 #[derive(Drop)]
 struct Full {
     taken: Vec<u8>,

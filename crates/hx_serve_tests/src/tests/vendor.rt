@@ -72,7 +72,7 @@ impl Vendor {
         Err(Fail::from("only heartbeats"))
     }
 
-    /// Listens to the end of the session, and answers how many messages came before it.
+    /// Listens to the end of the session, and returns how many messages came before it.
     pub fn hear_all(&self, alloc: Global) -> Result<u64, Fail> {
         let mut next = 1;
         for _ in 0..1000 {

@@ -61,7 +61,7 @@ pub struct Want<'a> {
 }
 
 impl<'a> Want<'a> {
-    /// It submits so many messages, and writes all this.
+    /// It submits this many messages, and writes all this.
     pub fn new(end: End, sent: usize, whole: &'a [u8]) -> Self {
         Want {
             end,

@@ -144,11 +144,10 @@ impl<V: Venue> Stage<V> {
         codes: &[u8],
     ) -> Result<(), NoMemory> {
         for order in orders {
-            let bytes = Vec::from_slice(self.alloc, enter(order).as_slice())?;
             let event = Event::Message {
                 member: 1,
                 time: 1000,
-                bytes: Bytes::of(self.alloc, bytes)?,
+                bytes: Bytes::of(self.alloc, enter(order).as_slice())?,
             };
             assert!(rt; self.record(rt, &event));
         }

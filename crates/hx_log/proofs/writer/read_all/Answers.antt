@@ -1,7 +1,7 @@
 use Rattle.std.proofs.Common.{◌≡◌, ◌++◌, ◌<◌, ◌∙◌, ap, ℕ, List, length, arith}
 use Rattle.hx_journal.specs.Lines.{text_of}
 use Rattle.hx_terms.specs.Records.{Record}
-use Rattle.hx_log.proofs.Standing.{next_number, reads_on, adds, adds_none, is_passed_over}
+use Rattle.hx_log.proofs.Standing.{next_number, reads_on, lines_on, adds, adds_none, is_passed_over}
 use Rattle.hx_log.proofs.writer.read_all.Goals as goal
 use Rattle.hx_log.proofs.writer.read_all.Goals.{in-Counts+in_ok-extend_from_slice, in_default}
 
@@ -21,6 +21,7 @@ loop-found-preserved c =
     let lt : i < length rs = omega arith in
     record {
       reading = reads_on at rs i now r lt c.found-item.is c.loop-found.invariant.reading c.read.new.self c.read.ensures.after;
+      lines = lines_on at rs i now r lt c.found-item.is c.loop-found.invariant.reading c.loop-found.invariant.lines c.head-of_log.ensures.of_log.lines;
       text = elim c.match-read.branch [
         | in-Counts+in_ok-extend_from_slice w ↦
             let new_is : w.extend_from_slice.new.self.items ≡ c.loop-found.text.items ++ text_of r.lines =

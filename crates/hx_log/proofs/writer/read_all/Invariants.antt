@@ -1,11 +1,13 @@
 use Rattle.std.proofs.Common.{◌≡◌, take}
 use Rattle.hx_journal.specs.Lines.{text_of}
+use Rattle.hx_terms.specs.Lines.{AreTapeLines}
 use Rattle.hx_terms.specs.Terms.{after_all, taken}
 use Rattle.hx_log.proofs.writer.read_all.Given as goal
 
--- so many records are read, and the text is the lines that are taken of them
+-- this many records are read, and the text is the lines that are taken of them, each one of a tape
 abbrev pub invariant-loop-found : goal.invariant-loop-found
 invariant-loop-found l = record {
   reading : l.reading ≡ after_all l.fn.reading (take l.found-index l.records);
+  lines : AreTapeLines (taken l.fn.reading (take l.found-index l.records));
   text : l.text.items ≡ text_of (taken l.fn.reading (take l.found-index l.records));
 }

@@ -101,7 +101,7 @@ loop-next-preserved g c =
           }
     ]
 
--- these are the executions, and so many shares are left
+-- these are the executions, and this many shares are left
 abbrev Told : Incoming → List Live → List Fill → ℕ → Type 0
 Told incoming orders front left = (front ≡ fills_of incoming orders) × (left ≡ (matched_live incoming orders).left)
 

@@ -1,16 +1,26 @@
-use Rattle.std.proofs.Common.{◌≡◌, ◌≢◌, ℕ, List}
+use Rattle.std.proofs.Common.{ap, sym, subst, ◌∙◌}
 use Rattle.hex.specs.Hex.{encode_lower, IsBytes}
-use Rattle.hx_tape_lines.proofs.Lines.{parts_digits, parts_found, some_of, none_of}
+use Rattle.hx_tape_lines.proofs.Lines.{parts_digits, parts_found}
 use Rattle.hx_tape_lines.proofs.line.read_in.Goals as goal
 
-pub returns-in_default-2-clause-only : goal.returns-in_default-2-clause-only
-returns-in_default-2-clause-only c = λ e fits is.
+pub returns-then-not-branch : goal.returns-then-not-branch
+returns-then-not-branch c =
     let parts = c.in-Some.parts in
-    none_of ((bytes : List ℕ) → IsBytes bytes → parts.digits.now ≢ encode_lower bytes) c.in_ok-bytes.field-0 c.in_default-2.is c.in_ok-bytes.ensures.none e.bytes fits.are_bytes
-    (parts_digits e c.args.text.now parts.time parts.member parts.digits.now fits c.in-Some.ensures.some is)
+    record {
+      found = tt;
+      only = λ e fits is.
+          c.in_ok-read_bytes.ensures.no c.if-not-branch.true e.bytes fits.are_bytes
+          (parts_digits e c.args.text.now parts.time parts.member parts.digits.now fits c.in-Some.ensures.some is);
+    }
 
-pub returns-clause-found : goal.returns-clause-found
-returns-clause-found c =
+pub returns : goal.returns
+returns c =
     let parts = c.in-Some.parts in
-    let read = some_of (λ v. (parts.digits.now ≡ encode_lower v.items) × IsBytes v.items) c.in_ok-bytes.field-0 c.in-Some-2.bytes c.in-Some-2.is c.in_ok-bytes.ensures.some in
-    parts_found c.args.text.now parts.time parts.member parts.digits.now c.in-Some-2.bytes.items c.in-Some.ensures.some read.0 read.1
+    let read = c.in_ok-read_bytes.ensures.yes c.if-not-branch.false in
+    let same = sym c.as_slice.ensures.value in
+    record {
+      found =
+          parts_found c.args.text.now parts.time parts.member parts.digits.now c.as_slice.result.now c.in-Some.ensures.some
+          (read.0 ∙ ap encode_lower same) (subst IsBytes same read.1);
+      only = tt;
+    }

@@ -1,7 +1,6 @@
-use Rattle.std.proofs.Common.{◌≡◌, ◌∙◌, ap, arith}
+use Rattle.std.proofs.Common.{◌≡◌, arith}
 use Rattle.hx_tape_lines.specs.Text.{entry_of, IsEntry, line}
 use Rattle.hx_tape_lines.specs.declared.line.Fields.{Fields}
-use Rattle.hx_rules.specs.OperatorMessages.{operator_event}
 use Rattle.hx_tape_lines.proofs.Lines.{some_of}
 use Rattle.hx_tape_lines.proofs.Operators.{other_member, says_nothing}
 use Rattle.hx_tape_lines.proofs.operator.read_operator_line.Goals as goal
@@ -15,4 +14,4 @@ pub returns-clause-none : goal.returns-clause-none
 returns-clause-none c =
     let found = some_of (λ (e : Fields). (c.args.text.now ≡ line (entry_of e)) × IsEntry (entry_of e)) c.in_ok-fields.field-0 c.in-Some.fields c.in-Some.is c.in_ok-fields.ensures.found in
     says_nothing c.args.text.now (entry_of c.in-Some.fields) c.decode_operator.result found
-    (c.decode_operator.ensures ∙ ap (operator_event c.in-Some.fields.time) c.deref.ensures.value)
+    c.decode_operator.ensures

@@ -5,6 +5,6 @@ use Rattle.hx_terms.proofs.lines.count_lines.Given as goal
 abbrev pub decreases-loop-line : goal.decreases-loop-line
 decreases-loop-line l = length l.rest
 
--- so many lines stand in front of the rest
+-- this many lines stand in front of the rest
 abbrev pub invariant-loop-line : goal.invariant-loop-line
 invariant-loop-line l = StandInFront l.count l.text l.rest

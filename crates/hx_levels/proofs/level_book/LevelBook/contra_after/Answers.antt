@@ -7,9 +7,9 @@ use Rattle.std.proofs.lemmas.Bool.{true≢false}
 use Rattle.slab.specs.Slab.{get}
 use Rattle.hx_levels.specs.declared.order.Order.{Order}
 use Rattle.hx_levels.specs.declared.order.Live.{Live}
-use Rattle.hx_levels.specs.declared.nodes.Node.{Node}
-use Rattle.hx_levels.specs.declared.nodes.Ends.{Ends}
-use Rattle.hx_levels.specs.Rung.{Rung}
+use Rattle.hx_levels.specs.declared.level_book.linked_orders.Node.{Node}
+use Rattle.hx_levels.specs.declared.level_book.linked_orders.Ends.{Ends}
+use Rattle.hx_levels.specs.Rung.{LevelKey}
 use Rattle.hx_levels.specs.Levels.{first_at, IsFirstFrom, ends_in, level_at}
 use Rattle.hx_units.specs.Side.{is_buy}
 use Rattle.hx_levels.specs.Book.{next_by_rank, IsRanked, terms_of}
@@ -97,8 +97,8 @@ returns-in-Some-first_from-clause-exact c =
     c.at-from.ensures ∙ ap (λ n. record c.rung_of-rung.result { distance = n + 1 }) c.distance.ensures in
     next_level i.nodes i.ladders.levels i.time i.place i.kept orders c.self.invariant terms key ranked node stored (sym c.get.ensures ∙ c.in_default.is) empty c.in-Some-first_from.next
     (subst (λ n. IsFirstFrom i.ladders.levels terms.locate (not (is_buy terms.side)) (distance_of live + 1) n c.in-Some-first_from.next) c.contra_of-limit.ensures.limit
-    (subst (λ (r : Rung). IsFirstFrom i.ladders.levels r.locate r.buy (r.distance + 1) c.contra_of-limit.result.1 c.in-Some-first_from.next) at
-    (subst (λ (r : Rung). IsFirstFrom i.ladders.levels r.locate r.buy r.distance c.contra_of-limit.result.1 c.in-Some-first_from.next) behind c.in-Some-first_from.ensures.found)))
+    (subst (λ (r : LevelKey). IsFirstFrom i.ladders.levels r.locate r.buy (r.distance + 1) c.contra_of-limit.result.1 c.in-Some-first_from.next) at
+    (subst (λ (r : LevelKey). IsFirstFrom i.ladders.levels r.locate r.buy r.distance c.contra_of-limit.result.1 c.in-Some-first_from.next) behind c.in-Some-first_from.ensures.found)))
     ∙ ap (λ v. next_by_rank terms (Some c.args.key) v.orders) c.self.view_is
 
 pub returns-in-None-clause-exact : goal.returns-in-None-clause-exact
@@ -128,6 +128,6 @@ returns-in-None-clause-exact c =
     c.at-from.ensures ∙ ap (λ n. record c.rung_of-rung.result { distance = n + 1 }) c.distance.ensures in
     next_none i.nodes i.ladders.levels i.time i.place i.kept orders c.self.invariant terms key ranked node stored (sym c.get.ensures ∙ c.in_default.is) empty
     (subst (λ n. (d : ℕ) (s : Bool) → distance_of live + 1 ≤ d → d ≤ n → first_at i.ladders.levels terms.locate (not (is_buy terms.side)) d s ≡ None) c.contra_of-limit.ensures.limit
-    (subst (λ (r : Rung). (d : ℕ) (s : Bool) → r.distance + 1 ≤ d → d ≤ c.contra_of-limit.result.1 → first_at i.ladders.levels r.locate r.buy d s ≡ None) at
-    (subst (λ (r : Rung). (d : ℕ) (s : Bool) → r.distance ≤ d → d ≤ c.contra_of-limit.result.1 → first_at i.ladders.levels r.locate r.buy d s ≡ None) behind c.in-None.ensures.none)))
+    (subst (λ (r : LevelKey). (d : ℕ) (s : Bool) → r.distance + 1 ≤ d → d ≤ c.contra_of-limit.result.1 → first_at i.ladders.levels r.locate r.buy d s ≡ None) at
+    (subst (λ (r : LevelKey). (d : ℕ) (s : Bool) → r.distance ≤ d → d ≤ c.contra_of-limit.result.1 → first_at i.ladders.levels r.locate r.buy d s ≡ None) behind c.in-None.ensures.none)))
     ∙ ap (λ v. next_by_rank terms (Some c.args.key) v.orders) c.self.view_is

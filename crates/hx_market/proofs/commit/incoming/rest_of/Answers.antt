@@ -9,7 +9,7 @@ use Rattle.hx_market.specs.OrderKeys.{AreKeyed}
 use Rattle.hx_market.proofs.OrderKeys.{keyed_rest}
 use Rattle.hx_market.proofs.commit.incoming.rest_of.Goals as goal
 
--- what can rest is keyed once it rests, with so many shares
+-- what can rest is keyed once it rests, with this many shares
 keyed_then : (s : MarketState) (x y : Order) (left : ℕ) (key : Key) (ks ls : List (Option ℕ)) (us : List Used) (ys : List Live) → CanRest s x → AreKeyed s.market.tokens ks s.orders → y ≡ record x { shares = left }
     → us ≡ s.market.tokens → ls ≡ slice_set ks (place_of s.market.tokens y.member y.token) (Some key.0) → ys ≡ s.orders ++ (record { key = key; order = y }) ∷ [] → AreKeyed us ls ys
 keyed_then s x y left key ks ls us ys ready keyed is tokens keys orders =

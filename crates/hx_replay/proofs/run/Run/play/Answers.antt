@@ -22,4 +22,4 @@ pub returns-clause-ok : goal.returns-clause-ok
 returns-clause-ok g c =
     let found = some_of (IsLineOf c.args.text.now) c.in_ok-event.field-0 c.in-Some.event c.in-Some.is c.in_ok-event.ensures.some in
     let r = c.in_ok-play_event.ensures.ok found.entry found.is_known found.event_is in
-    (r.0, subst (λ (t : List ℕ). Plays c.args.self.now c.play_event.new.self t r.0) (sym found.is_line) r.1, c.keep_place.ensures ∙ r.2 ∙ ap (λ (l : List ℕ). l ++ r.0) c.place.ensures)
+    (r.0, subst (λ (t : List ℕ). Plays c.args.self.now c.play_event.new.self t r.0) (sym found.is_line) r.1, c.keep_place.ensures ∙ r.2 ∙ ap (λ (l : List ℕ). l ++ r.0) c.in_ok-event.ensures.lines)

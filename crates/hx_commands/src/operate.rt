@@ -1,0 +1,25 @@
+//! The command that says the operator's words.
+
+use hx_tape_commands::{Argument, Form, Subcommand, WORD};
+
+/// Whom it tells, and what.
+pub const OPERATE: Subcommand = Subcommand {
+    name: "operate",
+    about: "Says the operator's words to a running server, and writes its answer",
+    arguments: &[
+        Argument {
+            name: "path",
+            value: "PATH",
+            help: "The operator's socket of a running server",
+            ..WORD
+        },
+        Argument {
+            name: "words",
+            form: Form::Words,
+            value: "WORDS",
+            help: "What it is told: say help to hear what it understands",
+            ..WORD
+        },
+    ],
+    choice: None,
+};

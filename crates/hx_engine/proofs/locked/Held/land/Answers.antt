@@ -1,0 +1,11 @@
+use Rattle.std.proofs.Common.{ap, arith}
+use Rattle.hx_blog.specs.Ends.{WriterState}
+use Rattle.hx_desk.specs.declared.entry.Entry.{Entry}
+use Rattle.hx_engine.proofs.HeldLaws.{landed_at}
+use Rattle.hx_engine.proofs.locked.Held.land.Goals as goal
+
+pub tell-requires-clause-keeps : goal.tell-requires-clause-keeps
+tell-requires-clause-keeps g c =
+    let held = c.args.self.now in
+    let landed = c.args.landed in
+    landed_at held.desk.history held.desk.sealed landed.end landed.keeper.writer.published landed.knows.known held.register.published landed.all landed.ends (omega (arith, c.sealed_len.ensures)) c.confirm.ensures.beginning (ap (λ (w : WriterState Entry). w.published) held.registered)

@@ -1,0 +1,74 @@
+use super::*;
+
+// Under the key of the first record stands `#1 1 7 1`; or `#1 1 8 1`; or `#2 1 7 1`.
+const OURS: &str = r#"{"responses":[{"response_range":{"kvs":[
+    {"key":"aHgvMDAwMDAwMDAwMDAx","value":"IzEgMSA3IDEK"}]}}]}"#;
+
+const THEIRS: &str = r#"{"responses":[{"response_range":{"kvs":[
+    {"key":"aHgvMDAwMDAwMDAwMDAx","value":"IzEgMSA4IDEK"}]}}]}"#;
+
+const SECOND: &str = r#"{"responses":[{"response_range":{"kvs":[
+    {"key":"aHgvMDAwMDAwMDAwMDAx","value":"IzIgMSA3IDEK"}]}}]}"#;
+
+// What becomes of the asks; what the append of `#1 1 7 1` gives; which nodes were asked.
+const APPENDS: &[(&[Turn], Result<(), LogError>, &[usize])] = &[
+    (&[Turn::Says(MADE)], Ok(()), &[0]),
+    // The answer is lost: the record was made, or not, or another one came first.
+    (&[Turn::Loses, Turn::Says(OURS)], Ok(()), &[0, 1]),
+    (&[Turn::Loses, Turn::Says(MADE)], Ok(()), &[0, 1]),
+    (
+        &[Turn::Loses, Turn::Says(THEIRS)],
+        Err(LogError::Taken),
+        &[0, 1],
+    ),
+    // A node is gone; another one has no leader, and a third tells nothing.
+    (&[Turn::Gone, Turn::Says(MADE)], Ok(()), &[0, 1]),
+    (
+        &[
+            Turn::Gone,
+            Turn::Refuses,
+            Turn::Says("{}"),
+            Turn::Says(OURS),
+        ],
+        Ok(()),
+        &[0, 1, 2, 0],
+    ),
+    // All are gone, before or after one that may have made it.
+    (&[], Err(LogError::Unreachable), &[0, 1, 2, 0, 1, 2]),
+    (&[Turn::Loses], Err(LogError::Unknown), &[0, 1, 2, 0, 1, 2]),
+    // What stands there is no first record.
+    (
+        &[Turn::Says(SECOND)],
+        Err(LogError::NoRecord { number: 1 }),
+        &[0],
+    ),
+];
+
+#[test]
+fn a_lost_answer_is_asked_for_again(rt: HostRuntime) -> Result<(), Fail> {
+    let alloc = rt.alloc();
+    let first = record(alloc, 1, 7)?;
+    for (turns, result, asked) in APPENDS {
+        let mut log = new_log(alloc, turns);
+        assert_eq!(rt; log.append(&first), *result);
+        assert_eq!(rt; log.nodes.asked.as_slice(), *asked);
+    }
+    Ok(())
+}
+
+#[test]
+fn the_node_that_answered_is_asked_first(rt: HostRuntime) -> Result<(), Fail> {
+    let alloc = rt.alloc();
+    let turns = &[Turn::Gone, Turn::Says(MADE), Turn::Says(MADE)];
+    let mut log = new_log(alloc, turns);
+    assert_eq!(rt; log.append(&record(alloc, 1, 7)?), Ok(()));
+    assert_eq!(rt; log.append(&record(alloc, 2, 7)?), Ok(()));
+    assert_eq!(rt; log.nodes.asked.as_slice(), [0, 1, 1].as_slice());
+    assert_eq!(rt; log.len(), 2);
+
+    // Of other numbers nothing is asked.
+    assert_eq!(rt; log.append(&record(alloc, 2, 7)?), Err(LogError::Taken));
+    assert_eq!(rt; log.append(&record(alloc, 4, 7)?), Err(LogError::Gap));
+    assert_eq!(rt; log.nodes.asked.len(), 3);
+    Ok(())
+}

@@ -1,0 +1,78 @@
+use super::*;
+use hx_log::LogWriter;
+
+// The records `#1 1 7 1` and `#2 1 7 1` are told; or the second one for the first; or none.
+const BOTH: &str = r#"{"header":{},"kvs":[
+    {"key":"aHgvMDAwMDAwMDAwMDAx","value":"IzEgMSA3IDEK"},
+    {"key":"aHgvMDAwMDAwMDAwMDAy","value":"IzIgMSA3IDEK"}]}"#;
+
+const SECOND: &str = r#"{"header":{},"kvs":[
+    {"key":"aHgvMDAwMDAwMDAwMDAy","value":"IzIgMSA3IDEK"}]}"#;
+
+const NONE: &str = r#"{"header":{}}"#;
+
+// Under the key of the first record stands `#1 1 8 1`.
+const THEIRS: &str = r#"{"responses":[{"response_range":{"kvs":[
+    {"key":"aHgvMDAwMDAwMDAwMDAx","value":"IzEgMSA4IDEK"}]}}]}"#;
+
+// What becomes of the asks; how many records the first read gives; how many nodes were asked.
+const READS: &[(&[Turn], Result<usize, LogError>, usize)] = &[
+    (&[Turn::Says(BOTH)], Ok(2), 1),
+    (&[Turn::Says(NONE)], Ok(0), 1),
+    (&[Turn::Loses, Turn::Gone, Turn::Says(BOTH)], Ok(2), 3),
+    (&[], Err(LogError::Unreachable), 6),
+    (&[Turn::Gone, Turn::Loses], Err(LogError::Unknown), 6),
+    (
+        &[Turn::Says(SECOND)],
+        Err(LogError::NoRecord { number: 1 }),
+        1,
+    ),
+];
+
+#[test]
+fn records_are_read_from_any_node(rt: HostRuntime) -> Result<(), Fail> {
+    let alloc = rt.alloc();
+    for (turns, result, asks) in READS {
+        let mut log = new_log(alloc, turns);
+        let count = log.read(alloc, 1).map(|found| found.len());
+        assert_eq!(rt; count, *result);
+        assert_eq!(rt; log.nodes.asked.len(), *asks);
+    }
+    Ok(())
+}
+
+#[test]
+fn what_is_known_does_not_change(rt: HostRuntime) -> Result<(), Fail> {
+    let alloc = rt.alloc();
+    let turns = &[Turn::Says(BOTH), Turn::Says(BOTH), Turn::Says(NONE)];
+    let mut log = new_log(alloc, turns);
+    assert_eq!(rt; log.read(alloc, 1)?.len(), 2);
+    assert_eq!(rt; log.read(alloc, 2)?.len(), 1);
+    assert_eq!(rt; log.nodes.asked.len(), 1);
+
+    // The third is asked for, and the first told.
+    let bad = log.read(alloc, 3).map(|found| found.len());
+    assert_eq!(rt; bad, Err(LogError::NoRecord { number: 3 }));
+    assert_eq!(rt; log.read(alloc, 3)?.len(), 0);
+    let gone = log.read(alloc, 2).map(|found| found.len());
+    assert_eq!(rt; gone, Err(LogError::Unreachable));
+    assert_eq!(rt; log.len(), 2);
+    Ok(())
+}
+
+#[test]
+fn a_writer_goes_on_behind_another(rt: HostRuntime) -> Result<(), Fail> {
+    let alloc = rt.alloc();
+    let turns = &[Turn::Loses, Turn::Says(THEIRS), Turn::Says(MADE)];
+    let mut log = new_log(alloc, turns);
+    let mut writer = LogWriter::new(7);
+    assert!(rt; writer.take_over(alloc, &mut log).is_err());
+
+    // What was found there is read without an ask.
+    assert_eq!(rt; writer.follow(alloc, &mut log)?.len(), 0);
+    assert_eq!(rt; log.nodes.asked.len(), 2);
+    assert!(rt; writer.take_over(alloc, &mut log).is_ok());
+    assert!(rt; writer.is_in_office());
+    assert_eq!(rt; log.len(), 2);
+    Ok(())
+}

@@ -1,0 +1,59 @@
+use super::*;
+use std::io;
+use std::io::{Read, Write};
+use std::net::{Ipv4Addr, Net, SocketAddr, TcpListener, TcpStream};
+use std::thread::join;
+use std::time::Duration;
+
+// A listener on a free port, and its address.
+fn listen<R: Net<Listener = TcpListener, Stream = TcpStream>>(
+    rt: &R,
+) -> Result<(TcpListener, SocketAddr), Fail> {
+    let listener = TcpListener::bind(rt, (Ipv4Addr::new(127, 0, 0, 1), 0))?;
+    let address = listener.local_addr()?;
+    Ok((listener, address))
+}
+
+// What a node says to each of two requests.
+const SAYS: &[u8] = b"HTTP/1.1 200 OK\r\nContent-Length: 18\r\n\r\n{\"succeeded\":true}";
+
+// A node that answers two requests over one connection, each of which comes in one piece.
+fn answer_two(listener: TcpListener) -> io::Result<()> {
+    let (mut stream, _from) = listener.accept()?;
+    stream.set_read_timeout(Some(Duration::from_secs(10)))?;
+    for _ in 0..2 {
+        let mut request = [0; 4096];
+        let _count = stream.read(&mut request)?;
+        stream.write_all(SAYS)?;
+    }
+    Ok(())
+}
+
+// Appends two records over a node that is gone and one that is there.
+fn append_two<R: Net<Stream = TcpStream> + Abort>(
+    rt: &R,
+    alloc: Global,
+    addresses: &[SocketAddr],
+) -> Result<(), Fail> {
+    let nodes = TcpNodes::new(rt, alloc, addresses, Duration::from_secs(10))?;
+    let mut log = EtcdLog::new(alloc, nodes);
+    assert_eq!(rt; log.append(&record(alloc, 1, 7)?), Ok(()));
+    assert_eq!(rt; log.append(&record(alloc, 2, 7)?), Ok(()));
+    Ok(())
+}
+
+#[test]
+fn a_node_on_loopback_answers(rt: HostRuntime) -> Result<(), Fail> {
+    let alloc = rt.alloc();
+    let (gone, first) = listen(&rt)?;
+    drop(gone);
+    let (listener, second) = listen(&rt)?;
+    let (answered, appended) = join(
+        &rt,
+        || answer_two(listener),
+        || append_two(&rt, alloc, &[first, second]),
+    );
+    appended?;
+    answered?;
+    Ok(())
+}

@@ -1,0 +1,58 @@
+use Rattle.std.proofs.Common.{◌≡◌, ℕ, true, Option, Some, None, refl, sym, ap, ◌∙◌, subst}
+use Rattle.std.specs.Option.{IsSome, IfSome, is_some, option_map}
+use Rattle.slab.specs.Slab.{get}
+use Rattle.hx_levels.specs.declared.level_book.level_store.Tier.{Tier}
+use Rattle.hx_levels.specs.Levels.{LevelStore, slot_of, level_in, level_at}
+use Rattle.hx_levels.proofs.InPlace.{has_level, is_vacant, is_taken, inserted, inserted_others}
+use Rattle.hx_levels.proofs.level_book.level_store.LevelStore.make_level.Goals as goal
+
+some_slot : (found : Option ℕ) (slot : Option ℕ) → IfSome found (λ s. slot ≡ Some s) → is_some found ≡ true → IsSome slot
+some_slot None slot h s = cc
+some_slot (Some n) slot h s = subst IsSome (sym h) refl
+
+pub returns-then-is_some-clause-there : goal.returns-then-is_some-clause-there
+returns-then-is_some-clause-there c =
+    let tiers : LevelStore = record { slots = c.self.inside.slots.entries; slab = c.self.inside.slab } in
+    has_level tiers c.self.invariant c.args.at
+    (some_slot c.hinted.result (slot_of tiers c.args.at) c.hinted.ensures (sym c.is_some.ensures ∙ c.if-is_some.true))
+
+abbrev before : goal.After-insert_reserved → LevelStore
+before c = record { slots = c.self.inside.slots.entries; slab = c.self.inside.slab }
+
+abbrev after : goal.After-insert_reserved → LevelStore
+after c = record { slots = c.slot_or.new.slots.entries; slab = c.insert_reserved.new.self }
+
+vacant : (c : goal.After-insert_reserved) → get c.self.inside.slab c.vacant_key-vacant.result ≡ None
+vacant c = sym (ap (λ s. get s c.vacant_key-vacant.result) c.reserve.ensures.rest_kept) ∙ c.vacant_key-vacant.ensures.vacant
+
+none : (c : goal.After-insert_reserved) → slot_of (before c) c.args.at ≡ None
+none c = is_vacant (before c) c.self.invariant c.args.at c.in_ok-slot.slot c.vacant_key-vacant.result (vacant c) c.in_ok-slot.ensures.slot c.if-slot-vacant.true
+
+same_slot : (c : goal.After-insert_reserved) → c.vacant_key-vacant.result ≡ c.insert_reserved.result
+same_slot c = c.vacant_key-vacant.ensures.value ∙ sym c.insert_reserved.ensures.key
+
+others : (c : goal.After-insert_reserved) (k : ℕ) → (k ≡ c.vacant_key-vacant.result → ⊥) → get c.insert_reserved.new.self k ≡ get c.self.inside.slab k
+others c k n = c.insert_reserved.ensures.updates.others k (λ e. n (e ∙ sym (same_slot c))) ∙ ap (λ s. get s k) c.reserve.ensures.rest_kept
+
+pub invariant_of-self-then-slot-vacant : goal.invariant_of-self-then-slot-vacant
+invariant_of-self-then-slot-vacant c =
+    inserted (before c) (after c) c.args.at c.vacant_key-vacant.result c.empty.result c.self.invariant (none c) (vacant c)
+    (c.in_ok-slot.ensures.updates.1 ∙ ap Some c.if-slot-vacant.true) c.in_ok-slot.ensures.updates.2
+    (ap (get c.insert_reserved.new.self) (same_slot c) ∙ c.insert_reserved.ensures.updates.changed) (others c)
+
+pub returns-then-slot-vacant-clause-others : goal.returns-then-slot-vacant-clause-others
+returns-then-slot-vacant-clause-others c = λ q n.
+    inserted_others (before c) (after c) c.args.at c.vacant_key-vacant.result c.empty.result c.self.invariant (none c) (vacant c)
+    (c.in_ok-slot.ensures.updates.1 ∙ ap Some c.if-slot-vacant.true) c.in_ok-slot.ensures.updates.2
+    (ap (get c.insert_reserved.new.self) (same_slot c) ∙ c.insert_reserved.ensures.updates.changed) (others c) q n
+    ∙ ap (λ v. level_at v q) c.self.view_is
+
+pub returns-else-slot-vacant-clause-there : goal.returns-else-slot-vacant-clause-there
+returns-else-slot-vacant-clause-there c =
+    let tiers : LevelStore = record { slots = c.self.inside.slots.entries; slab = c.self.inside.slab } in
+    let slot = c.in_ok-slot.slot in
+    let taken : slot_of tiers c.args.at ≡ Some slot = is_taken tiers c.args.at slot c.vacant_key-vacant.result c.in_ok-slot.ensures.slot c.if-slot-vacant.false in
+    subst IsSome
+    (ap (level_in tiers.slab) taken ∙ sym (ap (λ s. option_map (λ (t : Tier). t.level) (get s slot)) c.reserve.ensures.rest_kept)
+    ∙ sym (ap (level_in c.reserve.new.self) c.in_ok-slot.ensures.updates.1))
+    (has_level tiers c.self.invariant c.args.at (ap is_some taken))

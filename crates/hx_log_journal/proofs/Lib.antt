@@ -1,0 +1,4 @@
+pub mod Known
+pub mod Leaving
+pub mod Keeping
+pub mod Succeeding

@@ -1,0 +1,20 @@
+use Rattle.std.specs.Prelude.{IfOk, OnErr}
+use Rattle.std.proofs.Common.{◌≡◌, subst}
+use Rattle.hx_log_journal.specs.States.{told, TellsMore}
+use Rattle.hx_log_journal.proofs.Keeping.{followed, tells, tells_same}
+use Rattle.hx_log_journal.proofs.follower.Follower.read_on.Goals as goal
+
+pub invariant_of-self : goal.invariant_of-self
+invariant_of-self g c =
+    followed (g.L.Log.committed c.self.inside.log) (g.L.Log.committed c.follow.new.log) c.self.inside.writer c.follow.new.self c.self.invariant c.follow.ensures.grows c.follow.result (λ t. t.items) c.follow.ensures.ok c.follow.ensures.err
+
+pub returns-clause-ok : goal.returns-clause-ok
+returns-clause-ok g c =
+    let log = g.L.Log.committed c.follow.new.log in
+    subst (λ f. IfOk c.follow.result (λ t. TellsMore (told g.L.Log.committed f) (told g.L.Log.committed (record { log = c.follow.new.log; writer = c.follow.new.self })) t.items)) c.self.view_is
+    (tells (g.L.Log.committed c.self.inside.log) log c.self.inside.writer c.follow.new.self c.self.invariant c.follow.ensures.grows c.follow.result (λ t. t.items) c.follow.ensures.ok)
+
+pub returns-clause-same : goal.returns-clause-same
+returns-clause-same g c =
+    subst (λ f. OnErr c.follow.result (told g.L.Log.committed (record { log = c.follow.new.log; writer = c.follow.new.self }) ≡ told g.L.Log.committed f)) c.self.view_is
+    (tells_same (g.L.Log.committed c.self.inside.log) (g.L.Log.committed c.follow.new.log) c.self.inside.writer c.follow.new.self c.self.invariant c.follow.ensures.grows c.follow.result c.follow.ensures.err)

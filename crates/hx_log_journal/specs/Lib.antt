@@ -1,0 +1,4 @@
+pub mod States
+pub mod Stops
+pub mod Faults
+pub mod Laws

@@ -1,0 +1,117 @@
+//! What is told, spelled and written.
+ghost use Rattle.std.specs.Prelude.{◌≡◌, ◌++◌, ◌∷◌, ℕ, List, Option, OnOk, OnErr, IfOk, IfErr};
+ghost use Rattle.std.specs.Io.KnownBytes.{Appends};
+ghost use Rattle.hx_text.specs.Cuts.{Lacks};
+ghost use Rattle.hx_replay.specs.Run.{Progress, Writes, Faults, Stops};
+ghost use Rattle.hx_replay.specs.Gathering.{Gathers, IsUnwritten};
+ghost use Rattle.hx_replay.specs.Marks.{lines_of, HaveRoomForTimes};
+ghost use Rattle.hx_replay.specs.Seen.{texts_of};
+ghost use Rattle.hx_replay.specs.declared.unwritten.Mark.{Mark};
+ghost use Rattle.hx_replay.specs.declared.fault.TapeError.TheVariants as fault;
+
+use crate::fault::TapeError;
+use crate::output_text::OutputText;
+use crate::replaying::{write_many, write_whole};
+use crate::unwritten::{Mark, Marked, Unwritten};
+use hx_itch::Feed;
+use hx_ouch::Outbound;
+use hx_units::MemberNo;
+use std::alloc::AllocError;
+use std::io::Write;
+
+// Spells the line that a mark marks, and returns what is left of the messages of the feed and of the replies.
+#[inline(always)]
+fn spell_next<'a>(
+    mark: &Mark,
+    feed: &'a [Feed],
+    replies: &'a [(MemberNo, Outbound)],
+    lines: &mut OutputText,
+) -> Result<(&'a [Feed], &'a [(MemberNo, Outbound)]), AllocError>
+    requires { HaveRoomForTimes feed.now }
+    ensures ok { IfOk result (λ left. (marks : List Mark) → (now : List ℕ)
+        × (texts_of (lines_of (mark.now ∷ marks) feed.now replies.now)
+        ≡ now ++ texts_of (lines_of marks left.0.now left.1.now))
+        × (lines.new ≡ lines.old ++ now)) }
+    ensures times { IfOk result (λ left. HaveRoomForTimes left.0.now) }
+    ensures err { OnErr result (lines.new ≡ lines.old) }
+{
+    match mark.get() {
+        Marked::OfFeed(number) => {
+            let Some((message, others)) = feed.split_first() else {
+                return Ok((feed, replies));
+            };
+            lines.add_feed_line(number, message)?;
+            Ok((others, replies))
+        }
+        Marked::OfMember(number) => {
+            let Some(((member, reply), others)) = replies.split_first() else {
+                return Ok((feed, replies));
+            };
+            lines.add_reply_line(*member, number, reply)?;
+            Ok((feed, others))
+        }
+    }
+}
+
+/// Spells the lines of output behind those that wait, and writes them where they are many. Where it fails, a front of them
+/// was written.
+pub fn spell_told<W: Write>(
+    told: &Unwritten,
+    lines: &mut OutputText,
+    writer: &mut W,
+) -> Result<(), TapeError>
+    ensures ok { OnOk result (Writes
+        (W.contents writer.old) (W.contents writer.new) (lines.old ++ told.now) lines.new) }
+    ensures err { OnErr result ((rest : List ℕ) × Writes
+        (W.contents writer.old) (W.contents writer.new) (lines.old ++ told.now) rest) }
+    ensures fault { IfErr result IsUnwritten }
+{
+    let (marks, mut feed, mut replies) = told.parts();
+    for mark in marks {
+        let left = spell_next(mark, feed, replies, lines)?;
+        feed = left.0;
+        replies = left.1;
+        write_many(writer, lines)?;
+    }
+    Ok(())
+}
+
+/// Spells the lines of output, and writes them. Where it fails, a front of them was written.
+pub fn write_told<W: Write>(
+    told: &Unwritten,
+    lines: &mut OutputText,
+    writer: &mut W,
+) -> Result<(), TapeError>
+    ensures ok { OnOk result
+        (Appends (W.contents writer.old) (W.contents writer.new) told.now) }
+    ensures err { OnErr result (
+        (rest : List ℕ) × Writes (W.contents writer.old) (W.contents writer.new) told.now rest) }
+    ensures fault { IfErr result IsUnwritten }
+{
+    lines.clear();
+    spell_told(told, lines, writer)?;
+    write_whole(writer, lines.text())?;
+    Ok(())
+}
+
+/// Writes what was told before a line that fails, and answers its fault, or why that was not written.
+pub fn write_before<W: Write>(
+    error: TapeError,
+    told: &Unwritten,
+    lines: &mut OutputText,
+    writer: &mut W,
+) -> TapeError
+    ensures { (c d : Progress) (text gathered rest l others : List ℕ) (w : Option (List ℕ))
+        → Gathers c d text w (W.contents writer.old) gathered rest
+        → rest ≡ l ++ 10 ∷ others → Lacks 10 l → Faults d l error
+        → ((error ≡ fault.NoMemory → ⊥) → told.now ≡ gathered)
+        → Stops ⊥ c text w (W.contents writer.new) result }
+{
+    if let TapeError::NoMemory = error {
+        return error;
+    }
+    match write_told(told, lines, writer) {
+        Ok(()) => error,
+        Err(unwritten) => unwritten,
+    }
+}

@@ -1,0 +1,13 @@
+use Rattle.hx_serve.proofs.day.serve_from.Given as goal
+
+abbrev pub ghosts-run-V-Venue : goal.ghosts-run-V-Venue
+ghosts-run-V-Venue g a = record {
+  log = a.founding.logs.feed.0;
+  admitted = a.founding.logs.admitted.0;
+  kept = a.founding.logs.kept.0;
+  setup = a.founding.own;
+  before = a.founding.beginning.recovered.events.items;
+}
+
+abbrev pub ghosts-run-V-Ledger : goal.ghosts-run-V-Ledger
+ghosts-run-V-Ledger g a = record { name = a.founding.blank.name; parts = a.founding.blank.parts }
