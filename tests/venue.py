@@ -38,7 +38,7 @@ def frame(kind, payload=b""):
 
 
 class Server:
-    """A server with a journal, which can be killed and started again with the same words."""
+    """A server with a journal, or what other words say, which can be killed and started again with the same words."""
 
     def __init__(self, program, folder, journal, members, places=None, more=(), ticks=0, end=1):
         self.program, self.journal = program, journal
@@ -50,7 +50,7 @@ class Server:
         self.words = [program, "serve", "--open", "--end", str(end), "--port", str(self.port), "--feed", str(self.feed),
                       "--requests", str(self.requests), "--sessions", str(places or members), "--setup", self.setup,
                       "--capacity", "1000000", "--answers", "100000", "--connections-per-address", "1000",
-                      "--tick", str(ticks), "--journal", journal, *more]
+                      "--tick", str(ticks), *(["--journal", journal] if journal else []), *more]
         self.notices = []
         self.process = None
 
@@ -121,6 +121,67 @@ class Orders:
         if kind < 0.85:
             return tapes.replace(other, token, self.random.randrange(1, 500), price, display=self.random.choice("YN"))
         return tapes.cancel(other, self.random.randrange(0, 50))
+
+
+class Member(threading.Thread):
+    """A member who trades at random while the server is there, and comes again when it is not."""
+
+    def __init__(self, server, number, seed):
+        super().__init__(daemon=True)
+        self.server, self.number, self.random = server, number, random.Random(seed)
+        self.orders = Orders(f"M{number}", seed)
+        self.told = []
+        self.stop, self.quiet, self.failure, self.again = False, threading.Event(), None, 0
+
+    def take(self, number, message):
+        """A reply: it is new, or as it was told before."""
+        if number <= len(self.told):
+            if self.told[number - 1] != message:
+                self.failure = f"member {self.number}: reply {number} was told otherwise before"
+        else:
+            self.told.append(message)
+
+    def talk(self, line):
+        from_the_start = self.random.random() < 0.2
+        first = 1 if from_the_start else len(self.told) + 1
+        line.sendall(login(self.number, first))
+        line.settimeout(0.05)
+        packets = packets_of(line)
+        answer = next((it for it in packets if it is not None), None)
+        if answer is None:
+            return False
+        if answer[:1] != b"A":
+            raise OSError("no login")
+        if int(answer[11:31]) != first:
+            self.failure = f"member {self.number}: asked for reply {first}, and got {answer!r}"
+        number, waiting, idle = first, 0, 0
+        for packet in packets:
+            if packet is None:
+                # (some messages have no reply)
+                idle += 1
+                waiting = 0 if idle % 10 == 0 else waiting
+            elif packet[:1] == b"S":
+                self.take(number, packet[1:])
+                number += 1
+                waiting = max(0, waiting - 1)
+            elif packet[:1] == b"Z":
+                return True
+            if not self.stop and waiting < 3:
+                line.sendall(frame(b"U", self.orders.next()))
+                waiting += 1
+                time.sleep(0.001)
+        return False
+
+    def run(self):
+        while self.failure is None:
+            try:
+                with socket.create_connection((HOST, self.server.port), timeout=1) as line:
+                    line.setsockopt(socket.IPPROTO_TCP, socket.TCP_NODELAY, 1)
+                    if self.talk(line):
+                        return
+            except OSError:
+                time.sleep(0.01)
+            self.again += 1
 
 
 class Vendor(threading.Thread):
@@ -199,3 +260,15 @@ def replayed(program, setup, tape):
         elif words[:1] == [b"M"]:
             replies.setdefault(int(words[1]), []).append(bytes.fromhex(words[3].decode()))
     return feed, replies
+
+
+def compare_told(program, setup, tape, members, vendor):
+    """Compares all that was told with one uninterrupted replay of the day's tape: its events, and the feed's messages."""
+    feed, replies = replayed(program, setup, tape)
+    assert vendor.failure is None, vendor.failure
+    assert vendor.told == feed, f"the vendor has {len(vendor.told)} messages, the replay {len(feed)}"
+    for member in members:
+        assert member.failure is None, member.failure
+        wanted = replies.get(member.number, [])
+        assert member.told == wanted, f"member {member.number} has {len(member.told)} replies, the replay {len(wanted)}"
+    return tape.count(b"\n"), len(feed)

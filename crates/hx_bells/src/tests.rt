@@ -3,8 +3,9 @@
 use super::listeners::Listeners;
 use super::*;
 use hx_units::MemberNo;
+use std::alloc::Global;
+use std::process::Abort;
 use std::sync::Wait;
-use std::test::*;
 use std::thread::{Threads, join};
 use std::time::{Clock, Duration, Instant};
 
@@ -21,25 +22,41 @@ fn short() -> Duration {
     Duration::from_millis(SHORT)
 }
 
-fn member(number: u16) -> Result<MemberNo, Fail> {
-    Ok(MemberNo::of(number).ok_or("a member")?)
+// It is so, or the test ends.
+fn holds<R: Abort>(rt: &R, is_so: bool) {
+    assert!(rt; is_so);
+}
+
+fn member<R: Abort>(rt: &R, number: u16) -> MemberNo {
+    MemberNo::of(number).expect(rt, "a member")
+}
+
+fn bells_for<R: Abort>(rt: &R, alloc: Global, seats: u16) -> Bells {
+    Bells::new(alloc, seats).expect(rt, "memory")
+}
+
+fn now<R: Clock + Abort>(rt: &R) -> Instant {
+    Instant::now(rt).expect(rt, "the time")
+}
+
+fn since<R: Clock + Abort>(rt: &R, start: Instant) -> Duration {
+    start.elapsed(rt).expect(rt, "the time")
 }
 
 #[test]
-fn a_ring_ends_the_wait_that_comes(rt: HostRuntime) -> Result<(), Fail> {
-    let start = Instant::now(&rt)?;
+fn a_ring_ends_the_wait_that_comes(rt: HostRuntime) {
+    let start = now(&rt);
     let bell = Bell::new();
     bell.arm();
     bell.ring();
     bell.ring();
     bell.sleep(long());
-    assert!(rt; start.elapsed(&rt)? < long());
-    Ok(())
+    holds(&rt, since(&rt, start) < long());
 }
 
 #[test]
-fn a_ring_ends_the_wait_that_is_under_way(rt: HostRuntime) -> Result<(), Fail> {
-    let start = Instant::now(&rt)?;
+fn a_ring_ends_the_wait_that_is_under_way(rt: HostRuntime) {
+    let start = now(&rt);
     let bell = &Bell::new();
     bell.arm();
     let clock = &rt;
@@ -51,89 +68,76 @@ fn a_ring_ends_the_wait_that_is_under_way(rt: HostRuntime) -> Result<(), Fail> {
             bell.ring();
         },
     );
-    assert!(rt; start.elapsed(&rt)? < long());
-    Ok(())
+    holds(&rt, since(&rt, start) < long());
 }
 
 // Nor does one that nobody waited for.
 #[test]
-fn a_ring_ends_one_wait(rt: HostRuntime) -> Result<(), Fail> {
+fn a_ring_ends_one_wait(rt: HostRuntime) {
     let bell = Bell::new();
     bell.ring();
     bell.arm();
     bell.ring();
     bell.sleep(long());
     bell.arm();
-    let start = Instant::now(&rt)?;
+    let start = now(&rt);
     bell.sleep(short());
-    assert!(rt; short() <= start.elapsed(&rt)?);
-    Ok(())
+    holds(&rt, short() <= since(&rt, start));
 }
 
 // Whether a bell that was armed has rung.
-fn has_rung(clock: &impl Clock, bell: &Bell) -> Result<bool, Fail> {
-    let start = Instant::now(clock)?;
+fn has_rung<R: Clock + Abort>(rt: &R, bell: &Bell) -> bool {
+    let start = now(rt);
     bell.sleep(short());
-    Ok(start.elapsed(clock)? < short())
+    since(rt, start) < short()
 }
 
-// Which of the bells of seats 1 to 3 ring for members.
-fn rung(
-    rt: &impl Wait,
-    clock: &impl Clock,
-    bells: &Bells,
-    who: &[MemberNo],
-) -> Result<[bool; 3], Fail> {
+// Of the bells of seats 1 to 3 these ring for members.
+fn rings<R: Wait + Clock + Abort>(rt: &R, bells: &Bells, who: &[MemberNo], wanted: [bool; 3]) {
     bells.bell(1).arm();
     bells.bell(2).arm();
     bells.bell(3).arm();
     bells.ring(rt, who);
-    Ok([
-        has_rung(clock, bells.bell(1))?,
-        has_rung(clock, bells.bell(2))?,
-        has_rung(clock, bells.bell(3))?,
-    ])
+    let rung = [
+        has_rung(rt, bells.bell(1)),
+        has_rung(rt, bells.bell(2)),
+        has_rung(rt, bells.bell(3)),
+    ];
+    assert_eq!(rt; rung, wanted);
 }
 
 #[test]
-fn only_who_listens_is_woken(rt: HostRuntime) -> Result<(), Fail> {
-    let (first, second) = (member(1)?, member(4095)?);
-    let bells = Bells::new(rt.alloc(), 3)?;
-    assert_eq!(rt; rung(&rt, &rt, &bells, &[first])?, [false, false, false]);
+fn only_who_listens_is_woken(rt: HostRuntime) {
+    let (first, second) = (member(&rt, 1), member(&rt, 4095));
+    let bells = bells_for(&rt, rt.alloc(), 3);
+    rings(&rt, &bells, &[first], [false, false, false]);
     bells.listen(&rt, 1, first);
     bells.listen(&rt, 2, second);
     bells.listen(&rt, 3, first);
-    assert_eq!(rt; rung(&rt, &rt, &bells, &[])?, [false, false, false]);
-    assert_eq!(rt; rung(&rt, &rt, &bells, &[first])?, [true, false, true]);
-    assert_eq!(rt;
-        rung(&rt, &rt, &bells, &[second, second])?,
-        [false, true, false]
-    );
-    assert_eq!(rt;
-        rung(&rt, &rt, &bells, &[first, second, first])?,
-        [true, true, true]
-    );
+    rings(&rt, &bells, &[], [false, false, false]);
+    rings(&rt, &bells, &[first], [true, false, true]);
+    rings(&rt, &bells, &[second, second], [false, true, false]);
+    rings(&rt, &bells, &[first, second, first], [true, true, true]);
     bells.leave(&rt, 1, first);
-    assert_eq!(rt; rung(&rt, &rt, &bells, &[first])?, [false, false, true]);
+    rings(&rt, &bells, &[first], [false, false, true]);
     bells.listen(&rt, 1, second);
     bells.leave(&rt, 3, first);
-    assert_eq!(rt; rung(&rt, &rt, &bells, &[first])?, [false, false, false]);
-    assert_eq!(rt; rung(&rt, &rt, &bells, &[second])?, [true, true, false]);
+    rings(&rt, &bells, &[first], [false, false, false]);
+    rings(&rt, &bells, &[second], [true, true, false]);
     bells.ring_all();
-    Ok(())
 }
 
 #[test]
-fn seats_that_are_none(rt: HostRuntime) -> Result<(), Fail> {
-    let bells = Bells::new(rt.alloc(), 2)?;
+fn seats_that_are_none(rt: HostRuntime) {
+    let bells = bells_for(&rt, rt.alloc(), 2);
     bells.bell(0).arm();
     bells.bell(3).arm();
     bells.ring_all();
-    assert!(rt; !has_rung(&rt, bells.bell(0))?);
-    assert!(rt; !has_rung(&rt, bells.bell(3))?);
-    bells.listen(&rt, 9, member(1)?);
-    bells.ring(&rt, &[member(1)?]);
-    bells.leave(&rt, 9, member(1)?);
-    assert!(rt; Listeners::new(rt.alloc(), 0).is_ok());
-    Ok(())
+    holds(&rt, !has_rung(&rt, bells.bell(0)));
+    holds(&rt, !has_rung(&rt, bells.bell(3)));
+    let first = member(&rt, 1);
+    bells.listen(&rt, 9, first);
+    bells.ring(&rt, &[first]);
+    bells.leave(&rt, 9, first);
+    holds(&rt, Listeners::new(rt.alloc(), 0).is_ok());
 }

@@ -4,8 +4,8 @@ ghost use Rattle.std.specs.Prelude.{◌≡◌};
 
 use crate::{Full, Log, Reader, Writer};
 use arrayvec::ArrayVec;
+use std::fmt::Debug;
 use std::process::Abort;
-use std::test::Fail;
 use std::thread;
 use std::thread::Threads;
 
@@ -19,21 +19,21 @@ fn message(bytes: &[u8]) -> ArrayVec<u8, 44> {
 }
 
 #[test]
-fn one_message_is_published(rt: HostRuntime) -> Result<(), Fail> {
-    let (log, mut writer, mut reader) = Log::<u64>::new(rt.alloc(), 10)?;
+fn one_message_is_published(rt: HostRuntime) {
+    let (log, mut writer, mut reader) = Log::<u64>::new(rt.alloc(), 10).expect(&rt, "a log");
     let mut early = reader.split(&log);
-    assert!(rt; writer.stage(&log, &message(&DELETED)).is_ok());
-    assert!(rt; reader.next(&log).is_none());
+    holds(&rt, writer.stage(&log, &message(&DELETED)).is_ok());
+    holds(&rt, reader.next(&log).is_none());
     writer.publish(&log, &7);
-    let first = reader.next(&log).ok_or("a message")?;
-    assert_eq!(rt; first.as_slice(), DELETED.as_slice());
-    assert!(rt; reader.next(&log).is_none());
-    assert_eq!(rt; early.look(&log), 1);
-    assert_eq!(rt; early.read_so_far(), 0);
-    let first = early.at(&log, 1).ok_or("a message")?;
-    assert_eq!(rt; first.as_slice(), DELETED.as_slice());
-    assert!(rt; early.at(&log, 0).is_none());
-    assert!(rt; early.at(&log, 2).is_none());
+    let first = reader.next(&log).expect(&rt, "a message");
+    equal(&rt, first.as_slice(), DELETED.as_slice());
+    holds(&rt, reader.next(&log).is_none());
+    equal(&rt, early.look(&log), 1);
+    equal(&rt, early.read_so_far(), 0);
+    let first = early.at(&log, 1).expect(&rt, "a message");
+    equal(&rt, first.as_slice(), DELETED.as_slice());
+    holds(&rt, early.at(&log, 0).is_none());
+    holds(&rt, early.at(&log, 2).is_none());
     let words = [
         1,
         0x1344_0001_0000_0000,
@@ -44,45 +44,39 @@ fn one_message_is_published(rt: HostRuntime) -> Result<(), Fail> {
         0,
         0,
     ];
-    assert!(rt; log.table.word_count() == 61);
+    count(&rt, log.table.word_count(), 61);
     for (i, &word) in words.iter().enumerate() {
-        assert_eq!(rt; log.table.shared.peek(i), word);
+        equal(&rt, log.table.shared.peek(i), word);
     }
-    Ok(())
 }
 
 #[test]
-fn a_log_gets_full(rt: HostRuntime) -> Result<(), Fail> {
-    let (log, mut writer, mut reader) = Log::<u64>::new(rt.alloc(), 2)?;
-    assert_eq!(rt; writer.free(&log), 2);
-    assert!(rt; writer.stage(&log, &message(&[1; 44])).is_ok());
+fn a_log_gets_full(rt: HostRuntime) {
+    let (log, mut writer, mut reader) = Log::<u64>::new(rt.alloc(), 2).expect(&rt, "a log");
+    equal(&rt, writer.free(&log), 2);
+    holds(&rt, writer.stage(&log, &message(&[1; 44])).is_ok());
     writer.publish(&log, &0);
     writer.publish(&log, &1);
-    assert!(rt; writer.stage(&log, &message(b"")).is_ok());
-    assert_eq!(rt; writer.count(), 1);
-    assert_eq!(rt; writer.free(&log), 0);
-    assert!(rt; writer.stage(&log, &message(b"no room")).is_err());
-    assert_eq!(rt;
-        format!(in rt.alloc(); "{Full}")?.as_str(),
-        "no slot is free"
-    );
+    holds(&rt, writer.stage(&log, &message(b"")).is_ok());
+    equal(&rt, writer.count(), 1);
+    equal(&rt, writer.free(&log), 0);
+    holds(&rt, writer.stage(&log, &message(b"no room")).is_err());
+    let text = format!(in rt.alloc(); "{Full}").expect(&rt, "memory");
+    equal(&rt, text.as_str(), "no slot is free");
     writer.publish(&log, &2);
-    assert_eq!(rt; writer.count(), 2);
+    equal(&rt, writer.count(), 2);
     let mut old = reader.receipt(&log);
     let mut receipt = writer.receipt(&log);
     old.learn(&log, receipt.again(&log));
     receipt.catch_up(&log, &mut writer);
     writer.confirm(&log, old);
     reader.learn(&log, receipt);
-    assert!(rt; reader.at(&log, 1).is_none());
+    holds(&rt, reader.at(&log, 1).is_none());
     reader.catch_up(&log, &mut writer);
-    assert_eq!(rt;
-        reader.next(&log).ok_or("a message")?.as_slice(),
-        [1; 44].as_slice()
-    );
-    assert!(rt; reader.next(&log).ok_or("a message")?.is_empty());
-    assert!(rt; reader.next(&log).is_none());
-    Ok(())
+    let longest = reader.next(&log).expect(&rt, "a message");
+    equal(&rt, longest.as_slice(), [1; 44].as_slice());
+    holds(&rt, reader.next(&log).expect(&rt, "a message").is_empty());
+    holds(&rt, reader.next(&log).is_none());
 }
 
 fn numbered(n: u64) -> ArrayVec<u8, 44> {
@@ -157,22 +151,38 @@ fn write_and_follow<R: Threads + Abort + Sync>(
             )
         },
     );
-    assert!(rt; staged && one_right && two_right);
+    holds(rt, staged && one_right && two_right);
     let mut receipt = writer.receipt(log);
     one.learn(log, receipt.again(log));
     two.learn(log, receipt);
     let (mut one, one_right) = follow(log, one, 1);
     let (mut two, two_right) = follow(log, two, 1);
-    assert!(rt; one_right && two_right);
-    assert_eq!(rt; one.read_so_far(), 1000);
-    assert_eq!(rt; two.read_so_far(), 1000);
-    assert!(rt; one.next(log).is_none());
-    assert!(rt; two.next(log).is_none());
+    holds(rt, one_right && two_right);
+    equal(rt, one.read_so_far(), 1000);
+    equal(rt, two.read_so_far(), 1000);
+    holds(rt, one.next(log).is_none());
+    holds(rt, two.next(log).is_none());
 }
 
 #[test]
-fn two_readers_follow_the_writer(rt: HostRuntime) -> Result<(), Fail> {
-    let (log, writer, reader) = Log::<u64>::new(rt.alloc(), 1000)?;
+fn two_readers_follow_the_writer(rt: HostRuntime) {
+    let (log, writer, reader) = Log::<u64>::new(rt.alloc(), 1000).expect(&rt, "a log");
     write_and_follow(&rt, &log, writer, reader);
-    Ok(())
+}
+
+/// Both are the same, or the test ends.
+pub fn equal<R: Abort, T: PartialEq + Debug + Drop>(rt: &R, found: T, wanted: T) {
+    assert_eq!(rt; found, wanted);
+}
+
+/// It is so, or the test ends.
+pub fn holds<R: Abort>(rt: &R, is_so: bool) {
+    assert!(rt; is_so);
+}
+
+/// There are this many, or the test ends.
+pub fn count<R: Abort>(rt: &R, found: usize, wanted: usize)
+    ensures { found ≡ wanted }
+{
+    assert_eq!(rt; found, wanted);
 }

@@ -11,8 +11,6 @@ mod news;
 mod pace;
 mod recorder;
 mod status;
-#[cfg(test)]
-mod tests;
 mod text;
 mod trade;
 

@@ -8,3 +8,15 @@ mod resuming;
 mod shared_file;
 mod told;
 mod worked_days;
+
+use std::process::Abort;
+
+// Both are the same, or the test ends.
+fn equal<R: Abort, T: PartialEq + Drop>(rt: &R, found: T, wanted: T) {
+    assert!(rt; found == wanted);
+}
+
+// It is so, or the test ends.
+fn holds<R: Abort>(rt: &R, is_so: bool) {
+    assert!(rt; is_so);
+}

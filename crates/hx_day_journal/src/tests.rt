@@ -3,8 +3,20 @@
 use crate::{PatientFile, Syncs, date_of, day_of, digest_of};
 use hx_journal::{DeviceError, RawFile};
 use hx_serve::{Board, Notice};
+use std::alloc::Global;
+use std::fmt::Debug;
+use std::process::Abort;
 use std::sync::atomic::{AtomicU64, Ordering};
-use std::test::*;
+
+// Both are the same, or the test ends.
+fn equal<R: Abort, T: PartialEq + Debug + Drop>(rt: &R, found: T, wanted: T) {
+    assert_eq!(rt; found, wanted);
+}
+
+// It is so, or the test ends.
+fn holds<R: Abort>(rt: &R, is_so: bool) {
+    assert!(rt; is_so);
+}
 
 // A file in memory on a small disk, on which there is more room after some writes that found none.
 #[derive(Drop)]
@@ -78,64 +90,68 @@ impl Board for Heard {
 }
 
 #[test]
-fn a_full_disk_is_waited_for(rt: HostRuntime) -> Result<(), Fail> {
+fn a_full_disk_is_waited_for(rt: HostRuntime) {
     let heard = Heard::new();
     let disk = SmallDisk::new(&rt, 5, 2);
     let mut file = PatientFile::new(disk, 0, Syncs::Group, &heard, &rt);
-    assert!(rt; file.write_at(0, b"abcd").is_ok());
-    assert!(rt; file.write_at(4, b"efgh").is_ok());
-    assert_eq!(rt; file.file().bytes.as_slice(), b"abcdefgh".as_slice());
-    assert_eq!(rt; heard.waits.load(Ordering::SeqCst), 1);
-    assert_eq!(rt; heard.goes_on.load(Ordering::SeqCst), 1);
-    Ok(())
+    holds(&rt, file.write_at(0, b"abcd").is_ok());
+    holds(&rt, file.write_at(4, b"efgh").is_ok());
+    equal(&rt, file.file().bytes.as_slice(), b"abcdefgh".as_slice());
+    equal(&rt, heard.waits.load(Ordering::SeqCst), 1);
+    equal(&rt, heard.goes_on.load(Ordering::SeqCst), 1);
 }
 
 #[test]
-fn what_a_full_disk_took_is_cut_off_again(rt: HostRuntime) -> Result<(), Fail> {
+fn what_a_full_disk_took_is_cut_off_again(rt: HostRuntime) {
     let heard = Heard::new();
     let disk = SmallDisk::new(&rt, 5, 1);
     let mut file = PatientFile::new(disk, 0, Syncs::Group, &heard, &rt);
-    assert!(rt; file.write_at(0, b"abcd").is_ok());
-    assert!(rt; file.wait_for_room(true).is_ok());
-    assert_eq!(rt; file.file().bytes.as_slice(), b"abcd".as_slice());
-    Ok(())
+    holds(&rt, file.write_at(0, b"abcd").is_ok());
+    holds(&rt, file.wait_for_room(true).is_ok());
+    equal(&rt, file.file().bytes.as_slice(), b"abcd".as_slice());
 }
 
 #[test]
-fn a_group_is_synced_or_never(rt: HostRuntime) -> Result<(), Fail> {
+fn a_group_is_synced_or_never(rt: HostRuntime) {
     let heard = Heard::new();
     let mut file = PatientFile::new(SmallDisk::new(&rt, 9, 0), 0, Syncs::Group, &heard, &rt);
-    assert!(rt; file.sync().is_ok());
-    assert_eq!(rt; file.file().syncs, 1);
+    holds(&rt, file.sync().is_ok());
+    equal(&rt, file.file().syncs, 1);
     let mut file = PatientFile::new(SmallDisk::new(&rt, 9, 0), 0, Syncs::Never, &heard, &rt);
-    assert!(rt; file.sync().is_ok());
-    assert_eq!(rt; file.file().syncs, 0);
-    Ok(())
+    holds(&rt, file.sync().is_ok());
+    equal(&rt, file.file().syncs, 0);
+}
+
+// A day since 1970 reads so.
+fn reads<R: Abort>(rt: &R, alloc: Global, day: u64, wanted: &[u8]) {
+    let date = date_of(alloc, day).expect(rt, "memory");
+    equal(rt, date.as_slice(), wanted);
 }
 
 #[test]
-fn a_date_is_its_day(rt: HostRuntime) -> Result<(), Fail> {
+fn a_date_is_its_day(rt: HostRuntime) {
     let alloc = rt.alloc();
-    assert_eq!(rt; date_of(alloc, 0)?.as_slice(), b"19700101".as_slice());
-    assert_eq!(rt; date_of(alloc, 20_645)?.as_slice(), b"20260711".as_slice());
-    assert_eq!(rt; day_of("20260711"), Some(20_645));
-    assert_eq!(rt; day_of("20240229"), Some(19_782));
-    assert_eq!(rt; day_of("20230229"), None);
-    assert_eq!(rt; day_of("19691231"), None);
-    assert_eq!(rt; day_of("2026071"), None);
-    assert_eq!(rt;
-        date_of(alloc, u64::MAX)?.as_slice(),
-        b"99991231".as_slice()
-    );
-    Ok(())
+    reads(&rt, alloc, 0, b"19700101");
+    reads(&rt, alloc, 20_645, b"20260711");
+    reads(&rt, alloc, u64::MAX, b"99991231");
+    equal(&rt, day_of("20260711"), Some(20_645));
+    equal(&rt, day_of("20240229"), Some(19_782));
+    equal(&rt, day_of("20230229"), None);
+    equal(&rt, day_of("19691231"), None);
+    equal(&rt, day_of("2026071"), None);
+}
+
+// The digest of a setup's text is this.
+fn digests<R: Abort>(rt: &R, alloc: Global, text: Option<&[u8]>, wanted: &[u8]) {
+    let digest = digest_of(alloc, text).expect(rt, "memory");
+    equal(rt, digest.as_slice(), wanted);
 }
 
 #[test]
-fn a_digest_is_that_of_the_standard(rt: HostRuntime) -> Result<(), Fail> {
+fn a_digest_is_that_of_the_standard(rt: HostRuntime) {
     let alloc = rt.alloc();
     // FIPS 180-4's own example, the message "abc".
     let abc = b"ba7816bf8f01cfea414140de5dae2223b00361a396177a9cb410ff61f20015ad";
-    assert_eq!(rt; digest_of(alloc, Some(b"abc"))?.as_slice(), abc.as_slice());
-    assert_eq!(rt; digest_of(alloc, None)?.as_slice(), b"standard".as_slice());
-    Ok(())
+    digests(&rt, alloc, Some(b"abc"), abc);
+    digests(&rt, alloc, None, b"standard");
 }

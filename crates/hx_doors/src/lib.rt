@@ -15,8 +15,6 @@ mod rules;
 mod sockets;
 mod source;
 mod tally;
-#[cfg(test)]
-mod tests;
 mod visitor;
 
 pub use addresses::{Addresses, MOST_FEEDS, address_of, is_loopback, reaches};

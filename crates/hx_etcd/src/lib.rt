@@ -20,6 +20,3 @@ pub use range::read_range_answer;
 pub use requests::{append_request, range_request};
 pub use response::CallError;
 pub use told::{Answer, AnswerError, Field};
-
-#[cfg(test)]
-mod tests;

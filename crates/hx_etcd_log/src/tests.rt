@@ -1,10 +1,12 @@
+//! A log in an etcd whose nodes answer, or do not.
+
 use super::*;
 use hx_etcd::Answer;
 use hx_log::{Log, LogError};
 use hx_terms::{Head, LogRecord};
 use std::alloc::Global;
+use std::fmt::Debug;
 use std::process::Abort;
-use std::test::Fail;
 
 mod appends;
 mod reads;
@@ -73,15 +75,25 @@ fn new_log(alloc: Global, turns: &'static [Turn]) -> EtcdLog<Script> {
 }
 
 // The record `#NUMBER 1 WRITER 1`, without lines.
-fn record(alloc: Global, number: u64, writer: u64) -> Result<LogRecord, Fail> {
+fn record(rt: &impl Abort, alloc: Global, number: u64, writer: u64) -> LogRecord {
     let head = Head {
         number,
         term: 1,
         writer,
         place: 1,
     };
-    Ok(LogRecord::new(head, Vec::new(alloc))?)
+    LogRecord::new(head, Vec::new(alloc)).expect(rt, "a record")
 }
 
 // An append is made.
 const MADE: &str = r#"{"succeeded":true}"#;
+
+// Both are the same, or the test ends.
+fn equal<R: Abort, T: PartialEq + Debug + Drop>(rt: &R, found: T, wanted: T) {
+    assert_eq!(rt; found, wanted);
+}
+
+// It is so, or the test ends.
+fn holds<R: Abort>(rt: &R, is_so: bool) {
+    assert!(rt; is_so);
+}

@@ -36,6 +36,3 @@ pub use journal::Journal;
 pub use open_error::OpenError;
 pub use surveying::{Survey, survey_of};
 pub use unkept::Unkept;
-
-#[cfg(test)]
-mod tests;

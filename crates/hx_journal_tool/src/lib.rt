@@ -14,6 +14,3 @@ pub use fault::ToolError;
 pub use files::{cut_file, report_file, tape_file};
 pub use reporting::report;
 pub use taping::write_tape;
-
-#[cfg(test)]
-mod tests;

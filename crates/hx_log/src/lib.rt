@@ -12,6 +12,3 @@ pub use error::{KeepError, LogError};
 pub use log::Log;
 pub use memory::MemoryLog;
 pub use writer::LogWriter;
-
-#[cfg(test)]
-mod tests;

@@ -7,6 +7,3 @@ mod log_journal;
 
 pub use follower::Follower;
 pub use log_journal::LogJournal;
-
-#[cfg(test)]
-mod tests;

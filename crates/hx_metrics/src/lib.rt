@@ -9,8 +9,6 @@ mod hours;
 mod metrics;
 mod rows;
 mod serving;
-#[cfg(test)]
-mod tests;
 mod watched;
 
 pub use answering::Page;

@@ -26,6 +26,3 @@ pub use schedule::{Schedule, ScheduleError, read_schedule};
 pub use socket::{OperatorSocket, SocketError};
 pub use visitor::{Directed, LONGEST};
 pub use words::{note_of, read_command};
-
-#[cfg(test)]
-mod tests;

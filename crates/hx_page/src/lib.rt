@@ -9,8 +9,6 @@ mod browser;
 mod guests;
 mod handshake;
 mod serving;
-#[cfg(test)]
-mod tests;
 
 pub use answering::Page;
 pub use serving::serve_page;

@@ -30,7 +30,7 @@ are_lines [] = tt
 are_lines (e ∷ events) = ((recorded e).0, are_lines events)
 
 -- the lines of a tape of records are these records
-tape_records : (events : List Event) (tape : List ℕ) (records : List (List ℕ)) → tape ≡ text_of (map record_of events) → lines_of tape ≡ records → records ≡ lines record_of (restored events)
+pub tape_records : (events : List Event) (tape : List ℕ) (records : List (List ℕ)) → tape ≡ text_of (map record_of events) → lines_of tape ≡ records → records ≡ lines record_of (restored events)
 tape_records events tape records is read = sym read ∙ (ap lines_of is ∙ (lines_of-text (map record_of events) (are_lines events) ∙ sym (lines_restored events)))
 
 -- an opened journal keeps the records of the events of its tape

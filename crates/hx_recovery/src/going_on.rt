@@ -2,7 +2,7 @@
 ghost use Rattle.std.specs.Prelude.{◌≡◌, map, true, IfOk};
 ghost use Rattle.hx_disk.specs.Calls.{seen_of};
 ghost use Rattle.hx_journal.specs.Files.{stored, appended};
-ghost use Rattle.hx_journal.specs.Lines.{text_of};
+ghost use Rattle.hx_journal.specs.Lines.{lines_of, text_of};
 ghost use Rattle.hx_journal.specs.Records.{records_of, recovered};
 ghost use Rattle.hx_tape_lines.specs.Text.{record_of};
 ghost use Rattle.hx_desk.specs.Entries.{restored};
@@ -63,7 +63,7 @@ impl Progress for Unwatched {
 }
 
 // The events of a tape.
-fn events_of<P: Progress>(
+fn read_events<P: Progress>(
     alloc: Global,
     tape: &[u8],
     progress: &P,
@@ -84,6 +84,22 @@ fn events_of<P: Progress>(
     if !rest.is_empty() {
         return Err(no_event(events.len()));
     }
+    Ok(events)
+}
+
+/// The events of a tape whose lines are records, one from each, in their order. The progress is told of each.
+///
+/// Errors: `NoEvent` where a line is none of an event, or the last one has no end; `NoMemory`.
+pub fn events_of<P: Progress>(
+    alloc: Global,
+    tape: &[u8],
+    progress: &P,
+) -> Result<Vec<Event>, RecoveryError>
+    ensures tape { IfOk result (λ events. tape.now ≡ text_of (map record_of events.items)) }
+    ensures records { IfOk result (λ events. lines_of tape.now
+        ≡ lines record_of (restored events.items)) }
+{
+    let events = read_events(alloc, tape, progress)?;
     Ok(events)
 }
 

@@ -5,4 +5,4 @@
 mod going_on;
 pub mod laws;
 
-pub use going_on::{Progress, RecoveryError, Unwatched, recover};
+pub use going_on::{Progress, RecoveryError, Unwatched, events_of, recover};

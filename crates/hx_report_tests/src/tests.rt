@@ -1,4 +1,5 @@
 //! What a report says of worked days.
+ghost use Rattle.std.specs.Prelude.{◌≡◌};
 
 use hx_replay::{Kind, TapeError};
 use hx_report::{Day, Progress, Report, Tally, audit};
@@ -6,6 +7,7 @@ use hx_report_pages::{Document, write_html, write_json, write_plain};
 use hx_testing::setups::standard;
 use hx_testing::{Day as Worked, worked};
 use std::alloc::Global;
+use std::fmt::Debug;
 use std::process::Abort;
 use std::test::Fail;
 use std::thread::Threads;
@@ -25,12 +27,12 @@ impl Progress for Told {
 }
 
 // The report of a worked day over the standard setup, of three members.
-fn report_of<R: AllocGlobal + Threads + Sync>(rt: &R, words: &str) -> Result<Report, Fail> {
+fn report_of<R: AllocGlobal + Threads + Sync + Abort>(rt: &R, words: &str) -> Result<Report, Fail> {
     let alloc = rt.alloc();
     let Worked { tape, .. } = Worked::of(alloc, words)?;
-    let day = Day::of(alloc, &standard(alloc)?, tape)?;
+    let day = Day::of(alloc, &standard(alloc).expect(rt, "memory"), tape).expect(rt, "a day");
     let mut told = Told { times: 0, done: 0 };
-    Ok(audit(rt, alloc, &day, &mut told)?)
+    Ok(audit(rt, alloc, &day, &mut told).expect(rt, "memory"))
 }
 
 // A member's numbers: messages, chains, quiet ones, shares that rested hidden, trades.
@@ -52,17 +54,17 @@ fn expect<R: AllocGlobal + Threads + Sync + Abort>(
     struck: [u64; 4],
 ) -> Result<(), Fail> {
     let report = report_of(rt, words)?;
-    assert_eq!(rt; report.rows.len(), 3);
+    count(rt, report.rows.len(), 3);
     for index in 0..3 {
         let row = &report.rows[index];
-        assert_eq!(rt; usize::from(row.member.get()), index + 1);
-        assert_eq!(rt; row.tally, tallies[index]);
-        assert_eq!(rt; row.check.struck, struck[index]);
-        assert!(rt; row.check.comparison.same);
-        assert_eq!(rt; row.check.comparison.day, row.check.comparison.struck);
+        equal(rt, usize::from(row.member.get()), index + 1);
+        equal(rt, row.tally, tallies[index]);
+        equal(rt, row.check.struck, struck[index]);
+        holds(rt, row.check.comparison.same);
+        equal(rt, row.check.comparison.day, row.check.comparison.struck);
     }
-    assert_eq!(rt; report.all.struck, struck[3]);
-    assert!(rt; report.all.comparison.same);
+    equal(rt, report.all.struck, struck[3]);
+    holds(rt, report.all.comparison.same);
     Ok(())
 }
 
@@ -141,41 +143,50 @@ fn replaces_and_a_quiet_chain(rt: HostRuntime) -> Result<(), Fail> {
 fn digests(rt: HostRuntime) -> Result<(), Fail> {
     let report = report_of(&rt, worked::HIDDEN_THEN_DISPLAYED)?;
     let [first, second, ..] = report.rows.as_slice() else {
-        return Err("a row for each member".into());
+        panic!(rt; "a row for each member");
     };
-    assert_eq!(rt; first.check.comparison.day.lines, 2);
-    let digest = hex::encode(rt.alloc(), first.check.comparison.day.digest.as_slice())?;
-    assert_eq!(rt;
-        digest.as_str(),
-        "6ce7f5288577a61a0d951fd2c801f70243a049dc5d822f072d5b6ee842b180e7"
+    equal(&rt, first.check.comparison.day.lines, 2);
+    let digest = hex::encode(rt.alloc(), first.check.comparison.day.digest.as_slice()).expect(
+        &rt, "memory",
     );
-    let digest = hex::encode(rt.alloc(), second.check.comparison.day.digest.as_slice())?;
-    assert_eq!(rt;
+    equal(
+        &rt,
         digest.as_str(),
-        "c2c25c58d1849b53ee8264fe05ba51870a7a9eac87b54e9a02ddede5a3c937a5"
+        "6ce7f5288577a61a0d951fd2c801f70243a049dc5d822f072d5b6ee842b180e7",
     );
-    assert_eq!(rt; report.all.comparison.day.lines, 1);
-    let digest = hex::encode(rt.alloc(), report.all.comparison.day.digest.as_slice())?;
-    assert_eq!(rt;
+    let digest = hex::encode(rt.alloc(), second.check.comparison.day.digest.as_slice()).expect(
+        &rt, "memory",
+    );
+    equal(
+        &rt,
         digest.as_str(),
-        "708c416b6b9b64ee20d6908813f4ffeb22cb23ef4ee6f40165c0d48b7570d415"
+        "c2c25c58d1849b53ee8264fe05ba51870a7a9eac87b54e9a02ddede5a3c937a5",
+    );
+    equal(&rt, report.all.comparison.day.lines, 1);
+    let digest = hex::encode(rt.alloc(), report.all.comparison.day.digest.as_slice()).expect(
+        &rt, "memory",
+    );
+    equal(
+        &rt,
+        digest.as_str(),
+        "708c416b6b9b64ee20d6908813f4ffeb22cb23ef4ee6f40165c0d48b7570d415",
     );
     Ok(())
 }
 
 // The first line that fails a check is named.
 #[test]
-fn a_bad_line(rt: HostRuntime) -> Result<(), Fail> {
+fn a_bad_line(rt: HostRuntime) {
     let alloc = rt.alloc();
-    let text = Vec::from_slice(alloc, b"10 0 4b\n20 9 58\n")?;
-    match Day::of(alloc, &standard(alloc)?, text) {
+    let text = Vec::from_slice(alloc, b"10 0 4b\n20 9 58\n").expect(&rt, "memory");
+    match Day::of(alloc, &standard(alloc).expect(&rt, "memory"), text) {
         Err(
             TapeError::Line {
                 line: 2,
                 kind: Kind::Member,
             },
-        ) => Ok(()),
-        _ => Err("another answer".into()),
+        ) => {}
+        _ => panic!(rt; "the second line is bad"),
     }
 }
 
@@ -189,33 +200,56 @@ fn has_line(text: &str, line: &str) -> bool {
 fn pages(rt: HostRuntime) -> Result<(), Fail> {
     let alloc = rt.alloc();
     let report = report_of(&rt, worked::HIDDEN_THEN_DISPLAYED)?;
-    let setup = standard(alloc)?;
+    let setup = standard(alloc).expect(&rt, "memory");
     let document = Document {
         report: &report,
         members: setup.members(),
         has_setup: false,
     };
-    let plain = write_plain(alloc, &document)?;
-    assert!(rt;
+    let plain = write_plain(alloc, &document).expect(&rt, "memory");
+    holds(
+        &rt,
         has_line(
             &plain,
-            "A day of 2 events, 1 messages of the feed and 2 replies."
-        )
+            "A day of 2 events, 1 messages of the feed and 2 replies.",
+        ),
     );
-    assert!(rt; has_line(&plain, "member 1: same, 1 lines struck"));
-    assert!(rt; has_line(&plain, "hx_tape strike --all < day.tape > struck.tape"));
-    let json = write_json(alloc, &document)?;
-    assert!(rt;
+    holds(&rt, has_line(&plain, "member 1: same, 1 lines struck"));
+    holds(
+        &rt,
+        has_line(&plain, "hx_tape strike --all < day.tape > struck.tape"),
+    );
+    let json = write_json(alloc, &document).expect(&rt, "memory");
+    holds(
+        &rt,
         json.starts_with(
-            "{\"events\":2,\"feed\":1,\"replies\":2,\"members\":[{\"member\":1,\"firm\":\"FMA1\""
-        )
+            "{\"events\":2,\"feed\":1,\"replies\":2,\"members\":[{\"member\":1,\"firm\":\"FMA1\"",
+        ),
     );
-    let html = write_html(alloc, &document)?;
-    assert!(rt;
+    let html = write_html(alloc, &document).expect(&rt, "memory");
+    holds(
+        &rt,
         has_line(
             &html,
-            "hx_tape strike --member $N &lt; day.tape &gt; struck.tape"
-        )
+            "hx_tape strike --member $N &lt; day.tape &gt; struck.tape",
+        ),
     );
     Ok(())
+}
+
+/// Both are the same, or the test ends.
+pub fn equal<R: Abort, T: PartialEq + Debug + Drop>(rt: &R, found: T, wanted: T) {
+    assert_eq!(rt; found, wanted);
+}
+
+/// It is so, or the test ends.
+pub fn holds<R: Abort>(rt: &R, is_so: bool) {
+    assert!(rt; is_so);
+}
+
+/// There are this many, or the test ends.
+pub fn count<R: Abort>(rt: &R, found: usize, wanted: usize)
+    ensures { found ≡ wanted }
+{
+    assert_eq!(rt; found, wanted);
 }

@@ -20,6 +20,10 @@ use std::io::{Error, ErrorKind, Read};
 use std::sync::Wait;
 use std::time::Duration;
 
+// The most bytes of the stream that are taken at once, some forty messages: their replies go out before the next ones are
+// read, so that a client who sends much and the exchange work at the same time.
+const PIECE: usize = 2048;
+
 /// Who is logged in: the exchange that his messages go to, who is called round each of them, whose replies he gets, and
 /// whether he may send messages. A drop copy may not.
 #[derive(Drop)]
@@ -278,7 +282,7 @@ pub fn receive<V: Venue, J: Journal + Drop, R: Read + Source, C: Clock, G: Gate,
         }
         return Ok(());
     }
-    let mut buffer = [0; 4096];
+    let mut buffer = [0; PIECE];
     match inbox.input.read(&mut buffer) {
         Ok(0) => Err(Stop::Ended(Ended::ReaderEnd)),
         Ok(count) => {

@@ -17,6 +17,3 @@ pub use head::Head;
 pub use reading::{Reading, Verdict};
 pub use record::{LogRecord, RecordError};
 pub use text::{TextError, read_record};
-
-#[cfg(test)]
-mod tests;

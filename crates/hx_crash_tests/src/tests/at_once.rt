@@ -3,6 +3,7 @@ ghost use Rattle.std.specs.Prelude.{◌≡◌, []};
 ghost use Rattle.hx_engine.specs.Opening.{IsNewLog};
 ghost use Rattle.hx_rules.specs.declared.event.Event.{Event};
 
+use super::{equal, holds};
 use hx_blog::Reader;
 use hx_engine::{Entry, Exchange, Journal, JournalError, Pass, Venue};
 use hx_engine_testing::ground::{Ground, ground_of};
@@ -90,32 +91,33 @@ fn order_of(member: u16, number: u8) -> Order {
 
 impl<V: Venue> Sender<'_, V> {
     // How many replies the two members have.
-    fn replies<R: Wait>(&mut self, rt: &R, exchange: &Exchange<V, Watched>) -> Option<u64> {
-        let first = exchange.news(rt, &mut self.reader, MemberNo::of(1)?);
-        let second = exchange.news(rt, &mut self.reader, MemberNo::of(2)?);
-        first.replies.checked_add(second.replies)
+    fn replies<R: Wait + Abort>(&mut self, rt: &R, exchange: &Exchange<V, Watched>) -> u64 {
+        let first = self.replies_to(rt, exchange, 1);
+        let second = self.replies_to(rt, exchange, 2);
+        first.checked_add(second).expect(rt, "a sum")
     }
 
-    // Sends his orders, and counts those that are answered: none where one is answered, or a reply told to anybody, before
-    // its record is synced.
-    fn session<R: Wait>(
+    fn replies_to<R: Wait + Abort>(
         &mut self,
         rt: &R,
-        alloc: Global,
         exchange: &Exchange<V, Watched>,
-    ) -> Option<u8> {
+        member: u16,
+    ) -> u64 {
+        let member = MemberNo::of(member).expect(rt, "a member");
+        exchange.news(rt, &mut self.reader, member).replies
+    }
+
+    // Sends his orders: none is answered, and no reply told to anybody, before its record is synced.
+    fn session<R: Wait + Abort>(&mut self, rt: &R, alloc: Global, exchange: &Exchange<V, Watched>) {
         for number in 0..EACH {
-            let event = enter(alloc, &order_of(self.member, number)).ok()?;
-            let done = exchange.submit(rt, &mut self.pass, &event).ok()?;
-            if self.synced.load(Ordering::SeqCst) < done.place {
-                return None;
-            }
-            let replies = self.replies(rt, exchange)?;
-            if self.synced.load(Ordering::SeqCst) < replies {
-                return None;
-            }
+            let event = enter(alloc, &order_of(self.member, number)).expect(rt, "an order");
+            let done = exchange
+                .submit(rt, &mut self.pass, &event)
+                .expect(rt, "an answer");
+            holds(rt, self.synced.load(Ordering::SeqCst) >= done.place);
+            let replies = self.replies(rt, exchange);
+            holds(rt, self.synced.load(Ordering::SeqCst) >= replies);
         }
-        Some(EACH)
     }
 }
 
@@ -133,7 +135,7 @@ fn two_senders<V: Venue + Send + Sync, R: Threads + Wait + Abort + Sync>(
     ground: Ground,
     synced: &AtomicU64,
     bounds: Bounds,
-) -> Result<(), Fail>
+)
     requires feed { IsNewLog V.log ground.logs.feed }
     requires admitted { IsNewLog V.admitted ground.logs.admitted }
     requires kept { IsNewLog V.kept ground.logs.kept }
@@ -154,33 +156,32 @@ fn two_senders<V: Venue + Send + Sync, R: Threads + Wait + Abort + Sync>(
     };
     let (exchange, mut passes) = Exchange::<V, Watched>::new(
         alloc, setup, logs, journal, blank, 2,
-    )?;
+    ).expect(rt, "an exchange");
     let exchange = exchange.at_most_ahead(bounds.ahead);
     let mut reader = reader;
     let mut first = Sender {
         member: 1,
-        pass: passes.pop().ok_or("a pass")?,
+        pass: passes.pop().expect(rt, "a pass"),
         reader: reader.split(exchange.feed_log()),
         synced,
     };
     let mut second = Sender {
         member: 2,
-        pass: passes.pop().ok_or("a pass")?,
+        pass: passes.pop().expect(rt, "a pass"),
         reader,
         synced,
     };
     let shared = &exchange;
-    let (one, two) = thread::join(
+    thread::join(
         rt,
         || first.session(rt, alloc, shared),
         || second.session(rt, alloc, shared),
     );
-    assert!(rt; (one, two) == (Some(EACH), Some(EACH)));
     let both = 2 * u64::from(EACH);
-    assert!(rt; first.replies(rt, &exchange) == Some(both));
-    passes.push(first.pass)?;
-    passes.push(second.pass)?;
-    expect_kept(rt, exchange, passes, both, bounds.syncs)
+    equal(rt, first.replies(rt, &exchange), both);
+    passes.push(first.pass).expect(rt, "a place");
+    passes.push(second.pass).expect(rt, "a place");
+    expect_kept(rt, exchange, passes, both, bounds.syncs);
 }
 
 // The exchange ends with this number of entries, all of them synced, by as many syncs or fewer, and at least this many.
@@ -190,16 +191,18 @@ fn expect_kept<V: Venue, R: Abort>(
     passes: Vec<Pass<V>>,
     count: u64,
     least: u64,
-) -> Result<(), Fail> {
-    let finished = exchange.finish(passes).ok().ok_or("all passes are there")?;
+) {
+    let finished = exchange.finish(passes).ok().expect(rt, "all passes");
     let Some(journal) = &finished.journal else {
-        return Err("a journal".into());
+        panic!(rt; "a journal");
     };
-    assert_eq!(rt; finished.history.len() as u64, count);
-    assert_eq!(rt; finished.feed, count);
-    assert_eq!(rt; journal.memory.synced as u64, count);
-    assert!(rt; journal.memory.syncs <= count && journal.memory.syncs >= least);
-    Ok(())
+    equal(rt, finished.history.len() as u64, count);
+    equal(rt, finished.feed, count);
+    equal(rt, journal.memory.synced as u64, count);
+    holds(
+        rt,
+        journal.memory.syncs <= count && journal.memory.syncs >= least,
+    );
 }
 
 // Both send at once at a new exchange, within these bounds.
@@ -208,9 +211,11 @@ fn send_within<R: AllocGlobal + Threads + Wait + Abort + Sync>(
     bounds: Bounds,
 ) -> Result<(), Fail> {
     let alloc = rt.alloc();
-    let ground = ground_of(alloc, Setup::standard(alloc)?, 100, 2)?;
+    let setup = Setup::standard(alloc).expect(rt, "a setup");
+    let ground = ground_of(alloc, setup, 100, 2)?;
     let synced = AtomicU64::new(0);
-    two_senders::<Brand, _>(rt, alloc, ground, &synced, bounds)
+    two_senders::<Brand, _>(rt, alloc, ground, &synced, bounds);
+    Ok(())
 }
 
 #[test]

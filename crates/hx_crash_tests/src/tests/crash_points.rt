@@ -5,6 +5,7 @@ ghost use Rattle.std.specs.Prelude.{◌<◌};
 use super::going_on::{Day, play};
 use super::shared_file::SharedFile;
 use super::told::Told;
+use super::{equal, holds};
 use hx_journal::{DeviceError, JournalError};
 use hx_market::Event;
 use hx_ouch::{Cancel, Inbound, encode_in};
@@ -21,11 +22,11 @@ const ROUNDS: u8 = 20;
 
 /// A day that nothing stops.
 pub fn whole_day<R: Wait + Abort>(rt: &R, alloc: Global, day: Day) -> Result<Told, Fail> {
-    let file = SharedFile::new(alloc, b"", u64::MAX, DeviceError::Failed)?;
+    let file = SharedFile::new(alloc, b"", u64::MAX, DeviceError::Failed).expect(rt, "a file");
     let course = play(rt, alloc, day, file, b"")?;
-    assert_eq!(rt; course.answered, day.events.len());
-    assert!(rt; course.failure.is_none());
-    assert!(rt; course.again == Told::nothing(alloc)?);
+    equal(rt, course.answered, day.events.len());
+    holds(rt, course.failure.is_none());
+    equal(rt, course.again, Told::nothing(rt, alloc));
     Ok(course.told)
 }
 
@@ -37,11 +38,11 @@ fn goes_on<R: Wait + Abort>(
     left: &[u8],
     whole: &Told,
 ) -> Result<Told, Fail> {
-    let file = SharedFile::new(alloc, left, u64::MAX, DeviceError::Failed)?;
+    let file = SharedFile::new(alloc, left, u64::MAX, DeviceError::Failed).expect(rt, "a file");
     let course = play(rt, alloc, day, file, left)?;
-    assert_eq!(rt; course.answered, day.events.len());
-    assert!(rt; course.failure.is_none());
-    assert!(rt; course.told == *whole);
+    equal(rt, course.answered, day.events.len());
+    holds(rt, course.failure.is_none());
+    holds(rt, course.told == *whole);
     Ok(course.again)
 }
 
@@ -61,15 +62,16 @@ fn stops<R: Wait + Abort>(
     stop: Stop,
     whole: &Told,
 ) -> Result<Option<JournalError>, Fail> {
-    let file = SharedFile::new(alloc, b"", stop.calls, stop.fault)?;
-    let course = play(rt, alloc, day, file.again()?, b"")?;
-    let left = file.left(alloc)?;
+    let file = SharedFile::new(alloc, b"", stop.calls, stop.fault).expect(rt, "a file");
+    let same = file.again().expect(rt, "the same file");
+    let course = play(rt, alloc, day, same, b"")?;
+    let left = file.left(rt, alloc);
     let place = (stop.calls / 2) as usize % left.len().max(1);
-    let image = left.get(place).ok_or("what is left")?;
+    let image = left.get(place).expect(rt, "what is left");
     let again = goes_on(rt, alloc, day, image, whole)?;
-    assert!(rt; again.begins_with(&course.told));
-    assert!(rt; place > 0 || again == course.told);
-    assert!(rt; whole.begins_with(&again));
+    holds(rt, again.begins_with(&course.told));
+    holds(rt, place > 0 || again == course.told);
+    holds(rt, whole.begins_with(&again));
     Ok(course.failure)
 }
 
@@ -85,7 +87,7 @@ pub fn stops_at_calls<R: Wait + Abort>(
     for calls in calls {
         let stop = Stop { calls, fault };
         let failure = stops(rt, alloc, day, stop, &whole)?;
-        assert!(rt; failure == Some(JournalError::from(fault)));
+        equal(rt, failure, Some(JournalError::from(fault)));
     }
     Ok(whole)
 }
@@ -99,7 +101,7 @@ fn member(round: u8, place: u8) -> u16 {
 // the second hides one; the third sells to both. He displays a sell order, the first member another buy order, which he
 // then cancels in part or whole. The second hides a sell order, and the first buys of both sellers. The second displays an
 // order for a second, and the tick of the next round ends it.
-fn event_at(alloc: Global, round: u8, place: u8) -> Result<Event, Fail>
+fn event_at<R: Abort>(rt: &R, alloc: Global, round: u8, place: u8) -> Event
     requires { (round < 20) × (place < 10) }
 {
     let time = 1000 + 100_000_000 * (10 * u64::from(round) + u64::from(place));
@@ -110,94 +112,75 @@ fn event_at(alloc: Global, round: u8, place: u8) -> Result<Event, Fail>
         token: [b'A' + round, b'0' + place],
         ..BUY
     };
-    Ok(match place {
-        0 => enter(alloc, &order)?,
-        1 => enter(
-            alloc,
-            &Order {
-                member: second,
-                display: b'N',
-                ..order
-            },
-        )?,
-        2 => enter(
-            alloc,
-            &Order {
-                member: third,
-                side: SELL.side,
-                shares: 150,
-                ..order
-            },
-        )?,
-        3 => enter(
-            alloc,
-            &Order {
-                member: third,
-                side: SELL.side,
-                price: 101_000,
-                ..order
-            },
-        )?,
-        4 => enter(
-            alloc,
-            &Order {
-                shares: 300,
-                price: 99_000,
-                ..order
-            },
-        )?,
-        5 => cancel(alloc, round, first, time)?,
-        6 => enter(
-            alloc,
-            &Order {
-                member: second,
-                side: SELL.side,
-                price: 101_000,
-                display: b'N',
-                ..order
-            },
-        )?,
-        7 => enter(
-            alloc,
-            &Order {
-                shares: 150,
-                price: 101_000,
-                ..order
-            },
-        )?,
-        8 => enter(
-            alloc,
-            &Order {
-                member: second,
-                price: 98_000,
-                time_in_force: 1,
-                ..order
-            },
-        )?,
-        _ => Event::Tick { time },
-    })
+    let sent = match place {
+        0 => order,
+        1 => Order {
+            member: second,
+            display: b'N',
+            ..order
+        },
+        2 => Order {
+            member: third,
+            side: SELL.side,
+            shares: 150,
+            ..order
+        },
+        3 => Order {
+            member: third,
+            side: SELL.side,
+            price: 101_000,
+            ..order
+        },
+        4 => Order {
+            shares: 300,
+            price: 99_000,
+            ..order
+        },
+        5 => return cancel(rt, alloc, round, first, time),
+        6 => Order {
+            member: second,
+            side: SELL.side,
+            price: 101_000,
+            display: b'N',
+            ..order
+        },
+        7 => Order {
+            shares: 150,
+            price: 101_000,
+            ..order
+        },
+        8 => Order {
+            member: second,
+            price: 98_000,
+            time_in_force: 1,
+            ..order
+        },
+        _ => return Event::Tick { time },
+    };
+    enter(alloc, &sent).expect(rt, "an order")
 }
 
 // The cancel of the fifth order of a round: to 200 shares, or whole, in turn.
-fn cancel(alloc: Global, round: u8, member: u16, time: u64) -> Result<Event, Fail>
+fn cancel<R: Abort>(rt: &R, alloc: Global, round: u8, member: u16, time: u64) -> Event
     requires { round < 20 }
 {
     let bytes = encode_in(&Inbound::Cancel(Cancel {
         token: token([b'A' + round, b'4']),
         shares: if round % 2 == 0 { 200 } else { 0 },
     }));
-    Ok(message(alloc, member, time, bytes.as_slice())?)
+    message(alloc, member, time, bytes.as_slice()).expect(rt, "a cancel")
 }
 
 // All events of the day.
-fn events(alloc: Global) -> Result<Vec<Event>, Fail> {
+fn events<R: Abort>(rt: &R, alloc: Global) -> Vec<Event> {
     let mut events = Vec::new(alloc);
     for round in 0..ROUNDS {
         for place in 0..10u8 {
-            events.push(event_at(alloc, round, place)?)?;
+            let event = event_at(rt, alloc, round, place);
+            events.push(event).expect(rt, "a place");
         }
     }
-    Ok(events)
+    events
 }
 
 // In four turns as many events are sent as in any other: sixteen. So the day has fifty groups, and each is written by one
@@ -207,7 +190,7 @@ fn stops_at_quarter<R: Wait + Abort>(
     alloc: Global,
     calls: Range<u64>,
 ) -> Result<Told, Fail> {
-    let events = events(alloc)?;
+    let events = events(rt, alloc);
     let day = Day {
         setup: STANDARD,
         events: &events,
@@ -222,8 +205,8 @@ fn stops_at_quarter<R: Wait + Abort>(
 #[test]
 fn stops_at_the_first_quarter_of_a_day(rt: HostRuntime) -> Result<(), Fail> {
     let whole = stops_at_quarter(&rt, rt.alloc(), 0..26)?;
-    assert_eq!(rt; whole.feed.len(), 20 * 9 + 19);
-    assert_eq!(rt; whole.reply_count(), 20 * (8 + 8 + 1) + 19);
+    equal(&rt, whole.feed.len(), 20 * 9 + 19);
+    equal(&rt, whole.reply_count(), 20 * (8 + 8 + 1) + 19);
     Ok(())
 }
 

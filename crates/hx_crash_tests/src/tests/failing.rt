@@ -3,6 +3,7 @@ ghost use Rattle.std.specs.Prelude.{◌≡◌};
 
 use super::crash_points::whole_day;
 use super::going_on::{Course, Day, go_on};
+use super::{equal, holds};
 use hx_engine::{JournalError, Recovered};
 use hx_engine_testing::ground::ground_of;
 use hx_engine_testing::memory::Memory;
@@ -18,12 +19,13 @@ use std::test::*;
 
 // Plays a day over a journal in memory that has room for this number of records.
 fn play<R: Wait + Abort>(rt: &R, alloc: Global, day: Day, room: usize) -> Result<Course, Fail> {
-    let ground = ground_of(alloc, Setup::read(alloc, day.setup)?, 100, 1)?;
+    let setup = Setup::read(alloc, day.setup).expect(rt, "a setup");
+    let ground = ground_of(alloc, setup, 100, 1)?;
     let recovered = Recovered {
         journal: Memory::with_room(alloc, room),
         events: Vec::new(alloc),
     };
-    go_on::<Brand, Memory, R>(rt, alloc, day, ground, recovered)
+    Ok(go_on::<Brand, Memory, R>(rt, alloc, day, ground, recovered))
 }
 
 // As much is told as on a day of the events that the journal took.
@@ -34,10 +36,11 @@ fn expect_beginning<R: Wait + Abort>(
     room: usize,
 ) -> Result<(), Fail> {
     let course = play(rt, alloc, day, room)?;
-    assert_eq!(rt; course.answered, room);
-    assert!(rt; course.failure == Some(JournalError::Full));
-    let events = day.events.get(..room).ok_or("a beginning")?;
-    assert!(rt; course.told == whole_day(rt, alloc, Day { events, ..day })?);
+    equal(rt, course.answered, room);
+    equal(rt, course.failure, Some(JournalError::Full));
+    let events = day.events.get(..room).expect(rt, "a beginning");
+    let whole = whole_day(rt, alloc, Day { events, ..day })?;
+    equal(rt, course.told, whole);
     Ok(())
 }
 
@@ -56,7 +59,7 @@ fn a_journal_that_takes_no_more_records(rt: HostRuntime) -> Result<(), Fail> {
     }
     // Where there is room for all of them, the day ends.
     let course = play(&rt, alloc, day, events.len())?;
-    assert!(rt; course.failure.is_none());
-    assert_eq!(rt; course.answered, events.len());
+    holds(&rt, course.failure.is_none());
+    equal(&rt, course.answered, events.len());
     Ok(())
 }

@@ -7,6 +7,7 @@ ghost use Rattle.hx_engine.specs.Opening.{IsNewLog};
 
 use super::shared_file::SharedFile;
 use super::told::{Told, hear};
+use super::{equal, holds};
 use hx_engine::{
     Exchange, FinishError, Journal, JournalError, Pass, Recovered, SubmitError, Venue,
 };
@@ -53,20 +54,21 @@ pub fn play<R: Wait + Abort>(
     file: SharedFile,
     bytes: &[u8],
 ) -> Result<Course, Fail> {
-    let ground = ground_of(alloc, Setup::read(alloc, day.setup)?, 1000, 1)?;
-    let head = Head::new(alloc, b"HX00000001", b"20260711", b"9fc2")?;
-    match recover(alloc, file, bytes, &head, &Unwatched) {
+    let setup = Setup::read(alloc, day.setup).expect(rt, "a setup");
+    let ground = ground_of(alloc, setup, 1000, 1)?;
+    let head = Head::new(alloc, b"HX00000001", b"20260711", b"9fc2").expect(rt, "a head");
+    Ok(match recover(alloc, file, bytes, &head, &Unwatched) {
         Ok(recovered) => go_on::<Brand, Kept, R>(rt, alloc, day, ground, recovered),
         Err(RecoveryError::Open(OpenError::Journal(error))) => {
-            Ok(Course {
-                again: Told::nothing(alloc)?,
-                told: Told::nothing(alloc)?,
+            Course {
+                again: Told::nothing(rt, alloc),
+                told: Told::nothing(rt, alloc),
                 answered: 0,
                 failure: Some(error),
-            })
+            }
         }
-        Err(_) => Err("the journal is damaged".into()),
-    }
+        Err(_) => panic!(rt; "the journal is damaged"),
+    })
 }
 
 /// Plays a day over a journal that keeps some of its events: the rest of the day is sent.
@@ -76,7 +78,7 @@ pub fn go_on<V: Venue, J: Journal + Drop, R: Wait + Abort>(
     day: Day,
     ground: Ground,
     recovered: Recovered<J>,
-) -> Result<Course, Fail>
+) -> Course
     requires feed { IsNewLog V.log ground.logs.feed }
     requires admitted { IsNewLog V.admitted ground.logs.admitted }
     requires kept { IsNewLog V.kept ground.logs.kept }
@@ -104,43 +106,43 @@ pub fn go_on<V: Venue, J: Journal + Drop, R: Wait + Abort>(
         1,
         Seed::Fixed,
     ) else {
-        return Err("an exchange".into());
+        panic!(rt; "an exchange");
     };
-    let mut pass = passes.pop().ok_or("a pass")?;
-    let again = hear(rt, alloc, &exchange, &mut reader)?;
-    let (answered, stopped) = send_from(rt, alloc, &exchange, &mut pass, day, first)?;
-    let told = hear(rt, alloc, &exchange, &mut reader)?;
+    let mut pass = passes.pop().expect(rt, "a pass");
+    let again = hear(rt, alloc, &exchange, &mut reader);
+    let (answered, stopped) = send_from(rt, alloc, &exchange, &mut pass, day, first);
+    let told = hear(rt, alloc, &exchange, &mut reader);
     let failure = exchange.failure(rt);
-    assert_eq!(rt; failure.is_some(), stopped);
+    equal(rt, failure.is_some(), stopped);
     if stopped {
         // Nothing is recorded any more, and nothing told.
         let tick = exchange.submit(rt, &mut pass, &Event::Tick { time: 0 });
-        assert!(rt; tick == Err(SubmitError::Stopped));
-        assert!(rt; hear(rt, alloc, &exchange, &mut reader)? == told);
+        equal(rt, tick, Err(SubmitError::Stopped));
+        holds(rt, hear(rt, alloc, &exchange, &mut reader) == told);
     }
-    passes.push(pass)?;
-    expect_end(rt, exchange, passes, answered, stopped)?;
-    Ok(Course {
+    passes.push(pass).expect(rt, "a place");
+    expect_end(rt, exchange, passes, answered, stopped);
+    Course {
         again,
         told,
         answered,
         failure,
-    })
+    }
 }
 
 // Sends the events of a day from a place on, until the exchange stops: how many were answered, those before among them,
 // and whether it stopped.
-fn send_from<V: Venue, J: Journal + Drop, R: Wait>(
+fn send_from<V: Venue, J: Journal + Drop, R: Wait + Abort>(
     rt: &R,
     alloc: Global,
     exchange: &Exchange<V, J>,
     pass: &mut Pass<V>,
     day: Day,
     first: usize,
-) -> Result<(usize, bool), Fail> {
+) -> (usize, bool) {
     let mut answered = first;
     for turn in 0..day.events.len() {
-        let batch = batch_from(alloc, day, answered, turn)?;
+        let batch = batch_from(rt, alloc, day, answered, turn);
         let count = batch.len();
         if count == 0 {
             break;
@@ -149,21 +151,22 @@ fn send_from<V: Venue, J: Journal + Drop, R: Wait>(
         exchange.ring_feed();
         match done {
             Ok(_) => answered = answered.saturating_add(count),
-            Err((SubmitError::Stopped, 0)) => return Ok((answered, true)),
-            Err(_) => return Err("an event is refused".into()),
+            Err((SubmitError::Stopped, 0)) => return (answered, true),
+            Err(_) => panic!(rt; "an event is refused"),
         }
     }
-    Ok((answered, false))
+    (answered, false)
 }
 
 // The events that are sent in this turn.
-fn batch_from(alloc: Global, day: Day, first: usize, turn: usize) -> Result<Vec<Event>, Fail> {
+fn batch_from<R: Abort>(rt: &R, alloc: Global, day: Day, first: usize, turn: usize) -> Vec<Event> {
     let size = day.at_once[turn % 4];
     let mut batch = Vec::new(alloc);
     for event in day.events.iter().skip(first).take(size) {
-        batch.push(event.copy()?)?;
+        let copy = event.copy().expect(rt, "a copy");
+        batch.push(copy).expect(rt, "a place");
     }
-    Ok(batch)
+    batch
 }
 
 // The exchange ends with the events that were answered, or does not end where it stopped.
@@ -173,17 +176,13 @@ fn expect_end<V: Venue, J: Journal + Drop, R: Abort>(
     passes: Vec<Pass<V>>,
     answered: usize,
     stopped: bool,
-) -> Result<(), Fail> {
+) {
     match exchange.finish(passes) {
         Ok(finished) => {
-            assert!(rt; !stopped);
-            assert_eq!(rt; finished.history.len(), answered);
-            Ok(())
+            holds(rt, !stopped);
+            equal(rt, finished.history.len(), answered);
         }
-        Err(FinishError::Stopped { .. }) => {
-            assert!(rt; stopped);
-            Ok(())
-        }
-        Err(FinishError::Missing { .. }) => Err("all passes are there".into()),
+        Err(FinishError::Stopped { .. }) => holds(rt, stopped),
+        Err(FinishError::Missing { .. }) => panic!(rt; "all passes are there"),
     }
 }

@@ -6,6 +6,7 @@ ghost use Rattle.hx_desk.specs.Entries.{restored};
 ghost use Rattle.hx_engine.specs.Journals.{lines, record_texts};
 ghost use Rattle.hx_engine.specs.Opening.{IsNewLog};
 
+use super::{equal, holds};
 use hx_blog::{Log, Reader};
 use hx_engine::{Entry, Exchange, Logs, Pass, Recovered, Venue};
 use hx_engine_testing::ground::logs_of;
@@ -27,7 +28,7 @@ use std::test::*;
 const DAY: u64 = 4;
 
 // A displayed order of the first member, a hidden one of the second, a sale of the third to both, and a tick.
-fn event_at(alloc: Global, place: u64) -> Result<Event, Fail> {
+fn event_at<R: Abort>(rt: &R, alloc: Global, place: u64) -> Event {
     let hidden = Order {
         time: 1001,
         member: 2,
@@ -42,21 +43,23 @@ fn event_at(alloc: Global, place: u64) -> Result<Event, Fail> {
         shares: 200,
         ..SELL
     };
-    Ok(match place {
-        0 => enter(alloc, &BUY)?,
-        1 => enter(alloc, &hidden)?,
-        2 => enter(alloc, &sale)?,
-        _ => Event::Tick { time: 1003 },
-    })
+    let order = match place {
+        0 => BUY,
+        1 => hidden,
+        2 => sale,
+        _ => return Event::Tick { time: 1003 },
+    };
+    enter(alloc, &order).expect(rt, "an order")
 }
 
 // The first so many events of the day.
-fn beginning(alloc: Global, count: u64) -> Result<Vec<Event>, Fail> {
+fn beginning<R: Abort>(rt: &R, alloc: Global, count: u64) -> Vec<Event> {
     let mut events = Vec::new(alloc);
     for place in 0..count {
-        events.push(event_at(alloc, place)?)?;
+        let event = event_at(rt, alloc, place);
+        events.push(event).expect(rt, "a place");
     }
-    Ok(events)
+    events
 }
 
 // A journal that keeps the records of these events.
@@ -87,7 +90,7 @@ fn go_on<V: Venue, R: Wait + Abort>(
     recovered: Recovered<Memory>,
     blank: Blank,
     mut reader: Reader<Entry>,
-) -> Result<(), Fail>
+)
     requires feed { IsNewLog V.log logs.feed }
     requires admitted { IsNewLog V.admitted logs.admitted }
     requires kept { IsNewLog V.kept logs.kept }
@@ -110,30 +113,39 @@ fn go_on<V: Venue, R: Wait + Abort>(
         1,
         Seed::Fixed,
     ) else {
-        return Err("an exchange".into());
+        panic!(rt; "an exchange");
     };
-    let mut pass = passes.pop().ok_or("a pass")?;
-    assert_eq!(rt; pass.sent().len(), 0);
+    let mut pass = passes.pop().expect(rt, "a pass");
+    equal(rt, pass.sent().len(), 0);
     for place in first..DAY {
-        let event = event_at(alloc, place)?;
-        let done = exchange.submit(rt, &mut pass, &event);
-        assert!(rt; done.is_ok_and(|done| done.place == place + 1));
+        let event = event_at(rt, alloc, place);
+        let done = exchange.submit(rt, &mut pass, &event).expect(rt, "a place");
+        equal(rt, done.place, place + 1);
     }
-    expect_replies(rt, &exchange, &mut reader)?;
-    expect_feed(rt, &exchange, &mut reader)?;
-    passes.push(pass)?;
+    expect_replies(rt, &exchange, &mut reader);
+    expect_feed(rt, &exchange, &mut reader);
+    passes.push(pass).expect(rt, "a place");
+    expect_end(rt, exchange, passes, first);
+}
+
+// The exchange ends with the history of the whole day, of which the journal keeps all; so many events were there before.
+fn expect_end<V: Venue, R: Abort>(
+    rt: &R,
+    exchange: Exchange<V, Memory>,
+    passes: Vec<Pass<V>>,
+    first: u64,
+) {
     let Ok(finished) = exchange.finish(passes) else {
-        return Err("all passes are there".into());
+        panic!(rt; "all passes are there");
     };
-    assert_eq!(rt; finished.history.len() as u64, DAY);
-    assert_eq!(rt; finished.feed, 3);
+    equal(rt, finished.history.len() as u64, DAY);
+    equal(rt, finished.feed, 3);
     for (place, entry) in finished.history.iter().enumerate() {
-        assert_eq!(rt; u64::from(entry.pass), u64::from(place as u64 >= first));
-        assert_eq!(rt; time_of(&entry.event), 1000 + place as u64);
+        equal(rt, u64::from(entry.pass), u64::from(place as u64 >= first));
+        equal(rt, time_of(&entry.event), 1000 + place as u64);
     }
-    let journal = finished.journal.ok_or("a journal")?;
-    assert_eq!(rt; journal.synced as u64, DAY);
-    Ok(())
+    let journal = finished.journal.expect(rt, "a journal");
+    equal(rt, journal.synced as u64, DAY);
 }
 
 fn time_of(event: &Event) -> u64 {
@@ -147,22 +159,23 @@ fn expect_replies<V: Venue, R: Wait + Abort>(
     rt: &R,
     exchange: &Exchange<V, Memory>,
     reader: &mut Reader<Entry>,
-) -> Result<(), Fail>
+)
     requires { reader.old.log ≡ V.log }
     ensures { reader.new.log ≡ reader.old.log }
 {
-    let member = MemberNo::of(3).ok_or("a member")?;
+    let member = MemberNo::of(3).expect(rt, "a member");
     let seller = [
         Reply::Accepted(*b"S1", 200, 2),
         Reply::Executed(*b"S1", 100, 100_000, b'R', 1),
         Reply::Executed(*b"S1", 100, 100_000, b'R', 2),
     ];
-    let replies = exchange.replies(rt, reader, member, 1)?;
-    assert_eq!(rt; replies.len(), seller.len());
+    let replies = exchange
+        .replies(rt, reader, member, 1)
+        .expect(rt, "replies");
+    equal(rt, replies.len(), seller.len());
     for (reply, want) in replies.iter().zip(&seller) {
-        assert_eq!(rt; read_reply(reply.as_slice()), *want);
+        equal(rt, read_reply(reply.as_slice()), *want);
     }
-    Ok(())
 }
 
 // The displayed order is added and executed, and the hidden one traded.
@@ -170,7 +183,7 @@ fn expect_feed<V: Venue, R: Abort>(
     rt: &R,
     exchange: &Exchange<V, Memory>,
     reader: &mut Reader<Entry>,
-) -> Result<(), Fail>
+)
     requires { reader.old.log ≡ V.log }
 {
     let wanted = [
@@ -179,22 +192,22 @@ fn expect_feed<V: Venue, R: Abort>(
         Message::Trade(100, 100_000, 2),
     ];
     for want in wanted {
-        let message = reader.next(exchange.feed_log()).ok_or("a message")?;
-        assert_eq!(rt; read_message(message.as_slice()), want);
+        let message = reader.next(exchange.feed_log()).expect(rt, "a message");
+        equal(rt, read_message(message.as_slice()), want);
     }
-    assert!(rt; reader.next(exchange.feed_log()).is_none());
-    Ok(())
+    holds(rt, reader.next(exchange.feed_log()).is_none());
 }
 
 // An exchange goes on from the first few events.
 fn go_on_from<R: Wait + Abort>(rt: &R, alloc: Global, count: u64) -> Result<(), Fail> {
-    let (log, writer, reader) = Log::<Entry>::new(alloc, 100)?;
+    let (log, writer, reader) = Log::<Entry>::new(alloc, 100).expect(rt, "a log");
     let logs = logs_of(alloc, log, writer)?;
-    let events = beginning(alloc, count)?;
+    let events = beginning(rt, alloc, count);
     let journal = journal_of(alloc, &events)?;
     let recovered = Recovered { journal, events };
-    let setup = Setup::standard(alloc)?;
-    go_on::<Brand, R>(rt, alloc, setup, logs, recovered, Blank::new(1), reader)
+    let setup = Setup::standard(alloc).expect(rt, "a setup");
+    go_on::<Brand, R>(rt, alloc, setup, logs, recovered, Blank::new(1), reader);
+    Ok(())
 }
 
 #[test]

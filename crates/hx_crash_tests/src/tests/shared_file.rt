@@ -3,8 +3,9 @@
 use hx_journal::{DeviceError, MemoryFile, RawFile};
 use std::alloc::{AllocError, Global};
 use std::cell::RefCell;
+use std::ops::Range;
+use std::process::Abort;
 use std::rc::Rc;
-use std::test::Fail;
 
 /// A file in memory that several hold: a journal, and the test.
 #[derive(Drop)]
@@ -40,21 +41,35 @@ impl SharedFile {
 
     /// What a crash now may leave, of which the first is what was synced. Where something was written since, that may be
     /// there whole, or cut in the middle, or half of it not written, the front or the end.
-    pub fn left(&self, alloc: Global) -> Result<Vec<Vec<u8>>, Fail> {
+    pub fn left<R: Abort>(&self, rt: &R, alloc: Global) -> Vec<Vec<u8>> {
         let Ok(file) = self.file.try_borrow() else {
-            return Err("the file is in use".into());
+            panic!(rt; "the file is in use");
         };
         let (synced, written) = (file.stable_len(), file.bytes().len());
-        let mut left = vec![in alloc; file.torn(alloc, synced, 0..0)?]?;
+        let mut left = Vec::new(alloc);
+        put_torn(rt, alloc, &mut left, &file, synced, 0..0);
         if synced < written {
             let middle = synced + (written - synced) / 2;
-            left.push(file.torn(alloc, written, 0..written)?)?;
-            left.push(file.torn(alloc, middle, 0..middle)?)?;
-            left.push(file.torn(alloc, written, 0..middle)?)?;
-            left.push(file.torn(alloc, written, middle..written)?)?;
+            put_torn(rt, alloc, &mut left, &file, written, 0..written);
+            put_torn(rt, alloc, &mut left, &file, middle, 0..middle);
+            put_torn(rt, alloc, &mut left, &file, written, 0..middle);
+            put_torn(rt, alloc, &mut left, &file, written, middle..written);
         }
-        Ok(left)
+        left
     }
+}
+
+// One more that a crash may leave: of this length, with this part of what was written.
+fn put_torn<R: Abort>(
+    rt: &R,
+    alloc: Global,
+    left: &mut Vec<Vec<u8>>,
+    file: &MemoryFile,
+    len: usize,
+    part: Range<usize>,
+) {
+    let torn = file.torn(alloc, len, part).expect(rt, "a file");
+    left.push(torn).expect(rt, "a place");
 }
 
 impl RawFile for SharedFile {

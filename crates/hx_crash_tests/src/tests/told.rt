@@ -4,10 +4,10 @@ ghost use Rattle.std.specs.Prelude.{◌≡◌};
 use arrayvec::ArrayVec;
 use hx_blog::{Log, Reader};
 use hx_engine::{Entry, Exchange, Journal, Venue};
-use hx_units::{MemberNo, NoMemory};
+use hx_units::MemberNo;
 use std::alloc::Global;
+use std::process::Abort;
 use std::sync::Wait;
-use std::test::Fail;
 
 /// The messages of the feed, and the replies to the members 1 to 3, all as bytes.
 #[derive(Drop, PartialEq)]
@@ -19,51 +19,56 @@ pub struct Told {
 }
 
 // All messages that the reader's count allows.
-fn whole_feed(
+fn whole_feed<R: Abort>(
+    rt: &R,
     alloc: Global,
     log: &Log<Entry>,
     reader: &mut Reader<Entry>,
-) -> Result<Vec<ArrayVec<u8, 44>>, Fail>
+) -> Vec<ArrayVec<u8, 44>>
     requires { reader.old.log ≡ log.now }
     ensures { reader.new.log ≡ reader.old.log }
 {
     let mut feed = Vec::new(alloc);
     for number in 1..=reader.look(log) {
-        feed.push(reader.at(log, number).ok_or("a message")?)?;
+        let message = reader.at(log, number).expect(rt, "a message");
+        feed.push(message).expect(rt, "a place");
     }
-    Ok(feed)
+    feed
 }
 
 /// What a reader finds in the feed, who waits for nobody, and what each member is told who then asks for all his replies.
-pub fn hear<V: Venue, J: Journal + Drop, R: Wait>(
+pub fn hear<V: Venue, J: Journal + Drop, R: Wait + Abort>(
     rt: &R,
     alloc: Global,
     exchange: &Exchange<V, J>,
     reader: &mut Reader<Entry>,
-) -> Result<Told, Fail>
+) -> Told
     requires { reader.old.log ≡ V.log }
     ensures { reader.new.log ≡ V.log }
 {
-    let feed = whole_feed(alloc, exchange.feed_log(), reader)?;
+    let feed = whole_feed(rt, alloc, exchange.feed_log(), reader);
     let mut replies = Vec::new(alloc);
     for number in 1..=3u16 {
-        let member = MemberNo::of(number).ok_or("a member")?;
-        replies.push(exchange.replies(rt, reader, member, 1)?)?;
+        let member = MemberNo::of(number).expect(rt, "a member");
+        let own = exchange
+            .replies(rt, reader, member, 1)
+            .expect(rt, "replies");
+        replies.push(own).expect(rt, "a place");
     }
-    Ok(Told { feed, replies })
+    Told { feed, replies }
 }
 
 impl Told {
     /// Nothing.
-    pub fn nothing(alloc: Global) -> Result<Told, NoMemory> {
+    pub fn nothing<R: Abort>(rt: &R, alloc: Global) -> Told {
         let mut replies = Vec::new(alloc);
         for _member in 0..3u16 {
-            replies.push(Vec::new(alloc))?;
+            replies.push(Vec::new(alloc)).expect(rt, "a place");
         }
-        Ok(Told {
+        Told {
             feed: Vec::new(alloc),
             replies,
-        })
+        }
     }
 
     /// Whether all of this is told here, byte for byte and in its order, before anything else.

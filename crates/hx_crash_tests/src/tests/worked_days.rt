@@ -2,6 +2,7 @@
 //! the rest byte for byte.
 
 use super::crash_points::stops_at_calls;
+use super::equal;
 use super::going_on::Day;
 use hx_journal::DeviceError;
 use hx_testing::lines::{count_lines, events_of};
@@ -30,10 +31,15 @@ fn expect_day<R: Wait + Abort>(
     };
     let calls = (events.len() as u64).saturating_mul(2).saturating_add(4);
     let whole = stops_at_calls(rt, alloc, day, 0..calls, fault)?;
-    assert_eq!(rt; whole.feed.len() as u64, count_lines(&words.output, b"F "));
-    assert_eq!(rt;
+    equal(
+        rt,
+        whole.feed.len() as u64,
+        count_lines(&words.output, b"F "),
+    );
+    equal(
+        rt,
         whole.reply_count() as u64,
-        count_lines(&words.output, b"M ")
+        count_lines(&words.output, b"M "),
     );
     Ok(())
 }

@@ -4,6 +4,7 @@ ghost use Rattle.hx_engine.specs.Opening.{IsNewLog};
 ghost use Rattle.hx_rules.specs.declared.event.Event.{Event};
 
 use super::exchanges::ends;
+use super::{equal, holds};
 use arrayvec::ArrayVec;
 use hx_blog::{Log, Reader};
 use hx_engine::{Entry, Exchange, Logs, Pass, Venue};
@@ -110,26 +111,28 @@ impl<V: Venue> Worker<V> {
 }
 
 // A worker for each pass, in the order of their numbers.
-fn hire<V: Venue>(
+fn hire<V: Venue, R: Abort>(
+    rt: &R,
     alloc: Global,
     log: &Log<Entry>,
     passes: Vec<Pass<V>>,
     reader: &mut Reader<Entry>,
-) -> Result<Vec<Worker<V>>, NoMemory>
+) -> Vec<Worker<V>>
     requires reader { (log.now ≡ V.log) × (reader.old.log ≡ V.log) }
     ensures { reader.new.log ≡ V.log }
 {
     let mut workers = Vec::new(alloc);
     for pass in passes {
-        workers.push(Worker {
+        let worker = Worker {
             member: pass.number(),
             pass,
             reader: reader.split(log),
             read: Vec::new(alloc),
             sent: 0,
-        })?;
+        };
+        workers.push(worker).expect(rt, "a worker");
     }
-    Ok(workers)
+    workers
 }
 
 // Each worker has sent all his orders, and read a beginning of the feed, of which this reader knows all.
@@ -139,7 +142,7 @@ fn expect_workers<V: Venue, R: Abort>(
     log: &Log<Entry>,
     workers: &mut Vec<Worker<V>>,
     reader: &mut Reader<Entry>,
-) -> Result<u64, Fail>
+) -> u64
     requires { (log.now ≡ V.log) × (reader.old.log ≡ V.log) }
     ensures { reader.new.log ≡ V.log }
 {
@@ -147,12 +150,12 @@ fn expect_workers<V: Venue, R: Abort>(
         reader.learn(log, worker.pass.receipt(log));
     }
     let mut feed = Vec::new(alloc);
-    read_on(log, reader, &mut feed)?;
+    read_on(log, reader, &mut feed).expect(rt, "the feed");
     for worker in workers.iter() {
-        assert_eq!(rt; worker.sent, EACH);
-        assert!(rt; feed.starts_with(&worker.read));
+        equal(rt, worker.sent, EACH);
+        holds(rt, feed.starts_with(&worker.read));
     }
-    Ok(feed.len() as u64)
+    feed.len() as u64
 }
 
 // All work at once; then each has read a beginning of the feed, and the exchange ends with all events.
@@ -163,7 +166,7 @@ fn busy_day<V: Venue + Send + Sync, R: Threads + Wait + Abort + Sync>(
     logs: Logs,
     blank: Blank,
     mut reader: Reader<Entry>,
-) -> Result<(), Fail>
+)
     requires feed { IsNewLog V.log logs.feed }
     requires admitted { IsNewLog V.admitted logs.admitted }
     requires kept { IsNewLog V.kept logs.kept }
@@ -172,15 +175,11 @@ fn busy_day<V: Venue + Send + Sync, R: Threads + Wait + Abort + Sync>(
     requires reader { reader.log ≡ V.log }
     requires blank { (blank.name ≡ V.name) × (blank.parts ≡ V.parts) × (V.parts ≡ 4) }
 {
+    let journal = Memory::new(alloc, 0);
     let (exchange, passes) = Exchange::<V, Memory>::new(
-        alloc,
-        setup,
-        logs,
-        Memory::new(alloc, 0),
-        blank,
-        4,
-    )?;
-    let mut workers = hire(alloc, exchange.feed_log(), passes, &mut reader)?;
+        alloc, setup, logs, journal, blank, 4,
+    ).expect(rt, "an exchange");
+    let mut workers = hire(rt, alloc, exchange.feed_log(), passes, &mut reader);
     let shared = &exchange;
     thread::for_each_mut(
         rt,
@@ -189,24 +188,25 @@ fn busy_day<V: Venue + Send + Sync, R: Threads + Wait + Abort + Sync>(
         &|_, worker| worker.work(rt, alloc, shared),
     );
     let log = exchange.feed_log();
-    let messages = expect_workers(rt, alloc, log, &mut workers, &mut reader)?;
-    let passes = passes_of(alloc, workers)?;
-    ends(rt, exchange, passes, 4 * EACH as usize, messages)
+    let messages = expect_workers(rt, alloc, log, &mut workers, &mut reader);
+    let passes = passes_of(rt, alloc, workers);
+    ends(rt, exchange, passes, 4 * EACH as usize, messages);
 }
 
-fn passes_of<V: Venue>(alloc: Global, workers: Vec<Worker<V>>) -> Result<Vec<Pass<V>>, NoMemory> {
+fn passes_of<V: Venue, R: Abort>(rt: &R, alloc: Global, workers: Vec<Worker<V>>) -> Vec<Pass<V>> {
     let mut passes = Vec::new(alloc);
     for worker in workers {
-        passes.push(worker.pass)?;
+        passes.push(worker.pass).expect(rt, "a pass");
     }
-    Ok(passes)
+    passes
 }
 
 #[test]
 fn four_threads_send_ten_thousand_events(rt: HostRuntime) -> Result<(), Fail> {
     let alloc = rt.alloc();
-    let setup = Setup::read(alloc, FOUR_MEMBERS)?;
-    let (log, writer, reader) = Log::<Entry>::new(alloc, 50_000)?;
+    let setup = Setup::read(alloc, FOUR_MEMBERS).expect(&rt, "a setup");
+    let (log, writer, reader) = Log::<Entry>::new(alloc, 50_000).expect(&rt, "a log");
     let logs = logs_of(alloc, log, writer)?;
-    busy_day::<Brand, _>(&rt, alloc, setup, logs, Blank::new(4), reader)
+    busy_day::<Brand, _>(&rt, alloc, setup, logs, Blank::new(4), reader);
+    Ok(())
 }

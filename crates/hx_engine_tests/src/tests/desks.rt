@@ -1,30 +1,31 @@
 //! A desk with a log of one slot, one with few messages a member, and what its readers meet.
-ghost use Rattle.std.specs.Prelude.{◌≡◌, ◌≤◌, IfOk};
+ghost use Rattle.std.specs.Prelude.{◌≡◌, ◌≤◌};
 
+use super::{entered, equal, holds, member_of};
 use hx_blog::{Log, Reader};
 use hx_engine::{Desk, DeskError, Done, Entry, laws};
 use hx_market::Event;
 use hx_members::Setup;
-use hx_testing::sending::{BUY, Order, SELL, enter, message};
+use hx_testing::sending::{BUY, Order, SELL, message};
 use hx_testing::shorthand::{Message, Reply, private, read_message, read_reply};
 use hx_units::MemberNo;
 use std::alloc::Global;
 use std::process::Abort;
-use std::test::*;
 
 // A desk at its start, with its log and a reader.
-fn opened(
+fn opened<R: Abort>(
+    rt: &R,
     alloc: Global,
     setup: Setup,
     capacity: u64,
-) -> Result<(Log<Entry>, Desk, Reader<Entry>), Fail>
+) -> (Log<Entry>, Desk, Reader<Entry>)
     requires { (1 ≤ capacity) × (capacity ≤ 1000000) }
-    ensures desk { IfOk result (λ r. (r.1.log ≡ r.0) × (r.1.sealed ≡ r.1.told)) }
-    ensures reader { IfOk result (λ r. r.2.log ≡ r.0) }
+    ensures desk { (result.1.log ≡ result.0) × (result.1.sealed ≡ result.1.told) }
+    ensures reader { result.2.log ≡ result.0 }
 {
-    let (log, writer, reader) = Log::<Entry>::new(alloc, capacity)?;
-    let desk = Desk::new(alloc, setup, writer)?;
-    Ok((log, desk, reader))
+    let (log, writer, reader) = Log::<Entry>::new(alloc, capacity).expect(rt, "a log");
+    let desk = Desk::new(alloc, setup, writer).expect(rt, "a desk");
+    (log, desk, reader)
 }
 
 type Answer = Result<Done, DeskError>;
@@ -57,7 +58,7 @@ fn expect<R: Abort>(rt: &R, desk: &mut Desk, log: &Log<Entry>, event: &Event, wa
     requires { (desk.old.log ≡ log.now) × (desk.old.sealed ≡ desk.old.told) }
     ensures { (desk.new.log ≡ desk.old.log) × (desk.new.sealed ≡ desk.new.told) }
 {
-    assert!(rt; submit(desk, log, event) == want);
+    equal(rt, submit(desk, log, event), want);
 }
 
 // The event is submitted, and again where there was no memory for it: nothing of the first time is left.
@@ -78,56 +79,50 @@ fn play<R: Abort>(
     desk: &mut Desk,
     log: &Log<Entry>,
     orders: &[(Order, Answer)],
-) -> Result<(), Fail>
+)
     requires { (desk.old.log ≡ log.now) × (desk.old.sealed ≡ desk.old.told) }
     ensures { (desk.new.log ≡ desk.old.log) × (desk.new.sealed ≡ desk.new.told) }
 {
     for (order, want) in orders {
-        let event = enter(alloc, order)?;
-        assert!(rt; submit_again(desk, log, &event) == *want);
+        let event = entered(rt, alloc, order);
+        equal(rt, submit_again(desk, log, &event), *want);
     }
-    Ok(())
 }
 
 // The replies to a member are these, asked for at once and one by one.
-fn expect_replies<R: Abort>(
-    rt: &R,
-    desk: &Desk,
-    member: u16,
-    wanted: &[Reply],
-) -> Result<(), Fail> {
-    let member = MemberNo::of(member).ok_or("a member")?;
-    let replies = desk.replies_from(member, 0)?;
-    assert_eq!(rt; replies.len(), wanted.len());
-    assert_eq!(rt; desk.reply_count(member), wanted.len() as u64);
-    for (reply, want) in replies.iter().zip(wanted) {
-        assert_eq!(rt; read_reply(reply.as_slice()), *want);
-    }
+fn expect_replies<R: Abort>(rt: &R, desk: &Desk, member: u16, wanted: &[Reply]) {
+    let member = member_of(rt, member);
+    expect_all_replies(rt, desk, member, wanted);
     for (place, want) in wanted.iter().enumerate() {
-        let page = desk.replies_page(member, place as u64 + 1, 1)?;
-        let reply = page.first().ok_or("a reply")?;
-        assert_eq!(rt; read_reply(reply.as_slice()), *want);
+        let page = desk
+            .replies_page(member, place as u64 + 1, 1)
+            .expect(rt, "a page");
+        let reply = page.first().expect(rt, "a reply");
+        equal(rt, read_reply(reply.as_slice()), *want);
     }
-    assert_eq!(rt; desk.replies_from(member, u64::MAX)?.len(), 0);
-    Ok(())
+    let none = desk.replies_from(member, u64::MAX).expect(rt, "no reply");
+    equal(rt, none.len(), 0);
+}
+
+fn expect_all_replies<R: Abort>(rt: &R, desk: &Desk, member: MemberNo, wanted: &[Reply]) {
+    let replies = desk.replies_from(member, 0).expect(rt, "all replies");
+    equal(rt, replies.len(), wanted.len());
+    equal(rt, desk.reply_count(member), wanted.len() as u64);
+    for (reply, want) in replies.iter().zip(wanted) {
+        equal(rt, read_reply(reply.as_slice()), *want);
+    }
 }
 
 // The reader reads these messages, and no more.
-fn expect_feed<R: Abort>(
-    rt: &R,
-    log: &Log<Entry>,
-    reader: &mut Reader<Entry>,
-    wanted: &[Message],
-) -> Result<(), Fail>
+fn expect_feed<R: Abort>(rt: &R, log: &Log<Entry>, reader: &mut Reader<Entry>, wanted: &[Message])
     requires { reader.old.log ≡ log.now }
     ensures { reader.new.log ≡ reader.old.log }
 {
     for want in wanted {
-        let message = reader.next(log).ok_or("a message")?;
-        assert_eq!(rt; read_message(message.as_slice()), *want);
+        let message = reader.next(log).expect(rt, "a message");
+        equal(rt, read_message(message.as_slice()), *want);
     }
-    assert!(rt; reader.next(log).is_none());
-    Ok(())
+    holds(rt, reader.next(log).is_none());
 }
 
 // Two hidden orders fit; a displayed one that would trade and rest needs two slots; one that trades needs one; and then
@@ -183,25 +178,26 @@ fn one_slot() -> [(Order, Answer); 5] {
 }
 
 #[test]
-fn a_log_of_one_slot(rt: HostRuntime) -> Result<(), Fail> {
+fn a_log_of_one_slot(rt: HostRuntime) {
     let alloc = rt.alloc();
-    let (log, mut desk, mut reader) = opened(alloc, Setup::standard(alloc)?, 1)?;
-    play(&rt, alloc, &mut desk, &log, &one_slot())?;
-    assert_eq!(rt; desk.history_len(), 3);
-    assert_eq!(rt; desk.feed_count(), 1);
-    assert!(rt; !desk.ended());
-    expect_feed(&rt, &log, &mut reader, &[Message::Trade(100, 100_000, 1)])?;
+    let setup = Setup::standard(alloc).expect(&rt, "a setup");
+    let (log, mut desk, mut reader) = opened(&rt, alloc, setup, 1);
+    play(&rt, alloc, &mut desk, &log, &one_slot());
+    equal(&rt, desk.history_len(), 3);
+    equal(&rt, desk.feed_count(), 1);
+    holds(&rt, !desk.ended());
+    expect_feed(&rt, &log, &mut reader, &[Message::Trade(100, 100_000, 1)]);
     let buyer = [
         Reply::Accepted(*b"H1", 100, private(1, 1)),
         Reply::Executed(*b"H1", 100, 100_000, b'J', 1),
     ];
-    expect_replies(&rt, &desk, 1, &buyer)?;
+    expect_replies(&rt, &desk, 1, &buyer);
     let seller = [
         Reply::Accepted(*b"S1", 100, private(2, 1)),
         Reply::Executed(*b"S1", 100, 100_000, b'R', 1),
     ];
-    expect_replies(&rt, &desk, 2, &seller)?;
-    expect_replies(&rt, &desk, 3, &[Reply::Accepted(*b"H2", 50, private(3, 1))])
+    expect_replies(&rt, &desk, 2, &seller);
+    expect_replies(&rt, &desk, 3, &[Reply::Accepted(*b"H2", 50, private(3, 1))]);
 }
 
 const FEW: &[u8] =
@@ -210,52 +206,47 @@ const FEW: &[u8] =
 const LATE: u64 = 86_400_000_000_000;
 
 #[test]
-fn limits_times_and_strangers(rt: HostRuntime) -> Result<(), Fail> {
+fn limits_times_and_strangers(rt: HostRuntime) {
     let alloc = rt.alloc();
-    let (log, mut desk, _) = opened(alloc, Setup::read(alloc, FEW)?, 10)?;
-    expect(
-        &rt,
-        &mut desk,
-        &log,
-        &message(alloc, 1, 10, &[0])?,
-        done(1, 1, 0),
-    );
+    let setup = Setup::read(alloc, FEW).expect(&rt, "a setup");
+    let (log, mut desk, _) = opened(&rt, alloc, setup, 10);
+    let nothing = message(alloc, 1, 10, &[0]).expect(&rt, "a message");
+    expect(&rt, &mut desk, &log, &nothing, done(1, 1, 0));
     let first = Order { time: 20, ..BUY };
-    play(&rt, alloc, &mut desk, &log, &[(first, done(2, 1, 1))])?;
-    refused(&rt, alloc, &mut desk, &log)?;
+    play(&rt, alloc, &mut desk, &log, &[(first, done(2, 1, 1))]);
+    refused(&rt, alloc, &mut desk, &log);
     let second = Order {
         time: 40,
         member: 2,
         token: *b"T2",
         ..BUY
     };
-    play(&rt, alloc, &mut desk, &log, &[(second, done(3, 2, 1))])?;
-    assert_eq!(rt; desk.history_len(), 3);
-    Ok(())
+    play(&rt, alloc, &mut desk, &log, &[(second, done(3, 2, 1))]);
+    equal(&rt, desk.history_len(), 3);
 }
 
-fn refused<R: Abort>(rt: &R, alloc: Global, desk: &mut Desk, log: &Log<Entry>) -> Result<(), Fail>
+fn refused<R: Abort>(rt: &R, alloc: Global, desk: &mut Desk, log: &Log<Entry>)
     requires { (desk.old.log ≡ log.now) × (desk.old.sealed ≡ desk.old.told) }
     ensures { (desk.new.log ≡ desk.old.log) × (desk.new.sealed ≡ desk.new.told) }
 {
-    let cancel = message(alloc, 1, 30, b"XT1            \0\0\0\0")?;
+    let cancel = message(alloc, 1, 30, b"XT1            \0\0\0\0").expect(rt, "a cancel");
     expect(rt, desk, log, &cancel, Err(DeskError::Limit { member: 1 }));
     for (member, time, error) in [
         (1, LATE, DeskError::BadTime),
         (9, LATE, DeskError::BadTime),
         (9, 35, DeskError::NoMember),
     ] {
-        let event = message(alloc, member, time, &[0])?;
+        let event = message(alloc, member, time, &[0]).expect(rt, "a message");
         expect(rt, desk, log, &event, Err(error));
     }
-    Ok(())
 }
 
 #[test]
-fn a_reader_looks_before_and_after_two_publishes(rt: HostRuntime) -> Result<(), Fail> {
+fn a_reader_looks_before_and_after_two_publishes(rt: HostRuntime) {
     let alloc = rt.alloc();
-    let (log, mut desk, mut reader) = opened(alloc, Setup::standard(alloc)?, 10)?;
-    assert_eq!(rt; reader.look(&log), 0);
+    let setup = Setup::standard(alloc).expect(&rt, "a setup");
+    let (log, mut desk, mut reader) = opened(&rt, alloc, setup, 10);
+    equal(&rt, reader.look(&log), 0);
     laws::replies_grow();
     let second = Order {
         member: 2,
@@ -263,11 +254,11 @@ fn a_reader_looks_before_and_after_two_publishes(rt: HostRuntime) -> Result<(), 
         ..BUY
     };
     let orders = [(BUY, done(1, 1, 1)), (second, done(2, 2, 1))];
-    play(&rt, alloc, &mut desk, &log, &orders)?;
-    assert_eq!(rt; reader.look(&log), 2);
+    play(&rt, alloc, &mut desk, &log, &orders);
+    equal(&rt, reader.look(&log), 2);
     let added = [
         Message::Added(1, b'B', 100, 100_000),
         Message::Added(2, b'B', 100, 100_000),
     ];
-    expect_feed(&rt, &log, &mut reader, &added)
+    expect_feed(&rt, &log, &mut reader, &added);
 }

@@ -3,14 +3,14 @@ ghost use Rattle.std.specs.Prelude.{◌≡◌, []};
 ghost use Rattle.hx_rules.specs.declared.event.Event.{Event};
 
 use super::scenario::{Scenario, play};
+use super::{entered, equal, holds, member_of};
 use hx_blog::Reader;
 use hx_engine::{Entry, Exchange, FinishError, Journal, Pass, Venue};
 use hx_engine_testing::memory::Memory;
 use hx_market::Event;
 use hx_members::Setup;
-use hx_testing::sending::{BUY, Order, SELL, enter};
+use hx_testing::sending::{BUY, Order, SELL};
 use hx_testing::shorthand::{Reply, private, read_reply};
-use hx_units::MemberNo;
 use std::alloc::Global;
 use std::process::Abort;
 use std::sync::Wait;
@@ -25,10 +25,9 @@ fn send<V: Venue, R: Wait + Abort>(
     exchange: &Exchange<V, Memory>,
     pass: &mut Pass<V>,
     order: &Order,
-) -> Result<(), Fail> {
-    let event = enter(alloc, order)?;
-    assert!(rt; exchange.submit(rt, pass, &event).is_ok());
-    Ok(())
+) {
+    let event = entered(rt, alloc, order);
+    holds(rt, exchange.submit(rt, pass, &event).is_ok());
 }
 
 // A reader that learnt nothing gets these replies to a member, from this number on.
@@ -39,17 +38,18 @@ fn expect_replies<V: Venue, R: Wait + Abort>(
     member: u16,
     from: u64,
     wanted: &[Reply],
-) -> Result<(), Fail>
+)
     requires { reader.old.log ≡ V.log }
     ensures { reader.new.log ≡ V.log }
 {
-    let member = MemberNo::of(member).ok_or("a member")?;
-    let replies = exchange.replies(rt, reader, member, from)?;
-    assert_eq!(rt; replies.len(), wanted.len());
+    let member = member_of(rt, member);
+    let replies = exchange
+        .replies(rt, reader, member, from)
+        .expect(rt, "replies");
+    equal(rt, replies.len(), wanted.len());
     for (reply, want) in replies.iter().zip(wanted) {
-        assert_eq!(rt; read_reply(reply.as_slice()), *want);
+        equal(rt, read_reply(reply.as_slice()), *want);
     }
-    Ok(())
 }
 
 // A hidden order of the first member, a displayed one of the second at the same price, and a sell order of the third:
@@ -63,44 +63,45 @@ impl Scenario for DisplayBeatsTime {
         exchange: Exchange<V, Memory>,
         mut passes: Vec<Pass<V>>,
         mut reader: Reader<Entry>,
-    ) -> Result<(), Fail> {
-        let mut pass = passes.pop().ok_or("a pass")?;
+    ) {
+        let mut pass = passes.pop().expect(rt, "a pass");
         let hidden = Order {
             time: 10,
             token: *b"H1",
             display: b'N',
             ..BUY
         };
-        send(rt, alloc, &exchange, &mut pass, &hidden)?;
+        send(rt, alloc, &exchange, &mut pass, &hidden);
         let first = [Reply::Accepted(*b"H1", 100, private(1, 1))];
-        expect_replies(rt, &exchange, &mut reader, 1, 1, &first)?;
+        expect_replies(rt, &exchange, &mut reader, 1, 1, &first);
         let shown = Order {
             time: 20,
             member: 2,
             ..BUY
         };
-        send(rt, alloc, &exchange, &mut pass, &shown)?;
+        send(rt, alloc, &exchange, &mut pass, &shown);
         let sell = Order {
             time: 30,
             member: 3,
             token: *b"S1",
             ..SELL
         };
-        send(rt, alloc, &exchange, &mut pass, &sell)?;
+        send(rt, alloc, &exchange, &mut pass, &sell);
         let second = [
             Reply::Accepted(*b"T1", 100, 1),
             Reply::Executed(*b"T1", 100, 100_000, b'A', 1),
         ];
-        expect_replies(rt, &exchange, &mut reader, 2, 1, &second)?;
-        expect_replies(rt, &exchange, &mut reader, 1, 1, &first)?;
-        expect_replies(rt, &exchange, &mut reader, 2, 2, &second[1..])
+        expect_replies(rt, &exchange, &mut reader, 2, 1, &second);
+        expect_replies(rt, &exchange, &mut reader, 1, 1, &first);
+        expect_replies(rt, &exchange, &mut reader, 2, 2, &second[1..]);
     }
 }
 
 #[test]
 fn display_beats_time_and_replies_are_fresh(rt: HostRuntime) -> Result<(), Fail> {
     let alloc = rt.alloc();
-    play::<DisplayBeatsTime, _>(&rt, alloc, Setup::standard(alloc)?, 100, 1)
+    let setup = Setup::standard(alloc).expect(&rt, "a setup");
+    play::<DisplayBeatsTime, _>(&rt, alloc, setup, 100, 1)
 }
 
 // The first and the third of three passes are not enough; all three are.
@@ -113,13 +114,13 @@ impl Scenario for OnePassMissing {
         exchange: Exchange<V, Memory>,
         mut passes: Vec<Pass<V>>,
         _reader: Reader<Entry>,
-    ) -> Result<(), Fail> {
-        let third = passes.pop().ok_or("a pass")?;
-        let second = passes.pop().ok_or("a pass")?;
-        let mut first = passes.pop().ok_or("a pass")?;
-        send(rt, alloc, &exchange, &mut first, &BUY)?;
-        passes.push(first)?;
-        passes.push(third)?;
+    ) {
+        let third = passes.pop().expect(rt, "a pass");
+        let second = passes.pop().expect(rt, "a pass");
+        let mut first = passes.pop().expect(rt, "a pass");
+        send(rt, alloc, &exchange, &mut first, &BUY);
+        passes.push(first).expect(rt, "a place");
+        passes.push(third).expect(rt, "a place");
         let Err(
             FinishError::Missing {
                 number,
@@ -128,12 +129,12 @@ impl Scenario for OnePassMissing {
             },
         ) = exchange.finish(passes)
         else {
-            return Err("a pass is missing".into());
+            panic!(rt; "a pass is missing");
         };
-        assert_eq!(rt; number, 2);
-        assert_eq!(rt; passes.len(), 2);
-        passes.push(second)?;
-        ends(rt, exchange, passes, 1, 1)
+        equal(rt, number, 2);
+        equal(rt, passes.len(), 2);
+        passes.push(second).expect(rt, "a place");
+        ends(rt, exchange, passes, 1, 1);
     }
 }
 
@@ -144,19 +145,19 @@ pub fn ends<V: Venue, J: Journal + Drop, R: Abort>(
     passes: Vec<Pass<V>>,
     entries: usize,
     messages: u64,
-) -> Result<(), Fail> {
+) {
     let Ok(finished) = exchange.finish(passes) else {
-        return Err("all passes are there".into());
+        panic!(rt; "all passes are there");
     };
-    assert_eq!(rt; finished.history.len(), entries);
-    assert_eq!(rt; finished.feed, messages);
-    Ok(())
+    equal(rt, finished.history.len(), entries);
+    equal(rt, finished.feed, messages);
 }
 
 #[test]
 fn a_pass_is_missing(rt: HostRuntime) -> Result<(), Fail> {
     let alloc = rt.alloc();
-    play::<OnePassMissing, _>(&rt, alloc, Setup::standard(alloc)?, 100, 3)
+    let setup = Setup::standard(alloc).expect(&rt, "a setup");
+    play::<OnePassMissing, _>(&rt, alloc, setup, 100, 3)
 }
 
 const CLOSED: &[u8] =
@@ -167,17 +168,17 @@ const CLOSED: &[u8] =
 struct HoursOfADay;
 
 // The events of the day: five orders and codes of which one comes too early.
-fn day_event(alloc: Global, time: u64) -> Result<Event, Fail> {
+fn day_event<R: Abort>(rt: &R, alloc: Global, time: u64) -> Event {
     let first = Order {
         time,
         token: *b"T0",
         ..BUY
     };
     let code = match time {
-        2 => return Ok(enter(alloc, &first)?),
-        4 => return Ok(enter(alloc, &until_close(time, *b"T1"))?),
-        5 => return Ok(enter(alloc, &hidden_of_second(time))?),
-        9 => return Ok(enter(alloc, &until_close(time, *b"T2"))?),
+        2 => return entered(rt, alloc, &first),
+        4 => return entered(rt, alloc, &until_close(time, *b"T1")),
+        5 => return entered(rt, alloc, &hidden_of_second(time)),
+        9 => return entered(rt, alloc, &until_close(time, *b"T2")),
         1 => b'O',
         3 => b'S',
         7 => b'Q',
@@ -185,7 +186,7 @@ fn day_event(alloc: Global, time: u64) -> Result<Event, Fail> {
         11 => b'C',
         _ => b'M',
     };
-    Ok(Event::Hours { time, code })
+    Event::Hours { time, code }
 }
 
 fn until_close(time: u64, token: [u8; 2]) -> Order {
@@ -214,16 +215,16 @@ impl Scenario for HoursOfADay {
         exchange: Exchange<V, Memory>,
         mut passes: Vec<Pass<V>>,
         mut reader: Reader<Entry>,
-    ) -> Result<(), Fail> {
-        let mut pass = passes.pop().ok_or("a pass")?;
-        assert!(rt; !exchange.is_over(rt, &mut reader));
+    ) {
+        let mut pass = passes.pop().expect(rt, "a pass");
+        holds(rt, !exchange.is_over(rt, &mut reader));
         for time in 1..=11 {
-            assert!(rt; !exchange.ended(rt));
-            let event = day_event(alloc, time)?;
-            assert!(rt; exchange.submit(rt, &mut pass, &event).is_ok());
+            holds(rt, !exchange.ended(rt));
+            let event = day_event(rt, alloc, time);
+            holds(rt, exchange.submit(rt, &mut pass, &event).is_ok());
         }
-        assert!(rt; exchange.ended(rt));
-        assert!(rt; exchange.is_over(rt, &mut reader));
+        holds(rt, exchange.ended(rt));
+        holds(rt, exchange.is_over(rt, &mut reader));
         let first = [
             Reply::Rejected(*b"T0", b'C'),
             Reply::System(b'S'),
@@ -232,21 +233,22 @@ impl Scenario for HoursOfADay {
             Reply::Rejected(*b"T2", b'C'),
             Reply::System(b'E'),
         ];
-        expect_replies(rt, &exchange, &mut reader, 1, 0, &first)?;
+        expect_replies(rt, &exchange, &mut reader, 1, 0, &first);
         let second = [
             Reply::System(b'S'),
             Reply::Accepted(*b"H1", 100, private(2, 1)),
             Reply::System(b'E'),
             Reply::Canceled(*b"H1", 100, b'T'),
         ];
-        expect_replies(rt, &exchange, &mut reader, 2, 0, &second)?;
-        passes.push(pass)?;
-        ends(rt, exchange, passes, 11, 9)
+        expect_replies(rt, &exchange, &mut reader, 2, 0, &second);
+        passes.push(pass).expect(rt, "a place");
+        ends(rt, exchange, passes, 11, 9);
     }
 }
 
 #[test]
 fn the_day_ends_after_its_last_code(rt: HostRuntime) -> Result<(), Fail> {
     let alloc = rt.alloc();
-    play::<HoursOfADay, _>(&rt, alloc, Setup::read(alloc, CLOSED)?, 100, 1)
+    let setup = Setup::read(alloc, CLOSED).expect(&rt, "a setup");
+    play::<HoursOfADay, _>(&rt, alloc, setup, 100, 1)
 }

@@ -4,12 +4,13 @@ ghost use Rattle.hx_rules.specs.declared.event.Event.{Event};
 
 use super::exchanges::ends;
 use super::scenario::{Scenario, play};
+use super::{entered, equal, holds};
 use hx_blog::Reader;
 use hx_engine::{DeskError, Done, Entry, Exchange, Pass, SubmitError, Venue};
 use hx_engine_testing::memory::Memory;
 use hx_market::Event;
 use hx_members::Setup;
-use hx_testing::sending::{BUY, Order, enter};
+use hx_testing::sending::{BUY, Order};
 use std::alloc::Global;
 use std::process::Abort;
 use std::sync::Wait;
@@ -22,28 +23,29 @@ const FEW: &[u8] =
     b"session HX00000003\nstart open\nstock ABCD 5120000000644e435a20502020314e000000004e\nmember 1 FMA1 ALPHA PWALPHA 2\nmember 2 FMB2 BRAVO PWBRAVO 1000\n";
 
 // The order of a member under this token, refused or not.
-fn submit<V: Venue, R: Wait>(
+fn submit<V: Venue, R: Wait + Abort>(
     rt: &R,
     alloc: Global,
     exchange: &Exchange<V, Memory>,
     pass: &mut Pass<V>,
     member: u16,
     token: [u8; 2],
-) -> Result<Result<Done, SubmitError>, Fail> {
+) -> Result<Done, SubmitError> {
     let order = Order {
         member,
         token,
         ..BUY
     };
-    Ok(exchange.submit(rt, pass, &enter(alloc, &order)?))
+    let event = entered(rt, alloc, &order);
+    exchange.submit(rt, pass, &event)
 }
 
 // The pass sent events at these places, in this order.
 fn expect_sent<V: Venue, R: Abort>(rt: &R, pass: &Pass<V>, places: &[u64]) {
-    assert_eq!(rt; pass.sent().len(), places.len());
+    equal(rt, pass.sent().len(), places.len());
     for ((place, event), wanted) in pass.sent().iter().zip(places) {
-        assert_eq!(rt; *place, *wanted);
-        assert!(rt; matches!(event, Event::Message { .. }));
+        equal(rt, *place, *wanted);
+        holds(rt, matches!(event, Event::Message { .. }));
     }
 }
 
@@ -57,24 +59,35 @@ impl Scenario for BeyondTheLimit {
         exchange: Exchange<V, Memory>,
         mut passes: Vec<Pass<V>>,
         _reader: Reader<Entry>,
-    ) -> Result<(), Fail> {
-        let mut pass = passes.pop().ok_or("a pass")?;
-        assert!(rt; submit(rt, alloc, &exchange, &mut pass, 1, *b"T1")?.is_ok());
-        assert!(rt; submit(rt, alloc, &exchange, &mut pass, 1, *b"T2")?.is_ok());
-        let refused = submit(rt, alloc, &exchange, &mut pass, 1, *b"T3")?;
-        assert!(rt; refused == Err(SubmitError::Refused(DeskError::Limit { member: 1 })));
+    ) {
+        let mut pass = passes.pop().expect(rt, "a pass");
+        holds(
+            rt,
+            submit(rt, alloc, &exchange, &mut pass, 1, *b"T1").is_ok(),
+        );
+        holds(
+            rt,
+            submit(rt, alloc, &exchange, &mut pass, 1, *b"T2").is_ok(),
+        );
+        let refused = submit(rt, alloc, &exchange, &mut pass, 1, *b"T3");
+        let limit = DeskError::Limit { member: 1 };
+        equal(rt, refused, Err(SubmitError::Refused(limit)));
         expect_sent(rt, &pass, &[1, 2]);
-        assert!(rt; submit(rt, alloc, &exchange, &mut pass, 2, *b"T4")?.is_ok());
+        holds(
+            rt,
+            submit(rt, alloc, &exchange, &mut pass, 2, *b"T4").is_ok(),
+        );
         expect_sent(rt, &pass, &[1, 2, 3]);
-        passes.push(pass)?;
-        ends(rt, exchange, passes, 3, 3)
+        passes.push(pass).expect(rt, "a place");
+        ends(rt, exchange, passes, 3, 3);
     }
 }
 
 #[test]
 fn a_message_beyond_the_limit(rt: HostRuntime) -> Result<(), Fail> {
     let alloc = rt.alloc();
-    play::<BeyondTheLimit, _>(&rt, alloc, Setup::read(alloc, FEW)?, 100, 1)
+    let setup = Setup::read(alloc, FEW).expect(&rt, "a setup");
+    play::<BeyondTheLimit, _>(&rt, alloc, setup, 100, 1)
 }
 
 // Three orders; one that lacks memory is sent again, and stands once. Here there is all the memory that they need.
@@ -87,25 +100,26 @@ impl Scenario for LacksMemory {
         exchange: Exchange<V, Memory>,
         mut passes: Vec<Pass<V>>,
         _reader: Reader<Entry>,
-    ) -> Result<(), Fail> {
-        let mut pass = passes.pop().ok_or("a pass")?;
+    ) {
+        let mut pass = passes.pop().expect(rt, "a pass");
         let places = [1, 2, 3];
         for (before, token) in [*b"T1", *b"T2", *b"T3"].into_iter().enumerate() {
-            let mut done = submit(rt, alloc, &exchange, &mut pass, 1, token)?;
+            let mut done = submit(rt, alloc, &exchange, &mut pass, 1, token);
             if done == Err(SubmitError::Refused(DeskError::NoMemory)) {
-                expect_sent(rt, &pass, places.get(..before).ok_or("a front")?);
-                done = submit(rt, alloc, &exchange, &mut pass, 1, token)?;
+                expect_sent(rt, &pass, places.get(..before).expect(rt, "a front"));
+                done = submit(rt, alloc, &exchange, &mut pass, 1, token);
             }
-            assert!(rt; done.is_ok());
+            holds(rt, done.is_ok());
         }
         expect_sent(rt, &pass, &places);
-        passes.push(pass)?;
-        ends(rt, exchange, passes, 3, 3)
+        passes.push(pass).expect(rt, "a place");
+        ends(rt, exchange, passes, 3, 3);
     }
 }
 
 #[test]
 fn an_event_that_lacks_memory(rt: HostRuntime) -> Result<(), Fail> {
     let alloc = rt.alloc();
-    play::<LacksMemory, _>(&rt, alloc, Setup::standard(alloc)?, 100, 1)
+    let setup = Setup::standard(alloc).expect(&rt, "a setup");
+    play::<LacksMemory, _>(&rt, alloc, setup, 100, 1)
 }

@@ -24,7 +24,7 @@ pub trait Scenario {
         exchange: Exchange<V, Memory>,
         passes: Vec<Pass<V>>,
         reader: Reader<Entry>,
-    ) -> Result<(), Fail>
+    )
         requires reader { reader.log ≡ V.log };
 }
 
@@ -33,7 +33,7 @@ fn start<S: Scenario, V: Venue + Send + Sync, R: Threads + Wait + Clock + Abort 
     alloc: Global,
     ground: Ground,
     passes: u16,
-) -> Result<(), Fail>
+)
     requires feed { IsNewLog V.log ground.logs.feed }
     requires admitted { IsNewLog V.admitted ground.logs.admitted }
     requires kept { IsNewLog V.kept ground.logs.kept }
@@ -50,8 +50,10 @@ fn start<S: Scenario, V: Venue + Send + Sync, R: Threads + Wait + Clock + Abort 
         reader,
     } = ground;
     let journal = Memory::new(alloc, 0);
-    let (exchange, given) = Exchange::<V, Memory>::new(alloc, setup, logs, journal, blank, passes)?;
-    S::play(rt, alloc, exchange, given, reader)
+    let (exchange, given) = Exchange::<V, Memory>::new(
+        alloc, setup, logs, journal, blank, passes,
+    ).expect(rt, "an exchange");
+    S::play(rt, alloc, exchange, given, reader);
 }
 
 /// Plays a scenario over a new exchange of this setup, with a log of this many slots and this many passes.
@@ -66,5 +68,6 @@ pub fn play<S: Scenario, R: Threads + Wait + Clock + Abort + Sync>(
     requires passes { (1 ≤ passes) × (passes ≤ 1024) }
 {
     let ground = ground_of(alloc, setup, capacity, passes)?;
-    start::<S, Brand, R>(rt, alloc, ground, passes)
+    start::<S, Brand, R>(rt, alloc, ground, passes);
+    Ok(())
 }

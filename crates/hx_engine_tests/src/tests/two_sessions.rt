@@ -4,13 +4,14 @@ ghost use Rattle.hx_engine.specs.Opening.{IsNewLog};
 ghost use Rattle.hx_rules.specs.declared.event.Event.{Event};
 
 use super::exchanges::ends;
+use super::{entered, equal, holds, member_of};
 use hx_blog::{Log, Reader};
 use hx_engine::{Entry, Exchange, Logs, News, Pass, Venue};
 use hx_engine_testing::ground::logs_of;
 use hx_engine_testing::memory::Memory;
 use hx_market::Event;
 use hx_members::Setup;
-use hx_testing::sending::{BUY, Order, SELL, enter};
+use hx_testing::sending::{BUY, Order, SELL};
 use hx_testing::shorthand::{Message, Reply, private, read_message, read_reply};
 use hx_units::MemberNo;
 use std::alloc::Global;
@@ -37,33 +38,48 @@ struct Client<V: Venue> {
 // What a session came to know.
 #[derive(Drop)]
 struct Outcome {
-    // His first reply, where he has exactly one.
-    reply: Option<Reply>,
+    // His one reply.
+    reply: Reply,
     // How many of the one message of the feed his reader read before it learnt anything; none for another message.
     early: Option<u64>,
 }
 
 impl<V: Venue> Client<V> {
-    // Enters an order, asks for his replies, audits, and reads what he can.
-    fn session<R: Wait>(
+    // Enters an order, asks for his one reply, audits, and reads what he can.
+    fn session<R: Wait + Abort>(
         &mut self,
         rt: &R,
         alloc: Global,
         exchange: &Exchange<V, Memory>,
         order: &Order,
-    ) -> Option<Outcome> {
-        let event = enter(alloc, order).ok()?;
-        let member = MemberNo::of(order.member)?;
-        let done = exchange.submit(rt, &mut self.pass, &event).ok()?;
-        let replies = exchange.replies(rt, &mut self.reader, member, 1).ok()?;
-        let audit = exchange.audit(rt, &mut self.reader, &mut self.pass).ok()?;
-        if (audit.history.len() as u64) < done.place || replies.len() != 1 {
-            return None;
-        }
-        Some(Outcome {
-            reply: replies.first().map(|reply| read_reply(reply.as_slice())),
+    ) -> Outcome {
+        let event = entered(rt, alloc, order);
+        let done = exchange
+            .submit(rt, &mut self.pass, &event)
+            .expect(rt, "a place");
+        let reply = self.only_reply(rt, exchange, member_of(rt, order.member));
+        let audit = exchange
+            .audit(rt, &mut self.reader, &mut self.pass)
+            .expect(rt, "an audit");
+        holds(rt, audit.history.len() as u64 >= done.place);
+        Outcome {
+            reply,
             early: read_all(exchange.feed_log(), &mut self.reader),
-        })
+        }
+    }
+
+    // The one reply that a member has.
+    fn only_reply<R: Wait + Abort>(
+        &mut self,
+        rt: &R,
+        exchange: &Exchange<V, Memory>,
+        member: MemberNo,
+    ) -> Reply {
+        let replies = exchange
+            .replies(rt, &mut self.reader, member, 1)
+            .expect(rt, "replies");
+        equal(rt, replies.len(), 1);
+        read_reply(replies.first().expect(rt, "a reply").as_slice())
     }
 
     // Waits for more than one reply.
@@ -111,23 +127,24 @@ impl<V: Venue> Client<V> {
 }
 
 // The two clients of an exchange with two passes.
-fn clients<V: Venue>(
+fn clients<V: Venue, R: Abort>(
+    rt: &R,
     exchange: &Exchange<V, Memory>,
     mut passes: Vec<Pass<V>>,
     mut reader: Reader<Entry>,
-) -> Option<(Client<V>, Client<V>)>
+) -> (Client<V>, Client<V>)
     requires reader { reader.log ≡ V.log }
 {
     let other = reader.split(exchange.feed_log());
     let second = Client {
-        pass: passes.pop()?,
+        pass: passes.pop().expect(rt, "a pass"),
         reader: other,
     };
     let first = Client {
-        pass: passes.pop()?,
+        pass: passes.pop().expect(rt, "a pass"),
         reader,
     };
-    Some((first, second))
+    (first, second)
 }
 
 // Reads on, ten messages at most, to the end: how many, where each is that of the one displayed order.
@@ -148,24 +165,21 @@ fn read_all(log: &Log<Entry>, reader: &mut Reader<Entry>) -> Option<u64>
     None
 }
 
-// The first reply is this, and nothing but a beginning of the feed was read; the rest is read now.
+// The one reply is this, and nothing but a beginning of the feed was read; the rest is read now.
 fn expect_client<V: Venue, R: Abort>(
     rt: &R,
     log: &Log<Entry>,
     client: &mut Client<V>,
-    outcome: Option<Outcome>,
+    outcome: Outcome,
     want: Reply,
-) -> Result<(), Fail>
+)
     requires { log.now ≡ V.log }
 {
-    let outcome = outcome.ok_or("an outcome")?;
-    assert!(rt; outcome.reply == Some(want));
-    let early = outcome.early.ok_or("another message")?;
-    let late = read_all(log, &mut client.reader).ok_or("another message")?;
-    assert_eq!(rt; client.pass.sent().len(), 1);
-    assert!(rt; early <= 1);
-    assert!(rt; late == 1 - early);
-    Ok(())
+    equal(rt, outcome.reply, want);
+    let early = outcome.early.expect(rt, "no other message");
+    let late = read_all(log, &mut client.reader).expect(rt, "no other message");
+    equal(rt, client.pass.sent().len(), 1);
+    equal(rt, early.checked_add(late), Some(1));
 }
 
 fn shown() -> Order {
@@ -189,7 +203,7 @@ fn two_at_once<V: Venue + Send + Sync, R: Threads + Wait + Abort + Sync>(
     logs: Logs,
     blank: Blank,
     reader: Reader<Entry>,
-) -> Result<(), Fail>
+)
     requires feed { IsNewLog V.log logs.feed }
     requires admitted { IsNewLog V.admitted logs.admitted }
     requires kept { IsNewLog V.kept logs.kept }
@@ -198,15 +212,11 @@ fn two_at_once<V: Venue + Send + Sync, R: Threads + Wait + Abort + Sync>(
     requires reader { reader.log ≡ V.log }
     requires blank { (blank.name ≡ V.name) × (blank.parts ≡ V.parts) × (V.parts ≡ 2) }
 {
+    let journal = Memory::new(alloc, 10_000);
     let (exchange, passes) = Exchange::<V, Memory>::new(
-        alloc,
-        setup,
-        logs,
-        Memory::new(alloc, 10_000),
-        blank,
-        2,
-    )?;
-    let (mut first, mut second) = clients(&exchange, passes, reader).ok_or("two passes")?;
+        alloc, setup, logs, journal, blank, 2,
+    ).expect(rt, "an exchange");
+    let (mut first, mut second) = clients(rt, &exchange, passes, reader);
     let shared = &exchange;
     let (one, two) = thread::join(
         rt,
@@ -221,27 +231,28 @@ fn both_know_all<V: Venue, R: Abort>(
     rt: &R,
     alloc: Global,
     exchange: Exchange<V, Memory>,
-    (mut first, one): (Client<V>, Option<Outcome>),
-    (mut second, two): (Client<V>, Option<Outcome>),
-) -> Result<(), Fail> {
+    (mut first, one): (Client<V>, Outcome),
+    (mut second, two): (Client<V>, Outcome),
+) {
     let log = exchange.feed_log();
     first.reader.learn(log, second.pass.receipt(log));
     second.reader.learn(log, first.pass.receipt(log));
     let accepted = Reply::Accepted(*b"T1", 100, 1);
-    expect_client(rt, log, &mut first, one, accepted)?;
+    expect_client(rt, log, &mut first, one, accepted);
     let accepted = Reply::Accepted(*b"H1", 100, private(2, 1));
-    expect_client(rt, log, &mut second, two, accepted)?;
-    let passes = vec![in alloc; first.pass, second.pass]?;
-    ends(rt, exchange, passes, 2, 1)
+    expect_client(rt, log, &mut second, two, accepted);
+    let passes = vec![in alloc; first.pass, second.pass].expect(rt, "passes");
+    ends(rt, exchange, passes, 2, 1);
 }
 
 #[test]
 fn two_sessions_at_once(rt: HostRuntime) -> Result<(), Fail> {
     let alloc = rt.alloc();
-    let setup = Setup::standard(alloc)?;
-    let (log, writer, reader) = Log::<Entry>::new(alloc, 100)?;
+    let setup = Setup::standard(alloc).expect(&rt, "a setup");
+    let (log, writer, reader) = Log::<Entry>::new(alloc, 100).expect(&rt, "a log");
     let logs = logs_of(alloc, log, writer)?;
-    two_at_once::<Brand, _>(&rt, alloc, setup, logs, Blank::new(2), reader)
+    two_at_once::<Brand, _>(&rt, alloc, setup, logs, Blank::new(2), reader);
+    Ok(())
 }
 
 // The first member waits for the execution of his order, which another thread's order brings; and then in vain.
@@ -252,7 +263,7 @@ fn wait_for_an_execution<V: Venue + Send + Sync, R: Threads + Wait + Clock + Abo
     logs: Logs,
     blank: Blank,
     reader: Reader<Entry>,
-) -> Result<(), Fail>
+)
     requires feed { IsNewLog V.log logs.feed }
     requires admitted { IsNewLog V.admitted logs.admitted }
     requires kept { IsNewLog V.kept logs.kept }
@@ -261,19 +272,15 @@ fn wait_for_an_execution<V: Venue + Send + Sync, R: Threads + Wait + Clock + Abo
     requires reader { reader.log ≡ V.log }
     requires blank { (blank.name ≡ V.name) × (blank.parts ≡ V.parts) × (V.parts ≡ 2) }
 {
+    let journal = Memory::new(alloc, 10_000);
     let (exchange, passes) = Exchange::<V, Memory>::new(
-        alloc,
-        setup,
-        logs,
-        Memory::new(alloc, 10_000),
-        blank,
-        2,
-    )?;
-    let (mut first, mut second) = clients(&exchange, passes, reader).ok_or("two passes")?;
-    let buy = enter(alloc, &shown())?;
-    let sell = enter(alloc, &sale())?;
-    let member = MemberNo::of(1).ok_or("a member")?;
-    assert!(rt; first.send(rt, alloc, &exchange, &buy));
+        alloc, setup, logs, journal, blank, 2,
+    ).expect(rt, "an exchange");
+    let (mut first, mut second) = clients(rt, &exchange, passes, reader);
+    let buy = entered(rt, alloc, &shown());
+    let sell = entered(rt, alloc, &sale());
+    let member = member_of(rt, 1);
+    holds(rt, first.send(rt, alloc, &exchange, &buy));
     let long = Duration::from_secs(60);
     let shared = &exchange;
     let (news, sent) = thread::join(
@@ -281,8 +288,8 @@ fn wait_for_an_execution<V: Venue + Send + Sync, R: Threads + Wait + Clock + Abo
         || first.wait(rt, shared, member, long),
         || second.send(rt, alloc, shared, &sell),
     );
-    assert!(rt; sent);
-    expect_traded(rt, &exchange, &mut first, member, news)
+    holds(rt, sent);
+    expect_traded(rt, &exchange, &mut first, member, news);
 }
 
 fn sale() -> Order {
@@ -300,24 +307,26 @@ fn expect_traded<V: Venue, R: Wait + Clock + Abort>(
     client: &mut Client<V>,
     member: MemberNo,
     news: News,
-) -> Result<(), Fail> {
+) {
     let traded = News {
         replies: 2,
         ended: false,
     };
-    assert_eq!(rt; news, traded);
+    equal(rt, news, traded);
     let reader = &mut client.reader;
-    assert_eq!(rt; exchange.news(rt, reader, member), traded);
-    let page = exchange.replies_page(rt, reader, member, 2, 5)?;
-    assert_eq!(rt; page.len(), 1);
-    Ok(())
+    equal(rt, exchange.news(rt, reader, member), traded);
+    let page = exchange
+        .replies_page(rt, reader, member, 2, 5)
+        .expect(rt, "a page");
+    equal(rt, page.len(), 1);
 }
 
 #[test]
 fn a_member_waits_for_news(rt: HostRuntime) -> Result<(), Fail> {
     let alloc = rt.alloc();
-    let setup = Setup::standard(alloc)?;
-    let (log, writer, reader) = Log::<Entry>::new(alloc, 100)?;
+    let setup = Setup::standard(alloc).expect(&rt, "a setup");
+    let (log, writer, reader) = Log::<Entry>::new(alloc, 100).expect(&rt, "a log");
     let logs = logs_of(alloc, log, writer)?;
-    wait_for_an_execution::<Brand, _>(&rt, alloc, setup, logs, Blank::new(2), reader)
+    wait_for_an_execution::<Brand, _>(&rt, alloc, setup, logs, Blank::new(2), reader);
+    Ok(())
 }

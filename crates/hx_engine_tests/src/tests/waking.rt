@@ -3,6 +3,7 @@ ghost use Rattle.std.specs.Prelude.{◌≡◌, [], true};
 ghost use Rattle.hx_engine.specs.Opening.{IsNewLog};
 
 use super::exchanges::ends;
+use super::{entered, equal, holds, member_of};
 use hx_bells::Bell;
 use hx_blog::{Log, Reader};
 use hx_engine::{Entry, Exchange, Journal, Logs, Pass, Venue};
@@ -10,8 +11,7 @@ use hx_engine_testing::ground::logs_of;
 use hx_engine_testing::memory::Memory;
 use hx_journal::Unkept;
 use hx_members::Setup;
-use hx_testing::sending::{BUY, Order, SELL, enter};
-use hx_units::MemberNo;
+use hx_testing::sending::{BUY, Order, SELL};
 use std::alloc::Global;
 use std::marker::Brand;
 use std::process::Abort;
@@ -24,11 +24,11 @@ use std::time::{Clock, Duration, Instant};
 const SHORT: u64 = 5;
 
 // Whether a bell that was armed has rung.
-fn has_rung(clock: &impl Clock, bell: &Bell) -> Result<bool, Fail> {
+fn has_rung<R: Clock + Abort>(rt: &R, bell: &Bell) -> bool {
     let short = Duration::from_millis(SHORT);
-    let start = Instant::now(clock)?;
+    let start = Instant::now(rt).expect(rt, "the time before");
     bell.sleep(short);
-    Ok(start.elapsed(clock)? < short)
+    start.elapsed(rt).expect(rt, "the time behind") < short
 }
 
 // Two sessions, of the first two members, and the exchange that they are at.
@@ -42,44 +42,44 @@ struct Room<V: Venue, J: Journal> {
 
 impl<V: Venue, J: Journal + Drop> Room<V, J> {
     // Who is woken by an order of the first pass: the first member's session, the second's, and the publisher.
-    fn woken<R: Wait + Clock + Abort>(&mut self, rt: &R, order: &Order) -> Result<[bool; 3], Fail> {
-        let event = enter(self.alloc, order)?;
+    fn woken<R: Wait + Clock + Abort>(&mut self, rt: &R, order: &Order) -> [bool; 3] {
+        let event = entered(rt, self.alloc, order);
         self.exchange.bell(&self.first).arm();
         self.exchange.bell(&self.second).arm();
         self.exchange.feed_bell().arm();
-        assert!(rt; self.exchange.submit(rt, &mut self.first, &event).is_ok());
-        Ok([
-            has_rung(rt, self.exchange.bell(&self.first))?,
-            has_rung(rt, self.exchange.bell(&self.second))?,
-            has_rung(rt, self.exchange.feed_bell())?,
-        ])
+        holds(
+            rt,
+            self.exchange.submit(rt, &mut self.first, &event).is_ok(),
+        );
+        [
+            has_rung(rt, self.exchange.bell(&self.first)),
+            has_rung(rt, self.exchange.bell(&self.second)),
+            has_rung(rt, self.exchange.feed_bell()),
+        ]
     }
 }
 
 // Both sessions listen, each to its member.
-fn room_of<V: Venue, J: Journal + Drop, R: Wait>(
+fn room_of<V: Venue, J: Journal + Drop, R: Wait + Abort>(
     rt: &R,
     alloc: Global,
     exchange: Exchange<V, J>,
     mut passes: Vec<Pass<V>>,
-) -> Result<Room<V, J>, Fail> {
-    let second = passes.pop().ok_or("a pass")?;
-    let first = passes.pop().ok_or("a pass")?;
-    exchange.listen(rt, &first, MemberNo::of(1).ok_or("a member")?);
-    exchange.listen(rt, &second, MemberNo::of(2).ok_or("a member")?);
-    Ok(Room {
+) -> Room<V, J> {
+    let second = passes.pop().expect(rt, "a pass");
+    let first = passes.pop().expect(rt, "a pass");
+    exchange.listen(rt, &first, member_of(rt, 1));
+    exchange.listen(rt, &second, member_of(rt, 2));
+    Room {
         alloc,
         exchange,
         first,
         second,
-    })
+    }
 }
 
 // Orders that nobody sees wake their member alone, and those that are seen the publisher too.
-fn own_orders<V: Venue, J: Journal + Drop, R: Wait + Clock + Abort>(
-    rt: &R,
-    room: &mut Room<V, J>,
-) -> Result<(), Fail> {
+fn own_orders<V: Venue, J: Journal + Drop, R: Wait + Clock + Abort>(rt: &R, room: &mut Room<V, J>) {
     let hidden = Order {
         token: *b"H1",
         display: b'N',
@@ -91,20 +91,16 @@ fn own_orders<V: Venue, J: Journal + Drop, R: Wait + Clock + Abort>(
         price: 90_000,
         ..hidden
     };
-    let woken = room.woken(rt, &hidden)?;
-    assert!(rt; woken == [true, false, false]);
-    let woken = room.woken(rt, &BUY)?;
-    assert!(rt; woken == [true, false, true]);
-    let woken = room.woken(rt, &others)?;
-    assert!(rt; woken == [false, true, false]);
-    Ok(())
+    equal(rt, room.woken(rt, &hidden), [true, false, false]);
+    equal(rt, room.woken(rt, &BUY), [true, false, true]);
+    equal(rt, room.woken(rt, &others), [false, true, false]);
 }
 
 // An execution wakes both, and who has left is not woken.
 fn an_execution<V: Venue, J: Journal + Drop, R: Wait + Clock + Abort>(
     rt: &R,
     room: &mut Room<V, J>,
-) -> Result<(), Fail> {
+) {
     let crossing = Order {
         member: 2,
         token: *b"S1",
@@ -114,13 +110,9 @@ fn an_execution<V: Venue, J: Journal + Drop, R: Wait + Clock + Abort>(
         token: *b"T2",
         ..BUY
     };
-    let woken = room.woken(rt, &crossing)?;
-    assert!(rt; woken == [true, true, true]);
-    let member = MemberNo::of(1).ok_or("a member")?;
-    room.exchange.leave(rt, &room.first, member);
-    let woken = room.woken(rt, &later)?;
-    assert!(rt; woken == [false, false, true]);
-    Ok(())
+    equal(rt, room.woken(rt, &crossing), [true, true, true]);
+    room.exchange.leave(rt, &room.first, member_of(rt, 1));
+    equal(rt, room.woken(rt, &later), [false, false, true]);
 }
 
 // The publisher is woken by `submit_all` itself where a journal is written, and else by `ring_feed`, once.
@@ -128,26 +120,23 @@ fn a_late_ring<V: Venue, J: Journal + Drop, R: Wait + Clock + Abort>(
     rt: &R,
     room: &mut Room<V, J>,
     is_late: bool,
-) -> Result<(), Fail> {
+) {
     let last = Order {
         token: *b"T3",
         ..BUY
     };
-    let events = vec![in room.alloc; enter(room.alloc, &last)?]?;
+    let event = entered(rt, room.alloc, &last);
+    let events = vec![in room.alloc; event].expect(rt, "events");
     room.exchange.feed_bell().arm();
-    assert!(rt;
-        room.exchange
-            .submit_all(rt, &mut room.first, events)
-            .is_ok()
-    );
-    assert_eq!(rt; has_rung(rt, room.exchange.feed_bell())?, !is_late);
+    let done = room.exchange.submit_all(rt, &mut room.first, events);
+    holds(rt, done.is_ok());
+    equal(rt, has_rung(rt, room.exchange.feed_bell()), !is_late);
     room.exchange.feed_bell().arm();
     room.exchange.ring_feed();
-    assert_eq!(rt; has_rung(rt, room.exchange.feed_bell())?, is_late);
+    equal(rt, has_rung(rt, room.exchange.feed_bell()), is_late);
     room.exchange.feed_bell().arm();
     room.exchange.ring_feed();
-    assert!(rt; !has_rung(rt, room.exchange.feed_bell())?);
-    Ok(())
+    holds(rt, !has_rung(rt, room.exchange.feed_bell()));
 }
 
 fn wake<V: Venue, J: Journal + Drop, R: Wait + Clock + Abort>(
@@ -158,7 +147,7 @@ fn wake<V: Venue, J: Journal + Drop, R: Wait + Clock + Abort>(
     journal: J,
     blank: Blank,
     mut reader: Reader<Entry>,
-) -> Result<(), Fail>
+)
     requires feed { IsNewLog V.log logs.feed }
     requires admitted { IsNewLog V.admitted logs.admitted }
     requires kept { IsNewLog V.kept logs.kept }
@@ -170,14 +159,17 @@ fn wake<V: Venue, J: Journal + Drop, R: Wait + Clock + Abort>(
     requires blank { (blank.name ≡ V.name) × (blank.parts ≡ V.parts) × (V.parts ≡ 2) }
 {
     let is_late = journal.is_quick();
-    let (exchange, passes) = Exchange::<V, J>::new(alloc, setup, logs, journal, blank, 2)?;
-    assert_eq!(rt; reader.look(exchange.feed_log()), 0);
-    let mut room = room_of(rt, alloc, exchange, passes)?;
-    own_orders(rt, &mut room)?;
-    an_execution(rt, &mut room)?;
-    a_late_ring(rt, &mut room, is_late)?;
-    let passes = vec![in alloc; room.first, room.second]?;
-    ends(rt, room.exchange, passes, 6, 4)
+    let (exchange, passes) = Exchange::<V, J>::new(alloc, setup, logs, journal, blank, 2).expect(
+        rt,
+        "an exchange",
+    );
+    equal(rt, reader.look(exchange.feed_log()), 0);
+    let mut room = room_of(rt, alloc, exchange, passes);
+    own_orders(rt, &mut room);
+    an_execution(rt, &mut room);
+    a_late_ring(rt, &mut room, is_late);
+    let passes = vec![in alloc; room.first, room.second].expect(rt, "passes");
+    ends(rt, room.exchange, passes, 6, 4);
 }
 
 fn wake_at<J: Journal + Drop, R: Wait + Clock + Abort>(
@@ -188,10 +180,11 @@ fn wake_at<J: Journal + Drop, R: Wait + Clock + Abort>(
     requires journal { J.appended journal ≡ [] }
     requires safe { (J.kept journal ≡ J.appended journal) × (J.is_open journal ≡ true) }
 {
-    let setup = Setup::standard(alloc)?;
-    let (log, writer, reader) = Log::<Entry>::new(alloc, 100)?;
+    let setup = Setup::standard(alloc).expect(rt, "a setup");
+    let (log, writer, reader) = Log::<Entry>::new(alloc, 100).expect(rt, "a log");
     let logs = logs_of(alloc, log, writer)?;
-    wake::<Brand, J, R>(rt, alloc, setup, logs, journal, Blank::new(2), reader)
+    wake::<Brand, J, R>(rt, alloc, setup, logs, journal, Blank::new(2), reader);
+    Ok(())
 }
 
 #[test]

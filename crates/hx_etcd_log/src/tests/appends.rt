@@ -45,30 +45,36 @@ const APPENDS: &[(&[Turn], Result<(), LogError>, &[usize])] = &[
 ];
 
 #[test]
-fn a_lost_answer_is_asked_for_again(rt: HostRuntime) -> Result<(), Fail> {
+fn a_lost_answer_is_asked_for_again(rt: HostRuntime) {
     let alloc = rt.alloc();
-    let first = record(alloc, 1, 7)?;
+    let first = record(&rt, alloc, 1, 7);
     for (turns, result, asked) in APPENDS {
         let mut log = new_log(alloc, turns);
-        assert_eq!(rt; log.append(&first), *result);
-        assert_eq!(rt; log.nodes.asked.as_slice(), *asked);
+        equal(&rt, log.append(&first), *result);
+        equal(&rt, log.nodes.asked.as_slice(), *asked);
     }
-    Ok(())
 }
 
 #[test]
-fn the_node_that_answered_is_asked_first(rt: HostRuntime) -> Result<(), Fail> {
+fn the_node_that_answered_is_asked_first(rt: HostRuntime) {
     let alloc = rt.alloc();
     let turns = &[Turn::Gone, Turn::Says(MADE), Turn::Says(MADE)];
     let mut log = new_log(alloc, turns);
-    assert_eq!(rt; log.append(&record(alloc, 1, 7)?), Ok(()));
-    assert_eq!(rt; log.append(&record(alloc, 2, 7)?), Ok(()));
-    assert_eq!(rt; log.nodes.asked.as_slice(), [0, 1, 1].as_slice());
-    assert_eq!(rt; log.len(), 2);
+    equal(&rt, log.append(&record(&rt, alloc, 1, 7)), Ok(()));
+    equal(&rt, log.append(&record(&rt, alloc, 2, 7)), Ok(()));
+    equal(&rt, log.nodes.asked.as_slice(), [0, 1, 1].as_slice());
+    equal(&rt, log.len(), 2);
 
     // Of other numbers nothing is asked.
-    assert_eq!(rt; log.append(&record(alloc, 2, 7)?), Err(LogError::Taken));
-    assert_eq!(rt; log.append(&record(alloc, 4, 7)?), Err(LogError::Gap));
-    assert_eq!(rt; log.nodes.asked.len(), 3);
-    Ok(())
+    equal(
+        &rt,
+        log.append(&record(&rt, alloc, 2, 7)),
+        Err(LogError::Taken),
+    );
+    equal(
+        &rt,
+        log.append(&record(&rt, alloc, 4, 7)),
+        Err(LogError::Gap),
+    );
+    equal(&rt, log.nodes.asked.len(), 3);
 }

@@ -30,49 +30,71 @@ const READS: &[(&[Turn], Result<usize, LogError>, usize)] = &[
 ];
 
 #[test]
-fn records_are_read_from_any_node(rt: HostRuntime) -> Result<(), Fail> {
+fn records_are_read_from_any_node(rt: HostRuntime) {
     let alloc = rt.alloc();
     for (turns, result, asks) in READS {
         let mut log = new_log(alloc, turns);
         let count = log.read(alloc, 1).map(|found| found.len());
-        assert_eq!(rt; count, *result);
-        assert_eq!(rt; log.nodes.asked.len(), *asks);
+        equal(&rt, count, *result);
+        equal(&rt, log.nodes.asked.len(), *asks);
     }
-    Ok(())
 }
 
 #[test]
-fn what_is_known_does_not_change(rt: HostRuntime) -> Result<(), Fail> {
+fn what_is_known_does_not_change(rt: HostRuntime) {
     let alloc = rt.alloc();
     let turns = &[Turn::Says(BOTH), Turn::Says(BOTH), Turn::Says(NONE)];
     let mut log = new_log(alloc, turns);
-    assert_eq!(rt; log.read(alloc, 1)?.len(), 2);
-    assert_eq!(rt; log.read(alloc, 2)?.len(), 1);
-    assert_eq!(rt; log.nodes.asked.len(), 1);
+    equal(
+        &rt,
+        log.read(alloc, 1)
+            .expect(&rt, "records that are read")
+            .len(),
+        2,
+    );
+    equal(
+        &rt,
+        log.read(alloc, 2)
+            .expect(&rt, "records that are read")
+            .len(),
+        1,
+    );
+    equal(&rt, log.nodes.asked.len(), 1);
 
     // The third is asked for, and the first told.
     let bad = log.read(alloc, 3).map(|found| found.len());
-    assert_eq!(rt; bad, Err(LogError::NoRecord { number: 3 }));
-    assert_eq!(rt; log.read(alloc, 3)?.len(), 0);
+    equal(&rt, bad, Err(LogError::NoRecord { number: 3 }));
+    equal(
+        &rt,
+        log.read(alloc, 3)
+            .expect(&rt, "records that are read")
+            .len(),
+        0,
+    );
     let gone = log.read(alloc, 2).map(|found| found.len());
-    assert_eq!(rt; gone, Err(LogError::Unreachable));
-    assert_eq!(rt; log.len(), 2);
-    Ok(())
+    equal(&rt, gone, Err(LogError::Unreachable));
+    equal(&rt, log.len(), 2);
 }
 
 #[test]
-fn a_writer_goes_on_behind_another(rt: HostRuntime) -> Result<(), Fail> {
+fn a_writer_goes_on_behind_another(rt: HostRuntime) {
     let alloc = rt.alloc();
     let turns = &[Turn::Loses, Turn::Says(THEIRS), Turn::Says(MADE)];
     let mut log = new_log(alloc, turns);
     let mut writer = LogWriter::new(7);
-    assert!(rt; writer.take_over(alloc, &mut log).is_err());
+    holds(&rt, writer.take_over(alloc, &mut log).is_err());
 
     // What was found there is read without an ask.
-    assert_eq!(rt; writer.follow(alloc, &mut log)?.len(), 0);
-    assert_eq!(rt; log.nodes.asked.len(), 2);
-    assert!(rt; writer.take_over(alloc, &mut log).is_ok());
-    assert!(rt; writer.is_in_office());
-    assert_eq!(rt; log.len(), 2);
-    Ok(())
+    equal(
+        &rt,
+        writer
+            .follow(alloc, &mut log)
+            .expect(&rt, "a log that is read")
+            .len(),
+        0,
+    );
+    equal(&rt, log.nodes.asked.len(), 2);
+    holds(&rt, writer.take_over(alloc, &mut log).is_ok());
+    holds(&rt, writer.is_in_office());
+    equal(&rt, log.len(), 2);
 }

@@ -6,12 +6,12 @@ use std::thread::join;
 use std::time::Duration;
 
 // A listener on a free port, and its address.
-fn listen<R: Net<Listener = TcpListener, Stream = TcpStream>>(
+fn listen<R: Net<Listener = TcpListener, Stream = TcpStream> + Abort>(
     rt: &R,
-) -> Result<(TcpListener, SocketAddr), Fail> {
-    let listener = TcpListener::bind(rt, (Ipv4Addr::new(127, 0, 0, 1), 0))?;
-    let address = listener.local_addr()?;
-    Ok((listener, address))
+) -> (TcpListener, SocketAddr) {
+    let listener = TcpListener::bind(rt, (Ipv4Addr::new(127, 0, 0, 1), 0)).expect(rt, "a listener");
+    let address = listener.local_addr().expect(rt, "an address");
+    (listener, address)
 }
 
 // What a node says to each of two requests.
@@ -30,30 +30,23 @@ fn answer_two(listener: TcpListener) -> io::Result<()> {
 }
 
 // Appends two records over a node that is gone and one that is there.
-fn append_two<R: Net<Stream = TcpStream> + Abort>(
-    rt: &R,
-    alloc: Global,
-    addresses: &[SocketAddr],
-) -> Result<(), Fail> {
-    let nodes = TcpNodes::new(rt, alloc, addresses, Duration::from_secs(10))?;
+fn append_two<R: Net<Stream = TcpStream> + Abort>(rt: &R, alloc: Global, addresses: &[SocketAddr]) {
+    let nodes = TcpNodes::new(rt, alloc, addresses, Duration::from_secs(10)).expect(rt, "nodes");
     let mut log = EtcdLog::new(alloc, nodes);
-    assert_eq!(rt; log.append(&record(alloc, 1, 7)?), Ok(()));
-    assert_eq!(rt; log.append(&record(alloc, 2, 7)?), Ok(()));
-    Ok(())
+    equal(rt, log.append(&record(rt, alloc, 1, 7)), Ok(()));
+    equal(rt, log.append(&record(rt, alloc, 2, 7)), Ok(()));
 }
 
 #[test]
-fn a_node_on_loopback_answers(rt: HostRuntime) -> Result<(), Fail> {
+fn a_node_on_loopback_answers(rt: HostRuntime) {
     let alloc = rt.alloc();
-    let (gone, first) = listen(&rt)?;
+    let (gone, first) = listen(&rt);
     drop(gone);
-    let (listener, second) = listen(&rt)?;
-    let (answered, appended) = join(
+    let (listener, second) = listen(&rt);
+    let (answered, _) = join(
         &rt,
         || answer_two(listener),
         || append_two(&rt, alloc, &[first, second]),
     );
-    appended?;
-    answered?;
-    Ok(())
+    answered.expect(&rt, "two requests that are answered");
 }

@@ -1,6 +1,7 @@
 //! A large day, of which another thread reads the lines ahead, and writes what they tell.
 
 use super::day::{SETUP, day};
+use super::{equal, holds};
 use hx_replay::{Kind, TapeError, replay};
 use hx_replay_threads::replay_ahead;
 use hx_testing::Day;
@@ -21,22 +22,28 @@ fn the_day_in_turns(rt: HostRuntime) -> Result<(), Fail> {
     let day = day(rt.alloc())?;
     let mut output = Vec::new(rt.alloc());
     let mut reader = day.tape.as_slice();
-    let counts = replay_ahead(&rt, rt.alloc(), &setup, &mut reader, &mut output)?;
-    assert_eq!(rt; counts.events, 20_000);
-    assert!(rt; output.as_slice() == day.output.as_slice());
+    let counts = replay_ahead(&rt, rt.alloc(), &setup, &mut reader, &mut output).expect(
+        &rt, "a day",
+    );
+    equal(&rt, counts.events, 20_000);
+    holds(&rt, output.as_slice() == day.output.as_slice());
     Ok(())
 }
 
 // The first 15,000 lines of the day, seven times, and then the whole day: 125,000 lines, of which one read takes some
 // 45,000.
-fn seven_times_and_whole(alloc: Global, day: &Day) -> Result<Vec<u8>, Fail> {
+fn seven_times_and_whole<R: Abort>(rt: &R, alloc: Global, day: &Day) -> Vec<u8> {
     let most = first_lines(&day.tape, 15_000);
     let mut tape = Vec::new(alloc);
     for _ in 0..7 {
-        tape.extend_from_slice(most)?;
+        put(rt, &mut tape, most);
     }
-    tape.extend_from_slice(&day.tape)?;
-    Ok(tape)
+    put(rt, &mut tape, &day.tape);
+    tape
+}
+
+fn put<R: Abort>(rt: &R, bytes: &mut Vec<u8>, others: &[u8]) {
+    bytes.extend_from_slice(others).expect(rt, "more bytes");
 }
 
 // The reader gives as much as there is room for, three times and the last time less, and then ends. What is written is what
@@ -45,13 +52,15 @@ fn seven_times_and_whole(alloc: Global, day: &Day) -> Result<Vec<u8>, Fail> {
 fn pieces_that_fill_their_room(rt: HostRuntime) -> Result<(), Fail> {
     let setup = setup_of(rt.alloc(), SETUP)?;
     let day = day(rt.alloc())?;
-    let tape = seven_times_and_whole(rt.alloc(), &day)?;
+    let tape = seven_times_and_whole(&rt, rt.alloc(), &day);
     let (mut told, mut output) = (Vec::new(rt.alloc()), Vec::new(rt.alloc()));
-    replay(rt.alloc(), &setup, &mut tape.as_slice(), &mut told)?;
+    replay(rt.alloc(), &setup, &mut tape.as_slice(), &mut told).expect(&rt, "a day");
     let mut reader = Input::new(&tape);
-    let counts = replay_ahead(&rt, rt.alloc(), &setup, &mut reader, &mut output)?;
-    assert_eq!(rt; (counts.events, reader.calls), (125_000, 4));
-    assert!(rt; output.as_slice() == told.as_slice());
+    let counts = replay_ahead(&rt, rt.alloc(), &setup, &mut reader, &mut output).expect(
+        &rt, "a day",
+    );
+    equal(&rt, (counts.events, reader.calls), (125_000, 4));
+    holds(&rt, output.as_slice() == told.as_slice());
     Ok(())
 }
 
@@ -61,7 +70,7 @@ fn pieces_that_fill_their_room(rt: HostRuntime) -> Result<(), Fail> {
 fn a_second_read_that_fails(rt: HostRuntime) -> Result<(), Fail> {
     let setup = setup_of(rt.alloc(), SETUP)?;
     let day = day(rt.alloc())?;
-    let tape = seven_times_and_whole(rt.alloc(), &day)?;
+    let tape = seven_times_and_whole(&rt, rt.alloc(), &day);
     let (mut told, mut output) = (Vec::new(rt.alloc()), Vec::new(rt.alloc()));
     let mut reader = Input {
         bad: Bad {
@@ -71,22 +80,21 @@ fn a_second_read_that_fails(rt: HostRuntime) -> Result<(), Fail> {
         ..Input::new(&tape)
     };
     let ended = replay_ahead(&rt, rt.alloc(), &setup, &mut reader, &mut output);
-    assert!(rt; matches!(ended, Err(TapeError::Read)));
-    assert_eq!(rt; reader.calls, 2);
+    holds(&rt, matches!(ended, Err(TapeError::Read)));
+    equal(&rt, reader.calls, 2);
     let read = tape.len().saturating_sub(reader.bytes.len());
-    assert!(rt; read > 1 << 22);
+    holds(&rt, read > 1 << 22);
     // It breaks off in a line, of which nothing is told.
     let whole = replay(rt.alloc(), &setup, &mut front(&tape, read), &mut told);
-    assert!(rt;
-        matches!(
-            whole,
-            Err(TapeError::Line {
-                kind: Kind::Bad,
-                ..
-            })
-        )
+    let is_bad = matches!(
+        whole,
+        Err(TapeError::Line {
+            kind: Kind::Bad,
+            ..
+        })
     );
-    assert!(rt; output.as_slice() == told.as_slice());
+    holds(&rt, is_bad);
+    holds(&rt, output.as_slice() == told.as_slice());
     Ok(())
 }
 
@@ -98,7 +106,7 @@ fn all_is_written_before_more_is_waited_for(rt: HostRuntime) -> Result<(), Fail>
     let day = day(rt.alloc())?;
     let few = first_lines(&day.tape, 5_000);
     let (mut lines, mut told) = (few, Vec::new(rt.alloc()));
-    replay(rt.alloc(), &setup, &mut lines, &mut told)?;
+    replay(rt.alloc(), &setup, &mut lines, &mut told).expect(&rt, "a day");
     let written = AtomicU64::new(0);
     let mut reader = Input {
         behind: Behind::Waits {
@@ -109,9 +117,11 @@ fn all_is_written_before_more_is_waited_for(rt: HostRuntime) -> Result<(), Fail>
         ..Input::new(few)
     };
     let mut output = Output::new(rt.alloc(), &written);
-    let counts = replay_ahead(&rt, rt.alloc(), &setup, &mut reader, &mut output)?;
-    assert_eq!(rt; counts.events, 20_000);
-    assert!(rt; output.taken.as_slice() == day.output.as_slice());
+    let counts = replay_ahead(&rt, rt.alloc(), &setup, &mut reader, &mut output).expect(
+        &rt, "a day",
+    );
+    equal(&rt, counts.events, 20_000);
+    holds(&rt, output.taken.as_slice() == day.output.as_slice());
     Ok(())
 }
 
@@ -125,21 +135,21 @@ fn expect_stop<R: AllocGlobal + Abort + Threads>(
 ) -> Result<(), Fail> {
     let setup = setup_of(rt.alloc(), SETUP)?;
     let day = day(rt.alloc())?;
-    let long = seven_times_and_whole(rt.alloc(), &day)?;
+    let long = seven_times_and_whole(rt, rt.alloc(), &day);
     let mut front = first_lines(&long, lines);
-    let mut tape = Vec::from_slice(rt.alloc(), front)?;
-    tape.extend_from_slice(bad)?;
-    tape.extend_from_slice(&long)?;
+    let mut tape = Vec::new(rt.alloc());
+    put(rt, &mut tape, front);
+    put(rt, &mut tape, bad);
+    put(rt, &mut tape, &long);
     let (mut told, mut output) = (Vec::new(rt.alloc()), Vec::new(rt.alloc()));
-    replay(rt.alloc(), &setup, &mut front, &mut told)?;
+    replay(rt.alloc(), &setup, &mut front, &mut told).expect(rt, "a day");
     match replay_ahead(rt, rt.alloc(), &setup, &mut tape.as_slice(), &mut output) {
-        Err(TapeError::Line { line, kind }) => assert_eq!(rt;
-            (line, kind),
-            (lines.saturating_add(1), want)
-        ),
+        Err(TapeError::Line { line, kind }) => {
+            equal(rt, (line, kind), (lines.saturating_add(1), want));
+        }
         _ => panic!(rt; "the line behind those is at fault"),
     }
-    assert!(rt; output.as_slice() == told.as_slice());
+    holds(rt, output.as_slice() == told.as_slice());
     Ok(())
 }
 
@@ -178,30 +188,30 @@ fn a_write_that_fails(rt: HostRuntime) -> Result<(), Fail> {
     };
     let mut reader = day.tape.as_slice();
     let ended = replay_ahead(&rt, rt.alloc(), &setup, &mut reader, &mut output);
-    assert!(rt; matches!(ended, Err(TapeError::Write)));
-    assert!(rt; output.taken.len() >= 3 * 65_536);
-    assert!(rt; day.output.starts_with(&output.taken));
+    holds(&rt, matches!(ended, Err(TapeError::Write)));
+    holds(&rt, output.taken.len() >= 3 * 65_536);
+    holds(&rt, day.output.starts_with(&output.taken));
     Ok(())
 }
 
 // A tape behind 20,000 ticks, which tell nothing of an empty book: it is long enough to be played in turns.
-fn behind_ticks(alloc: Global, tape: &[u8]) -> Result<Vec<u8>, Fail> {
+fn behind_ticks<R: Abort>(rt: &R, alloc: Global, tape: &[u8]) -> Vec<u8> {
     let mut text = Vec::new(alloc);
     for _ in 0..20_000 {
-        text.extend_from_slice(b"1 0 4b\n")?;
+        put(rt, &mut text, b"1 0 4b\n");
     }
-    text.extend_from_slice(tape)?;
-    Ok(text)
+    put(rt, &mut text, tape);
+    text
 }
 
 // A worked day behind these ticks tells what it tells by itself.
 fn expect_in_turns<R: AllocGlobal + Abort + Threads>(rt: &R, words: &str) -> Result<(), Fail> {
     let day = Day::of(rt.alloc(), words)?;
-    let tape = behind_ticks(rt.alloc(), &day.tape)?;
-    let setup = standard(rt.alloc())?;
+    let tape = behind_ticks(rt, rt.alloc(), &day.tape);
+    let setup = standard(rt.alloc()).expect(rt, "a setup");
     let mut output = Vec::new(rt.alloc());
-    replay_ahead(rt, rt.alloc(), &setup, &mut tape.as_slice(), &mut output)?;
-    assert!(rt; output.as_slice() == day.output.as_slice());
+    replay_ahead(rt, rt.alloc(), &setup, &mut tape.as_slice(), &mut output).expect(rt, "a day");
+    holds(rt, output.as_slice() == day.output.as_slice());
     Ok(())
 }
 

@@ -1,6 +1,7 @@
 //! The chains of the day's members.
 
 use super::day::{SETUP, day};
+use super::equal;
 use hx_audit::{Chain, chains};
 use hx_market::Event;
 use hx_members::{ChainFacts, Setup};
@@ -12,16 +13,17 @@ use std::process::Abort;
 use std::test::Fail;
 
 // The first chains of a member. Behind them are those of his 1,000 orders that rest.
-fn first_chains(
+fn first_chains<R: Abort>(
+    rt: &R,
     alloc: Global,
     setup: &Setup,
     events: &[Event],
     number: u16,
-) -> Result<Vec<Chain>, Fail> {
-    let member = MemberNo::of(number).ok_or("no number of a member")?;
-    let mut all = chains(alloc, setup, events, member)?;
+) -> Vec<Chain> {
+    let member = MemberNo::of(number).expect(rt, "a number of a member");
+    let mut all = chains(alloc, setup, events, member).expect(rt, "chains");
     all.truncate(all.len().saturating_sub(1_000));
-    Ok(all)
+    all
 }
 
 // There are this many chains, of this many tokens each, and each has done this.
@@ -32,10 +34,10 @@ fn expect_chains<R: Abort>(
     tokens: usize,
     facts: ChainFacts,
 ) {
-    assert_eq!(rt; chains.len(), count);
+    equal(rt, chains.len(), count);
     for chain in chains {
-        assert_eq!(rt; chain.tokens.as_slice().len(), tokens);
-        assert_eq!(rt; chain.facts, facts);
+        equal(rt, chain.tokens.as_slice().len(), tokens);
+        equal(rt, chain.facts, facts);
     }
 }
 
@@ -44,17 +46,17 @@ fn chains_of_the_day(rt: HostRuntime) -> Result<(), Fail> {
     let alloc = rt.alloc();
     let setup = setup_of(alloc, SETUP)?;
     let events = events_of(alloc, &day(alloc)?.tape)?;
-    let replaced = first_chains(alloc, &setup, &events, 3)?;
+    let replaced = first_chains(&rt, alloc, &setup, &events, 3);
     let quiet = ChainFacts {
         executed: 0,
         displayed: false,
         traded: false,
     };
     expect_chains(&rt, &replaced, 40, 51, quiet);
-    let last = replaced.last().ok_or("no chain")?.tokens.as_slice();
-    assert_eq!(rt; last.first(), Some(&Token(*b"H40-0         ")));
-    assert_eq!(rt; last.last(), Some(&Token(*b"H40-50        ")));
-    let executed = first_chains(alloc, &setup, &events, 2)?;
+    let last = replaced.last().expect(&rt, "a chain").tokens.as_slice();
+    equal(&rt, last.first(), Some(&Token(*b"H40-0         ")));
+    equal(&rt, last.last(), Some(&Token(*b"H40-50        ")));
+    let executed = first_chains(&rt, alloc, &setup, &events, 2);
     let traded = ChainFacts {
         executed: 150,
         displayed: false,

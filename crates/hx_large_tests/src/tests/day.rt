@@ -6,7 +6,7 @@
 
 use super::script::Script;
 use hx_testing::Day;
-use std::alloc::Global;
+use std::alloc::{AllocError, Global};
 use std::test::Fail;
 
 /// The text of its setup.
@@ -47,15 +47,15 @@ const RESTING: u64 = 5_000;
 /// The day.
 pub fn day(alloc: Global) -> Result<Day, Fail> {
     let mut script = Script::new(alloc, 6)?;
-    sweep_all(&mut script)?;
-    hide_chains(&mut script)?;
-    reject_orders(&mut script)?;
-    display_chains(&mut script)?;
+    sweep_all(&mut script);
+    hide_chains(&mut script);
+    reject_orders(&mut script);
+    display_chains(&mut script);
     send_long_messages(alloc, &mut script)?;
-    cancel_in_vain(&mut script)?;
+    cancel_in_vain(&mut script);
     let before = script.references;
-    rest(&mut script)?;
-    end(&mut script, before)?;
+    rest(&mut script);
+    end(&mut script, before);
     script.day()
 }
 
@@ -69,27 +69,26 @@ pub const QUIET_OF_THIRD: u64 = HIDDEN_CHAINS * (REPLACES + 2);
 /// How many lines the quiet chains of all have: behind those stand the rejected orders of the sixth member.
 pub const QUIET_OF_ALL: u64 = QUIET_OF_THIRD + REJECTED;
 
-fn sweep_all(script: &mut Script) -> Result<(), Fail> {
+fn sweep_all(script: &mut Script) {
     for round in 1..=SWEEPS {
-        sweep(script, round)?;
+        sweep(script, round);
     }
-    Ok(())
 }
 
 // The first member offers single shares, displayed in every second round, and the second member buys them all at once.
-fn sweep(script: &mut Script, round: u64) -> Result<(), Fail> {
+fn sweep(script: &mut Script, round: u64) {
     let stock = 1 + round % 3;
     let before = script.references;
     for number in 0..EXECUTIONS {
-        offer(script, round, number)?;
+        offer(script, round, number);
     }
     script.send(
         2,
         format_args!("enter B{round} buy {EXECUTIONS} S{stock} 11.0400 now hidden"),
-    )?;
-    execute(script, round, before)?;
-    script.reply(2, format_args!("accepted 2.{round}"))?;
-    tell(script, round)
+    );
+    execute(script, round, before);
+    script.reply(2, format_args!("accepted 2.{round}"));
+    tell(script, round);
 }
 
 // The price of an offer in cents above 11 dollars: 30 stand at each, the later ones at the higher one.
@@ -97,43 +96,43 @@ fn cents(number: u64) -> u64 {
     number / 30
 }
 
-fn offer(script: &mut Script, round: u64, number: u64) -> Result<(), Fail> {
+fn offer(script: &mut Script, round: u64, number: u64) {
     let (stock, cents) = (1 + round % 3, cents(number));
     if round % 2 == 0 {
-        let private = script.private(1)?;
+        let private = script.private(1);
         script.send(
             1,
             format_args!("enter A{round}-{number} sell 1 S{stock} 11.0{cents}00 day hidden"),
-        )?;
-        return script.reply(1, format_args!("accepted 1.{private}"));
+        );
+        script.reply(1, format_args!("accepted 1.{private}"));
+        return;
     }
     let reference = script.reference();
     script.send(
         1,
         format_args!("enter A{round}-{number} sell 1 S{stock} 11.0{cents}00 day shown"),
-    )?;
-    script.publish(format_args!("add {reference} sell 1 S{stock} 11.0{cents}00"))?;
-    script.reply(1, format_args!("accepted {reference}"))
+    );
+    script.publish(format_args!("add {reference} sell 1 S{stock} 11.0{cents}00"));
+    script.reply(1, format_args!("accepted {reference}"));
 }
 
 // The executions of a round in the feed. Its offers, where they are displayed, drew the references behind this one.
-fn execute(script: &mut Script, round: u64, before: u64) -> Result<(), Fail> {
+fn execute(script: &mut Script, round: u64, before: u64) {
     let stock = 1 + round % 3;
     for number in 0..EXECUTIONS {
         let matched = script.matches.saturating_add(number + 1);
         if round % 2 == 0 {
             let cents = cents(number);
-            script.publish(format_args!("trade 1 S{stock} 11.0{cents}00 match {matched}"))?;
+            script.publish(format_args!("trade 1 S{stock} 11.0{cents}00 match {matched}"));
         } else {
             let reference = before.saturating_add(number + 1);
-            script.publish(format_args!("executed {reference} 1 match {matched} S{stock}"))?;
+            script.publish(format_args!("executed {reference} 1 match {matched} S{stock}"));
         }
     }
-    Ok(())
 }
 
 // The executions of a round in the replies to both.
-fn tell(script: &mut Script, round: u64) -> Result<(), Fail> {
+fn tell(script: &mut Script, round: u64) {
     let flag = if round % 2 == 0 { "hidden" } else { "added" };
     for number in 0..EXECUTIONS {
         let cents = cents(number);
@@ -142,59 +141,56 @@ fn tell(script: &mut Script, round: u64) -> Result<(), Fail> {
         script.reply(
             1,
             format_args!("executed A{round}-{number} 1 11.0{cents}00 {flag} match {matched}"),
-        )?;
+        );
         script.reply(
             2,
             format_args!("executed B{round} 1 11.0{cents}00 removed match {matched}"),
-        )?;
+        );
     }
-    Ok(())
 }
 
-fn hide_chains(script: &mut Script) -> Result<(), Fail> {
+fn hide_chains(script: &mut Script) {
     for chain in 1..=HIDDEN_CHAINS {
-        hide_chain(script, chain)?;
+        hide_chain(script, chain);
     }
-    Ok(())
 }
 
 // A hidden order of the third member, its replaces, and its cancel.
-fn hide_chain(script: &mut Script, chain: u64) -> Result<(), Fail> {
-    let private = script.private(3)?;
+fn hide_chain(script: &mut Script, chain: u64) {
+    let private = script.private(3);
     script.send(
         3,
         format_args!("enter H{chain}-0 sell 100 S3 12.0000 day hidden"),
-    )?;
-    script.reply(3, format_args!("accepted 3.{private}"))?;
+    );
+    script.reply(3, format_args!("accepted 3.{private}"));
     for old in 0..REPLACES {
         let new = old + 1;
-        let private = script.private(3)?;
+        let private = script.private(3);
         script.send(
             3,
             format_args!("replace H{chain}-{old} H{chain}-{new} 100 12.0000 day hidden"),
-        )?;
-        script.reply(3, format_args!("replaced sell 100 3.{private} stock S3"))?;
+        );
+        script.reply(3, format_args!("replaced sell 100 3.{private} stock S3"));
     }
-    script.send(3, format_args!("cancel H{chain}-{REPLACES} 0"))?;
-    script.reply(3, format_args!("canceled H{chain}-{REPLACES} 100 user"))
+    script.send(3, format_args!("cancel H{chain}-{REPLACES} 0"));
+    script.reply(3, format_args!("canceled H{chain}-{REPLACES} 100 user"));
 }
 
-fn display_chains(script: &mut Script) -> Result<(), Fail> {
+fn display_chains(script: &mut Script) {
     for chain in 1..=DISPLAYED_CHAINS {
-        display_chain(script, chain)?;
+        display_chain(script, chain);
     }
-    Ok(())
 }
 
 // A displayed order of the fourth member, its replaces, and its cancel.
-fn display_chain(script: &mut Script, chain: u64) -> Result<(), Fail> {
+fn display_chain(script: &mut Script, chain: u64) {
     let mut reference = script.reference();
     script.send(
         4,
         format_args!("enter D{chain}-0 sell 100 S2 12.0000 day shown"),
-    )?;
-    script.publish(format_args!("add {reference} sell 100 S2 12.0000"))?;
-    script.reply(4, format_args!("accepted {reference}"))?;
+    );
+    script.publish(format_args!("add {reference} sell 100 S2 12.0000"));
+    script.reply(4, format_args!("accepted {reference}"));
     for old in 0..REPLACES {
         let new = old + 1;
         let earlier = reference;
@@ -202,42 +198,40 @@ fn display_chain(script: &mut Script, chain: u64) -> Result<(), Fail> {
         script.send(
             4,
             format_args!("replace D{chain}-{old} D{chain}-{new} 100 12.0000 day shown"),
-        )?;
-        script.publish(format_args!("replace {earlier} {reference} 100 12.0000 S2"))?;
-        script.reply(4, format_args!("replaced sell 100 {reference} stock S2"))?;
+        );
+        script.publish(format_args!("replace {earlier} {reference} 100 12.0000 S2"));
+        script.reply(4, format_args!("replaced sell 100 {reference} stock S2"));
     }
-    script.send(4, format_args!("cancel D{chain}-{REPLACES} 0"))?;
-    script.publish(format_args!("delete {reference} S2"))?;
-    script.reply(4, format_args!("canceled D{chain}-{REPLACES} 100 user"))
+    script.send(4, format_args!("cancel D{chain}-{REPLACES} 0"));
+    script.publish(format_args!("delete {reference} S2"));
+    script.reply(4, format_args!("canceled D{chain}-{REPLACES} 100 user"));
 }
 
 // Messages of the fifth member of as many bytes as may be. An Enter has 49 of them, so these are none, and tell nothing.
-fn send_long_messages(alloc: Global, script: &mut Script) -> Result<(), Fail> {
+fn send_long_messages(alloc: Global, script: &mut Script) -> Result<(), AllocError> {
     let digits = hex::encode(alloc, &[b'O'; 1_023])?;
     for _ in 0..LONG_MESSAGES {
-        script.send(5, format_args!("bytes {digits}"))?;
+        script.send(5, format_args!("bytes {digits}"));
     }
     Ok(())
 }
 
 // Orders of the sixth member for no share.
-fn reject_orders(script: &mut Script) -> Result<(), Fail> {
+fn reject_orders(script: &mut Script) {
     for number in 1..=REJECTED {
         script.send(
             6,
             format_args!("enter Z{number} buy 0 S1 10.0000 day shown"),
-        )?;
-        script.reply(6, "rejected Z")?;
+        );
+        script.reply(6, "rejected Z");
     }
-    Ok(())
 }
 
 // Cancels of the fifth member, who uses no such token.
-fn cancel_in_vain(script: &mut Script) -> Result<(), Fail> {
+fn cancel_in_vain(script: &mut Script) {
     for number in 1..=VAIN_CANCELS {
-        script.send(5, format_args!("cancel N{number} 0"))?;
+        script.send(5, format_args!("cancel N{number} 0"));
     }
-    Ok(())
 }
 
 // Whose an order that rests is, members 1 to 5 in turn, and of which stock.
@@ -246,7 +240,7 @@ fn owner(number: u64) -> (usize, u64) {
 }
 
 // The orders that rest, of one share each, at 50 prices.
-fn rest(script: &mut Script) -> Result<(), Fail> {
+fn rest(script: &mut Script) {
     for number in 1..=RESTING {
         let (member, stock) = owner(number);
         let cents = 10 + number % 50;
@@ -254,38 +248,35 @@ fn rest(script: &mut Script) -> Result<(), Fail> {
         script.send(
             member,
             format_args!("enter R{number} buy 1 S{stock} 10.{cents}00 day shown"),
-        )?;
-        script.publish(format_args!("add {reference} buy 1 S{stock} 10.{cents}00"))?;
-        script.reply(member, format_args!("accepted {reference}"))?;
+        );
+        script.publish(format_args!("add {reference} buy 1 S{stock} 10.{cents}00"));
+        script.reply(member, format_args!("accepted {reference}"));
     }
-    Ok(())
 }
 
 // The codes of the hours.
-fn end(script: &mut Script, before: u64) -> Result<(), Fail> {
+fn end(script: &mut Script, before: u64) {
     for code in ["Q", "M", "E"] {
-        script.send(0, format_args!("hours {code}"))?;
-        script.publish(format_args!("system {code}"))?;
+        script.send(0, format_args!("hours {code}"));
+        script.publish(format_args!("system {code}"));
     }
-    cancel_all(script, before)?;
-    script.send(0, "hours C")?;
-    script.publish("system C")?;
-    Ok(())
+    cancel_all(script, before);
+    script.send(0, "hours C");
+    script.publish("system C");
 }
 
 // By code E each order that rests is canceled. They drew the references behind this one.
-fn cancel_all(script: &mut Script, before: u64) -> Result<(), Fail> {
+fn cancel_all(script: &mut Script, before: u64) {
     for number in 1..=RESTING {
         let (_, stock) = owner(number);
         let reference = before.saturating_add(number);
-        script.publish(format_args!("delete {reference} S{stock}"))?;
+        script.publish(format_args!("delete {reference} S{stock}"));
     }
     for member in 1..=6 {
-        script.reply(member, "system E")?;
+        script.reply(member, "system E");
     }
     for number in 1..=RESTING {
         let (member, _) = owner(number);
-        script.reply(member, format_args!("canceled R{number} 1 timeout"))?;
+        script.reply(member, format_args!("canceled R{number} 1 timeout"));
     }
-    Ok(())
 }

@@ -3,6 +3,7 @@ ghost use Rattle.std.specs.Prelude.{◌≡◌};
 
 use super::day::{SETUP, day};
 use super::packets::SESSION;
+use super::{equal, holds};
 use hx_blog::{Log, Reader};
 use hx_desk::{Desk, DeskError, Done, Entry};
 use hx_market::Event;
@@ -36,9 +37,9 @@ fn submit_all<R: Abort>(rt: &R, desk: &mut Desk, log: &Log<Entry>, events: &[Eve
     ensures { desk.new.log ≡ desk.old.log }
 {
     for event in events {
-        assert!(rt; record(desk, log, event).is_ok());
+        holds(rt, record(desk, log, event).is_ok());
     }
-    assert_eq!(rt; desk.history_len(), events.len() as u64);
+    equal(rt, desk.history_len(), events.len() as u64);
 }
 
 /// Lines of messages, which count from 1, behind a beginning that all have.
@@ -61,17 +62,18 @@ impl<'a> Lines<'a> {
     }
 
     // The next message.
-    fn add(&mut self, message: &[u8]) -> Result<(), Fail> {
+    fn add<R: Abort>(&mut self, rt: &R, message: &[u8]) {
         self.count = self.count.saturating_add(1);
         let (beginning, number) = (self.beginning, self.count);
-        let digits = hex::encode(self.alloc, message)?;
-        let line = format!(in self.alloc; "{beginning}{number} {digits}\n")?;
-        self.text.extend_from_slice(line.as_bytes())?;
-        Ok(())
+        let digits = hex::encode(self.alloc, message).expect(rt, "digits");
+        let line = format!(in self.alloc; "{beginning}{number} {digits}\n").expect(rt, "a line");
+        self.text
+            .extend_from_slice(line.as_bytes())
+            .expect(rt, "a text");
     }
 
     // The messages of a packet, whose number is that of the next message.
-    fn add_packet(&mut self, packet: &[u8]) -> Result<(), Fail> {
+    fn add_packet<R: Abort>(&mut self, rt: &R, packet: &[u8]) {
         let Some(
             MoldPacket::Blocks {
                 session,
@@ -80,15 +82,13 @@ impl<'a> Lines<'a> {
             },
         ) = decode_packet(packet)
         else {
-            return Err("messages".into());
+            panic!(rt; "messages");
         };
-        if session != SESSION || sequence != self.count.saturating_add(1) {
-            return Err("another session, or another number".into());
-        }
+        equal(rt, session, SESSION);
+        equal(rt, sequence, self.count.saturating_add(1));
         for message in messages {
-            self.add(message)?;
+            self.add(rt, message);
         }
-        Ok(())
     }
 }
 
@@ -98,7 +98,7 @@ fn expect_feed<R: AllocGlobal + Abort>(
     log: &Log<Entry>,
     reader: Reader<Entry>,
     day: &Day,
-) -> Result<u64, Fail>
+) -> u64
     requires { reader.log ≡ log.now }
 {
     let mut publisher = Publisher::new(SESSION, LogMessages::new(log, reader), 0);
@@ -109,53 +109,49 @@ fn expect_feed<R: AllocGlobal + Abort>(
             packets = turn;
             break;
         };
-        feed.add_packet(packet.as_slice())?;
+        feed.add_packet(rt, packet.as_slice());
     }
-    let told = lines_that(rt.alloc(), &day.output, b"F ", true)?;
-    assert!(rt; feed.text.as_slice() == told.as_slice());
-    Ok(packets)
+    let told = lines_that(rt.alloc(), &day.output, b"F ", true).expect(rt, "the feed's lines");
+    holds(rt, feed.text.as_slice() == told.as_slice());
+    packets
 }
 
 // The replies to a member are what the day tells him.
-fn expect_replies<R: AllocGlobal + Abort>(
-    rt: &R,
-    desk: &Desk,
-    number: u16,
-    day: &Day,
-) -> Result<(), Fail> {
-    let member = MemberNo::of(number).ok_or("a member")?;
-    let beginning = format!(in rt.alloc(); "M {number} ")?;
+fn expect_replies<R: AllocGlobal + Abort>(rt: &R, desk: &Desk, number: u16, day: &Day) {
+    let member = MemberNo::of(number).expect(rt, "a member");
+    let beginning = format!(in rt.alloc(); "M {number} ").expect(rt, "a beginning");
     let mut replies = Lines::new(rt.alloc(), &beginning);
-    for reply in &desk.replies_from(member, 1)? {
-        replies.add(reply.as_slice())?;
+    for reply in &desk.replies_from(member, 1).expect(rt, "replies") {
+        replies.add(rt, reply.as_slice());
     }
-    let told = lines_that(rt.alloc(), &day.output, beginning.as_bytes(), true)?;
-    assert!(rt; replies.text.as_slice() == told.as_slice());
-    Ok(())
+    let told = lines_that(rt.alloc(), &day.output, beginning.as_bytes(), true);
+    let told = told.expect(rt, "the member's lines");
+    holds(rt, replies.text.as_slice() == told.as_slice());
 }
 
 // A page in the midst of the first member's replies is the same part of all of them.
-fn expect_page<R: AllocGlobal + Abort>(rt: &R, desk: &Desk) -> Result<(), Fail> {
-    let member = MemberNo::of(1).ok_or("a member")?;
-    let all = desk.replies_from(member, 1)?;
+fn expect_page<R: AllocGlobal + Abort>(rt: &R, desk: &Desk) {
+    let member = MemberNo::of(1).expect(rt, "a member");
+    let all = desk.replies_from(member, 1).expect(rt, "replies");
     // 20 times 150 offers accepted and executed, 1,000 orders accepted and canceled, and code E.
-    assert_eq!(rt; all.len(), 20 * 300 + 2 * 1_000 + 1);
-    let page = desk.replies_page(member, 4_001, 1_000)?;
-    assert_eq!(rt; page.len(), 1_000);
-    assert!(rt; all.get(4_000..5_000) == Some(page.as_slice()));
-    Ok(())
+    equal(rt, all.len(), 20 * 300 + 2 * 1_000 + 1);
+    let page = desk.replies_page(member, 4_001, 1_000).expect(rt, "a page");
+    equal(rt, page.len(), 1_000);
+    holds(rt, all.get(4_000..5_000) == Some(page.as_slice()));
 }
 
 #[test]
 fn the_day_by_a_desk(rt: HostRuntime) -> Result<(), Fail> {
     let alloc = rt.alloc();
     let day = day(alloc)?;
-    let (log, writer, reader) = Log::<Entry>::new(alloc, 25_000)?;
-    let mut desk = Desk::new(alloc, setup_of(alloc, SETUP)?, writer)?;
-    submit_all(&rt, &mut desk, &log, &events_of(alloc, &day.tape)?);
-    assert!(rt; expect_feed(&rt, &log, reader, &day)? > 70);
+    let (setup, events) = (setup_of(alloc, SETUP)?, events_of(alloc, &day.tape)?);
+    let (log, writer, reader) = Log::<Entry>::new(alloc, 25_000).expect(&rt, "a log");
+    let mut desk = Desk::new(alloc, setup, writer).expect(&rt, "a desk");
+    submit_all(&rt, &mut desk, &log, &events);
+    holds(&rt, expect_feed(&rt, &log, reader, &day) > 70);
     for number in 1..=6 {
-        expect_replies(&rt, &desk, number, &day)?;
+        expect_replies(&rt, &desk, number, &day);
     }
-    expect_page(&rt, &desk)
+    expect_page(&rt, &desk);
+    Ok(())
 }

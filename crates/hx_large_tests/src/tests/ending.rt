@@ -1,6 +1,7 @@
 //! Ticks over many live orders.
 
 use super::day::SETUP;
+use super::equal;
 use super::replaying::{expect_day, expect_day_on_list};
 use super::script::Script;
 use hx_expiries::Expiries;
@@ -26,68 +27,64 @@ fn is_canceled(number: u64) -> bool {
 }
 
 // The first order lives for 4,000 seconds, the last one for one.
-fn enter_all(script: &mut Script) -> Result<(), Fail> {
+fn enter_all(script: &mut Script) {
     for number in 1..=ORDERS {
         let seconds = ORDERS + 1 - number;
         let reference = script.reference();
         script.send(
             owner(number),
             format_args!("enter T{number} buy 1 S1 10.0000 {seconds} shown"),
-        )?;
-        script.publish(format_args!("add {reference} buy 1 S1 10.0000"))?;
-        script.reply(owner(number), format_args!("accepted {reference}"))?;
+        );
+        script.publish(format_args!("add {reference} buy 1 S1 10.0000"));
+        script.reply(owner(number), format_args!("accepted {reference}"));
     }
-    Ok(())
 }
 
 // The feed: the order is gone. Its reference is its number.
-fn delete(script: &mut Script, number: u64) -> Result<(), Fail> {
-    script.publish(format_args!("delete {number} S1"))?;
-    Ok(())
+fn delete(script: &mut Script, number: u64) {
+    script.publish(format_args!("delete {number} S1"));
 }
 
-fn tell(script: &mut Script, number: u64, why: &str) -> Result<(), Fail> {
-    script.reply(owner(number), format_args!("canceled T{number} 1 {why}"))
+fn tell(script: &mut Script, number: u64, why: &str) {
+    script.reply(owner(number), format_args!("canceled T{number} 1 {why}"));
 }
 
-fn cancel_fifths(script: &mut Script) -> Result<(), Fail> {
+fn cancel_fifths(script: &mut Script) {
     for number in 1..=ORDERS {
         if is_canceled(number) {
-            script.send(owner(number), format_args!("cancel T{number} 0"))?;
-            delete(script, number)?;
-            tell(script, number, "user")?;
+            script.send(owner(number), format_args!("cancel T{number} 0"));
+            delete(script, number);
+            tell(script, number, "user");
         }
     }
-    Ok(())
 }
 
 // At a tick these orders end, but for those that are canceled.
-fn tick(script: &mut Script, first: u64, last: u64) -> Result<(), Fail> {
-    script.send(0, "tick")?;
+fn tick(script: &mut Script, first: u64, last: u64) {
+    script.send(0, "tick");
     for number in first..=last {
         if !is_canceled(number) {
-            delete(script, number)?;
+            delete(script, number);
         }
     }
     for number in first..=last {
         if !is_canceled(number) {
-            tell(script, number, "timeout")?;
+            tell(script, number, "timeout");
         }
     }
-    Ok(())
 }
 
 // After 1,000 seconds the last 1,000 orders end, and after 2,000 the 1,000 before; at ticks between nothing does.
 fn day(alloc: Global) -> Result<Day, Fail> {
     let mut script = Script::new(alloc, 6)?;
-    enter_all(&mut script)?;
-    cancel_fifths(&mut script)?;
+    enter_all(&mut script);
+    cancel_fifths(&mut script);
     script.pass(1_000 * SECOND);
-    tick(&mut script, 3_001, 4_000)?;
-    script.send(0, "tick")?;
+    tick(&mut script, 3_001, 4_000);
+    script.send(0, "tick");
     script.pass(1_000 * SECOND);
-    tick(&mut script, 2_001, 3_000)?;
-    script.send(0, "tick")?;
+    tick(&mut script, 2_001, 3_000);
+    script.send(0, "tick");
     script.day()
 }
 
@@ -102,56 +99,51 @@ const WANT: Counts = Counts {
 fn some_of_many_orders_end(rt: HostRuntime) -> Result<(), Fail> {
     let setup = setup_of(rt.alloc(), SETUP)?;
     let day = day(rt.alloc())?;
-    assert_eq!(rt; expect_day(&rt, &setup, &day)?, WANT);
-    assert_eq!(rt; expect_day_on_list(&rt, &setup, &day)?, WANT);
+    equal(&rt, expect_day(&rt, &setup, &day), WANT);
+    equal(&rt, expect_day_on_list(&rt, &setup, &day), WANT);
     Ok(())
 }
 
 // This many places, of which the later ones end sooner: place 0 at 10,000, the last one at 1.
-fn enter_places(alloc: Global) -> Result<Expiries, Fail> {
+fn enter_places<R: Abort>(rt: &R, alloc: Global) -> Expiries {
     let mut ends = Expiries::new(alloc);
     for place in 0..10_000 {
-        ends.enter(10_000 - place, place)?;
+        ends.enter(10_000 - place, place).expect(rt, "a place");
     }
-    Ok(ends)
+    ends
 }
 
 // The places that are entered until a time.
-fn expect_places<R: AllocGlobal + Abort>(
-    rt: &R,
-    ends: &Expiries,
-    time: u64,
-    want: &[u64],
-) -> Result<(), Fail> {
-    let places = ends.places_until(rt.alloc(), time)?;
-    assert_eq!(rt; places.as_slice(), want);
-    Ok(())
+fn expect_places<R: AllocGlobal + Abort>(rt: &R, ends: &Expiries, time: u64, want: &[u64]) {
+    let places = ends.places_until(rt.alloc(), time).expect(rt, "places");
+    equal(rt, places.as_slice(), want);
 }
 
 #[test]
-fn places_come_in_their_order(rt: HostRuntime) -> Result<(), Fail> {
-    let mut ends = enter_places(rt.alloc())?;
-    expect_places(&rt, &ends, 0, &[])?;
-    expect_places(&rt, &ends, 3, &[9_997, 9_998, 9_999])?;
+fn places_come_in_their_order(rt: HostRuntime) {
+    let mut ends = enter_places(&rt, rt.alloc());
+    expect_places(&rt, &ends, 0, &[]);
+    expect_places(&rt, &ends, 3, &[9_997, 9_998, 9_999]);
     ends.leave(2, 9_998);
-    expect_places(&rt, &ends, 3, &[9_997, 9_999])?;
+    expect_places(&rt, &ends, 3, &[9_997, 9_999]);
     ends.leave(2, 9_997);
-    expect_places(&rt, &ends, 3, &[9_997, 9_999])?;
+    expect_places(&rt, &ends, 3, &[9_997, 9_999]);
     ends.leave_until(3);
-    expect_places(&rt, &ends, 4, &[9_996])?;
-    assert_eq!(rt; ends.places_until(rt.alloc(), u64::MAX)?.len(), 9_997);
-    Ok(())
+    expect_places(&rt, &ends, 4, &[9_996]);
+    let all = ends
+        .places_until(rt.alloc(), u64::MAX)
+        .expect(&rt, "places");
+    equal(&rt, all.len(), 9_997);
 }
 
 #[test]
-fn a_place_that_is_entered_twice_comes_once(rt: HostRuntime) -> Result<(), Fail> {
+fn a_place_that_is_entered_twice_comes_once(rt: HostRuntime) {
     let mut ends = Expiries::new(rt.alloc());
     for expiry in [5, 3, 4] {
-        ends.enter(expiry, 7)?;
-        ends.enter(expiry, 2)?;
+        ends.enter(expiry, 7).expect(&rt, "a place");
+        ends.enter(expiry, 2).expect(&rt, "a place");
     }
-    expect_places(&rt, &ends, 4, &[2, 7])?;
+    expect_places(&rt, &ends, 4, &[2, 7]);
     ends.leave_until(4);
-    expect_places(&rt, &ends, 5, &[2, 7])?;
-    Ok(())
+    expect_places(&rt, &ends, 5, &[2, 7]);
 }

@@ -1,6 +1,7 @@
 //! Large days, replayed over both books.
 
 use super::day::{SETUP, day};
+use super::{equal, holds};
 use hx_levels::ListBook;
 use hx_members::Setup;
 use hx_replay::{Counts, replay, replay_on};
@@ -10,30 +11,22 @@ use std::process::Abort;
 use std::test::Fail;
 
 /// A replay of the day over price levels writes what the day tells, to the byte. What it counts.
-pub fn expect_day<R: AllocGlobal + Abort>(
-    rt: &R,
-    setup: &Setup,
-    day: &Day,
-) -> Result<Counts, Fail> {
+pub fn expect_day<R: AllocGlobal + Abort>(rt: &R, setup: &Setup, day: &Day) -> Counts {
     let mut output = Vec::new(rt.alloc());
     let mut reader = day.tape.as_slice();
-    let counts = replay(rt.alloc(), setup, &mut reader, &mut output)?;
-    assert!(rt; output.as_slice() == day.output.as_slice());
-    Ok(counts)
+    let counts = replay(rt.alloc(), setup, &mut reader, &mut output).expect(rt, "a day");
+    holds(rt, output.as_slice() == day.output.as_slice());
+    counts
 }
 
 /// The same over a plain list of orders.
-pub fn expect_day_on_list<R: AllocGlobal + Abort>(
-    rt: &R,
-    setup: &Setup,
-    day: &Day,
-) -> Result<Counts, Fail> {
+pub fn expect_day_on_list<R: AllocGlobal + Abort>(rt: &R, setup: &Setup, day: &Day) -> Counts {
     let mut output = Vec::new(rt.alloc());
     let mut reader = day.tape.as_slice();
     let book = ListBook::new(rt.alloc());
-    let counts = replay_on(rt.alloc(), setup, book, &mut reader, &mut output)?;
-    assert!(rt; output.as_slice() == day.output.as_slice());
-    Ok(counts)
+    let counts = replay_on(rt.alloc(), setup, book, &mut reader, &mut output).expect(rt, "a day");
+    holds(rt, output.as_slice() == day.output.as_slice());
+    counts
 }
 
 // What a replay of the day counts.
@@ -51,7 +44,7 @@ const WANT: Counts = Counts {
 fn the_day_over_price_levels(rt: HostRuntime) -> Result<(), Fail> {
     let setup = setup_of(rt.alloc(), SETUP)?;
     let day = day(rt.alloc())?;
-    assert_eq!(rt; expect_day(&rt, &setup, &day)?, WANT);
+    equal(&rt, expect_day(&rt, &setup, &day), WANT);
     Ok(())
 }
 
@@ -59,6 +52,6 @@ fn the_day_over_price_levels(rt: HostRuntime) -> Result<(), Fail> {
 fn the_day_over_a_list(rt: HostRuntime) -> Result<(), Fail> {
     let setup = setup_of(rt.alloc(), SETUP)?;
     let day = day(rt.alloc())?;
-    assert_eq!(rt; expect_day_on_list(&rt, &setup, &day)?, WANT);
+    equal(&rt, expect_day_on_list(&rt, &setup, &day), WANT);
     Ok(())
 }

@@ -22,13 +22,15 @@ pub struct Script {
     replies: Vec<u64>,
     // Private references of each member, by his number.
     privates: Vec<u64>,
+    // Whether something is missing: a line that found no memory, or a number of a member who is none.
+    lacks: bool,
 }
 
-// Draws the next number of a member.
-fn draw(counts: &mut [u64], member: usize) -> Result<u64, Fail> {
-    let count = counts.get_mut(member).ok_or("no such member")?;
+// Draws the next number of a member; none where there is no such member.
+fn draw(counts: &mut [u64], member: usize) -> Option<u64> {
+    let count = counts.get_mut(member)?;
     *count = count.saturating_add(1);
-    Ok(*count)
+    Some(*count)
 }
 
 impl Script {
@@ -44,14 +46,16 @@ impl Script {
             feed: 0,
             replies: vec![in alloc; 0; counts]?,
             privates: vec![in alloc; 0; counts]?,
+            lacks: false,
         })
     }
 
     /// The next line of the tape, of a member, or of the operator: 0.
-    pub fn send<D: Display + Drop>(&mut self, member: usize, sent: D) -> Result<(), AllocError> {
+    pub fn send<D: Display + Drop>(&mut self, member: usize, sent: D) {
         self.time = self.time.saturating_add(1);
         let time = self.time;
-        writeln!(self.words, "{time} {member} {sent}")
+        let written = writeln!(self.words, "{time} {member} {sent}");
+        self.lacks |= written.is_err();
     }
 
     /// This many nanoseconds pass until the next line.
@@ -60,17 +64,19 @@ impl Script {
     }
 
     /// The next message of the feed.
-    pub fn publish<D: Display + Drop>(&mut self, told: D) -> Result<(), AllocError> {
+    pub fn publish<D: Display + Drop>(&mut self, told: D) {
         self.feed = self.feed.saturating_add(1);
         let number = self.feed;
-        writeln!(self.words, "  F {number} {told}")
+        let written = writeln!(self.words, "  F {number} {told}");
+        self.lacks |= written.is_err();
     }
 
     /// The next reply to a member.
-    pub fn reply<D: Display + Drop>(&mut self, member: usize, told: D) -> Result<(), Fail> {
-        let number = draw(&mut self.replies, member)?;
-        writeln!(self.words, "  M {member} {number} {told}")?;
-        Ok(())
+    pub fn reply<D: Display + Drop>(&mut self, member: usize, told: D) {
+        let number = draw(&mut self.replies, member);
+        let number = self.drawn(number);
+        let written = writeln!(self.words, "  M {member} {number} {told}");
+        self.lacks |= written.is_err();
     }
 
     /// The next public reference.
@@ -80,12 +86,22 @@ impl Script {
     }
 
     /// The number of a member's next private reference.
-    pub fn private(&mut self, member: usize) -> Result<u64, Fail> {
-        draw(&mut self.privates, member)
+    pub fn private(&mut self, member: usize) -> u64 {
+        let number = draw(&mut self.privates, member);
+        self.drawn(number)
     }
 
-    /// The bytes of the day.
+    // A number that was drawn; 0 where there is none, and then it is missing.
+    fn drawn(&mut self, number: Option<u64>) -> u64 {
+        self.lacks |= number.is_none();
+        number.unwrap_or(0)
+    }
+
+    /// The bytes of the day, where nothing is missing.
     pub fn day(&self) -> Result<Day, Fail> {
+        if self.lacks {
+            return Err("a line, or a member".into());
+        }
         Day::of(self.alloc, &self.words)
     }
 }

@@ -1,6 +1,7 @@
 //! Thousands of used tokens of several members, those that count up and others, under either seed: each is found at its
 //! place, and no other.
 
+use super::{equal, holds};
 use hx_members::{Seed, Tokens, name_hint};
 use hx_units::{MemberNo, Token};
 use std::hash::RandomState;
@@ -37,8 +38,8 @@ fn numbered(form: Form, number: u32) -> Token {
     Token(letters)
 }
 
-fn member_of(number: u16) -> Result<MemberNo, Fail> {
-    Ok(MemberNo::of(number).ok_or("no member")?)
+fn member_of<R: Abort>(rt: &R, number: u16) -> MemberNo {
+    MemberNo::of(number).expect(rt, "a member")
 }
 
 // A token enters, with its place as the key of its order.
@@ -61,49 +62,42 @@ fn enter_all(tokens: &mut Tokens, member: MemberNo, form: Form) -> Result<(), Fa
 }
 
 // The tokens of all members, of one member after the other.
-fn fill(tokens: &mut Tokens, form: Form) -> Result<(), Fail> {
+fn fill<R: Abort>(rt: &R, tokens: &mut Tokens, form: Form) -> Result<(), Fail> {
     for number in 1..=MEMBERS {
-        enter_all(tokens, member_of(number)?, form)?;
+        enter_all(tokens, member_of(rt, number), form)?;
     }
     Ok(())
 }
 
 // The tokens of a member stand from a place on, and tokens of other numbers are not used.
-fn expect_tokens<R: Abort>(
-    rt: &R,
-    tokens: &Tokens,
-    form: Form,
-    number: u16,
-    first: u64,
-) -> Result<(), Fail> {
-    let member = member_of(number)?;
+fn expect_tokens<R: Abort>(rt: &R, tokens: &Tokens, form: Form, number: u16, first: u64) {
+    let member = member_of(rt, number);
     for number in 0..COUNT {
         let token = numbered(form, number);
-        let told = tokens.state(member, &token).ok_or("unused")?;
+        let told = tokens.state(member, &token).expect(rt, "a used token");
         let place = first.wrapping_add(u64::from(number));
-        assert_eq!(rt; told.chain, place);
-        assert_eq!(rt; told.key, Some(place as usize));
+        equal(rt, told.chain, place);
+        equal(rt, told.key, Some(place as usize));
         let other = numbered(form, number + COUNT);
-        assert!(rt; tokens.state(member, &other).is_none());
+        holds(rt, tokens.state(member, &other).is_none());
     }
-    Ok(())
 }
 
-fn expect_all<R: Abort>(rt: &R, tokens: &Tokens, form: Form) -> Result<(), Fail> {
+fn expect_all<R: Abort>(rt: &R, tokens: &Tokens, form: Form) {
     for number in 1..=MEMBERS {
         let first = u64::from(number - 1) * u64::from(COUNT);
-        expect_tokens(rt, tokens, form, number, first)?;
+        expect_tokens(rt, tokens, form, number, first);
     }
-    let stranger = member_of(MEMBERS + 1)?;
+    let stranger = member_of(rt, MEMBERS + 1);
     let token = numbered(form, 1);
-    assert!(rt; tokens.state(stranger, &token).is_none());
-    Ok(())
+    holds(rt, tokens.state(stranger, &token).is_none());
 }
 
 // The tokens of all members are used, and found.
 fn expect_filled<R: Abort>(rt: &R, tokens: &mut Tokens, form: Form) -> Result<(), Fail> {
-    fill(tokens, form)?;
-    expect_all(rt, tokens, form)
+    fill(rt, tokens, form)?;
+    expect_all(rt, tokens, form);
+    Ok(())
 }
 
 #[test]
@@ -120,34 +114,34 @@ fn other_tokens_are_found_under_the_fixed_seed(rt: HostRuntime) -> Result<(), Fa
 
 #[test]
 fn other_tokens_are_found_under_a_drawn_seed(rt: HostRuntime) -> Result<(), Fail> {
-    let seed = Seed::Drawn(RandomState::new(&rt)?);
+    let seed = Seed::Drawn(RandomState::new(&rt).expect(&rt, "a seed"));
     let mut tokens = Tokens::seeded(rt.alloc(), seed);
     expect_filled(&rt, &mut tokens, Form::InFront)
 }
 
 // How many tokens of a member lead to their keys without a walk.
-fn count_likely(tokens: &Tokens, member: MemberNo) -> Result<u32, Fail> {
+fn count_likely<R: Abort>(rt: &R, tokens: &Tokens, member: MemberNo) -> u32 {
     let mut found: u32 = 0;
     for number in 0..COUNT {
         let token = numbered(Form::AtTheEnd, number);
-        let told = tokens.state(member, &token).ok_or("unused")?;
+        let told = tokens.state(member, &token).expect(rt, "a used token");
         let [key, ..] = tokens.likely_keys(&[name_hint(member, &token)]);
         if told.key == Some(key) {
             found = found.wrapping_add(1);
         }
     }
-    Ok(found)
+    found
 }
 
 #[test]
 fn most_keys_are_likely_ones(rt: HostRuntime) -> Result<(), Fail> {
     let mut tokens = Tokens::new(rt.alloc());
-    fill(&mut tokens, Form::AtTheEnd)?;
-    let found = count_likely(&tokens, member_of(1)?)?;
-    assert!(rt; found > COUNT / 2);
+    fill(&rt, &mut tokens, Form::AtTheEnd)?;
+    let found = count_likely(&rt, &tokens, member_of(&rt, 1));
+    holds(&rt, found > COUNT / 2);
     let none = Tokens::new(rt.alloc());
     let [first, .., last] = none.likely_keys(&[]);
-    assert_eq!(rt; first, usize::MAX);
-    assert_eq!(rt; last, usize::MAX);
+    equal(&rt, first, usize::MAX);
+    equal(&rt, last, usize::MAX);
     Ok(())
 }

@@ -1,11 +1,11 @@
 //! Each call of a book once, and both books side by side.
 
 use super::orders::{order, price, rest};
+use super::{equal, holds};
 use hx_levels::{Book, Key, LevelBook, ListBook, Order};
 use hx_units::{Price, Side};
 use std::alloc::Global;
 use std::process::Abort;
-use std::test::Fail;
 
 // The open shares under a key, and 0 where no order has it.
 fn shares<B: Book>(book: &B, key: Key) -> u32 {
@@ -30,46 +30,45 @@ fn take<B: Book>(book: &mut B, key: Key) -> Option<u32> {
     Some(book.remove(key).shares)
 }
 
-fn each_call<B: Book>(rt: &impl Abort, book: &mut B) -> Result<(), Fail> {
+fn each_call<B: Book>(rt: &impl Abort, book: &mut B) {
     let limit = price(rt, 100000);
-    assert!(rt; book.next_in_time(None).is_none());
-    let hidden = rest(book, order(rt, Side::Buy, 100000, 100, 0, false))?;
-    let shown = rest(book, order(rt, Side::Buy, 100000, 200, 0, true))?;
-    let better = rest(book, order(rt, Side::Buy, 100100, 300, 0, false))?;
-    let low = rest(book, order(rt, Side::Buy, 99900, 400, 0, true))?;
+    holds(rt, book.next_in_time(None).is_none());
+    let hidden = rest(rt, book, order(rt, Side::Buy, 100000, 100, 0, false));
+    let shown = rest(rt, book, order(rt, Side::Buy, 100000, 200, 0, true));
+    let better = rest(rt, book, order(rt, Side::Buy, 100100, 300, 0, false));
+    let low = rest(rt, book, order(rt, Side::Buy, 99900, 400, 0, true));
     // By price, then shown before hidden; a buy below the sell's limit does not cross.
     let first = book.next_contra(1, Side::Sell, limit, None);
-    assert_eq!(rt; first, Some(better));
+    equal(rt, first, Some(better));
     let second = book.next_contra(1, Side::Sell, limit, first);
-    assert_eq!(rt; second, Some(shown));
+    equal(rt, second, Some(shown));
     let third = book.next_contra(1, Side::Sell, limit, second);
-    assert_eq!(rt; third, Some(hidden));
-    assert!(rt; book.next_contra(1, Side::Sell, limit, third).is_none());
-    assert!(rt; book.next_contra(2, Side::Sell, limit, None).is_none());
-    assert!(rt; book.next_contra(1, Side::Buy, limit, None).is_none());
+    equal(rt, third, Some(hidden));
+    holds(rt, book.next_contra(1, Side::Sell, limit, third).is_none());
+    holds(rt, book.next_contra(2, Side::Sell, limit, None).is_none());
+    holds(rt, book.next_contra(1, Side::Buy, limit, None).is_none());
     // A reduced order keeps its place in time.
-    assert!(rt; less(book, hidden, 40));
-    assert_eq!(rt; shares(book, hidden), 60);
+    holds(rt, less(book, hidden, 40));
+    equal(rt, shares(book, hidden), 60);
     let oldest = book.next_in_time(None);
-    assert_eq!(rt; oldest, Some(hidden));
-    assert_eq!(rt; book.next_in_time(oldest), Some(shown));
-    assert_eq!(rt; take(book, hidden), Some(60));
-    assert!(rt; book.get(hidden).is_none());
-    assert_eq!(rt; book.next_in_time(None), Some(shown));
-    assert_eq!(rt; shares(book, low), 400);
-    Ok(())
+    equal(rt, oldest, Some(hidden));
+    equal(rt, book.next_in_time(oldest), Some(shown));
+    equal(rt, take(book, hidden), Some(60));
+    holds(rt, book.get(hidden).is_none());
+    equal(rt, book.next_in_time(None), Some(shown));
+    equal(rt, shares(book, low), 400);
 }
 
 #[test]
-fn list_book(rt: HostRuntime) -> Result<(), Fail> {
+fn list_book(rt: HostRuntime) {
     let mut book = ListBook::new(rt.alloc());
-    each_call(&rt, &mut book)
+    each_call(&rt, &mut book);
 }
 
 #[test]
-fn level_book(rt: HostRuntime) -> Result<(), Fail> {
+fn level_book(rt: HostRuntime) {
     let mut book = LevelBook::new(rt.alloc());
-    each_call(&rt, &mut book)
+    each_call(&rt, &mut book);
 }
 
 // Whether the keys are those of the same order, by its reference and its open shares.
@@ -160,39 +159,33 @@ fn agree<A: Book, B: Book>(rt: &impl Abort, one: &A, two: &B) -> bool {
 }
 
 // 2,000 commands, the same to both books, with up to 80 live orders. Both are compared after each.
-fn both_agree<A: Book, B: Book>(
-    rt: &impl Abort,
-    alloc: Global,
-    one: &mut A,
-    two: &mut B,
-) -> Result<(), Fail> {
+fn both_agree<A: Book, B: Book>(rt: &impl Abort, alloc: Global, one: &mut A, two: &mut B) {
     let mut keys: Vec<(Key, Key)> = Vec::new(alloc);
     let mut state: u64 = 88172645463325252;
     for i in 0..2000_u64 {
         let number = next_number(&mut state);
         let len = keys.len();
         if len == 0 || (number % 4 < 2 && len < 80) {
-            let x = rest(one, drawn(rt, number, i))?;
-            let y = rest(two, drawn(rt, number, i))?;
-            keys.push((x, y))?;
+            let x = rest(rt, one, drawn(rt, number, i));
+            let y = rest(rt, two, drawn(rt, number, i));
+            keys.push((x, y)).expect(rt, "memory");
         } else {
             let at = (number / 8 % len as u64) as usize;
             let (x, y) = keys[at];
             if number % 4 != 3 {
                 keys.remove(at);
-                assert_eq!(rt; take(one, x), take(two, y));
+                equal(rt, take(one, x), take(two, y));
             } else {
-                assert_eq!(rt; less(one, x, 1), less(two, y, 1));
+                equal(rt, less(one, x, 1), less(two, y, 1));
             }
         }
-        assert!(rt; agree(rt, one, two));
+        holds(rt, agree(rt, one, two));
     }
-    Ok(())
 }
 
 #[test]
-fn both_books_agree(rt: HostRuntime) -> Result<(), Fail> {
+fn both_books_agree(rt: HostRuntime) {
     let mut one = ListBook::new(rt.alloc());
     let mut two = LevelBook::new(rt.alloc());
-    both_agree(&rt, rt.alloc(), &mut one, &mut two)
+    both_agree(&rt, rt.alloc(), &mut one, &mut two);
 }

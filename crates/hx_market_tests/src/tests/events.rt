@@ -1,24 +1,23 @@
 //! Events.
+use super::equal;
 use hx_market::{Bytes, Event};
-use std::test::Fail;
 
 #[test]
-fn copies_are_equal(rt: HostRuntime) -> Result<(), Fail> {
+fn copies_are_equal(rt: HostRuntime) {
     let event = Event::Message {
         member: 1,
         time: 10,
-        bytes: Bytes::of(rt.alloc(), b"OUX")?,
+        bytes: Bytes::of(rt.alloc(), b"OUX").expect(&rt, "memory"),
     };
-    let copy = event.copy()?;
+    let copy = event.copy().expect(&rt, "memory");
     let Event::Message {
         member,
         time,
         bytes,
     } = copy
     else {
-        return Err("another event".into());
+        panic!(rt; "another event");
     };
-    assert_eq!(rt; (member, time), (1, 10));
-    assert_eq!(rt; bytes.as_slice(), b"OUX".as_slice());
-    Ok(())
+    equal(&rt, (member, time), (1, 10));
+    equal(&rt, bytes.as_slice(), b"OUX".as_slice());
 }

@@ -1,5 +1,6 @@
 //! The market's own calls over a worked day.
 
+use super::{count, equal, holds};
 use hx_levels::ListBook;
 use hx_market::{Event, Market, Output, PrepareError};
 use hx_members::Setup;
@@ -12,9 +13,9 @@ use std::process::Abort;
 use std::test::Fail;
 
 // A market of the standard setup.
-fn opened(alloc: Global) -> Result<Market<ListBook>, Fail> {
-    let setup = Setup::standard(alloc)?;
-    Ok(Market::new(alloc, setup, ListBook::new(alloc))?)
+fn opened(rt: &impl Abort, alloc: Global) -> Market<ListBook> {
+    let setup = Setup::standard(alloc).expect(rt, "memory");
+    Market::new(alloc, setup, ListBook::new(alloc)).expect(rt, "memory")
 }
 
 /// How many messages of the feed, and how many replies.
@@ -25,8 +26,10 @@ struct Told {
 }
 
 // What an event was said to give, and what it gave.
-fn played(market: &mut Market<ListBook>, event: &Event) -> Result<(Told, Told), Fail> {
-    let prepared = market.prepare(event)?;
+fn played(rt: &impl Abort, market: &mut Market<ListBook>, event: &Event) -> (Told, Told) {
+    let prepared = market
+        .prepare(event)
+        .expect(rt, "an event that is accepted");
     let said = Told {
         feed: prepared.feed_count(),
         replies: prepared.reply_members().len(),
@@ -36,7 +39,7 @@ fn played(market: &mut Market<ListBook>, event: &Event) -> Result<(Told, Told), 
         feed: output.feed.len() as u64,
         replies: output.replies.len(),
     };
-    Ok((said, gave))
+    (said, gave)
 }
 
 fn expect_told<R: AllocGlobal + Abort>(
@@ -46,32 +49,33 @@ fn expect_told<R: AllocGlobal + Abort>(
     told: Told,
 ) -> Result<(), Fail> {
     let event = event_of(rt.alloc(), text)?;
-    let (said, gave) = played(market, &event)?;
-    assert_eq!(rt; said, told);
-    assert_eq!(rt; gave, told);
+    let (said, gave) = played(rt, market, &event);
+    equal(rt, said, told);
+    equal(rt, gave, told);
     Ok(())
 }
 
 // The one live order in the end.
-fn expect_live<R: Abort>(rt: &R, market: &Market<ListBook>) -> Result<(), Fail> {
-    let live = market.live()?;
-    assert_eq!(rt; live.len(), 1);
-    assert_eq!(rt; live[0].token, Token(*b"S2            "));
-    assert_eq!(rt; live[0].shares, 130);
-    Ok(())
+fn expect_live<R: Abort>(rt: &R, market: &Market<ListBook>) {
+    let live = market.live().expect(rt, "memory");
+    count(rt, live.len(), 1);
+    equal(rt, live[0].token, Token(*b"S2            "));
+    equal(rt, live[0].shares, 130);
 }
 
 // What the chain of the replaced order has done, and that an ignored token is not used.
-fn expect_chains<R: Abort>(rt: &R, market: &Market<ListBook>) -> Result<(), Fail> {
-    let member = MemberNo::of(1).ok_or("no member")?;
+fn expect_chains<R: Abort>(rt: &R, market: &Market<ListBook>) {
+    let member = MemberNo::of(1).expect(rt, "a member");
     let facts = market
         .chain(member, &Token(*b"T3            "))
-        .ok_or("unused")?;
-    assert_eq!(rt; facts.executed, 100);
-    assert!(rt; facts.displayed);
-    assert!(rt; facts.traded);
-    assert!(rt; market.chain(member, &Token(*b"T4            ")).is_none());
-    Ok(())
+        .expect(rt, "a token that is used");
+    equal(rt, facts.executed, 100);
+    holds(rt, facts.displayed);
+    holds(rt, facts.traded);
+    holds(
+        rt,
+        market.chain(member, &Token(*b"T4            ")).is_none(),
+    );
 }
 
 // Plays the lines of the day, each with what it tells.
@@ -89,7 +93,7 @@ fn play_day<R: AllocGlobal + Abort>(rt: &R, market: &mut Market<ListBook>) -> Re
         (0, 0),
     ];
     for (feed, replies) in told {
-        let (text, others) = split_line(tape).ok_or("no line")?;
+        let (text, others) = split_line(tape).expect(rt, "a line");
         tape = others;
         expect_told(rt, market, text, Told { feed, replies })?;
     }
@@ -98,10 +102,11 @@ fn play_day<R: AllocGlobal + Abort>(rt: &R, market: &mut Market<ListBook>) -> Re
 
 #[test]
 fn replaces_that_trade_leave_one_order(rt: HostRuntime) -> Result<(), Fail> {
-    let mut market = opened(rt.alloc())?;
+    let mut market = opened(&rt, rt.alloc());
     play_day(&rt, &mut market)?;
-    expect_live(&rt, &market)?;
-    expect_chains(&rt, &market)
+    expect_live(&rt, &market);
+    expect_chains(&rt, &market);
+    Ok(())
 }
 
 // Lists of no messages.
@@ -114,56 +119,67 @@ fn no_output(alloc: Global) -> Output {
 
 // Has one market play an event, and the other prepare and commit it; what each tells goes behind what it told before.
 fn play_both(
+    rt: &impl Abort,
     player: &mut Market<ListBook>,
     other: &mut Market<ListBook>,
     event: &Event,
     told: &mut Output,
     committed: &mut Output,
-) -> Result<(), Fail> {
-    player.play(event, told)?;
-    let prepared = other.prepare(event)?;
+) {
+    player
+        .play(event, told)
+        .expect(rt, "an event that is accepted");
+    let prepared = other.prepare(event).expect(rt, "an event that is accepted");
     let output = other.commit(prepared);
-    committed.feed.extend_from_slice(&output.feed)?;
-    committed.replies.extend_from_slice(&output.replies)?;
-    Ok(())
+    committed
+        .feed
+        .extend_from_slice(&output.feed)
+        .expect(rt, "memory");
+    committed
+        .replies
+        .extend_from_slice(&output.replies)
+        .expect(rt, "memory");
 }
 
 #[test]
 fn events_played_at_once_tell_the_same(rt: HostRuntime) -> Result<(), Fail> {
     let alloc = rt.alloc();
-    let (mut player, mut other) = (opened(alloc)?, opened(alloc)?);
+    let (mut player, mut other) = (opened(&rt, alloc), opened(&rt, alloc));
     let (mut told, mut committed) = (no_output(alloc), no_output(alloc));
     let day = Day::of(alloc, REPLACES_THAT_TRADE)?;
     let mut tape = day.tape.as_slice();
     for _ in 0..8 {
-        let (text, others) = split_line(tape).ok_or("no line")?;
+        let (text, others) = split_line(tape).expect(&rt, "a line");
         tape = others;
         play_both(
+            &rt,
             &mut player,
             &mut other,
             &event_of(alloc, text)?,
             &mut told,
             &mut committed,
-        )?;
+        );
     }
-    assert_eq!(rt; told.feed.len(), 6);
-    assert_eq!(rt; told.replies.len(), 9);
-    assert_eq!(rt; told.feed, committed.feed);
-    assert_eq!(rt; told.replies, committed.replies);
-    expect_live(&rt, &player)
+    equal(&rt, told.feed.len(), 6);
+    equal(&rt, told.replies.len(), 9);
+    equal(&rt, &told.feed, &committed.feed);
+    equal(&rt, &told.replies, &committed.replies);
+    expect_live(&rt, &player);
+    Ok(())
 }
 
 #[test]
-fn an_event_that_is_refused_tells_nothing(rt: HostRuntime) -> Result<(), Fail> {
-    let mut market = opened(rt.alloc())?;
+fn an_event_that_is_refused_tells_nothing(rt: HostRuntime) {
+    let mut market = opened(&rt, rt.alloc());
     let mut told = no_output(rt.alloc());
-    market.play(&Event::Tick { time: 0 }, &mut told)?;
+    market
+        .play(&Event::Tick { time: 0 }, &mut told)
+        .expect(&rt, "an event that is accepted");
     let late = Event::Tick {
         time: 86_400_000_000_000,
     };
     let refused = market.play(&late, &mut told);
-    assert_eq!(rt; refused, Err(PrepareError::BadTime));
-    assert!(rt; told.feed.is_empty());
-    assert!(rt; told.replies.is_empty());
-    Ok(())
+    equal(&rt, refused, Err(PrepareError::BadTime));
+    holds(&rt, told.feed.is_empty());
+    holds(&rt, told.replies.is_empty());
 }

@@ -1,7 +1,7 @@
 //! Orders of the first member, for a book.
 
 use hx_levels::{Book, Key, Life, Order};
-use hx_units::{Firm, MemberNo, NoMemory, Price, Side, Token};
+use hx_units::{Firm, MemberNo, Price, Side, Token};
 use std::process::Abort;
 
 /// A price of this many units.
@@ -37,7 +37,8 @@ pub fn order(
 }
 
 /// The order goes to the end of the book.
-pub fn rest<B: Book>(book: &mut B, order: Order) -> Result<Key, NoMemory> {
-    book.reserve(order.locate, order.side, order.price)?;
-    Ok(book.add(order))
+pub fn rest<B: Book>(rt: &impl Abort, book: &mut B, order: Order) -> Key {
+    book.reserve(order.locate, order.side, order.price)
+        .expect(rt, "memory");
+    book.add(order)
 }

@@ -2,6 +2,7 @@
 
 mod texts;
 
+use super::{equal, holds};
 use hx_members::{ChainFacts, Setup, SetupError, TokenState, Tokens};
 use hx_units::{Firm, MemberNo, NoMemory, Symbol, Token};
 use std::alloc::{AllocError, Global};
@@ -18,78 +19,74 @@ fn number<R: Abort>(rt: &R, number: u16) -> MemberNo {
     number
 }
 
-fn standard(alloc: Global) -> Result<Setup, NoMemory> {
-    Setup::standard(alloc)
+fn standard(rt: &impl Abort, alloc: Global) -> Setup {
+    Setup::standard(alloc).expect(rt, "memory")
 }
 
-fn copied(alloc: Global) -> Result<Setup, NoMemory> {
-    let setup = standard(alloc)?;
-    setup.copy(alloc)
+fn copied(rt: &impl Abort, alloc: Global) -> Setup {
+    standard(rt, alloc).copy(alloc).expect(rt, "memory")
 }
 
 fn expect_day<R: Abort>(rt: &R, setup: &Setup) {
-    assert_eq!(rt; setup.session(), b"HX00000001");
-    assert!(rt; setup.start_open());
-    assert_eq!(rt; setup.stocks().len(), 2);
-    assert_eq!(rt; setup.members().len(), 3);
+    equal(rt, setup.session(), b"HX00000001");
+    holds(rt, setup.start_open());
+    equal(rt, setup.stocks().len(), 2);
+    equal(rt, setup.members().len(), 3);
 }
 
 fn expect_locates<R: Abort>(rt: &R, setup: &Setup) {
-    assert_eq!(rt; setup.locate(Symbol(*b"WXYZ    ")), Some(2));
-    assert_eq!(rt; setup.locate(Symbol(*b"WXY     ")), None);
+    equal(rt, setup.locate(Symbol(*b"WXYZ    ")), Some(2));
+    equal(rt, setup.locate(Symbol(*b"WXY     ")), None);
 }
 
 fn expect_stocks<R: Abort>(rt: &R, setup: &Setup) {
     let Some(stock) = setup.stock(1) else {
         panic!(rt; "no stock");
     };
-    assert_eq!(rt; stock.symbol, Symbol(*b"ABCD    "));
-    assert_eq!(rt; stock.tail[5], 0x64);
-    assert!(rt; setup.stock(0).is_none());
-    assert!(rt; setup.stock(3).is_none());
+    equal(rt, stock.symbol, Symbol(*b"ABCD    "));
+    equal(rt, stock.tail[5], 0x64);
+    holds(rt, setup.stock(0).is_none());
+    holds(rt, setup.stock(3).is_none());
 }
 
 fn expect_members<R: Abort>(rt: &R, setup: &Setup) {
     let Some(member) = setup.member(number(rt, 3)) else {
         panic!(rt; "no member");
     };
-    assert_eq!(rt; member.firm, Firm(*b"FMC3"));
-    assert_eq!(rt; member.limit, 1000);
-    assert!(rt; setup.member(number(rt, 4)).is_none());
+    equal(rt, member.firm, Firm(*b"FMC3"));
+    equal(rt, member.limit, 1000);
+    holds(rt, setup.member(number(rt, 4)).is_none());
 }
 
 #[test]
-fn standard_setup(rt: HostRuntime) -> Result<(), Fail> {
-    let setup = standard(rt.alloc())?;
+fn standard_setup(rt: HostRuntime) {
+    let setup = standard(&rt, rt.alloc());
     expect_day(&rt, &setup);
     expect_locates(&rt, &setup);
     expect_stocks(&rt, &setup);
     expect_members(&rt, &setup);
-    Ok(())
 }
 
 fn expect_login<R: Abort>(rt: &R, setup: &Setup, user: &[u8; 6], password: &[u8; 10]) {
-    assert_eq!(rt; setup.login(user, password), Some(number(rt, 2)));
+    equal(rt, setup.login(user, password), Some(number(rt, 2)));
 }
 
 fn expect_no_login<R: Abort>(rt: &R, setup: &Setup, user: &[u8; 6], password: &[u8; 10]) {
-    assert_eq!(rt; setup.login(user, password), None);
+    equal(rt, setup.login(user, password), None);
 }
 
 #[test]
-fn logins(rt: HostRuntime) -> Result<(), Fail> {
-    let setup = standard(rt.alloc())?;
+fn logins(rt: HostRuntime) {
+    let setup = standard(&rt, rt.alloc());
     expect_login(&rt, &setup, b"BRAVO ", b"PWBRAVO   ");
     expect_no_login(&rt, &setup, b"BRAVO ", b"PWALPHA   ");
-    Ok(())
 }
 
 #[test]
-fn logins_of_a_copy(rt: HostRuntime) -> Result<(), Fail> {
-    let copy = copied(rt.alloc())?;
+fn logins_of_a_copy(rt: HostRuntime) {
+    let copy = copied(&rt, rt.alloc());
     expect_login(&rt, &copy, b"bravo ", b"pwBravo   ");
     expect_no_login(&rt, &copy, b" BRAVO", b"PWBRAVO   ");
-    Ok(())
 }
 
 // A token enters, executes shares, and its order lives.
@@ -115,8 +112,10 @@ fn join(tokens: &mut Tokens, member: MemberNo, first: &Token, second: &Token) ->
     Ok(())
 }
 
-fn told_of(tokens: &Tokens, member: MemberNo, token: &Token) -> Result<TokenState, Fail> {
-    Ok(tokens.state(member, token).ok_or("unused")?)
+fn told_of(rt: &impl Abort, tokens: &Tokens, member: MemberNo, token: &Token) -> TokenState {
+    tokens
+        .state(member, token)
+        .expect(rt, "a token that is used")
 }
 
 fn expect_facts<R: Abort>(rt: &R, told: TokenState, key: Option<usize>) {
@@ -126,18 +125,18 @@ fn expect_facts<R: Abort>(rt: &R, told: TokenState, key: Option<usize>) {
         traded: true,
     };
     let chain = 0;
-    assert_eq!(rt; told, TokenState { chain, facts, key });
+    equal(rt, told, TokenState { chain, facts, key });
 }
 
 #[test]
-fn no_token_is_used(rt: HostRuntime) -> Result<(), Fail> {
+fn no_token_is_used(rt: HostRuntime) {
     let tokens = Tokens::new(rt.alloc());
-    assert!(rt;
+    holds(
+        &rt,
         tokens
             .state(number(&rt, 1), &Token(*b"FIRST         "))
-            .is_none()
+            .is_none(),
     );
-    Ok(())
 }
 
 #[test]
@@ -147,8 +146,8 @@ fn a_chain_of_two_tokens(rt: HostRuntime) -> Result<(), Fail> {
     let second = Token(*b"SECOND        ");
     let mut tokens = entered(rt.alloc(), member, &first)?;
     join(&mut tokens, member, &first, &second)?;
-    assert_eq!(rt; tokens.count(), 2);
-    expect_facts(&rt, told_of(&tokens, member, &first)?, Some(7));
-    expect_facts(&rt, told_of(&tokens, member, &second)?, None);
+    equal(&rt, tokens.count(), 2);
+    expect_facts(&rt, told_of(&rt, &tokens, member, &first), Some(7));
+    expect_facts(&rt, told_of(&rt, &tokens, member, &second), None);
     Ok(())
 }

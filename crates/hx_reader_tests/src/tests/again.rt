@@ -4,6 +4,7 @@
 ghost use Rattle.std.specs.Prelude.{◌<◌, ◌^◌};
 ghost use Rattle.hx_itch.specs.Message.{feed_time};
 
+use super::{equal, holds};
 use hx_itch::{AddOrder, Feed, encode};
 use hx_mold::cut;
 use hx_reader::{ApplyError, Screen, ScreenError};
@@ -41,7 +42,7 @@ fn step<R: Abort>(rt: &R, screen: &mut Screen) -> Result<Option<Feed>, ScreenErr
     if !matches!(told, Err(ScreenError::Apply(ApplyError::NoMemory))) {
         return told;
     }
-    assert!(rt; screen.reader.progress() == before);
+    holds(rt, screen.reader.progress() == before);
     screen.step()
 }
 
@@ -56,12 +57,12 @@ fn buys_one_by_one(rt: HostRuntime) -> Result<(), Fail> {
         }
     }
     for n in 1..BUYS + 1 {
-        assert!(rt; step(&rt, &mut screen)? == Some(buy(n)));
+        holds(&rt, step(&rt, &mut screen)? == Some(buy(n)));
         let best = screen.book.bid(1, None).ok_or("a bid")?;
-        assert!(rt; best.orders == 1 && best.shares == 100);
+        holds(&rt, best.orders == 1 && best.shares == 100);
     }
-    assert!(rt; step(&rt, &mut screen)?.is_none());
+    holds(&rt, step(&rt, &mut screen)?.is_none());
     let best = screen.book.bid(1, None).ok_or("a bid")?;
-    assert_eq!(rt; best.price, 104_000);
+    equal(&rt, best.price, 104_000);
     Ok(())
 }

@@ -37,57 +37,58 @@ const DAYS: [&str; 23] = [
 ];
 
 // The message of a line of the feed; none where the line is another.
-fn message_of(alloc: Global, line: &[u8]) -> Result<Option<Message>, Fail> {
-    let Some(rest) = line.strip_prefix(b"F ") else {
-        return Ok(None);
-    };
-    let (_, digits) = str::from_utf8(rest)?.split_once(' ').ok_or("a message")?;
+fn message_of(rt: &impl Abort, alloc: Global, line: &[u8]) -> Option<Message> {
+    let rest = line.strip_prefix(b"F ")?;
+    let text = str::from_utf8(rest).expect(rt, "a text");
+    let (_, digits) = text.split_once(' ').expect(rt, "a message");
     let mut message = ArrayVec::new();
-    for byte in hex::decode(alloc, digits)? {
-        message.try_push(byte).ok().ok_or("a byte too many")?;
+    for byte in hex::decode(alloc, digits).expect(rt, "digits") {
+        message
+            .try_push(byte)
+            .ok()
+            .expect(rt, "a message that is no longer than the longest");
     }
-    Ok(Some(message))
+    Some(message)
 }
 
 // The feed of a day.
-fn feed_of(alloc: Global, day: &Day) -> Result<Vec<Message>, Fail> {
+fn feed_of(rt: &impl Abort, alloc: Global, day: &Day) -> Vec<Message> {
     let mut feed = Vec::new(alloc);
     let mut rest = day.output.as_slice();
     for _ in 0..u64::MAX {
         let Some((line, others)) = split_line(rest) else {
             break;
         };
-        if let Some(message) = message_of(alloc, line)? {
-            feed.push(message)?;
+        if let Some(message) = message_of(rt, alloc, line) {
+            feed.push(message).expect(rt, "memory");
         }
         rest = others;
     }
-    Ok(feed)
+    feed
 }
 
 // A feed in packets of this many messages, over each network that does one thing wrong.
-fn expect_feed<R: AllocGlobal + Abort>(
-    rt: &R,
-    feed: Vec<Message>,
-    size: usize,
-) -> Result<(), Fail> {
-    let mut sent = Sent::of(rt.alloc(), feed, size)?;
-    expect_all(rt, &mut sent, Network::Good, 4)?;
+fn expect_feed<R: AllocGlobal + Abort>(rt: &R, feed: Vec<Message>, size: usize) {
+    let mut sent = Sent::of(rt, rt.alloc(), feed, size);
+    expect_all(rt, &mut sent, Network::Good, 4);
     for place in 0..sent.count() {
-        expect_all(rt, &mut sent, Network::Loses(place), 4)?;
-        expect_all(rt, &mut sent, Network::Swaps(place), 4)?;
-        expect_all(rt, &mut sent, Network::Repeats(place), 4)?;
+        expect_all(rt, &mut sent, Network::Loses(place), 4);
+        expect_all(rt, &mut sent, Network::Swaps(place), 4);
+        expect_all(rt, &mut sent, Network::Repeats(place), 4);
     }
-    Ok(())
 }
 
 #[test]
 fn feeds_of_worked_days(rt: HostRuntime) -> Result<(), Fail> {
     let alloc = rt.alloc();
     for words in DAYS {
-        let feed = feed_of(alloc, &Day::of(alloc, words)?)?;
+        let feed = feed_of(&rt, alloc, &Day::of(alloc, words)?);
         for size in 1..feed.len() + 1 {
-            expect_feed(&rt, feed.as_slice().to_vec(alloc)?, size)?;
+            expect_feed(
+                &rt,
+                feed.as_slice().to_vec(alloc).expect(&rt, "memory"),
+                size,
+            );
         }
     }
     Ok(())

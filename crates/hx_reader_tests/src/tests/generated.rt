@@ -1,6 +1,7 @@
 //! A generated feed of 20,000 messages, of which one packet in five is lost.
 ghost use Rattle.std.specs.Prelude.{◌<◌};
 
+use super::equal;
 use super::network::Network;
 use super::screens::{Message, Sent, expect_all};
 use hx_itch::{AddOrder, Feed, OrderCancel, OrderDelete, OrderExecuted, OrderReplace, encode};
@@ -87,14 +88,14 @@ fn round(number: u64) -> [Message; 5]
 }
 
 #[test]
-fn one_in_five_is_lost(rt: HostRuntime) -> Result<(), Fail> {
+fn one_in_five_is_lost(rt: HostRuntime) {
     let mut feed = Vec::new(rt.alloc());
     for number in 0..ROUNDS {
         for message in round(number) {
-            feed.push(message)?;
+            feed.push(message).expect(&rt, "memory");
         }
     }
-    assert_eq!(rt; feed.len(), 20_000);
-    let mut sent = Sent::of(rt.alloc(), feed, 7)?;
-    expect_all(&rt, &mut sent, Network::LosesOneInFive, 3)
+    equal(&rt, feed.len(), 20_000);
+    let mut sent = Sent::of(&rt, rt.alloc(), feed, 7);
+    expect_all(&rt, &mut sent, Network::LosesOneInFive, 3);
 }

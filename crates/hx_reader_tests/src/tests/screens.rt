@@ -1,6 +1,7 @@
 //! A screen that follows a feed of datagrams, and asks for what it missed.
 
 use super::network::Network;
+use super::{equal, holds};
 use arrayvec::ArrayVec;
 use hx_itch::decode;
 use hx_mold::{answer, cut, end_of_session};
@@ -32,28 +33,30 @@ pub struct Sent {
 }
 
 // The packets of a feed, each of this many messages but for the last.
-fn packets_of(alloc: Global, feed: &[Message], size: usize) -> Result<Vec<Packet>, Fail> {
+fn packets_of(rt: &impl Abort, alloc: Global, feed: &[Message], size: usize) -> Vec<Packet> {
     let mut packets = Vec::new(alloc);
     for place in (0..feed.len()).step_by(size.max(1)) {
         let end = feed.len().min(place.saturating_add(size));
-        for packet in cut(alloc, SESSION, place as u64 + 1, &feed[place..end])? {
-            packets.push(packet)?;
+        for packet in cut(alloc, SESSION, place as u64 + 1, &feed[place..end]).expect(
+            rt, "memory",
+        ) {
+            packets.push(packet).expect(rt, "memory");
         }
     }
-    Ok(packets)
+    packets
 }
 
 impl Sent {
     /// A feed in packets of this many messages, but for the last.
-    pub fn of(alloc: Global, feed: Vec<Message>, size: usize) -> Result<Sent, Fail> {
-        let packets = packets_of(alloc, &feed, size)?;
+    pub fn of(rt: &impl Abort, alloc: Global, feed: Vec<Message>, size: usize) -> Sent {
+        let packets = packets_of(rt, alloc, &feed, size);
         let mut server = ListMessages::new(alloc);
-        server.append(&feed)?;
-        Ok(Sent {
+        server.append(&feed).expect(rt, "memory");
+        Sent {
             feed,
             packets,
             server,
-        })
+        }
     }
 
     /// How many packets there are.
@@ -63,20 +66,15 @@ impl Sent {
 }
 
 // Hands out what has come: the next messages of the feed, behind this many. It answers how many were handed out in all.
-fn hand_out<R: Abort>(
-    rt: &R,
-    screen: &mut Screen,
-    feed: &[Message],
-    given: usize,
-) -> Result<usize, Fail> {
+fn hand_out<R: Abort>(rt: &R, screen: &mut Screen, feed: &[Message], given: usize) -> usize {
     for place in given..usize::MAX {
-        let Some(message) = screen.step()? else {
-            return Ok(place);
+        let Some(message) = screen.step().expect(rt, "a step") else {
+            return place;
         };
-        let wanted = feed.get(place).ok_or("no such message of the feed")?;
-        assert!(rt; decode(wanted.as_slice()) == Some(message));
+        let wanted = feed.get(place).expect(rt, "a message of the feed");
+        holds(rt, decode(wanted.as_slice()) == Some(message));
     }
-    Ok(usize::MAX)
+    usize::MAX
 }
 
 // Asks for what is missing until nothing is.
@@ -86,45 +84,41 @@ fn ask<R: Abort>(
     feed: &[Message],
     server: &mut ListMessages,
     given: usize,
-) -> Result<usize, Fail> {
+) -> usize {
     let mut given = given;
     for _ in 0..u64::MAX {
         let Some(request) = screen.reader.request() else {
             break;
         };
-        let packet = answer(SESSION, server, &request).ok_or("an answer")?;
+        let packet = answer(SESSION, server, &request).expect(rt, "an answer");
         screen.receive(packet.as_slice());
-        given = hand_out(rt, screen, feed, given)?;
+        given = hand_out(rt, screen, feed, given);
     }
-    Ok(given)
+    given
 }
 
 // The book of all messages, applied one by one.
-fn book_of(alloc: Global, feed: &[Message]) -> Result<FeedBook, Fail> {
+fn book_of(rt: &impl Abort, alloc: Global, feed: &[Message]) -> FeedBook {
     let mut book = FeedBook::new(alloc);
     for message in feed {
-        book.apply(&decode(message.as_slice()).ok_or("a message")?)?;
+        let message = decode(message.as_slice()).expect(rt, "a message");
+        book.apply(&message).expect(rt, "memory");
     }
-    Ok(book)
+    book
 }
 
 // Both books have the same best prices of each stock.
 fn expect_best<R: Abort>(rt: &R, book: &FeedBook, wanted: &FeedBook) {
     for locate in 1..=STOCKS {
-        assert!(rt; book.bid(locate, None) == wanted.bid(locate, None));
-        assert!(rt; book.offer(locate, None) == wanted.offer(locate, None));
+        holds(rt, book.bid(locate, None) == wanted.bid(locate, None));
+        holds(rt, book.offer(locate, None) == wanted.offer(locate, None));
     }
 }
 
 /// The feed comes over the network to a screen, which asks for what it missed after each this many packets and in the
 /// end. All messages were handed out then, in order, each once, and the book is that of the feed.
-pub fn expect_all<R: AllocGlobal + Abort>(
-    rt: &R,
-    sent: &mut Sent,
-    network: Network,
-    often: usize,
-) -> Result<(), Fail> {
-    let mut screen = Screen::new(rt.alloc(), SESSION, PLACES)?;
+pub fn expect_all<R: AllocGlobal + Abort>(rt: &R, sent: &mut Sent, network: Network, often: usize) {
+    let mut screen = Screen::new(rt.alloc(), SESSION, PLACES).expect(rt, "a screen");
     let mut given = 0;
     for place in 0..sent.packets.len() + 1 {
         for at in network.pass(place) {
@@ -132,15 +126,14 @@ pub fn expect_all<R: AllocGlobal + Abort>(
                 screen.receive(packet.as_slice());
             }
         }
-        given = hand_out(rt, &mut screen, &sent.feed, given)?;
+        given = hand_out(rt, &mut screen, &sent.feed, given);
         if place % often.max(1) == 0 {
-            given = ask(rt, &mut screen, &sent.feed, &mut sent.server, given)?;
+            given = ask(rt, &mut screen, &sent.feed, &mut sent.server, given);
         }
     }
     screen.receive(end_of_session(SESSION, sent.feed.len() as u64 + 1).as_slice());
-    given = ask(rt, &mut screen, &sent.feed, &mut sent.server, given)?;
-    assert!(rt; screen.reader.is_whole());
-    assert_eq!(rt; given, sent.feed.len());
-    expect_best(rt, &screen.book, &book_of(rt.alloc(), &sent.feed)?);
-    Ok(())
+    given = ask(rt, &mut screen, &sent.feed, &mut sent.server, given);
+    holds(rt, screen.reader.is_whole());
+    equal(rt, given, sent.feed.len());
+    expect_best(rt, &screen.book, &book_of(rt, rt.alloc(), &sent.feed));
 }

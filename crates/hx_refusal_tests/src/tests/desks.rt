@@ -4,6 +4,7 @@
 ghost use Rattle.std.specs.Prelude.{◌≡◌};
 
 use super::days::{DAYS, Worked};
+use super::{equal, holds};
 use hx_blog::{Log, Reader};
 use hx_desk::{Desk, DeskError, Done, Entry};
 use hx_market::Event;
@@ -48,46 +49,58 @@ fn submit_all<R: Abort>(rt: &R, desk: &mut Desk, log: &Log<Entry>, events: &[Eve
     ensures { desk.new.log ≡ desk.old.log }
 {
     for event in events {
-        assert!(rt; record_again(desk, log, event).is_ok());
+        holds(rt, record_again(desk, log, event).is_ok());
     }
-    assert_eq!(rt; desk.history_len(), events.len() as u64);
+    equal(rt, desk.history_len(), events.len() as u64);
+}
+
+// Puts a message, spelled in digits, behind the lines.
+fn put_line<R: Abort>(
+    rt: &R,
+    alloc: Global,
+    lines: &mut Vec<u8>,
+    beginning: &str,
+    number: u64,
+    bytes: &[u8],
+) {
+    let digits = hex::encode(alloc, bytes).expect(rt, "digits");
+    let line = format!(in alloc; "{beginning} {number} {digits}\n").expect(rt, "a line");
+    lines.extend_from_slice(line.as_bytes()).expect(rt, "lines");
 }
 
 // The feed, as lines.
-fn feed_of(alloc: Global, log: &Log<Entry>, reader: &mut Reader<Entry>) -> Result<Vec<u8>, Fail>
+fn feed_of<R: Abort>(rt: &R, alloc: Global, log: &Log<Entry>, reader: &mut Reader<Entry>) -> Vec<u8>
     requires { reader.old.log ≡ log.now }
 {
     let mut lines = Vec::new(alloc);
     let count = reader.look(log);
     for number in 1..=count {
-        let message = reader.at(log, number).ok_or("a message")?;
-        let digits = hex::encode(alloc, message.as_slice())?;
-        let line = format!(in alloc; "F {number} {digits}\n")?;
-        lines.extend_from_slice(line.as_bytes())?;
+        let message = reader.at(log, number).expect(rt, "a message");
+        put_line(rt, alloc, &mut lines, "F", number, message.as_slice());
     }
-    Ok(lines)
+    lines
 }
 
 // The replies to a member, as lines.
-fn replies_of(alloc: Global, desk: &Desk, number: u16) -> Result<Vec<u8>, Fail> {
-    let member = MemberNo::of(number).ok_or("a member")?;
+fn replies_of<R: Abort>(rt: &R, alloc: Global, desk: &Desk, number: u16) -> Vec<u8> {
+    let member = MemberNo::of(number).expect(rt, "a member");
+    let beginning = format!(in alloc; "M {number}").expect(rt, "a beginning");
+    let replies = desk.replies_from(member, 0).expect(rt, "replies");
     let mut lines = Vec::new(alloc);
-    for (place, reply) in desk.replies_from(member, 0)?.iter().enumerate() {
-        let digits = hex::encode(alloc, reply.as_slice())?;
-        let line = format!(in alloc; "M {number} {} {digits}\n", place as u64 + 1)?;
-        lines.extend_from_slice(line.as_bytes())?;
+    for (place, reply) in replies.iter().enumerate() {
+        let number = place as u64 + 1;
+        put_line(rt, alloc, &mut lines, &beginning, number, reply.as_slice());
     }
-    Ok(lines)
+    lines
 }
 
 // Each member's replies are the lines to him.
-fn expect_replies<R: AllocGlobal + Abort>(rt: &R, desk: &Desk, day: &Day) -> Result<(), Fail> {
+fn expect_replies<R: AllocGlobal + Abort>(rt: &R, desk: &Desk, day: &Day) {
     for (number, beginning) in [(1, b"M 1 "), (2, b"M 2 "), (3, b"M 3 ")] {
-        let replies = replies_of(rt.alloc(), desk, number)?;
-        let lines = lines_that(rt.alloc(), &day.output, beginning, true)?;
-        assert_eq!(rt; replies.as_slice(), lines.as_slice());
+        let replies = replies_of(rt, rt.alloc(), desk, number);
+        let lines = lines_that(rt.alloc(), &day.output, beginning, true).expect(rt, "lines");
+        equal(rt, replies.as_slice(), lines.as_slice());
     }
-    Ok(())
 }
 
 // A worked day by a desk.
@@ -95,15 +108,15 @@ fn expect_day<R: AllocGlobal + Abort>(rt: &R, worked: &Worked) -> Result<(), Fai
     let alloc = rt.alloc();
     let day = Day::of(alloc, worked.words)?;
     let events = events_of(alloc, &day.tape)?;
-    let (log, writer, mut reader) = Log::<Entry>::new(alloc, 20)?;
-    let mut desk = Desk::new(alloc, setup_of(alloc, worked.setup)?, writer)?;
+    let setup = setup_of(alloc, worked.setup)?;
+    let (log, writer, mut reader) = Log::<Entry>::new(alloc, 20).expect(rt, "a log");
+    let mut desk = Desk::new(alloc, setup, writer).expect(rt, "a desk");
     submit_all(rt, &mut desk, &log, &events);
-    let feed = feed_of(alloc, &log, &mut reader)?;
-    assert_eq!(rt;
-        feed.as_slice(),
-        lines_that(alloc, &day.output, b"F ", true)?.as_slice()
-    );
-    expect_replies(rt, &desk, &day)
+    let feed = feed_of(rt, alloc, &log, &mut reader);
+    let lines = lines_that(alloc, &day.output, b"F ", true).expect(rt, "lines");
+    equal(rt, feed.as_slice(), lines.as_slice());
+    expect_replies(rt, &desk, &day);
+    Ok(())
 }
 
 #[test]

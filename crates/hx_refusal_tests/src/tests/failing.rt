@@ -1,6 +1,7 @@
 //! Each read and each write of a command goes wrong in turn, in each way.
 
 use super::days::{Case, Command, DAYS};
+use super::{equal, holds};
 use hx_replay::{Counts, Kind, TapeError};
 use hx_testing::lines::count_lines;
 use hx_testing::memory::{Bad, Input, NONE_BAD, Output};
@@ -61,27 +62,30 @@ fn run(alloc: Global, case: &Case, read: Bad, write: Bad) -> Result<Ended, Fail>
 
 // All was written, and all was well.
 fn expect_whole<R: Abort>(rt: &R, case: &Case, ended: &Ended) {
-    assert_eq!(rt; ended.output.as_slice(), case.whole.as_slice());
-    assert!(rt; ended.result.is_ok());
+    equal(rt, ended.output.as_slice(), case.whole.as_slice());
+    holds(rt, ended.result.is_ok());
 }
 
 // A replay has written a beginning of its output; what is struck is written only once all was read.
 fn expect_beginning<R: Abort>(rt: &R, case: &Case, ended: &Ended) {
-    assert!(rt; case.whole.starts_with(&ended.output));
-    assert!(rt; case.command == Command::Replay || ended.output.is_empty());
+    holds(rt, case.whole.starts_with(&ended.output));
+    holds(
+        rt,
+        case.command == Command::Replay || ended.output.is_empty(),
+    );
 }
 
 // The tape ended behind these bytes: well behind a line; else the line behind the whole ones is bad.
 fn expect_cut<R: Abort>(rt: &R, case: &Case, front: &[u8], ended: &Ended) {
     if front.is_empty() || front.ends_with(b"\n") {
-        assert!(rt; ended.result.is_ok());
+        holds(rt, ended.result.is_ok());
         return;
     }
     expect_beginning(rt, case, ended);
     match &ended.result {
         Err(TapeError::Line { line, kind }) => {
             let behind = count_lines(front, b"").saturating_add(1);
-            assert_eq!(rt; (*line, *kind), (behind, Kind::Bad));
+            equal(rt, (*line, *kind), (behind, Kind::Bad));
         }
         _ => panic!(rt; "the last line has no line feed"),
     }
@@ -92,7 +96,7 @@ fn expect_read<R: Abort>(rt: &R, case: &Case, way: Option<ErrorKind>, front: &[u
     match way {
         Some(ErrorKind::Interrupted) => expect_whole(rt, case, ended),
         Some(_) => {
-            assert!(rt; matches!(ended.result, Err(TapeError::Read)));
+            holds(rt, matches!(ended.result, Err(TapeError::Read)));
             expect_beginning(rt, case, ended);
         }
         None => expect_cut(rt, case, front, ended),
@@ -125,9 +129,9 @@ fn expect_write<R: Abort>(rt: &R, case: &Case, way: Option<ErrorKind>, ended: &E
         expect_whole(rt, case, ended);
         return;
     }
-    assert!(rt; matches!(ended.result, Err(TapeError::Write)));
-    assert!(rt; ended.output.len() < case.whole.len());
-    assert!(rt; case.whole.starts_with(&ended.output));
+    holds(rt, matches!(ended.result, Err(TapeError::Write)));
+    holds(rt, ended.output.len() < case.whole.len());
+    holds(rt, case.whole.starts_with(&ended.output));
 }
 
 // Each write goes wrong in turn, until a run has fewer. How many went wrong.
@@ -150,8 +154,9 @@ fn fail_writes<R: AllocGlobal + Abort>(
 // A day takes some reads and some writes, and each goes wrong in each way.
 fn fail_all<R: AllocGlobal + Abort>(rt: &R, case: &Case) -> Result<(), Fail> {
     for way in WAYS {
-        assert!(rt; fail_reads(rt, case, way)? > 4);
-        assert!(rt; fail_writes(rt, case, way)? > 3);
+        let (reads, writes) = (fail_reads(rt, case, way)?, fail_writes(rt, case, way)?);
+        holds(rt, reads > 4);
+        holds(rt, writes > 3);
     }
     Ok(())
 }

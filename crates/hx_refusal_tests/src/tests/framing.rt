@@ -2,9 +2,9 @@
 //!
 //! Here it has all the memory that it needs. `tests/refusals` refuses each growth of this test in turn.
 
+use super::equal;
 use hx_soup::{Framer, FramerError, SoupPacket};
 use std::alloc::Global;
-use std::test::Fail;
 
 // A login as ALPHA, an order's first bytes, two heartbeats, and a logout with a payload.
 const STREAM: [u8; 64] =
@@ -23,16 +23,16 @@ fn feed_again(
 }
 
 #[test]
-fn a_stream_in_pieces(rt: HostRuntime) -> Result<(), Fail> {
+fn a_stream_in_pieces(rt: HostRuntime) {
     for size in [1, 3, 10, 64] {
         let mut framer = Framer::new();
         let mut kinds = Vec::new(rt.alloc());
         for piece in STREAM.chunks(size) {
-            for packet in feed_again(rt.alloc(), &mut framer, piece)? {
-                kinds.push(packet.kind)?;
+            let packets = feed_again(rt.alloc(), &mut framer, piece).expect(&rt, "packets");
+            for packet in packets {
+                kinds.push(packet.kind).expect(&rt, "a place");
             }
         }
-        assert_eq!(rt; kinds.as_slice(), b"LURRO".as_slice());
+        equal(&rt, kinds.as_slice(), b"LURRO".as_slice());
     }
-    Ok(())
 }

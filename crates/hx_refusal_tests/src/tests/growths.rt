@@ -3,6 +3,7 @@
 //! Here they have all the memory that they need. `tests/refusals` refuses each growth of these tests in turn.
 
 use super::days::{Case, Command, DAYS};
+use super::{equal, holds};
 use hx_replay::{Counts, TapeError};
 use std::alloc::Global;
 use std::process::Abort;
@@ -20,8 +21,8 @@ fn run(alloc: Global, case: &Case) -> Result<Ended, Fail> {
 }
 
 fn expect_whole<R: Abort>(rt: &R, case: &Case, ended: &Ended) {
-    assert_eq!(rt; ended.0.as_slice(), case.whole.as_slice());
-    assert!(rt; ended.1.is_ok());
+    equal(rt, ended.0.as_slice(), case.whole.as_slice());
+    holds(rt, ended.1.is_ok());
 }
 
 // A run, and another one where the first lacked memory.
@@ -31,8 +32,8 @@ fn run_again<R: AllocGlobal + Abort>(rt: &R, case: &Case) -> Result<(), Fail> {
         expect_whole(rt, case, &ended);
         return Ok(());
     }
-    assert!(rt; case.whole.starts_with(&ended.0));
-    assert!(rt; case.command == Command::Replay || ended.0.is_empty());
+    holds(rt, case.whole.starts_with(&ended.0));
+    holds(rt, case.command == Command::Replay || ended.0.is_empty());
     expect_whole(rt, case, &run(rt.alloc(), case)?);
     Ok(())
 }

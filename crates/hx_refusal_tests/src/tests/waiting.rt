@@ -1,12 +1,12 @@
 //! What a line tells goes out before the next one is waited for, also through a buffer.
 
+use super::equal;
 use hx_replay::replay;
 use hx_testing::Day;
 use hx_testing::memory::{Behind, Input, Output};
 use hx_testing::setups::standard;
 use hx_testing::worked::ONE_DISPLAYED_ORDER;
 use std::io::BufWriter;
-use std::process::Abort;
 use std::sync::atomic::AtomicU64;
 use std::test::Fail;
 
@@ -15,7 +15,7 @@ use std::test::Fail;
 fn line_by_line(rt: HostRuntime) -> Result<(), Fail> {
     let alloc = rt.alloc();
     let day = Day::of(alloc, ONE_DISPLAYED_ORDER)?;
-    let setup = standard(alloc)?;
+    let setup = standard(alloc).expect(&rt, "a setup");
     let count = AtomicU64::new(0);
     let mut input = Input {
         behind: Behind::Waits {
@@ -25,8 +25,8 @@ fn line_by_line(rt: HostRuntime) -> Result<(), Fail> {
         },
         ..Input::new(&day.tape)
     };
-    let mut output = BufWriter::new(alloc, Output::new(alloc, &count))?;
-    let counts = replay(alloc, &setup, &mut input, &mut output)?;
-    assert_eq!(rt; (counts.events, counts.feed, counts.replies), (2, 1, 1));
+    let mut output = BufWriter::new(alloc, Output::new(alloc, &count)).expect(&rt, "a buffer");
+    let counts = replay(alloc, &setup, &mut input, &mut output).expect(&rt, "a day");
+    equal(&rt, (counts.events, counts.feed, counts.replies), (2, 1, 1));
     Ok(())
 }

@@ -1,9 +1,10 @@
 //! A member's client (SoupBinTCP 3.00), and what he sends (OUCH 4.2), spelled out.
 
+use super::{equal, holds};
 use std::alloc::Global;
 use std::io::{Read, Write};
 use std::net::{Ipv4Addr, Net, TcpListener, TcpStream, UdpSocket};
-use std::test::*;
+use std::process::Abort;
 use std::thread;
 use std::time::{Clock, Duration};
 
@@ -47,68 +48,106 @@ pub struct Client {
 
 impl Client {
     /// Connects, as soon as the server listens.
-    pub fn connect<R: Net<Listener = TcpListener, Stream = TcpStream> + Clock>(
+    pub fn connect<R: Net<Listener = TcpListener, Stream = TcpStream> + Clock + Abort>(
         rt: &R,
         port: u16,
-    ) -> Result<Client, Fail> {
+    ) -> Client {
         for _ in 0..1000 {
             if let Ok(stream) = TcpStream::connect(rt, (Ipv4Addr::new(127, 0, 0, 1), port)) {
-                stream.set_nodelay(true)?;
-                stream.set_read_timeout(Some(Duration::from_secs(10)))?;
-                return Ok(Client { stream });
+                return Client::over(rt, stream);
             }
             thread::sleep(rt, Duration::from_millis(5));
         }
-        Err(Fail::from("nobody listens"))
+        panic!(rt; "nobody listens")
+    }
+
+    // Over a stream that sends at once, and waits for ten seconds.
+    fn over<R: Abort>(rt: &R, stream: TcpStream) -> Client {
+        stream.set_nodelay(true).expect(rt, "no delay");
+        let limit = Some(Duration::from_secs(10));
+        stream.set_read_timeout(limit).expect(rt, "a limit");
+        Client { stream }
     }
 
     /// Sends a packet of at most 200 bytes.
-    pub fn send(&mut self, kind: u8, payload: &[u8]) -> Result<(), Fail> {
+    pub fn send<R: Abort>(&mut self, rt: &R, kind: u8, payload: &[u8]) {
         let count = payload.len().min(200);
-        self.stream.write_all(&[0, count as u8 + 1, kind])?;
-        self.stream.write_all(&payload[..count])?;
-        Ok(())
+        self.send_bytes(rt, &[0, count as u8 + 1, kind]);
+        self.send_bytes(rt, &payload[..count]);
     }
 
     /// Sends bytes as they are.
-    pub fn send_bytes(&mut self, bytes: &[u8]) -> Result<(), Fail> {
-        self.stream.write_all(bytes)?;
-        Ok(())
+    pub fn send_bytes<R: Abort>(&mut self, rt: &R, bytes: &[u8]) {
+        self.stream
+            .write_all(bytes)
+            .expect(rt, "a line that is open");
     }
 
     /// The next packet; none where the server has closed the line.
-    pub fn receive(&mut self, alloc: Global) -> Result<Option<Packet>, Fail> {
+    pub fn receive<R: Abort>(&mut self, rt: &R, alloc: Global) -> Option<Packet> {
         let mut head = [0; 3];
-        if self.stream.read(&mut head[..1])? == 0 {
-            return Ok(None);
+        if self.stream.read(&mut head[..1]).expect(rt, "a packet") == 0 {
+            return None;
         }
-        self.stream.read_exact(&mut head[1..])?;
+        self.stream.read_exact(&mut head[1..]).expect(rt, "a head");
         let size = usize::from(u16::from_be_bytes([head[0], head[1]]));
-        let mut payload = vec![in alloc; 0; size.max(1) - 1]?;
-        self.stream.read_exact(&mut payload)?;
-        Ok(Some(Packet {
+        let payload = self.receive_bytes(rt, alloc, size.max(1) - 1);
+        Some(Packet {
             kind: head[2],
             payload,
-        }))
+        })
+    }
+
+    // The next bytes.
+    fn receive_bytes<R: Abort>(&mut self, rt: &R, alloc: Global, count: usize) -> Vec<u8> {
+        let mut bytes = vec![in alloc; 0; count].expect(rt, "memory");
+        self.stream.read_exact(&mut bytes).expect(rt, "a payload");
+        bytes
     }
 
     /// The next packet that is no heartbeat.
-    pub fn receive_other(&mut self, alloc: Global) -> Result<Option<Packet>, Fail> {
+    pub fn receive_other<R: Abort>(&mut self, rt: &R, alloc: Global) -> Option<Packet> {
         for _ in 0..100 {
-            match self.receive(alloc)? {
+            match self.receive(rt, alloc) {
                 Some(packet) if packet.kind == b'H' => {}
-                other => return Ok(other),
+                other => return other,
             }
         }
-        Err(Fail::from("only heartbeats"))
+        panic!(rt; "only heartbeats")
+    }
+
+    /// The next packet that is no heartbeat: there is one.
+    pub fn reply<R: Abort>(&mut self, rt: &R, alloc: Global) -> Packet {
+        self.receive_other(rt, alloc).expect(rt, "a reply")
+    }
+
+    /// The next packet is of this kind.
+    pub fn expect_kind<R: Abort>(&mut self, rt: &R, alloc: Global, kind: u8) {
+        let packet = self.receive(rt, alloc).expect(rt, "a packet");
+        equal(rt, packet.kind, kind);
+    }
+
+    /// The server has closed the line, and no packet came before.
+    pub fn expect_no_packet<R: Abort>(&mut self, rt: &R, alloc: Global) {
+        holds(rt, self.receive(rt, alloc).is_none());
+    }
+
+    /// The server has closed the line, and at most heartbeats came before.
+    pub fn expect_no_reply<R: Abort>(&mut self, rt: &R, alloc: Global) {
+        holds(rt, self.receive_other(rt, alloc).is_none());
     }
 }
 
 /// Ports that are free: for sessions and for requests.
-pub fn free_ports<R: Net<Listener = TcpListener, Stream = TcpStream>>(
+pub fn free_ports<R: Net<Listener = TcpListener, Stream = TcpStream> + Abort>(
     rt: &R,
-) -> Result<(u16, u16), Fail> {
-    let sessions = TcpListener::bind(rt, (Ipv4Addr::new(127, 0, 0, 1), 0))?;
-    let requests = UdpSocket::bind(rt, (Ipv4Addr::new(127, 0, 0, 1), 0))?;
-    Ok((sessions.local_addr()?.port(), requests.local_addr()?.port()))
+) -> (u16, u16) {
+    let any = (Ipv4Addr::new(127, 0, 0, 1), 0);
+    let sessions = TcpListener::bind(rt, any).expect(rt, "a listener");
+    let requests = UdpSocket::bind(rt, any).expect(rt, "a socket");
+    let (first, second) = (sessions.local_addr(), requests.local_addr());
+    (
+        first.expect(rt, "an address").port(),
+        second.expect(rt, "an address").port(),
+    )
 }

@@ -2,17 +2,20 @@
 
 use super::boards::{Counting, told};
 use super::client::{Client, free_ports};
-use super::days::args_of;
+use super::days::{args_of, standard};
+use super::{equal, holds};
 use hx_bells::Bell;
-use hx_members::{Seed, Setup};
-use hx_serve::{Datagrams, Doors, Hosting, Meter, Silent, Tally, Times, serve_day, today};
+use hx_members::Seed;
+use hx_serve::{
+    Datagrams, Day, Doors, Hosting, Meter, ServeArgs, Silent, Tally, Times, serve_day, today,
+};
 use log::Log;
+use std::alloc::Global;
 use std::io::ErrorKind;
 use std::net::{Ipv4Addr, Net, SocketAddr, TcpListener, TcpStream};
 use std::process::Abort;
 use std::sync::Wait;
 use std::sync::atomic::{AtomicU64, Ordering};
-use std::test::*;
 use std::thread::{Threads, join};
 use std::time::{Clock, Duration};
 use std::{io, thread};
@@ -73,8 +76,58 @@ fn comes(rt: &impl Clock, packets: &AtomicU64) -> bool {
     false
 }
 
-// A day beside such a socket, where two requests of a source are answered a second. Nothing of the day may be missing, and
-// the feed's first packet goes out while the day goes on.
+// A day beside such a socket, where two requests of a source are answered a second: what it leaves
+// and writes.
+fn serve_flood<
+    R: Net<Listener = TcpListener, Stream = TcpStream>
+        + Threads
+        + Wait
+        + Clock
+        + Log
+        + Abort
+        + Sync,
+>(rt: &R, alloc: Global, args: &ServeArgs, board: &Counting, flood: Flood<'_>) -> (Day, Vec<u8>) {
+    let setup = standard(rt, alloc);
+    let last = AtomicU64::new(0);
+    let times = Times::of_day(today(rt), &last);
+    let addresses = args.addresses(alloc).expect(rt, "memory");
+    let hosting = Hosting {
+        setup: &setup,
+        is_standard: false,
+        args,
+        addresses: &addresses,
+        gate: &Silent,
+        board,
+        open: None,
+        times,
+        tally: &Tally::new(),
+        meter: &Meter::new(),
+        copies: &[],
+    };
+    let at = (Ipv4Addr::new(127, 0, 0, 1), args.port);
+    let doors = Doors {
+        listener: TcpListener::bind(rt, at).expect(rt, "a listener"),
+        socket: flood,
+    };
+    let mut output = Vec::new(alloc);
+    let line = &b"1 0 51\n"[..];
+    let served = serve_day(rt, alloc, &hosting, doors, Seed::Fixed, line, &mut output);
+    (served.expect(rt, "a day"), output)
+}
+
+// The feed's first packet goes out while the day goes on, which a client ends by what is no login.
+fn hang_up<R: Net<Listener = TcpListener, Stream = TcpStream> + Clock + Abort>(
+    rt: &R,
+    port: u16,
+    sent: &Sent,
+) {
+    let mut client = Client::connect(rt, port);
+    holds(rt, comes(rt, &sent.packets));
+    thread::sleep(rt, Duration::from_millis(300));
+    client.send_bytes(rt, b"\0");
+}
+
+// Serves that day. Nothing of it may be missing.
 fn serve_beside<
     R: Net<Listener = TcpListener, Stream = TcpStream>
         + AllocGlobal
@@ -84,58 +137,25 @@ fn serve_beside<
         + Log
         + Abort
         + Sync,
->(rt: &R, answerable: bool, board: &Counting, sent: &Sent) -> Result<(), Fail> {
-    let alloc = rt.alloc();
-    let ports = free_ports(rt)?;
-    let args = args_of(ports, FEED, 1, 100)?
-        .with_answers(2)
-        .ok_or("answers")?;
-    let setup = Setup::standard(alloc)?;
-    let last = AtomicU64::new(0);
-    let times = Times::of_day(today(rt), &last);
-    let hosting = Hosting {
-        setup: &setup,
-        is_standard: false,
-        args: &args,
-        addresses: &args.addresses(alloc)?,
-        gate: &Silent,
-        board,
-        open: None,
-        times,
-        tally: &Tally::new(),
-        meter: &Meter::new(),
-        copies: &[],
+>(rt: &R, answerable: bool, board: &Counting, sent: &Sent) {
+    let ports = free_ports(rt);
+    let args = args_of(rt, ports, FEED, 1, 100).with_answers(2);
+    let args = args.expect(rt, "answers");
+    let flood = Flood {
+        source: SocketAddr::from((Ipv4Addr::new(127, 0, 0, 1), 0)),
+        answerable,
+        sent,
     };
-    let doors = Doors {
-        listener: TcpListener::bind(rt, (Ipv4Addr::new(127, 0, 0, 1), ports.0))?,
-        socket: Flood {
-            source: SocketAddr::from((Ipv4Addr::new(127, 0, 0, 1), 0)),
-            answerable,
-            sent,
-        },
-    };
-    let mut output = Vec::new(alloc);
-    let line = &b"1 0 51\n"[..];
-    let (served, hung_up) = join(
+    let (served, _) = join(
         rt,
-        || serve_day(rt, alloc, &hosting, doors, Seed::Fixed, line, &mut output),
-        || {
-            let mut client = Client::connect(rt, ports.0)?;
-            let is_early = comes(rt, &sent.packets);
-            thread::sleep(rt, Duration::from_millis(300));
-            client.send_bytes(b"\0")?;
-            Ok::<bool, Fail>(is_early)
-        },
+        || serve_flood(rt, rt.alloc(), &args, board, flood),
+        || hang_up(rt, ports.0, sent),
     );
-    assert!(rt; hung_up?);
-    let Ok(day) = served else {
-        return Err(Fail::from("no day"));
-    };
-    assert!(rt; day.fault.is_none());
-    assert!(rt; output.as_slice() == b"events 1 feed 1\n".as_slice());
+    let (day, output) = served;
+    holds(rt, day.fault.is_none());
+    equal(rt, output.as_slice(), b"events 1 feed 1\n".as_slice());
     // The message and the end of the session, and on a slow machine heartbeats between them.
-    assert!(rt; told(&sent.packets) >= 2);
-    Ok(())
+    holds(rt, told(&sent.packets) >= 2);
 }
 
 fn nothing() -> Sent {
@@ -147,23 +167,21 @@ fn nothing() -> Sent {
 
 // The day ends though requests come all the time. Of them two are answered a second, and it takes less than ten.
 #[test]
-fn requests_that_keep_coming_hold_nothing(rt: HostRuntime) -> Result<(), Fail> {
+fn requests_that_keep_coming_hold_nothing(rt: HostRuntime) {
     let (board, sent) = (Counting::new(), nothing());
-    serve_beside(&rt, true, &board, &sent)?;
+    serve_beside(&rt, true, &board, &sent);
     let answers = told(&sent.answers);
-    assert!(rt; 1 <= answers && answers <= 20);
-    assert!(rt; told(&board.crowds) > 0);
-    assert_eq!(rt; told(&board.unanswered), 0);
-    Ok(())
+    holds(&rt, 1 <= answers && answers <= 20);
+    holds(&rt, told(&board.crowds) > 0);
+    equal(&rt, told(&board.unanswered), 0);
 }
 
 // An answer that cannot be sent is told of, and the day has no fault.
 #[test]
-fn an_answer_that_cannot_be_sent(rt: HostRuntime) -> Result<(), Fail> {
+fn an_answer_that_cannot_be_sent(rt: HostRuntime) {
     let (board, sent) = (Counting::new(), nothing());
-    serve_beside(&rt, false, &board, &sent)?;
+    serve_beside(&rt, false, &board, &sent);
     let unanswered = told(&board.unanswered);
-    assert!(rt; 1 <= unanswered && unanswered <= 20);
-    assert_eq!(rt; told(&sent.answers), 0);
-    Ok(())
+    holds(&rt, 1 <= unanswered && unanswered <= 20);
+    equal(&rt, told(&sent.answers), 0);
 }

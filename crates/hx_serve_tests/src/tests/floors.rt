@@ -1,11 +1,14 @@
 //! The seats of an open day, and what the operator has made of it.
 
+use super::days::standard;
+use super::{equal, holds};
 use hx_market::Event;
 use hx_members::Setup;
 use hx_serve::{Bulletin, Seats, Sitter, Stage};
 use hx_units::{MemberNo, Symbol};
+use std::alloc::Global;
 use std::net::{Ipv4Addr, SocketAddr};
-use std::test::*;
+use std::process::Abort;
 
 const CLOSED: &[u8] = b"session HX00000001
 start closed
@@ -13,6 +16,22 @@ stock ABCD 5120000000644e435a20502020314e000000004e
 stock WXYZ 5120000000644e435a20502020314e000000004e
 member 1 FMA1 ALPHA PWALPHA 3000
 ";
+
+fn closed<R: Abort>(rt: &R, alloc: Global) -> Setup {
+    Setup::read(alloc, CLOSED).expect(rt, "a setup")
+}
+
+fn bulletin_of<R: Abort>(rt: &R, alloc: Global, setup: &Setup) -> Bulletin {
+    Bulletin::new(alloc, setup).expect(rt, "memory")
+}
+
+fn seats_of<R: Abort>(rt: &R, alloc: Global, count: usize) -> Seats {
+    Seats::new(alloc, count).expect(rt, "memory")
+}
+
+fn member<R: Abort>(rt: &R, number: u16) -> MemberNo {
+    MemberNo::of(number).expect(rt, "a member")
+}
 
 fn hours(code: u8) -> Event {
     Event::Hours { time: 1, code }
@@ -28,91 +47,88 @@ fn halt(stock: [u8; 8], state: u8) -> Event {
 }
 
 #[test]
-fn codes_count_in_their_order(rt: HostRuntime) -> Result<(), Fail> {
+fn codes_count_in_their_order(rt: HostRuntime) {
     let alloc = rt.alloc();
-    let setup = Setup::read(alloc, CLOSED)?;
-    let bulletin = Bulletin::new(alloc, &setup)?;
-    assert_eq!(rt; bulletin.hours(), None);
-    assert_eq!(rt; bulletin.stage(&setup, &hours(b'O')), Stage::Now);
-    assert_eq!(rt; bulletin.stage(&setup, &hours(b'S')), Stage::TooEarly);
+    let setup = closed(&rt, alloc);
+    let bulletin = bulletin_of(&rt, alloc, &setup);
+    equal(&rt, bulletin.hours(), None);
+    equal(&rt, bulletin.stage(&setup, &hours(b'O')), Stage::Now);
+    equal(&rt, bulletin.stage(&setup, &hours(b'S')), Stage::TooEarly);
     bulletin.note(&setup, &hours(b'S'));
-    assert_eq!(rt; bulletin.hours(), None);
+    equal(&rt, bulletin.hours(), None);
     for code in *b"OSQMEC" {
         bulletin.note(&setup, &hours(code));
-        assert_eq!(rt; bulletin.hours(), Some(code));
-        assert_eq!(rt; bulletin.stage(&setup, &hours(code)), Stage::Past);
+        equal(&rt, bulletin.hours(), Some(code));
+        equal(&rt, bulletin.stage(&setup, &hours(code)), Stage::Past);
     }
-    assert_eq!(rt; bulletin.past(), 6);
-    Ok(())
+    equal(&rt, bulletin.past(), 6);
 }
 
 #[test]
-fn a_day_that_begins_open_is_behind_two_codes(rt: HostRuntime) -> Result<(), Fail> {
+fn a_day_that_begins_open_is_behind_two_codes(rt: HostRuntime) {
     let alloc = rt.alloc();
-    let setup = Setup::standard(alloc)?;
-    let bulletin = Bulletin::new(alloc, &setup)?;
-    assert_eq!(rt; bulletin.hours(), Some(b'S'));
-    assert_eq!(rt; bulletin.stage(&setup, &hours(b'O')), Stage::Past);
-    assert_eq!(rt; bulletin.stage(&setup, &hours(b'Q')), Stage::Now);
-    Ok(())
+    let setup = standard(&rt, alloc);
+    let bulletin = bulletin_of(&rt, alloc, &setup);
+    equal(&rt, bulletin.hours(), Some(b'S'));
+    equal(&rt, bulletin.stage(&setup, &hours(b'O')), Stage::Past);
+    equal(&rt, bulletin.stage(&setup, &hours(b'Q')), Stage::Now);
 }
 
 #[test]
-fn one_stock_is_halted_and_trades_again(rt: HostRuntime) -> Result<(), Fail> {
+fn one_stock_is_halted_and_trades_again(rt: HostRuntime) {
     let alloc = rt.alloc();
-    let setup = Setup::read(alloc, CLOSED)?;
-    let bulletin = Bulletin::new(alloc, &setup)?;
+    let setup = closed(&rt, alloc);
+    let bulletin = bulletin_of(&rt, alloc, &setup);
     let (stop, go) = (halt(*b"WXYZ    ", b'H'), halt(*b"WXYZ    ", b'T'));
-    assert_eq!(rt; bulletin.stage(&setup, &stop), Stage::Now);
+    equal(&rt, bulletin.stage(&setup, &stop), Stage::Now);
     bulletin.note(&setup, &stop);
-    assert!(rt; !bulletin.is_halted(0) && bulletin.is_halted(1) && !bulletin.is_halted(2));
+    holds(
+        &rt,
+        !bulletin.is_halted(0) && bulletin.is_halted(1) && !bulletin.is_halted(2),
+    );
     bulletin.note(&setup, &go);
-    assert!(rt; !bulletin.is_halted(1));
-    assert_eq!(rt;
+    holds(&rt, !bulletin.is_halted(1));
+    equal(
+        &rt,
         bulletin.stage(&setup, &halt(*b"NONE    ", b'H')),
-        Stage::NoStock
+        Stage::NoStock,
     );
     bulletin.note(&setup, &halt(*b"NONE    ", b'H'));
-    assert!(rt; !bulletin.is_halted(0) && !bulletin.is_halted(1));
-    Ok(())
+    holds(&rt, !bulletin.is_halted(0) && !bulletin.is_halted(1));
 }
 
 #[test]
-fn a_seat_is_taken_called_off_and_free_again(rt: HostRuntime) -> Result<(), Fail> {
-    let alloc = rt.alloc();
-    let seats = Seats::new(alloc, 3)?;
-    let first = MemberNo::of(1).ok_or("a member")?;
-    let second = MemberNo::of(4095).ok_or("a member")?;
+fn a_seat_is_taken_called_off_and_free_again(rt: HostRuntime) {
+    let seats = seats_of(&rt, rt.alloc(), 3);
+    let (first, second) = (member(&rt, 1), member(&rt, 4095));
     let from = SocketAddr::from((Ipv4Addr::new(127, 0, 0, 1), 9001));
-    assert_eq!(rt; (seats.len(), seats.taken(&rt)), (3, 0));
+    equal(&rt, (seats.len(), seats.taken(&rt)), (3, 0));
     for (seat, member) in [(0, first), (2, second)] {
         seats.sit(&rt, seat, Sitter { member, from });
     }
-    assert_eq!(rt; seats.taken(&rt), 2);
-    assert_eq!(rt; seats.sitter(&rt, 1), None);
-    assert_eq!(rt;
+    equal(&rt, seats.taken(&rt), 2);
+    equal(&rt, seats.sitter(&rt, 1), None);
+    equal(
+        &rt,
         seats.sitter(&rt, 2).map(|sitter| sitter.member),
-        Some(second)
+        Some(second),
     );
-    assert_eq!(rt; seats.call_off(&rt, second), 1);
-    assert!(rt; seats.is_called(2) && !seats.is_called(0));
-    assert!(rt; seats.rise(&rt, 2) && !seats.rise(&rt, 0));
-    assert_eq!(rt; (seats.taken(&rt), seats.call_off(&rt, second)), (0, 0));
-    assert!(rt; !seats.is_called(2) && !seats.is_late());
+    equal(&rt, seats.call_off(&rt, second), 1);
+    holds(&rt, seats.is_called(2) && !seats.is_called(0));
+    holds(&rt, seats.rise(&rt, 2) && !seats.rise(&rt, 0));
+    equal(&rt, (seats.taken(&rt), seats.call_off(&rt, second)), (0, 0));
+    holds(&rt, !seats.is_called(2) && !seats.is_late());
     seats.hurry();
-    assert!(rt; seats.is_late());
-    Ok(())
+    holds(&rt, seats.is_late());
 }
 
 #[test]
-fn a_member_is_kept_out_and_let_in_again(rt: HostRuntime) -> Result<(), Fail> {
-    let seats = Seats::new(rt.alloc(), 1)?;
-    let last = MemberNo::of(4095).ok_or("a member")?;
-    let other = MemberNo::of(1).ok_or("a member")?;
-    assert!(rt; seats.may_log_in(last));
+fn a_member_is_kept_out_and_let_in_again(rt: HostRuntime) {
+    let seats = seats_of(&rt, rt.alloc(), 1);
+    let (last, other) = (member(&rt, 4095), member(&rt, 1));
+    holds(&rt, seats.may_log_in(last));
     seats.permit(last, false);
-    assert!(rt; !seats.may_log_in(last) && seats.may_log_in(other));
+    holds(&rt, !seats.may_log_in(last) && seats.may_log_in(other));
     seats.permit(last, true);
-    assert!(rt; seats.may_log_in(last));
-    Ok(())
+    holds(&rt, seats.may_log_in(last));
 }

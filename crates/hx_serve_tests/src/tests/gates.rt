@@ -2,14 +2,12 @@
 //! tape, whose replay gives the feed and the replies.
 
 use super::boards::Counting;
-use super::client::{ALPHA, BOUGHT, BRAVO, BUY, Client, HIDDEN, free_ports};
-use super::days::{args_of, expect_added, expect_end, send_order};
-use super::vendor::Vendor;
-use hx_members::{Seed, Setup};
+use super::client::{BOUGHT, BUY, HIDDEN};
+use super::days::{Place, expect_added, expect_end, log_in_both, send_order, standard};
+use super::{equal, holds};
+use hx_members::Seed;
 use hx_replay::replay;
-use hx_serve::{
-    Day, Doors, Hosting, Meter, ServeArgs, ServeError, Tally, Times, serve_day, write_history,
-};
+use hx_serve::{Day, Doors, Hosting, Meter, ServeArgs, Tally, Times, serve_day, write_history};
 use hx_sessions::Gate;
 use hx_units::MemberNo;
 use log::Log;
@@ -18,7 +16,6 @@ use std::net::{Net, TcpListener, TcpStream};
 use std::process::Abort;
 use std::sync::Wait;
 use std::sync::atomic::{AtomicBool, Ordering};
-use std::test::*;
 use std::thread;
 use std::thread::{Threads, join};
 use std::time::{Clock, Duration};
@@ -51,60 +48,54 @@ impl Gate for Holding {
 const BRAVO_BOUGHT: &[u8; 57] =
     b"T1            B\0\0\0\x64ABCD    \0\x01\x86\xa0\0\x01\x86\x9fFMB2Y\0\0\0\0\0\0\0\x02ON\0\0\0\0NL ";
 
-fn wait_until_held<R: Clock>(rt: &R, gate: &Holding) -> Result<(), Fail> {
+fn wait_until_held<R: Clock + Abort>(rt: &R, gate: &Holding) {
     for _ in 0..5000 {
         if gate.held.load(Ordering::SeqCst) {
-            return Ok(());
+            return;
         }
         thread::sleep(rt, Duration::from_millis(1));
     }
-    Err(Fail::from("nothing is held"))
+    panic!(rt; "nothing is held")
 }
 
 // While the first member's second order is held, a message is asked for again, and the second member's order goes out.
 fn while_held<R: Net<Listener = TcpListener, Stream = TcpStream> + Clock + Abort>(
     rt: &R,
     alloc: Global,
-    ports: (u16, u16),
-    vendor: &Vendor,
+    place: &Place,
     gate: &Holding,
-) -> Result<(), Fail> {
-    let mut first = Client::connect(rt, ports.0)?;
-    let mut second = Client::connect(rt, ports.0)?;
-    first.send(b'L', ALPHA)?;
-    second.send(b'L', BRAVO)?;
-    assert_eq!(rt; first.receive(alloc)?.ok_or("an answer")?.kind, b'A');
-    assert_eq!(rt; second.receive(alloc)?.ok_or("an answer")?.kind, b'A');
-    send_order(rt, alloc, &mut first, BUY, BOUGHT)?;
-    expect_added(rt, alloc, vendor)?;
-    first.send(b'U', HIDDEN)?;
-    wait_until_held(rt, gate)?;
-    vendor.ask(ports.1, 1)?;
-    expect_added(rt, alloc, vendor)?;
-    send_order(rt, alloc, &mut second, BUY, BRAVO_BOUGHT)?;
-    let packet = vendor.receive_other(alloc)?;
-    assert_eq!(rt; (packet.sequence, packet.count), (2, 1));
+) {
+    let vendor = &place.vendor;
+    let (mut first, mut second) = log_in_both(rt, alloc, place.ports.0);
+    send_order(rt, alloc, &mut first, BUY, BOUGHT);
+    expect_added(rt, alloc, vendor);
+    first.send(rt, b'U', HIDDEN);
+    wait_until_held(rt, gate);
+    vendor.ask(rt, place.ports.1, 1);
+    expect_added(rt, alloc, vendor);
+    send_order(rt, alloc, &mut second, BUY, BRAVO_BOUGHT);
+    vendor.expect_packet(rt, alloc, 2, 1);
     gate.let_go.store(true, Ordering::SeqCst);
-    assert_eq!(rt; first.receive_other(alloc)?.ok_or("a reply")?.kind, b'S');
-    first.send(b'O', b"")?;
-    second.send(b'O', b"")?;
-    expect_end(rt, alloc, vendor, 3)
+    equal(rt, first.reply(rt, alloc).kind, b'S');
+    first.send(rt, b'O', b"");
+    second.send(rt, b'O', b"");
+    expect_end(rt, alloc, vendor, 3);
 }
 
-// A day whose submits go through the gate.
+// A day whose submits go through the gate: what it leaves and writes.
 fn serve_held<
-    R: Net<Listener = TcpListener, Stream = TcpStream> + Threads + Wait + Clock + Log + Sync,
->(
-    rt: &R,
-    alloc: Global,
-    args: &ServeArgs,
-    gate: &Holding,
-    output: &mut Vec<u8>,
-) -> Result<Day, ServeError> {
-    let setup = Setup::standard(alloc)?;
+    R: Net<Listener = TcpListener, Stream = TcpStream>
+        + Threads
+        + Wait
+        + Clock
+        + Log
+        + Abort
+        + Sync,
+>(rt: &R, alloc: Global, args: &ServeArgs, gate: &Holding) -> (Day, Vec<u8>) {
+    let setup = standard(rt, alloc);
     let board = Counting::new();
     let times = Times::of_machine();
-    let addresses = args.addresses(alloc)?;
+    let addresses = args.addresses(alloc).expect(rt, "memory");
     let hosting = Hosting {
         setup: &setup,
         is_standard: false,
@@ -118,37 +109,37 @@ fn serve_held<
         meter: &Meter::new(),
         copies: &[],
     };
-    let doors = Doors::open(rt, &addresses)?;
-    serve_day(rt, alloc, &hosting, doors, Seed::Fixed, &b""[..], output)
+    let doors = Doors::open(rt, &addresses).expect(rt, "doors");
+    let (input, mut output) = (&b""[..], Vec::new(alloc));
+    let served = serve_day(rt, alloc, &hosting, doors, Seed::Fixed, input, &mut output);
+    (served.expect(rt, "a day"), output)
+}
+
+// Replayed, a history has so many events, messages of the feed and replies.
+fn replays<R: Abort>(rt: &R, alloc: Global, day: &Day, wanted: (u64, u64, u64)) {
+    let setup = standard(rt, alloc);
+    let mut tape = Vec::new(alloc);
+    holds(rt, write_history(alloc, &day.history, &mut tape).is_ok());
+    let mut lines = Vec::new(alloc);
+    let counts = replay(alloc, &setup, &mut tape.as_slice(), &mut lines).expect(rt, "a replay");
+    equal(rt, (counts.events, counts.feed, counts.replies), wanted);
 }
 
 #[test]
-fn a_held_submit_holds_nobody_else(rt: HostRuntime) -> Result<(), Fail> {
+fn a_held_submit_holds_nobody_else(rt: HostRuntime) {
     let alloc = rt.alloc();
-    let vendor = Vendor::listen(&rt)?;
-    let ports = free_ports(&rt)?;
-    let args = args_of(ports, vendor.port()?, 2, 100)?;
-    let setup = Setup::standard(alloc)?;
+    let place = Place::new(&rt, 2, 100);
     let gate = Holding {
         held: AtomicBool::new(false),
         let_go: AtomicBool::new(false),
     };
-    let mut output = Vec::new(alloc);
-    let (served, played) = join(
+    let (served, _) = join(
         &rt,
-        || serve_held(&rt, alloc, &args, &gate, &mut output),
-        || while_held(&rt, alloc, ports, &vendor, &gate),
+        || serve_held(&rt, alloc, &place.args, &gate),
+        || while_held(&rt, alloc, &place, &gate),
     );
-    played?;
-    let Ok(day) = served else {
-        return Err(Fail::from("no day"));
-    };
-    assert!(rt; day.fault.is_none());
-    assert!(rt; output.as_slice() == b"events 3 feed 2\n".as_slice());
-    let mut tape = Vec::new(alloc);
-    assert!(rt; write_history(alloc, &day.history, &mut tape).is_ok());
-    let mut lines = Vec::new(alloc);
-    let counts = replay(alloc, &setup, &mut tape.as_slice(), &mut lines)?;
-    assert_eq!(rt; (counts.events, counts.feed, counts.replies), (3, 2, 3));
-    Ok(())
+    let (day, output) = served;
+    holds(&rt, day.fault.is_none());
+    equal(&rt, output.as_slice(), b"events 3 feed 2\n".as_slice());
+    replays(&rt, alloc, &day, (3, 2, 3));
 }

@@ -1,14 +1,15 @@
 //! Open days: members come and go, strangers hold nothing, and the operator can always end the day.
 
 use super::boards::{Counting, told};
-use super::client::{ALPHA, BOUGHT, BRAVO, BUY, Client, HID, HIDDEN, free_ports};
-use super::days::{args_of, log_in, send_order};
+use super::client::{ALPHA, BOUGHT, BRAVO, BUY, Client, HID, HIDDEN};
+use super::days::{Place, log_in, send_order, standard};
 use super::lines::Lines;
 use super::vendor::{END, Vendor};
-use hx_members::{Seed, Setup};
+use super::{equal, holds};
+use hx_members::Seed;
 use hx_serve::{
-    Addresses, Day, Doors, Hosting, Meter, OpenArgs, ServeArgs, ServeError, Silent, Tally, Times,
-    serve_day, today,
+    Addresses, Day, Doors, Hosting, Meter, OpenArgs, ServeArgs, Silent, Tally, Times, serve_day,
+    today,
 };
 use log::Log;
 use std::alloc::Global;
@@ -16,7 +17,6 @@ use std::net::{Net, TcpListener, TcpStream};
 use std::process::Abort;
 use std::sync::Wait;
 use std::sync::atomic::{AtomicU64, Ordering};
-use std::test::*;
 use std::thread;
 use std::thread::{Threads, join};
 use std::time::{Clock, Duration};
@@ -66,29 +66,31 @@ pub struct Stage {
 
 impl Stage {
     /// A day on free ports.
-    pub fn new<R: AllocGlobal + Net<Listener = TcpListener, Stream = TcpStream> + Clock>(
+    pub fn new<R: AllocGlobal + Net<Listener = TcpListener, Stream = TcpStream> + Clock + Abort>(
         rt: &R,
         terms: Terms,
-    ) -> Result<Stage, Fail> {
-        let vendor = Vendor::listen(rt)?;
-        let ports = free_ports(rt)?;
-        let args = args_of(ports, vendor.port()?, 1, terms.capacity)?;
+    ) -> Stage {
+        let Place {
+            vendor,
+            ports,
+            args,
+        } = Place::new(rt, 1, terms.capacity);
         let open = OpenArgs {
             login_limit: terms.login_limit,
             end: terms.end,
             connections_per_address: terms.connections_per_address,
         };
-        Ok(Stage {
+        Stage {
             vendor,
             ports,
             args,
             open,
-            addresses: args.addresses(rt.alloc())?,
+            addresses: args.addresses(rt.alloc()).expect(rt, "memory"),
             board: Counting::new(),
             tally: Tally::new(),
             meter: Meter::new(),
             let_go: AtomicU64::new(terms.let_go),
-        })
+        }
     }
 }
 
@@ -96,14 +98,15 @@ impl Stage {
 /// them go.
 pub fn serve_open<
     'x,
-    R: Net<Listener = TcpListener, Stream = TcpStream> + Threads + Wait + Clock + Log + Sync,
->(
-    rt: &'x R,
-    alloc: Global,
-    stage: &'x Stage,
-    pieces: &'x [&'x [u8]],
-) -> Result<(Day, Vec<u8>), ServeError> {
-    let setup = Setup::standard(alloc)?;
+    R: Net<Listener = TcpListener, Stream = TcpStream>
+        + Threads
+        + Wait
+        + Clock
+        + Log
+        + Abort
+        + Sync,
+>(rt: &'x R, alloc: Global, stage: &'x Stage, pieces: &'x [&'x [u8]]) -> (Day, Vec<u8>) {
+    let setup = standard(rt, alloc);
     let last = AtomicU64::new(0);
     let times = Times::of_day(today(rt), &last);
     let hosting = Hosting {
@@ -119,22 +122,22 @@ pub fn serve_open<
         meter: &stage.meter,
         copies: &[],
     };
-    let doors = Doors::open(rt, &stage.addresses)?;
+    let doors = Doors::open(rt, &stage.addresses).expect(rt, "doors");
     let input = Lines::new(rt, pieces, &stage.let_go);
     let mut output = Vec::new(alloc);
-    let day = serve_day(rt, alloc, &hosting, doors, Seed::Fixed, input, &mut output)?;
-    Ok((day, output))
+    let served = serve_day(rt, alloc, &hosting, doors, Seed::Fixed, input, &mut output);
+    (served.expect(rt, "a day"), output)
 }
 
 /// Waits until so much was told.
-pub fn await_told<R: Clock>(rt: &R, count: &AtomicU64, wanted: u64) -> Result<(), Fail> {
+pub fn await_told<R: Clock + Abort>(rt: &R, count: &AtomicU64, wanted: u64) {
     for _ in 0..10_000 {
         if told(count) >= wanted {
-            return Ok(());
+            return;
         }
         thread::sleep(rt, Duration::from_millis(1));
     }
-    Err(Fail::from("it was not told"))
+    panic!(rt; "it was not told")
 }
 
 /// A member logs in, and out again.
@@ -143,54 +146,47 @@ pub fn come_and_go<R: Net<Listener = TcpListener, Stream = TcpStream> + Clock + 
     alloc: Global,
     port: u16,
     login: &[u8; 46],
-) -> Result<(), Fail> {
-    let mut client = Client::connect(rt, port)?;
-    client.send(b'L', login)?;
-    assert_eq!(rt; client.receive(alloc)?.ok_or("an answer")?.kind, b'A');
-    client.send(b'O', b"")?;
-    assert!(rt; client.receive_other(alloc)?.is_none());
-    Ok(())
+) {
+    let mut client = Client::connect(rt, port);
+    client.send(rt, b'L', login);
+    client.expect_kind(rt, alloc, b'A');
+    client.send(rt, b'O', b"");
+    client.expect_no_reply(rt, alloc);
 }
 
-// One place: three who say nothing and one who says something else hold nobody; ALPHA enters an order and leaves; BRAVO
-// comes; ALPHA comes again, and asks for his second reply, which is that of his second order.
-fn members_and_strangers<R: Net<Listener = TcpListener, Stream = TcpStream> + Clock + Abort>(
+/// Whether the payload of a reply is this one in its first letters behind the time.
+pub fn begins_as(payload: &[u8], reply: &[u8]) -> bool {
+    payload.len() == 66 && payload[9..].starts_with(reply)
+}
+
+/// A member sends an order that is not displayed, and is told that it was accepted.
+pub fn send_hidden<R: Abort>(rt: &R, alloc: Global, client: &mut Client) {
+    client.send(rt, b'U', HIDDEN);
+    let reply = client.reply(rt, alloc);
+    holds(rt, begins_as(&reply.payload, &HID[..14]));
+}
+
+/// A member comes again, and is told that his next reply is the one that he expects.
+pub fn come_again<R: Net<Listener = TcpListener, Stream = TcpStream> + Clock + Abort>(
     rt: &R,
     alloc: Global,
     port: u16,
-    board: &Counting,
-    let_go: &AtomicU64,
-) -> Result<(), Fail> {
-    let mut silent = [
-        Client::connect(rt, port)?,
-        Client::connect(rt, port)?,
-        Client::connect(rt, port)?,
-    ];
-    let mut strange = Client::connect(rt, port)?;
-    strange.send_bytes(b"GET / HTTP/1.1\r\n")?;
-    assert!(rt; strange.receive(alloc)?.is_none());
-    let mut client = log_in(rt, alloc, port, ALPHA)?;
-    send_order(rt, alloc, &mut client, BUY, BOUGHT)?;
-    client.send(b'O', b"")?;
-    assert!(rt; client.receive_other(alloc)?.is_none());
-    come_and_go(rt, alloc, port, BRAVO)?;
-    let mut client = Client::connect(rt, port)?;
-    client.send(b'L', ALPHA_AGAIN)?;
-    let answer = client.receive(alloc)?.ok_or("an answer")?;
-    assert_eq!(rt; answer.kind, b'A');
-    assert!(rt; answer.payload.as_slice() == b"HX00000001                   2".as_slice());
-    client.send(b'U', HIDDEN)?;
-    let reply = client.receive_other(alloc)?.ok_or("a reply")?;
-    assert_eq!(rt; reply.payload.len(), 66);
-    assert!(rt; reply.payload[9..23] == HID[..14]);
-    for client in silent.iter_mut() {
-        assert!(rt; client.receive(alloc)?.is_none());
-    }
-    await_told(rt, &board.late, 3)?;
-    let_go.store(1, Ordering::SeqCst);
+    login: &[u8; 46],
+    welcome: &[u8; 30],
+) -> Client {
+    let mut client = Client::connect(rt, port);
+    client.send(rt, b'L', login);
+    let answer = client.receive(rt, alloc).expect(rt, "an answer");
+    equal(rt, answer.kind, b'A');
+    equal(rt, answer.payload.as_slice(), welcome.as_slice());
+    client
+}
+
+// A member hears how his two orders end, and the end of the session.
+fn hear_both_ends<R: Abort>(rt: &R, alloc: Global, client: &mut Client) {
     let mut ends = 0u64;
     for _ in 0..10 {
-        match client.receive_other(alloc)? {
+        match client.receive_other(rt, alloc) {
             Some(reply) if reply.kind == b'S' && reply.payload.first() == Some(&b'C') => {
                 ends = ends.saturating_add(1);
             }
@@ -198,186 +194,199 @@ fn members_and_strangers<R: Net<Listener = TcpListener, Stream = TcpStream> + Cl
             _ => {}
         }
     }
-    assert_eq!(rt; ends, 2);
-    Ok(())
+    equal(rt, ends, 2);
+}
+
+// ALPHA enters an order and leaves; BRAVO comes; ALPHA comes again, and asks for his second reply,
+// which is that of his second order.
+fn members<R: Net<Listener = TcpListener, Stream = TcpStream> + Clock + Abort>(
+    rt: &R,
+    alloc: Global,
+    port: u16,
+) -> Client {
+    let mut client = log_in(rt, alloc, port, ALPHA);
+    send_order(rt, alloc, &mut client, BUY, BOUGHT);
+    client.send(rt, b'O', b"");
+    client.expect_no_reply(rt, alloc);
+    come_and_go(rt, alloc, port, BRAVO);
+    let welcome = b"HX00000001                   2";
+    let mut client = come_again(rt, alloc, port, ALPHA_AGAIN, welcome);
+    send_hidden(rt, alloc, &mut client);
+    client
+}
+
+// One place: three who say nothing and one who says something else hold no member.
+fn members_and_strangers<R: Net<Listener = TcpListener, Stream = TcpStream> + Clock + Abort>(
+    rt: &R,
+    alloc: Global,
+    stage: &Stage,
+) {
+    let port = stage.ports.0;
+    let mut silent = [
+        Client::connect(rt, port),
+        Client::connect(rt, port),
+        Client::connect(rt, port),
+    ];
+    let mut strange = Client::connect(rt, port);
+    strange.send_bytes(rt, b"GET / HTTP/1.1\r\n");
+    strange.expect_no_packet(rt, alloc);
+    let mut client = members(rt, alloc, port);
+    for client in silent.iter_mut() {
+        client.expect_no_packet(rt, alloc);
+    }
+    await_told(rt, &stage.board.late, 3);
+    stage.let_go.store(1, Ordering::SeqCst);
+    hear_both_ends(rt, alloc, &mut client);
 }
 
 #[test]
-fn strangers_hold_nothing(rt: HostRuntime) -> Result<(), Fail> {
+fn strangers_hold_nothing(rt: HostRuntime) {
     let alloc = rt.alloc();
     let terms = Terms {
         login_limit: 1,
         ..USUAL
     };
-    let stage = Stage::new(&rt, terms)?;
-    let board = &stage.board;
-    let (served, played) = join(
+    let stage = Stage::new(&rt, terms);
+    let (served, _) = join(
         &rt,
         || serve_open(&rt, alloc, &stage, &[CLOSING]),
-        || members_and_strangers(&rt, alloc, stage.ports.0, &stage.board, &stage.let_go),
+        || members_and_strangers(&rt, alloc, &stage),
     );
-    played?;
-    let Ok((day, output)) = served else {
-        return Err(Fail::from("no day"));
-    };
-    assert!(rt; day.fault.is_none());
-    assert_eq!(rt;
-        (told(&board.opened), told(&board.late), told(&board.strange)),
-        (3, 3, 1)
-    );
-    assert_eq!(rt; (told(&board.ended), told(&board.faulted)), (3, 0));
+    let (day, output) = served;
+    holds(&rt, day.fault.is_none());
     // Two orders and four codes; the feed has the displayed order, its end, and the codes.
-    assert_eq!(rt; (day.history.len(), day.feed), (6, 6));
-    assert!(rt; output.as_slice() == b"events 6 feed 6\n".as_slice());
-    Ok(())
+    equal(&rt, (day.history.len(), day.feed), (6, 6));
+    equal(&rt, output.as_slice(), b"events 6 feed 6\n".as_slice());
+    let board = &stage.board;
+    equal(&rt, told(&board.opened), 3);
+    equal(&rt, told(&board.late), 3);
+    equal(&rt, told(&board.strange), 1);
+    equal(&rt, (told(&board.ended), told(&board.faulted)), (3, 0));
+}
+
+// A connection that says nothing for a second is closed as soon as the day is over.
+fn say_nothing<R: Net<Listener = TcpListener, Stream = TcpStream> + Clock + Abort>(
+    rt: &R,
+    alloc: Global,
+    stage: &Stage,
+) {
+    let mut silent = Client::connect(rt, stage.ports.0);
+    thread::sleep(rt, Duration::from_secs(1));
+    stage.let_go.store(1, Ordering::SeqCst);
+    silent.expect_no_packet(rt, alloc);
 }
 
 // Connections that say nothing are closed at once when the day is over.
 #[test]
-fn the_day_ends_beside_silent_connections(rt: HostRuntime) -> Result<(), Fail> {
+fn the_day_ends_beside_silent_connections(rt: HostRuntime) {
     let alloc = rt.alloc();
     let terms = Terms {
         login_limit: 3600,
         ..USUAL
     };
-    let stage = Stage::new(&rt, terms)?;
-    let board = &stage.board;
-    let (served, played) = join(
+    let stage = Stage::new(&rt, terms);
+    join(
         &rt,
         || serve_open(&rt, alloc, &stage, &[CLOSING]),
-        || {
-            let mut silent = Client::connect(&rt, stage.ports.0)?;
-            thread::sleep(&rt, Duration::from_secs(1));
-            stage.let_go.store(1, Ordering::SeqCst);
-            assert!(rt; silent.receive(alloc)?.is_none());
-            Ok::<(), Fail>(())
-        },
+        || say_nothing(&rt, alloc, &stage),
     );
-    played?;
-    assert!(rt; served.is_ok());
-    assert_eq!(rt; (told(&board.over), told(&board.late)), (1, 0));
-    Ok(())
+    let board = &stage.board;
+    equal(&rt, (told(&board.over), told(&board.late)), (1, 0));
 }
 
 // A line that is none, one with a time of another day and one that is too long are told of, and the next ones are read.
 // Where the input ends before `C`, the hours are ended.
 #[test]
-fn the_operator_can_always_end_the_day(rt: HostRuntime) -> Result<(), Fail> {
-    let alloc = rt.alloc();
+fn the_operator_can_always_end_the_day(rt: HostRuntime) {
     let terms = Terms { let_go: 9, ..USUAL };
-    let stage = Stage::new(&rt, terms)?;
-    let board = &stage.board;
+    let stage = Stage::new(&rt, terms);
     let long = [b'5'; 3000];
     let pieces: [&[u8]; 3] = [
         b"1 0 zz\n2 0 51\n86400000000000 0 4b\n",
         &long,
         b"\n3 0 4d\n",
     ];
-    let served = serve_open(&rt, alloc, &stage, &pieces);
-    let Ok((day, _)) = served else {
-        return Err(Fail::from("no day"));
-    };
-    assert!(rt; day.fault.is_none());
-    assert_eq!(rt;
-        (
-            told(&board.bad),
-            told(&board.untimely),
-            told(&board.closings)
-        ),
-        (2, 1, 1)
-    );
+    let (day, _) = serve_open(&rt, rt.alloc(), &stage, &pieces);
+    holds(&rt, day.fault.is_none());
+    let board = &stage.board;
+    equal(&rt, told(&board.bad), 2);
+    equal(&rt, told(&board.untimely), 1);
+    equal(&rt, told(&board.closings), 1);
     // `Q`, `M`, and the codes at the end: `O`, `S`, `Q` and `M` are past, `E` and `C` are told.
-    assert_eq!(rt; (day.history.len(), day.feed), (8, 4));
-    Ok(())
+    equal(&rt, (day.history.len(), day.feed), (8, 4));
 }
 
-// The next reply is that an order was accepted.
-fn accepted<R: Abort>(rt: &R, alloc: Global, client: &mut Client) -> Result<(), Fail> {
-    let reply = client.receive_other(alloc)?.ok_or("a reply")?;
-    assert!(rt; reply.payload.first() == Some(&b'A'));
-    Ok(())
+// A member enters an order, and the next reply is that it was accepted.
+fn enter<R: Abort>(rt: &R, alloc: Global, client: &mut Client, order: &[u8; 49]) {
+    client.send(rt, b'U', order);
+    let reply = client.reply(rt, alloc);
+    holds(rt, reply.payload.first() == Some(&b'A'));
+}
+
+// The displayed order under another token: T and this digit.
+fn order_of(digit: u8) -> [u8; 49] {
+    let mut order = *BUY;
+    order[2] = digit;
+    order
 }
 
 // A member fills the feed as far as he may; what is kept for the hours is enough for the end of all his orders.
 fn fill<R: Net<Listener = TcpListener, Stream = TcpStream> + Clock + Abort>(
     rt: &R,
     alloc: Global,
-    port: u16,
-    let_go: &AtomicU64,
-) -> Result<(), Fail> {
-    let mut client = log_in(rt, alloc, port, ALPHA)?;
-    for i in 0..5u8 {
-        let mut order = *BUY;
-        order[2] = b'0' + i;
-        client.send(b'U', &order)?;
-        accepted(rt, alloc, &mut client)?;
+    stage: &Stage,
+) {
+    let mut client = log_in(rt, alloc, stage.ports.0, ALPHA);
+    for digit in *b"01234" {
+        enter(rt, alloc, &mut client, &order_of(digit));
     }
-    client.send(b'U', HIDDEN)?;
-    accepted(rt, alloc, &mut client)?;
-    let mut order = *BUY;
-    order[2] = b'5';
-    client.send(b'U', &order)?;
-    assert!(rt; client.receive_other(alloc)?.is_none());
-    let_go.store(1, Ordering::SeqCst);
-    Ok(())
+    enter(rt, alloc, &mut client, HIDDEN);
+    client.send(rt, b'U', &order_of(b'5'));
+    client.expect_no_reply(rt, alloc);
+    stage.let_go.store(1, Ordering::SeqCst);
 }
 
 // Of 30 slots 25 are kept: half, eight, and one for each of two stocks.
 #[test]
-fn the_hours_always_have_room(rt: HostRuntime) -> Result<(), Fail> {
+fn the_hours_always_have_room(rt: HostRuntime) {
     let alloc = rt.alloc();
     let terms = Terms {
         capacity: 30,
         ..USUAL
     };
-    let stage = Stage::new(&rt, terms)?;
-    let board = &stage.board;
-    let (served, played) = join(
+    let stage = Stage::new(&rt, terms);
+    let (served, _) = join(
         &rt,
         || serve_open(&rt, alloc, &stage, &[CLOSING]),
-        || fill(&rt, alloc, stage.ports.0, &stage.let_go),
+        || fill(&rt, alloc, &stage),
     );
-    played?;
-    let Ok((day, _)) = served else {
-        return Err(Fail::from("no day"));
-    };
-    assert_eq!(rt; (told(&board.faulted), told(&board.bad)), (1, 0));
+    let (day, _) = served;
+    let board = &stage.board;
+    equal(&rt, (told(&board.faulted), told(&board.bad)), (1, 0));
     // Five displayed orders and their ends, and four codes; besides, an order that is not displayed.
-    assert_eq!(rt; (day.history.len(), day.feed), (10, 14));
-    Ok(())
+    equal(&rt, (day.history.len(), day.feed), (10, 14));
 }
 
 // The end of the feed is told again, and meanwhile a request is answered.
-fn hear_the_end<R: Abort>(
-    rt: &R,
-    alloc: Global,
-    vendor: &Vendor,
-    requests: u16,
-) -> Result<(), Fail> {
-    assert_eq!(rt; vendor.hear_all(alloc)?, 4);
-    vendor.ask(requests, 4)?;
-    let again = vendor.receive_other(alloc)?;
-    assert_eq!(rt; (again.sequence, again.count), (4, 1));
-    let end = vendor.receive_other(alloc)?;
-    assert_eq!(rt; (end.sequence, end.count), (5, END));
-    Ok(())
+fn hear_the_end<R: Abort>(rt: &R, alloc: Global, vendor: &Vendor, requests: u16) {
+    equal(rt, vendor.hear_all(rt, alloc), 4);
+    vendor.ask(rt, requests, 4);
+    vendor.expect_packet(rt, alloc, 4, 1);
+    vendor.expect_packet(rt, alloc, 5, END);
 }
 
 #[test]
-fn the_end_of_the_feed_can_be_repaired(rt: HostRuntime) -> Result<(), Fail> {
+fn the_end_of_the_feed_can_be_repaired(rt: HostRuntime) {
     let alloc = rt.alloc();
     let terms = Terms {
         end: 2,
         let_go: 1,
         ..USUAL
     };
-    let stage = Stage::new(&rt, terms)?;
-    let (served, heard) = join(
+    let stage = Stage::new(&rt, terms);
+    join(
         &rt,
         || serve_open(&rt, alloc, &stage, &[CLOSING]),
         || hear_the_end(&rt, alloc, &stage.vendor, stage.ports.1),
     );
-    heard?;
-    assert!(rt; served.is_ok());
-    Ok(())
 }

@@ -4,15 +4,16 @@ ghost use Rattle.hx_tape_lines.specs.Text.{record_of};
 ghost use Rattle.hx_desk.specs.Entries.{restored};
 ghost use Rattle.hx_engine.specs.Journals.{lines};
 
-use super::client::{ALPHA, BOUGHT, BUY, Client, HID, HIDDEN};
-use super::days::{log_in, send_order};
+use super::client::{ALPHA, BOUGHT, BUY};
+use super::days::{log_in, send_order, standard};
 use super::lines::Lines;
-use super::open_days::{Stage, USUAL};
+use super::open_days::{Stage, USUAL, come_again, send_hidden};
 use super::vendor::{ADDED, Vendor};
+use super::{equal, holds};
 use hx_day_journal::last_time;
 use hx_engine::Journal;
 use hx_journal::{DeviceError, Head, HostFile, RawFile};
-use hx_members::{Seed, Setup};
+use hx_members::Seed;
 use hx_recovery::{Unwatched, recover};
 use hx_serve::{Beginning, Day, Doors, Fittings, Hosting, ServeError, Silent, Times, serve_from};
 use log::Log;
@@ -23,7 +24,6 @@ use std::process::Abort;
 use std::rt::{Clock, Files};
 use std::sync::Wait;
 use std::sync::atomic::{AtomicU64, Ordering};
-use std::test::*;
 use std::thread::{Threads, join};
 
 // The codes of the hours that are left of a day that begins open.
@@ -89,6 +89,7 @@ fn serve_over<
         + Wait
         + Clock
         + Log
+        + Abort
         + Sync,
     J: Journal + Drop + Send,
 >(
@@ -104,7 +105,7 @@ fn serve_over<
         × (J.is_open beginning.recovered.journal ≡ true) }
 {
     let alloc = rt.alloc();
-    let setup = Setup::standard(alloc)?;
+    let setup = standard(rt, alloc);
     let last = AtomicU64::new(last);
     let times = Times::of_day(DAY, &last);
     let hosting = Hosting {
@@ -120,15 +121,15 @@ fn serve_over<
         meter: &stage.meter,
         copies: &[],
     };
-    let doors = Doors::open(rt, &stage.addresses)?;
+    let doors = Doors::open(rt, &stage.addresses).expect(rt, "doors");
     let input = Lines::new(rt, pieces, &stage.let_go);
     let mut output = Vec::new(alloc);
     serve_from(rt, alloc, &hosting, doors, beginning, input, &mut output)
 }
 
 // The file of a journal that no other test has.
-fn path_of(alloc: Global, port: u16) -> Result<String, Fail> {
-    Ok(format!(in alloc; "/tmp/hx_journal_of_port_{port}")?)
+fn path_of<R: Abort>(rt: &R, alloc: Global, port: u16) -> String {
+    format!(in alloc; "/tmp/hx_journal_of_port_{port}").expect(rt, "memory")
 }
 
 // The day over a file of a disk that fails behind this number of calls, from what the file has of it on.
@@ -140,15 +141,12 @@ fn serve_file<
         + Wait
         + Clock
         + Log
+        + Abort
         + Sync,
 >(rt: &R, stage: &Stage, path: &str, calls: u64) -> Result<Day, ServeError> {
     let alloc = rt.alloc();
-    let Ok(head) = Head::new(alloc, b"HX00000001", b"20260711", b"standard") else {
-        return Err(ServeError::NoMemory);
-    };
-    let Ok((file, bytes)) = HostFile::open(rt, path) else {
-        return Err(ServeError::Read);
-    };
+    let head = Head::new(alloc, b"HX00000001", b"20260711", b"standard").expect(rt, "a head");
+    let (file, bytes) = HostFile::open(rt, path).expect(rt, "a file");
     let file = FailingFile { file, calls };
     let Ok(recovered) = recover(alloc, file, &bytes, &head, &Unwatched) else {
         return Err(ServeError::Read);
@@ -166,85 +164,82 @@ fn serve_file<
 // ALPHA's displayed and his hidden order are kept and told; of the third one nobody is told, and his line is closed.
 fn trade_until_the_disk_fails<
     R: AllocGlobal + Net<Listener = TcpListener, Stream = TcpStream> + Clock + Abort,
->(rt: &R, port: u16) -> Result<(), Fail> {
+>(rt: &R, port: u16) {
     let alloc = rt.alloc();
-    let mut client = log_in(rt, alloc, port, ALPHA)?;
-    send_order(rt, alloc, &mut client, BUY, BOUGHT)?;
-    client.send(b'U', HIDDEN)?;
-    let reply = client.receive_other(alloc)?.ok_or("a reply")?;
-    assert_eq!(rt; reply.payload.len(), 66);
-    assert!(rt; reply.payload[9..23] == HID[..14]);
-    client.send(b'U', &third())?;
-    assert!(rt; client.receive_other(alloc)?.is_none());
-    Ok(())
+    let mut client = log_in(rt, alloc, port, ALPHA);
+    send_order(rt, alloc, &mut client, BUY, BOUGHT);
+    send_hidden(rt, alloc, &mut client);
+    client.send(rt, b'U', &third());
+    client.expect_no_reply(rt, alloc);
+}
+
+// Whether a reply says that the third order was accepted: the second displayed one, so its public
+// reference is 2.
+fn is_third(payload: &[u8]) -> bool {
+    let order = third();
+    payload.len() == 66
+        && payload[9..23] == order[1..15]
+        && payload[49..57] == b"\0\0\0\0\0\0\0\x02"[..]
+}
+
+// Whether the blocks of a packet are the one message of the first order.
+fn is_first(blocks: &[u8]) -> bool {
+    blocks.len() == 38 && blocks[13..] == ADDED[..]
+}
+
+// Asked for again, the first message of the feed is that of the first order.
+fn ask_for_the_first<R: Abort>(rt: &R, alloc: Global, stage: &Stage) {
+    stage.vendor.ask(rt, stage.ports.1, 1);
+    let packet = stage.vendor.receive_other(rt, alloc);
+    equal(rt, (packet.sequence, packet.count), (1, 1));
+    holds(rt, is_first(&packet.blocks));
 }
 
 // ALPHA comes again, with the number that he expects, and sends the third order again.
 fn go_on<R: AllocGlobal + Net<Listener = TcpListener, Stream = TcpStream> + Clock + Abort>(
     rt: &R,
     stage: &Stage,
-) -> Result<(), Fail> {
+) {
     let alloc = rt.alloc();
-    let mut client = Client::connect(rt, stage.ports.0)?;
-    client.send(b'L', ALPHA_AGAIN)?;
-    let answer = client.receive(alloc)?.ok_or("an answer")?;
-    assert!(rt; answer.payload.as_slice() == b"HX00000001                   3".as_slice());
-    client.send(b'U', &third())?;
-    let reply = client.receive_other(alloc)?.ok_or("a reply")?;
-    let order = third();
-    assert_eq!(rt; reply.payload.len(), 66);
-    assert!(rt; reply.payload[9..23] == order[1..15]);
-    // The second displayed order: its public reference is 2.
-    assert!(rt; reply.payload[49..57] == b"\0\0\0\0\0\0\0\x02"[..]);
-    let packet = stage.vendor.receive_other(alloc)?;
-    assert_eq!(rt; (packet.sequence, packet.count), (2, 1));
-    stage.vendor.ask(stage.ports.1, 1)?;
-    let packet = stage.vendor.receive_other(alloc)?;
-    assert_eq!(rt; (packet.sequence, packet.count), (1, 1));
-    assert_eq!(rt; packet.blocks.len(), 38);
-    assert!(rt; packet.blocks[13..] == ADDED[..]);
+    let welcome = b"HX00000001                   3";
+    let mut client = come_again(rt, alloc, stage.ports.0, ALPHA_AGAIN, welcome);
+    client.send(rt, b'U', &third());
+    let reply = client.reply(rt, alloc);
+    holds(rt, is_third(&reply.payload));
+    stage.vendor.expect_packet(rt, alloc, 2, 1);
+    ask_for_the_first(rt, alloc, stage);
     stage.let_go.store(1, Ordering::SeqCst);
-    Ok(())
 }
 
 // Hears the first message of the feed, and then nothing but heartbeats: no end of the session.
-fn hear_no_end<R: AllocGlobal + Abort>(rt: &R, vendor: &Vendor) -> Result<(), Fail> {
-    let alloc = rt.alloc();
-    let packet = vendor.receive_other(alloc)?;
-    assert_eq!(rt; (packet.sequence, packet.count), (1, 1));
-    assert!(rt; !vendor.hears_the_end()?);
-    Ok(())
+fn hear_no_end<R: Abort>(rt: &R, alloc: Global, vendor: &Vendor) {
+    vendor.expect_packet(rt, alloc, 1, 1);
+    holds(rt, !vendor.hears_the_end(rt));
 }
 
 #[test]
-fn a_day_goes_on_from_its_journal(rt: HostRuntime) -> Result<(), Fail> {
-    let alloc = rt.alloc();
-    let stage = Stage::new(&rt, USUAL)?;
-    let path = path_of(alloc, stage.ports.0)?;
+fn a_day_goes_on_from_its_journal(rt: HostRuntime) {
+    let stage = Stage::new(&rt, USUAL);
+    let path = path_of(&rt, rt.alloc(), stage.ports.0);
     let _ = fs::remove_file(&rt, path.as_str());
-    let (served, traded) = join(
+    let (served, _) = join(
         &rt,
         || serve_file(&rt, &stage, &path, OPENING + 4),
         || trade_until_the_disk_fails(&rt, stage.ports.0),
     );
-    traded?;
-    assert!(rt; served.err() == Some(ServeError::Journal));
-    hear_no_end(&rt, &stage.vendor)?;
-    let stage = Stage::new(&rt, USUAL)?;
-    let (served, traded) = join(
+    equal(&rt, served.err(), Some(ServeError::Journal));
+    hear_no_end(&rt, rt.alloc(), &stage.vendor);
+    let stage = Stage::new(&rt, USUAL);
+    let (served, _) = join(
         &rt,
         || serve_file(&rt, &stage, &path, u64::MAX),
         || go_on(&rt, &stage),
     );
-    traded?;
-    let Ok(day) = served else {
-        return Err("no day".into());
-    };
-    assert!(rt; day.fault.is_none());
+    let day = served.expect(&rt, "a day");
+    holds(&rt, day.fault.is_none());
     // Two orders before, one after, and the four codes.
-    assert_eq!(rt; day.history.len(), 7);
-    assert_eq!(rt; stage.board.events.load(Ordering::SeqCst), 2);
-    assert_eq!(rt; stage.board.feed.load(Ordering::SeqCst), 1);
+    equal(&rt, day.history.len(), 7);
+    equal(&rt, stage.board.events.load(Ordering::SeqCst), 2);
+    equal(&rt, stage.board.feed.load(Ordering::SeqCst), 1);
     let _ = fs::remove_file(&rt, path.as_str());
-    Ok(())
 }

@@ -2,22 +2,23 @@
 ghost use Rattle.std.specs.Prelude.{◌≡◌, []};
 ghost use Rattle.hx_engine.specs.Opening.{IsNewLog};
 
-use super::client::{ALPHA, BOUGHT, BRAVO, BUY, Client, HID, HIDDEN};
-use super::days::send_order;
+use super::client::{BOUGHT, BUY, HID, HIDDEN};
+use super::days::{log_in_both, send_order, standard};
 use super::vendor::ADDED;
+use super::{equal, holds};
 use hx_blog::{Log, Reader};
 use hx_engine::{Entry, Exchange, Logs, Pass, Venue};
 use hx_journal::Unkept;
 use hx_members::Setup;
 use hx_serve::Silent;
-use hx_sessions::{Clock as Day, Ended, Logins, Part, serve_all};
+use hx_sessions::{Clock as Day, Ended, Fault, Logins, Part, serve_all};
 use std::alloc::Global;
 use std::marker::Brand;
 use std::net::{Ipv4Addr, Net, TcpListener, TcpStream};
 use std::process::Abort;
 use std::sync::Wait;
 use std::sync::ledger::Blank;
-use std::test::*;
+use std::test::Fail;
 use std::thread::{Threads, join};
 use std::time::{Clock, Duration};
 
@@ -52,42 +53,75 @@ struct Seat<V: Venue> {
 }
 
 // A seat for each of two passes: the reader splits in two.
-fn seat_both<V: Venue>(
+fn seat_both<V: Venue, R: Abort>(
+    rt: &R,
     exchange: &Exchange<V, Unkept>,
     mut passes: Vec<Pass<V>>,
     mut reader: Reader<Entry>,
-) -> Option<(Seat<V>, Seat<V>)>
+) -> (Seat<V>, Seat<V>)
     requires { reader.log ≡ V.log }
 {
     let other = reader.split(exchange.feed_log());
     let second = Seat {
-        pass: passes.pop()?,
+        pass: passes.pop().expect(rt, "a second pass"),
         reader: other,
     };
     let first = Seat {
-        pass: passes.pop()?,
+        pass: passes.pop().expect(rt, "a first pass"),
         reader,
     };
-    Some((first, second))
+    (first, second)
+}
+
+// The two ends of the next connection, for reading and for writing: it sends at once, and is waited
+// for 20 milliseconds.
+fn connected<R: Abort>(rt: &R, listener: &TcpListener) -> (TcpStream, TcpStream) {
+    let (stream, _) = listener.accept().expect(rt, "a connection");
+    stream.set_nodelay(true).expect(rt, "no delay");
+    let limit = Some(Duration::from_millis(20));
+    stream.set_read_timeout(limit).expect(rt, "a limit");
+    let output = stream.try_clone().expect(rt, "its other end");
+    (stream, output)
 }
 
 // The part of the next connection.
-fn connected<V: Venue>(listener: &TcpListener, seat: Seat<V>) -> Option<OverTcp<V>> {
-    let (stream, _) = listener.accept().ok()?;
-    stream.set_nodelay(true).ok()?;
-    stream
-        .set_read_timeout(Some(Duration::from_millis(20)))
-        .ok()?;
-    let output = stream.try_clone().ok()?;
+fn part_of<V: Venue, R: Abort>(rt: &R, listener: &TcpListener, seat: Seat<V>) -> OverTcp<V> {
+    let (input, output) = connected(rt, listener);
     let Seat { pass, reader } = seat;
-    Some(Part {
-        input: stream,
+    Part {
+        input,
         output,
         inbound: Standing,
         outbound: Standing,
         pass,
         reader,
-    })
+    }
+}
+
+// The parts of the next two connections.
+fn both_parts<V: Venue, R: Abort>(
+    rt: &R,
+    alloc: Global,
+    listener: &TcpListener,
+    seats: (Seat<V>, Seat<V>),
+) -> Vec<OverTcp<V>> {
+    let (first, second) = seats;
+    let first = part_of(rt, listener, first);
+    let second = part_of(rt, listener, second);
+    vec![in alloc; first, second].expect(rt, "memory")
+}
+
+// The seat of the last of these, whose member has logged out.
+fn last_seat<V: Venue, R: Abort>(
+    rt: &R,
+    served: &mut Vec<(OverTcp<V>, Result<Ended, Fault>)>,
+) -> Seat<V> {
+    let (part, how) = served.pop().expect(rt, "a part");
+    holds(rt, matches!(how, Ok(Ended::Logout)));
+    Seat {
+        pass: part.pass,
+        reader: part.reader,
+    }
 }
 
 // Serves two connections at once, and gives the seats back.
@@ -97,32 +131,19 @@ fn serve_two<V: Venue + Send + Sync, R: Threads + Wait + Clock + Abort + Sync>(
     exchange: &Exchange<V, Unkept>,
     listener: &TcpListener,
     seats: (Seat<V>, Seat<V>),
-) -> Option<(Seat<V>, Seat<V>)> {
-    let setup = Setup::standard(alloc).ok()?;
-    let (first, second) = seats;
-    let mut parts = Vec::new(alloc);
-    parts.push(connected(listener, first)?).ok()?;
-    parts.push(connected(listener, second)?).ok()?;
+) -> (Seat<V>, Seat<V>) {
+    let setup = standard(rt, alloc);
+    let parts = both_parts(rt, alloc, listener, seats);
     let logins = Logins {
         setup: &setup,
         copies: &[],
     };
     let Ok(mut served) = serve_all(rt, alloc, exchange, &logins, parts, &Silent, 1_000_000) else {
-        return None;
+        panic!(rt; "not served");
     };
-    let (second, how) = served.pop()?;
-    assert!(rt; matches!(how, Ok(Ended::Logout)));
-    let (first, how) = served.pop()?;
-    assert!(rt; matches!(how, Ok(Ended::Logout)));
-    let second = Seat {
-        pass: second.pass,
-        reader: second.reader,
-    };
-    let first = Seat {
-        pass: first.pass,
-        reader: first.reader,
-    };
-    Some((first, second))
+    let second = last_seat(rt, &mut served);
+    let first = last_seat(rt, &mut served);
+    (first, second)
 }
 
 // Both members log in, each enters an order, gets his one reply, and logs out.
@@ -130,20 +151,14 @@ fn trade_two<R: Net<Listener = TcpListener, Stream = TcpStream> + Clock + Abort>
     rt: &R,
     alloc: Global,
     port: u16,
-) -> Result<(), Fail> {
-    let mut first = Client::connect(rt, port)?;
-    let mut second = Client::connect(rt, port)?;
-    first.send(b'L', ALPHA)?;
-    second.send(b'L', BRAVO)?;
-    assert_eq!(rt; first.receive(alloc)?.ok_or("an answer")?.kind, b'A');
-    assert_eq!(rt; second.receive(alloc)?.ok_or("an answer")?.kind, b'A');
-    send_order(rt, alloc, &mut second, HIDDEN, HID)?;
-    send_order(rt, alloc, &mut first, BUY, BOUGHT)?;
-    first.send(b'O', b"")?;
-    second.send(b'O', b"")?;
-    assert!(rt; first.receive_other(alloc)?.is_none());
-    assert!(rt; second.receive_other(alloc)?.is_none());
-    Ok(())
+) {
+    let (mut first, mut second) = log_in_both(rt, alloc, port);
+    send_order(rt, alloc, &mut second, HIDDEN, HID);
+    send_order(rt, alloc, &mut first, BUY, BOUGHT);
+    first.send(rt, b'O', b"");
+    second.send(rt, b'O', b"");
+    first.expect_no_reply(rt, alloc);
+    second.expect_no_reply(rt, alloc);
 }
 
 // Both sides at once.
@@ -155,17 +170,24 @@ fn play_two<
     alloc: Global,
     exchange: &Exchange<V, Unkept>,
     seats: (Seat<V>, Seat<V>),
-) -> Result<(Seat<V>, Seat<V>), Fail> {
-    let listener = TcpListener::bind(rt, (Ipv4Addr::new(127, 0, 0, 1), 0))?;
-    let port = listener.local_addr()?.port();
+) -> (Seat<V>, Seat<V>) {
+    let any = (Ipv4Addr::new(127, 0, 0, 1), 0);
+    let listener = TcpListener::bind(rt, any).expect(rt, "a listener");
+    let port = listener.local_addr().expect(rt, "an address").port();
     let door = &listener;
-    let (served, played) = join(
+    let (served, _) = join(
         rt,
         move || serve_two(rt, alloc, exchange, door, seats),
         move || trade_two(rt, alloc, port),
     );
-    played?;
-    Ok(served.ok_or("both seats")?)
+    served
+}
+
+// Whether this is the displayed order, entered at 1,000.
+fn is_added(message: &[u8]) -> bool {
+    message.len() == 36
+        && message[..11] == b"A\0\x01\0\0\0\0\0\0\x03\xe8"[..]
+        && message[11..] == ADDED[..]
 }
 
 // The next message of the feed, if there is one, is the displayed order, entered at 1,000.
@@ -176,10 +198,7 @@ fn reads_added<R: Abort>(rt: &R, log: &Log<Entry>, reader: &mut Reader<Entry>) -
     let Some(message) = reader.next(log) else {
         return false;
     };
-    let bytes = message.as_slice();
-    assert_eq!(rt; bytes.len(), 36);
-    assert!(rt; bytes[..11] == b"A\0\x01\0\0\0\0\0\0\x03\xe8"[..]);
-    assert!(rt; bytes[11..] == ADDED[..]);
+    holds(rt, is_added(message.as_slice()));
     true
 }
 
@@ -190,17 +209,18 @@ impl<V: Venue> Seat<V> {
         rt: &R,
         exchange: &Exchange<V, Unkept>,
         other: &mut Pass<V>,
-    ) -> Result<(), Fail> {
+    ) {
         let log = exchange.feed_log();
-        let audit = exchange.audit(rt, &mut self.reader, &mut self.pass)?;
-        assert_eq!(rt; audit.history.len(), 2);
+        let audit = exchange
+            .audit(rt, &mut self.reader, &mut self.pass)
+            .expect(rt, "memory");
+        equal(rt, audit.history.len(), 2);
         let early = reads_added(rt, log, &mut self.reader);
         self.reader.learn(log, self.pass.receipt(log));
         self.reader.learn(log, other.receipt(log));
         let late = reads_added(rt, log, &mut self.reader);
-        assert!(rt; early != late);
-        assert!(rt; !reads_added(rt, log, &mut self.reader));
-        Ok(())
+        holds(rt, early != late);
+        holds(rt, !reads_added(rt, log, &mut self.reader));
     }
 }
 
@@ -208,7 +228,7 @@ impl<V: Venue> Seat<V> {
 fn play_day<
     V: Venue + Send + Sync,
     R: Net<Listener = TcpListener, Stream = TcpStream> + Threads + Wait + Clock + Abort + Sync,
->(rt: &R, alloc: Global, founding: Founding) -> Result<(), Fail>
+>(rt: &R, alloc: Global, founding: Founding)
     requires feed { IsNewLog V.log founding.logs.feed }
     requires admitted { IsNewLog V.admitted founding.logs.admitted }
     requires kept { IsNewLog V.kept founding.logs.kept }
@@ -225,17 +245,17 @@ fn play_day<
         blank,
     } = founding;
     let journal = Unkept::new();
-    let (exchange, passes) = Exchange::<V, Unkept>::new(alloc, own, logs, journal, blank, 2)?;
-    let seats = seat_both(&exchange, passes, reader).ok_or("two passes")?;
-    let (mut first, mut second) = play_two(rt, alloc, &exchange, seats)?;
-    first.reads_all(rt, &exchange, &mut second.pass)?;
-    second.reads_all(rt, &exchange, &mut first.pass)?;
-    let passes = vec![in alloc; first.pass, second.pass]?;
+    let opened = Exchange::<V, Unkept>::new(alloc, own, logs, journal, blank, 2);
+    let (exchange, passes) = opened.expect(rt, "an exchange");
+    let seats = seat_both(rt, &exchange, passes, reader);
+    let (mut first, mut second) = play_two(rt, alloc, &exchange, seats);
+    first.reads_all(rt, &exchange, &mut second.pass);
+    second.reads_all(rt, &exchange, &mut first.pass);
+    let passes = vec![in alloc; first.pass, second.pass].expect(rt, "memory");
     let Ok(finished) = exchange.finish(passes) else {
-        return Err(Fail::from("a pass is missing"));
+        panic!(rt; "a pass is missing");
     };
-    assert_eq!(rt; (finished.history.len(), finished.feed), (2, 1));
-    Ok(())
+    equal(rt, (finished.history.len(), finished.feed), (2, 1));
 }
 
 #[test]
@@ -254,5 +274,6 @@ fn two_parts_at_once(rt: HostRuntime) -> Result<(), Fail> {
         reader,
         blank: Blank::new(2),
     };
-    play_day::<Brand, HostRuntime>(&rt, alloc, founding)
+    play_day::<Brand, HostRuntime>(&rt, alloc, founding);
+    Ok(())
 }

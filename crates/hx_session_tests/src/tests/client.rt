@@ -1,13 +1,13 @@
 //! A client, and what must come of his session.
 
 use super::stage::{Day, play};
+use super::{equal, holds};
 use hx_sessions::{Ended, Fault};
 use hx_testing::memory::{Input, Output};
 use std::alloc::Global;
 use std::process::Abort;
 use std::sync::Wait;
 use std::sync::atomic::AtomicU64;
-use std::test::*;
 use std::thread::Threads;
 use std::time::Clock;
 
@@ -82,16 +82,16 @@ impl<'a> Want<'a> {
         outcome: &Result<Ended, Fault>,
     ) {
         let end = end_of(outcome);
-        assert!(rt; sent <= self.sent.1);
-        assert!(rt; self.whole.starts_with(&output.taken));
-        assert_eq!(rt; output.flushed, 1);
-        assert!(rt; output.calls <= self.writes);
+        holds(rt, sent <= self.sent.1);
+        holds(rt, self.whole.starts_with(&output.taken));
+        equal(rt, output.flushed, 1);
+        holds(rt, output.calls <= self.writes);
         if self.may_lack && end == End::NoMemory {
             return;
         }
-        assert_eq!(rt; end, self.end);
-        assert!(rt; self.sent.0 <= sent);
-        assert!(rt; output.taken.starts_with(self.least));
+        equal(rt, end, self.end);
+        holds(rt, self.sent.0 <= sent);
+        holds(rt, output.taken.starts_with(self.least));
     }
 }
 
@@ -112,12 +112,12 @@ pub fn alone<R: Threads + Wait + Clock + Abort + Sync>(
     alloc: Global,
     input: Input,
     want: Want,
-) -> Result<(), Fail> {
+) {
     let count = AtomicU64::new(0);
     let client = Client {
         input,
         output: Output::new(alloc, &count),
         want,
     };
-    play(rt, alloc, Day::of(alloc, vec![in alloc; client]?))
+    play(rt, alloc, Day::of_one(rt, alloc, client));
 }

@@ -1,25 +1,26 @@
 //! The end of the day ends a session, once all replies have gone out; and who has not logged in then is sent away.
 
 use super::client::{Client, End, Want};
-use super::packets::{ALPHA, END_OF_SESSION, SHOWN, one_reply, put_end_of_hours, put_timed_out};
+use super::packets::{
+    ALPHA, END_OF_SESSION, SHOWN, one_reply, put, put_end_of_hours, put_timed_out,
+};
 use super::stage::{Day, play};
 use hx_testing::memory::{Behind, Input, Output};
 use std::io::ErrorKind;
 use std::process::Abort;
 use std::sync::Wait;
 use std::sync::atomic::AtomicU64;
-use std::test::Fail;
 use std::thread::Threads;
 use std::time::Clock;
 
 // The day ends behind an order that lives until then; the client says nothing behind his login.
 #[test]
-fn the_day_ends_behind_the_last_reply(rt: HostRuntime) -> Result<(), Fail> {
+fn the_day_ends_behind_the_last_reply(rt: HostRuntime) {
     let alloc = rt.alloc();
-    let mut replies = one_reply(alloc, &SHOWN, *b"FMA1", 1)?;
-    put_end_of_hours(&mut replies)?;
-    put_timed_out(&mut replies, &SHOWN)?;
-    replies.extend_from_slice(END_OF_SESSION)?;
+    let mut replies = one_reply(&rt, alloc, &SHOWN, *b"FMA1", 1);
+    put_end_of_hours(&rt, &mut replies);
+    put_timed_out(&rt, &mut replies, &SHOWN);
+    put(&rt, &mut replies, END_OF_SESSION);
     let count = AtomicU64::new(0);
     let client = Client {
         input: Input {
@@ -30,12 +31,12 @@ fn the_day_ends_behind_the_last_reply(rt: HostRuntime) -> Result<(), Fail> {
         want: Want::new(End::DayEnd, 0, &replies),
     };
     let day = Day {
-        before: vec![in alloc; SHOWN]?,
+        before: vec![in alloc; SHOWN].expect(&rt, "orders"),
         codes: b"QMEC",
         turns: 1_000_000_000,
-        ..Day::of(alloc, vec![in alloc; client]?)
+        ..Day::of_one(&rt, alloc, client)
     };
-    play(&rt, alloc, day)
+    play(&rt, alloc, day);
 }
 
 // The beginning of a login.
@@ -48,7 +49,7 @@ fn expect_silent<R: AllocGlobal + Threads + Wait + Clock + Abort + Sync>(
     end: End,
     bytes: &[u8],
     kind: ErrorKind,
-) -> Result<(), Fail> {
+) {
     let alloc = rt.alloc();
     let count = AtomicU64::new(0);
     let client = Client {
@@ -62,19 +63,19 @@ fn expect_silent<R: AllocGlobal + Threads + Wait + Clock + Abort + Sync>(
     let day = Day {
         codes,
         turns: 1000,
-        ..Day::of(alloc, vec![in alloc; client]?)
+        ..Day::of_one(rt, alloc, client)
     };
-    play(rt, alloc, day)
+    play(rt, alloc, day);
 }
 
 #[test]
-fn who_has_not_logged_in_keeps_no_day(rt: HostRuntime) -> Result<(), Fail> {
-    expect_silent(&rt, b"QMEC", End::DayEnd, b"", ErrorKind::WouldBlock)?;
-    expect_silent(&rt, b"QMEC", End::DayEnd, HALF, ErrorKind::TimedOut)
+fn who_has_not_logged_in_keeps_no_day(rt: HostRuntime) {
+    expect_silent(&rt, b"QMEC", End::DayEnd, b"", ErrorKind::WouldBlock);
+    expect_silent(&rt, b"QMEC", End::DayEnd, HALF, ErrorKind::TimedOut);
 }
 
 #[test]
-fn he_may_still_log_in_before_its_end(rt: HostRuntime) -> Result<(), Fail> {
-    expect_silent(&rt, b"QME", End::Turns, b"", ErrorKind::TimedOut)?;
-    expect_silent(&rt, b"QME", End::Turns, HALF, ErrorKind::WouldBlock)
+fn he_may_still_log_in_before_its_end(rt: HostRuntime) {
+    expect_silent(&rt, b"QME", End::Turns, b"", ErrorKind::TimedOut);
+    expect_silent(&rt, b"QME", End::Turns, HALF, ErrorKind::WouldBlock);
 }

@@ -2,6 +2,7 @@
 
 use super::client::{Client, End, Want};
 use super::cutting::{two_orders, two_replies};
+use super::equal;
 use super::packets::ACCEPTED;
 use super::stage::{Day, play};
 use hx_testing::memory::{Bad, Input, NONE_BAD, Output};
@@ -9,7 +10,6 @@ use std::io::ErrorKind;
 use std::process::Abort;
 use std::sync::Wait;
 use std::sync::atomic::AtomicU64;
-use std::test::*;
 use std::thread::Threads;
 use std::time::Clock;
 
@@ -23,9 +23,9 @@ fn expect<R: AllocGlobal + Threads + Wait + Clock + Abort + Sync>(
     read: Bad,
     write: Bad,
     outcome: &Outcome,
-) -> Result<(), Fail> {
+) {
     let alloc = rt.alloc();
-    let (bytes, replies) = (two_orders(alloc)?, two_replies(alloc)?);
+    let (bytes, replies) = (two_orders(rt, alloc), two_replies(rt, alloc));
     let count = AtomicU64::new(0);
     let (end, sent, (least, most)) = *outcome;
     let client = Client {
@@ -42,13 +42,13 @@ fn expect<R: AllocGlobal + Threads + Wait + Clock + Abort + Sync>(
         want: Want {
             end,
             sent,
-            least: replies.get(..least).ok_or("a front")?,
-            whole: replies.get(..most).ok_or("a front")?,
+            least: replies.get(..least).expect(rt, "a front"),
+            whole: replies.get(..most).expect(rt, "a front"),
             may_lack: false,
             writes: u64::MAX,
         },
     };
-    play(rt, alloc, Day::of(alloc, vec![in alloc; client]?))
+    play(rt, alloc, Day::of_one(rt, alloc, client));
 }
 
 // Each read of these numbers fails so, and this comes of it.
@@ -56,11 +56,10 @@ fn expect_reads<R: AllocGlobal + Threads + Wait + Clock + Abort + Sync>(
     rt: &R,
     kind: Option<ErrorKind>,
     outcomes: &[Outcome],
-) -> Result<(), Fail> {
+) {
     for (call, outcome) in (1..).zip(outcomes) {
-        expect(rt, Bad { call, kind }, NONE_BAD, outcome)?;
+        expect(rt, Bad { call, kind }, NONE_BAD, outcome);
     }
-    Ok(())
 }
 
 // The same of each write.
@@ -68,11 +67,10 @@ fn expect_writes<R: AllocGlobal + Threads + Wait + Clock + Abort + Sync>(
     rt: &R,
     kind: Option<ErrorKind>,
     outcomes: &[Outcome],
-) -> Result<(), Fail> {
+) {
     for (call, outcome) in (1..).zip(outcomes) {
-        expect(rt, NONE_BAD, Bad { call, kind }, outcome)?;
+        expect(rt, NONE_BAD, Bad { call, kind }, outcome);
     }
-    Ok(())
 }
 
 // The bytes of the answer to the login, of this and the first reply, and of this and both.
@@ -86,22 +84,20 @@ const BOTH: usize = 171;
 const DONE: Outcome = (End::Logout, (2, 2), (BOTH, BOTH));
 
 #[test]
-fn a_session_writes_so_many_bytes(rt: HostRuntime) -> Result<(), Fail> {
-    assert_eq!(rt; ACCEPTED.len(), LOGIN);
-    assert_eq!(rt; two_replies(rt.alloc())?.len(), BOTH);
-    Ok(())
+fn a_session_writes_so_many_bytes(rt: HostRuntime) {
+    equal(&rt, ACCEPTED.len(), LOGIN);
+    equal(&rt, two_replies(&rt, rt.alloc()).len(), BOTH);
 }
 
 #[test]
-fn reads_that_may_be_tried_again(rt: HostRuntime) -> Result<(), Fail> {
+fn reads_that_may_be_tried_again(rt: HostRuntime) {
     for kind in [
         ErrorKind::Interrupted,
         ErrorKind::WouldBlock,
         ErrorKind::TimedOut,
     ] {
-        expect_reads(&rt, Some(kind), &[DONE; 6])?;
+        expect_reads(&rt, Some(kind), &[DONE; 6]);
     }
-    Ok(())
 }
 
 // What a session has done before its reads of these numbers, where the last of them is never asked for.
@@ -117,24 +113,24 @@ fn before_reads(end: End) -> [Outcome; 6] {
 }
 
 #[test]
-fn reads_that_fail(rt: HostRuntime) -> Result<(), Fail> {
+fn reads_that_fail(rt: HostRuntime) {
     for kind in [
         ErrorKind::BrokenPipe,
         ErrorKind::ConnectionReset,
         ErrorKind::Other,
     ] {
-        expect_reads(&rt, Some(kind), &before_reads(End::Read))?;
+        expect_reads(&rt, Some(kind), &before_reads(End::Read));
     }
-    expect_reads(&rt, None, &before_reads(End::ReaderEnd))
+    expect_reads(&rt, None, &before_reads(End::ReaderEnd));
 }
 
 #[test]
-fn a_write_that_is_interrupted(rt: HostRuntime) -> Result<(), Fail> {
-    expect_writes(&rt, Some(ErrorKind::Interrupted), &[DONE; 4])
+fn a_write_that_is_interrupted(rt: HostRuntime) {
+    expect_writes(&rt, Some(ErrorKind::Interrupted), &[DONE; 4]);
 }
 
 #[test]
-fn writes_that_fail(rt: HostRuntime) -> Result<(), Fail> {
+fn writes_that_fail(rt: HostRuntime) {
     let outcomes = [
         (End::Write, (0, 0), (0, 0)),
         (End::Write, (1, 2), (LOGIN, LOGIN)),
@@ -149,7 +145,6 @@ fn writes_that_fail(rt: HostRuntime) -> Result<(), Fail> {
         None,
     ];
     for kind in kinds {
-        expect_writes(&rt, kind, &outcomes)?;
+        expect_writes(&rt, kind, &outcomes);
     }
-    Ok(())
 }

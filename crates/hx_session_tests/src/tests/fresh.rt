@@ -2,29 +2,29 @@
 
 use super::client::{Client, End, Want};
 use super::packets::{
-    ACCEPTED, BRAVO, CHARLI, HIDDEN, LOGOUT, SALE, SHOWN, put_accepted, put_executed, put_order,
+    ACCEPTED, BRAVO, CHARLI, HIDDEN, LOGOUT, SALE, SHOWN, copy_of, put_accepted, put_executed,
+    put_order,
 };
 use super::stage::{Day, play};
 use hx_testing::memory::{Behind, Input, Output};
 use std::sync::atomic::AtomicU64;
-use std::test::Fail;
 
 // The first member has a hidden order. The second one sends a displayed one at its price, and logs out only once both
 // his replies have gone out. The third member's order, which brings the second of these, comes once the first is out.
 #[test]
-fn replies_before_the_logout(rt: HostRuntime) -> Result<(), Fail> {
+fn replies_before_the_logout(rt: HostRuntime) {
     let alloc = rt.alloc();
-    let mut order = Vec::from_slice(alloc, BRAVO)?;
-    put_order(&mut order, &SHOWN)?;
+    let mut order = copy_of(&rt, alloc, BRAVO);
+    put_order(&rt, &mut order, &SHOWN);
     let mut sale = Vec::new(alloc);
-    put_order(&mut sale, &SALE)?;
-    let mut replies = Vec::from_slice(alloc, ACCEPTED)?;
-    put_accepted(&mut replies, &SHOWN, *b"FMB2", 1)?;
+    put_order(&rt, &mut sale, &SALE);
+    let mut replies = copy_of(&rt, alloc, ACCEPTED);
+    put_accepted(&rt, &mut replies, &SHOWN, *b"FMB2", 1);
     let first = replies.len() as u64;
-    put_executed(&mut replies, &SHOWN, b'A')?;
-    let mut to_third = Vec::from_slice(alloc, ACCEPTED)?;
-    put_accepted(&mut to_third, &SALE, *b"FMC3", 2)?;
-    put_executed(&mut to_third, &SALE, b'R')?;
+    put_executed(&rt, &mut replies, &SHOWN, b'A');
+    let mut to_third = copy_of(&rt, alloc, ACCEPTED);
+    put_accepted(&rt, &mut to_third, &SALE, *b"FMC3", 2);
+    put_executed(&rt, &mut to_third, &SALE, b'R');
     let counts = [AtomicU64::new(0), AtomicU64::new(0)];
     let buyer = Client {
         input: Input {
@@ -54,9 +54,9 @@ fn replies_before_the_logout(rt: HostRuntime) -> Result<(), Fail> {
         },
     };
     let day = Day {
-        before: vec![in alloc; HIDDEN]?,
+        before: vec![in alloc; HIDDEN].expect(&rt, "orders"),
         left: Some((3, 2)),
-        ..Day::of(alloc, vec![in alloc; buyer, seller]?)
+        ..Day::of(alloc, vec![in alloc; buyer, seller].expect(&rt, "clients"))
     };
-    play(&rt, alloc, day)
+    play(&rt, alloc, day);
 }

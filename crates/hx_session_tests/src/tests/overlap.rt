@@ -7,7 +7,6 @@ use hx_sessions::Gate;
 use hx_testing::memory::{Input, Output, wait_for};
 use hx_units::MemberNo;
 use std::sync::atomic::{AtomicU64, Ordering};
-use std::test::Fail;
 
 /// Holds the first submit of each of two members until the other's is there, and looks whether it is called once before
 /// each message and once after it, each time in their order.
@@ -115,14 +114,14 @@ impl Gate for Meeting {
 }
 
 #[test]
-fn sessions_overlap(rt: HostRuntime) -> Result<(), Fail> {
+fn sessions_overlap(rt: HostRuntime) {
     let alloc = rt.alloc();
     let (first, second) = (
-        one_order(alloc, ALPHA, &SHOWN)?,
-        one_order(alloc, BRAVO, &HIDDEN)?,
+        one_order(&rt, alloc, ALPHA, &SHOWN),
+        one_order(&rt, alloc, BRAVO, &HIDDEN),
     );
-    let to_first = one_reply(alloc, &SHOWN, *b"FMA1", 1)?;
-    let to_second = one_reply(alloc, &HIDDEN, *b"FMB2", first_private(2))?;
+    let to_first = one_reply(&rt, alloc, &SHOWN, *b"FMA1", 1);
+    let to_second = one_reply(&rt, alloc, &HIDDEN, *b"FMB2", first_private(2));
     let count = AtomicU64::new(0);
     let clients = vec![in alloc;
         Client {
@@ -135,12 +134,13 @@ fn sessions_overlap(rt: HostRuntime) -> Result<(), Fail> {
             output: Output::new(alloc, &count),
             want: Want::new(End::Logout, 1, &to_second),
         },
-    ]?;
+    ]
+    .expect(&rt, "clients");
     let day = Day {
         gate: Meeting::of_two(),
         submits: Some(2),
         left: Some((2, 1)),
         ..Day::of(alloc, clients)
     };
-    play(&rt, alloc, day)
+    play(&rt, alloc, day);
 }

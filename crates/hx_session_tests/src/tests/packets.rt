@@ -4,8 +4,9 @@ use arrayvec::ArrayVec;
 use hx_ouch::{
     Accepted, Canceled, Enter, Executed, Inbound, Outbound, SystemEvent, encode_in, encode_out,
 };
-use hx_units::{Firm, NoMemory, Symbol, Token};
+use hx_units::{Firm, Symbol, Token};
 use std::alloc::Global;
+use std::process::Abort;
 
 /// The login of the first member, for his replies from the first one on.
 pub const ALPHA: &[u8] = b"\0\x2fLalpha pwalpha                                1";
@@ -25,13 +26,22 @@ pub const ACCEPTED: &[u8] = b"\0\x1fAHX00000001                   1";
 /// The end of a session.
 pub const END_OF_SESSION: &[u8] = b"\0\x01Z";
 
+/// These bytes.
+pub fn copy_of<R: Abort>(rt: &R, alloc: Global, bytes: &[u8]) -> Vec<u8> {
+    Vec::from_slice(alloc, bytes).expect(rt, "a copy")
+}
+
+/// Puts others behind the bytes.
+pub fn put<R: Abort>(rt: &R, bytes: &mut Vec<u8>, others: &[u8]) {
+    bytes.extend_from_slice(others).expect(rt, "more bytes");
+}
+
 /// Puts a packet behind the bytes: its length in two bytes, which counts the type and the payload, then these.
-pub fn put_packet(bytes: &mut Vec<u8>, kind: u8, payload: &[u8]) -> Result<(), NoMemory> {
+pub fn put_packet<R: Abort>(rt: &R, bytes: &mut Vec<u8>, kind: u8, payload: &[u8]) {
     let length = u16::try_from(payload.len()).unwrap_or(0).saturating_add(1);
-    bytes.extend_from_slice(&length.to_be_bytes())?;
-    bytes.push(kind)?;
-    bytes.extend_from_slice(payload)?;
-    Ok(())
+    put(rt, bytes, &length.to_be_bytes());
+    put(rt, bytes, &[kind]);
+    put(rt, bytes, payload);
 }
 
 /// An order of 100 shares of ABCD at 10 dollars until the end of the day.
@@ -89,37 +99,39 @@ pub fn enter(order: &Order) -> ArrayVec<u8, 49> {
 }
 
 /// Puts the packet that enters the order behind the bytes.
-pub fn put_order(bytes: &mut Vec<u8>, order: &Order) -> Result<(), NoMemory> {
-    put_packet(bytes, b'U', enter(order).as_slice())
+pub fn put_order<R: Abort>(rt: &R, bytes: &mut Vec<u8>, order: &Order) {
+    put_packet(rt, bytes, b'U', enter(order).as_slice());
 }
 
 /// A login, one order and a logout.
-pub fn one_order(alloc: Global, login: &[u8], order: &Order) -> Result<Vec<u8>, NoMemory> {
-    let mut bytes = Vec::from_slice(alloc, login)?;
-    put_order(&mut bytes, order)?;
-    bytes.extend_from_slice(LOGOUT)?;
-    Ok(bytes)
+pub fn one_order<R: Abort>(rt: &R, alloc: Global, login: &[u8], order: &Order) -> Vec<u8> {
+    let mut bytes = copy_of(rt, alloc, login);
+    put_order(rt, &mut bytes, order);
+    put(rt, &mut bytes, LOGOUT);
+    bytes
 }
 
 /// The answer to a login for replies from the first one on, and that the order was accepted.
-pub fn one_reply(
+pub fn one_reply<R: Abort>(
+    rt: &R,
     alloc: Global,
     order: &Order,
     firm: [u8; 4],
     reference: u64,
-) -> Result<Vec<u8>, NoMemory> {
-    let mut bytes = Vec::from_slice(alloc, ACCEPTED)?;
-    put_accepted(&mut bytes, order, firm, reference)?;
-    Ok(bytes)
+) -> Vec<u8> {
+    let mut bytes = copy_of(rt, alloc, ACCEPTED);
+    put_accepted(rt, &mut bytes, order, firm, reference);
+    bytes
 }
 
 /// Puts the packet of the reply that the order was accepted behind the bytes, with this number of the order.
-pub fn put_accepted(
+pub fn put_accepted<R: Abort>(
+    rt: &R,
     bytes: &mut Vec<u8>,
     order: &Order,
     firm: [u8; 4],
     reference: u64,
-) -> Result<(), NoMemory> {
+) {
     let reply = encode_out(&Outbound::Accepted(Accepted {
         time: 1000,
         token: token(order.token),
@@ -138,12 +150,12 @@ pub fn put_accepted(
         order_state: b'L',
         bbo_weight: b' ',
     }));
-    put_packet(bytes, b'S', reply.as_slice())
+    put_packet(rt, bytes, b'S', reply.as_slice());
 }
 
 /// Puts the packet of the reply that the order was executed, all of it and as the first trade of the day, behind the
 /// bytes: with `A` where it was in the book, with `R` where it came to it.
-pub fn put_executed(bytes: &mut Vec<u8>, order: &Order, flag: u8) -> Result<(), NoMemory> {
+pub fn put_executed<R: Abort>(rt: &R, bytes: &mut Vec<u8>, order: &Order, flag: u8) {
     let reply = encode_out(&Outbound::Executed(Executed {
         time: 1000,
         token: token(order.token),
@@ -152,27 +164,27 @@ pub fn put_executed(bytes: &mut Vec<u8>, order: &Order, flag: u8) -> Result<(), 
         liquidity_flag: flag,
         match_number: 1,
     }));
-    put_packet(bytes, b'S', reply.as_slice())
+    put_packet(rt, bytes, b'S', reply.as_slice());
 }
 
 /// Puts the packet of the reply that the order was cancelled at the end of its time behind the bytes.
-pub fn put_timed_out(bytes: &mut Vec<u8>, order: &Order) -> Result<(), NoMemory> {
+pub fn put_timed_out<R: Abort>(rt: &R, bytes: &mut Vec<u8>, order: &Order) {
     let reply = encode_out(&Outbound::Canceled(Canceled {
         time: 1000,
         token: token(order.token),
         shares: 100,
         reason: b'T',
     }));
-    put_packet(bytes, b'S', reply.as_slice())
+    put_packet(rt, bytes, b'S', reply.as_slice());
 }
 
 /// Puts the packet of the reply that no order is accepted any more behind the bytes.
-pub fn put_end_of_hours(bytes: &mut Vec<u8>) -> Result<(), NoMemory> {
+pub fn put_end_of_hours<R: Abort>(rt: &R, bytes: &mut Vec<u8>) {
     let reply = encode_out(&Outbound::SystemEvent(SystemEvent {
         time: 1000,
         event_code: b'E',
     }));
-    put_packet(bytes, b'S', reply.as_slice())
+    put_packet(rt, bytes, b'S', reply.as_slice());
 }
 
 /// The private reference of a member's first hidden order: 2^63, his number by 2^40, and 1.

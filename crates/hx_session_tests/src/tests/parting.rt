@@ -2,22 +2,21 @@
 
 use super::client::{Client, End, Want};
 use super::packets::{
-    ACCEPTED, ALPHA, BRAVO, HIDDEN, SHOWN, first_private, one_order, one_reply, put_order,
+    ACCEPTED, ALPHA, BRAVO, HIDDEN, SHOWN, copy_of, first_private, one_order, one_reply, put_order,
 };
 use super::stage::{Day, play};
 use hx_testing::memory::{Behind, Input, Output};
 use std::io::ErrorKind;
 use std::sync::atomic::AtomicU64;
-use std::test::Fail;
 
 #[test]
-fn a_session_that_fails(rt: HostRuntime) -> Result<(), Fail> {
+fn a_session_that_fails(rt: HostRuntime) {
     let alloc = rt.alloc();
-    let mut first = Vec::from_slice(alloc, ALPHA)?;
-    put_order(&mut first, &SHOWN)?;
-    let second = one_order(alloc, BRAVO, &HIDDEN)?;
-    let to_first = one_reply(alloc, &SHOWN, *b"FMA1", 1)?;
-    let to_second = one_reply(alloc, &HIDDEN, *b"FMB2", first_private(2))?;
+    let mut first = copy_of(&rt, alloc, ALPHA);
+    put_order(&rt, &mut first, &SHOWN);
+    let second = one_order(&rt, alloc, BRAVO, &HIDDEN);
+    let to_first = one_reply(&rt, alloc, &SHOWN, *b"FMA1", 1);
+    let to_second = one_reply(&rt, alloc, &HIDDEN, *b"FMB2", first_private(2));
     let count = AtomicU64::new(0);
     let clients = vec![in alloc;
         Client {
@@ -36,20 +35,21 @@ fn a_session_that_fails(rt: HostRuntime) -> Result<(), Fail> {
             output: Output::new(alloc, &count),
             want: Want::new(End::Logout, 1, &to_second),
         },
-    ]?;
+    ]
+    .expect(&rt, "clients");
     let day = Day {
         left: Some((2, 1)),
         ..Day::of(alloc, clients)
     };
-    play(&rt, alloc, day)
+    play(&rt, alloc, day);
 }
 
 #[test]
-fn no_session_at_all(rt: HostRuntime) -> Result<(), Fail> {
+fn no_session_at_all(rt: HostRuntime) {
     let alloc = rt.alloc();
     let day = Day {
         left: Some((0, 0)),
         ..Day::of(alloc, Vec::new(alloc))
     };
-    play(&rt, alloc, day)
+    play(&rt, alloc, day);
 }

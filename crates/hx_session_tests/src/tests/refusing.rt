@@ -6,10 +6,9 @@ use super::packets::{ACCEPTED, ALPHA, SHOWN, one_order, one_reply};
 use super::stage::{Day, play, play_by};
 use hx_members::Setup;
 use hx_testing::memory::{Input, Output};
-use hx_units::NoMemory;
 use std::alloc::Global;
+use std::process::Abort;
 use std::sync::atomic::AtomicU64;
-use std::test::Fail;
 
 const ONE_MESSAGE: &[u8] = b"session HX00000001
 start open
@@ -21,10 +20,10 @@ member 2 FMB2 BRAVO PWBRAVO 1000
 // The member may send one message: of his two orders the second one is refused, and ends his session. The gate is called
 // round both.
 #[test]
-fn a_message_beyond_the_limit(rt: HostRuntime) -> Result<(), Fail> {
+fn a_message_beyond_the_limit(rt: HostRuntime) {
     let alloc = rt.alloc();
-    let bytes = two_orders(alloc)?;
-    let replies = one_reply(alloc, &SHOWN, *b"FMA1", 1)?;
+    let bytes = two_orders(&rt, alloc);
+    let replies = one_reply(&rt, alloc, &SHOWN, *b"FMA1", 1);
     let count = AtomicU64::new(0);
     let client = Client {
         input: Input::new(&bytes),
@@ -37,16 +36,17 @@ fn a_message_beyond_the_limit(rt: HostRuntime) -> Result<(), Fail> {
     let day = Day {
         submits: Some(2),
         left: Some((1, 1)),
-        ..Day::of(alloc, vec![in alloc; client]?)
+        ..Day::of_one(&rt, alloc, client)
     };
-    play_by(&rt, alloc, Setup::read(alloc, ONE_MESSAGE)?, day)
+    let setup = Setup::read(alloc, ONE_MESSAGE).expect(&rt, "a setup");
+    play_by(&rt, alloc, setup, day);
 }
 
 // The gate is called round each of two submits.
 #[test]
-fn the_gate_is_called_round_each_submit(rt: HostRuntime) -> Result<(), Fail> {
+fn the_gate_is_called_round_each_submit(rt: HostRuntime) {
     let alloc = rt.alloc();
-    let (bytes, replies) = (two_orders(alloc)?, two_replies(alloc)?);
+    let (bytes, replies) = (two_orders(&rt, alloc), two_replies(&rt, alloc));
     let count = AtomicU64::new(0);
     let client = Client {
         input: Input::new(&bytes),
@@ -55,31 +55,31 @@ fn the_gate_is_called_round_each_submit(rt: HostRuntime) -> Result<(), Fail> {
     };
     let day = Day {
         submits: Some(2),
-        ..Day::of(alloc, vec![in alloc; client]?)
+        ..Day::of_one(&rt, alloc, client)
     };
-    play(&rt, alloc, day)
+    play(&rt, alloc, day);
 }
 
 // An output that has room for all that comes.
-fn roomy<'a>(alloc: Global, count: &'a AtomicU64) -> Result<Output<'a>, NoMemory> {
-    Ok(Output {
-        taken: Vec::with_capacity(alloc, 4096)?,
+fn roomy<'a, R: Abort>(rt: &R, alloc: Global, count: &'a AtomicU64) -> Output<'a> {
+    Output {
+        taken: Vec::with_capacity(alloc, 4096).expect(rt, "room"),
         ..Output::new(alloc, count)
-    })
+    }
 }
 
 // A session that may lack memory, and one behind it with the same pass that sends the same order again: a token counts
 // once, so one reply is there in any case, and comes whole the second time. Here there is all the memory that both need;
 // where an allocation is refused the first one may end for want of it.
 #[test]
-fn a_session_that_lacks_memory(rt: HostRuntime) -> Result<(), Fail> {
+fn a_session_that_lacks_memory(rt: HostRuntime) {
     let alloc = rt.alloc();
-    let order = one_order(alloc, ALPHA, &SHOWN)?;
-    let replies = one_reply(alloc, &SHOWN, *b"FMA1", 1)?;
+    let order = one_order(&rt, alloc, ALPHA, &SHOWN);
+    let replies = one_reply(&rt, alloc, &SHOWN, *b"FMA1", 1);
     let count = AtomicU64::new(0);
     let first = Client {
         input: Input::new(&order),
-        output: roomy(alloc, &count)?,
+        output: roomy(&rt, alloc, &count),
         want: Want {
             may_lack: true,
             ..Want::new(End::Logout, 1, &replies)
@@ -87,13 +87,13 @@ fn a_session_that_lacks_memory(rt: HostRuntime) -> Result<(), Fail> {
     };
     let second = Client {
         input: Input::new(&order),
-        output: roomy(alloc, &count)?,
+        output: roomy(&rt, alloc, &count),
         want: Want {
             sent: (1, 2),
             ..Want::new(End::Logout, 1, &replies)
         },
     };
-    let mut day = Day::of(alloc, vec![in alloc; first]?);
-    day.later.push(second)?;
-    play(&rt, alloc, day)
+    let mut day = Day::of_one(&rt, alloc, first);
+    day.later.push(second).expect(&rt, "a place");
+    play(&rt, alloc, day);
 }

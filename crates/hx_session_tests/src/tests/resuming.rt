@@ -2,29 +2,30 @@
 
 use super::client::{Client, End, Want};
 use super::packets::{
-    ACCEPTED, ALPHA, LOGOUT, Order, SHOWN, one_order, one_reply, put_accepted, put_order,
+    ACCEPTED, ALPHA, LOGOUT, Order, SHOWN, copy_of, one_order, one_reply, put, put_accepted,
+    put_order,
 };
 use super::stage::{Day, play, play_by};
 use hx_members::Setup;
 use hx_testing::memory::{Behind, Input, Output};
-use hx_units::NoMemory;
 use std::alloc::Global;
+use std::process::Abort;
 use std::sync::atomic::AtomicU64;
-use std::test::Fail;
 
 // A login for all replies, and a logout.
-fn nothing_more(alloc: Global) -> Result<Vec<u8>, NoMemory> {
-    let mut bytes = Vec::from_slice(alloc, ALPHA)?;
-    bytes.extend_from_slice(LOGOUT)?;
-    Ok(bytes)
+fn nothing_more<R: Abort>(rt: &R, alloc: Global) -> Vec<u8> {
+    let mut bytes = copy_of(rt, alloc, ALPHA);
+    put(rt, &mut bytes, LOGOUT);
+    bytes
 }
 
 // The later session has the pass of the first one, by which one message was sent.
 #[test]
-fn a_later_session_gets_the_same_bytes(rt: HostRuntime) -> Result<(), Fail> {
+fn a_later_session_gets_the_same_bytes(rt: HostRuntime) {
     let alloc = rt.alloc();
-    let (order, again) = (one_order(alloc, ALPHA, &SHOWN)?, nothing_more(alloc)?);
-    let replies = one_reply(alloc, &SHOWN, *b"FMA1", 1)?;
+    let order = one_order(&rt, alloc, ALPHA, &SHOWN);
+    let again = nothing_more(&rt, alloc);
+    let replies = one_reply(&rt, alloc, &SHOWN, *b"FMA1", 1);
     let count = AtomicU64::new(0);
     let first = Client {
         input: Input::new(&order),
@@ -36,19 +37,19 @@ fn a_later_session_gets_the_same_bytes(rt: HostRuntime) -> Result<(), Fail> {
         output: Output::new(alloc, &count),
         want: Want::new(End::Logout, 1, &replies),
     };
-    let mut day = Day::of(alloc, vec![in alloc; first]?);
-    day.later.push(second)?;
+    let mut day = Day::of_one(&rt, alloc, first);
+    day.later.push(second).expect(&rt, "a place");
     day.left = Some((1, 1));
-    play(&rt, alloc, day)
+    play(&rt, alloc, day);
 }
 
 // Both log out once they have the reply to the order that one of them sends.
 #[test]
-fn two_sessions_of_one_member(rt: HostRuntime) -> Result<(), Fail> {
+fn two_sessions_of_one_member(rt: HostRuntime) {
     let alloc = rt.alloc();
-    let mut order = Vec::from_slice(alloc, ALPHA)?;
-    put_order(&mut order, &SHOWN)?;
-    let replies = one_reply(alloc, &SHOWN, *b"FMA1", 1)?;
+    let mut order = copy_of(&rt, alloc, ALPHA);
+    put_order(&rt, &mut order, &SHOWN);
+    let replies = one_reply(&rt, alloc, &SHOWN, *b"FMA1", 1);
     let counts = [AtomicU64::new(0), AtomicU64::new(0)];
     let mut clients = Vec::new(alloc);
     for ((bytes, sent), count) in [(order.as_slice(), 1), (ALPHA, 0)].into_iter().zip(&counts) {
@@ -57,16 +58,17 @@ fn two_sessions_of_one_member(rt: HostRuntime) -> Result<(), Fail> {
             wanted: replies.len() as u64,
             last: LOGOUT,
         };
-        clients.push(Client {
+        let client = Client {
             input: Input {
                 behind,
                 ..Input::new(bytes)
             },
             output: Output::new(alloc, count),
             want: Want::new(End::Logout, sent, &replies),
-        })?;
+        };
+        clients.push(client).expect(&rt, "a client");
     }
-    play(&rt, alloc, Day::of(alloc, clients))
+    play(&rt, alloc, Day::of(alloc, clients));
 }
 
 // How many orders are there before the member comes.
@@ -90,24 +92,24 @@ fn numbered(number: u64) -> Order {
 }
 
 // That many orders, and the answer to the login with all replies to them.
-fn many(alloc: Global) -> Result<(Vec<Order>, Vec<u8>), NoMemory> {
+fn many<R: Abort>(rt: &R, alloc: Global) -> (Vec<Order>, Vec<u8>) {
     let mut orders = Vec::new(alloc);
-    let mut replies = Vec::from_slice(alloc, ACCEPTED)?;
+    let mut replies = copy_of(rt, alloc, ACCEPTED);
     for number in 1..=MANY {
         let order = numbered(number);
-        orders.push(order)?;
-        put_accepted(&mut replies, &order, *b"FMA1", number)?;
+        orders.push(order).expect(rt, "a place");
+        put_accepted(rt, &mut replies, &order, *b"FMA1", number);
     }
-    Ok((orders, replies))
+    (orders, replies)
 }
 
 // The session has a turn for each reply, and a few. They go out 64 by one write: the last ones behind the logout, and the
 // answer to the login before all.
 #[test]
-fn thousands_of_replies(rt: HostRuntime) -> Result<(), Fail> {
+fn thousands_of_replies(rt: HostRuntime) {
     let alloc = rt.alloc();
-    let bytes = nothing_more(alloc)?;
-    let (orders, replies) = many(alloc)?;
+    let bytes = nothing_more(&rt, alloc);
+    let (orders, replies) = many(&rt, alloc);
     let count = AtomicU64::new(0);
     let client = Client {
         input: Input::new(&bytes),
@@ -120,7 +122,8 @@ fn thousands_of_replies(rt: HostRuntime) -> Result<(), Fail> {
     let day = Day {
         before: orders,
         turns: MANY + 100,
-        ..Day::of(alloc, vec![in alloc; client]?)
+        ..Day::of_one(&rt, alloc, client)
     };
-    play_by(&rt, alloc, Setup::read(alloc, MANY_MESSAGES)?, day)
+    let setup = Setup::read(alloc, MANY_MESSAGES).expect(&rt, "a setup");
+    play_by(&rt, alloc, setup, day);
 }

@@ -1,11 +1,11 @@
 //! A session that has nothing to do.
 
 use super::client::{Client, End, Want};
-use super::packets::{ACCEPTED, ALPHA};
+use super::equal;
+use super::packets::{ACCEPTED, ALPHA, copy_of, put};
 use super::stage::{Day, play};
 use hx_testing::memory::{Behind, Input, Output, Rest};
 use std::sync::atomic::AtomicU64;
-use std::test::*;
 
 // A heartbeat of the server (SoupBinTCP 3.00, Server Heartbeat Packet).
 const HEARTBEAT: &[u8] = b"\0\x01H";
@@ -15,13 +15,13 @@ const END: u64 = 9_500_000_000;
 
 // It sleeps until its next heartbeat, each time: in nine seconds and a half it sends nine, and sleeps ten times.
 #[test]
-fn an_idle_session_sleeps(rt: HostRuntime) -> Result<(), Fail> {
+fn an_idle_session_sleeps(rt: HostRuntime) {
     let alloc = rt.alloc();
     let rest = Rest::new(END);
     let count = AtomicU64::new(0);
-    let mut whole = Vec::from_slice(alloc, ACCEPTED)?;
+    let mut whole = copy_of(&rt, alloc, ACCEPTED);
     for _ in 0..9 {
-        whole.extend_from_slice(HEARTBEAT)?;
+        put(&rt, &mut whole, HEARTBEAT);
     }
     let client = Client {
         input: Input {
@@ -31,7 +31,6 @@ fn an_idle_session_sleeps(rt: HostRuntime) -> Result<(), Fail> {
         output: Output::new(alloc, &count),
         want: Want::new(End::ReaderEnd, 0, &whole),
     };
-    play(&rt, alloc, Day::of(alloc, vec![in alloc; client]?))?;
-    assert_eq!(rt; rest.sleeps(), 10);
-    Ok(())
+    play(&rt, alloc, Day::of_one(&rt, alloc, client));
+    equal(&rt, rest.sleeps(), 10);
 }

@@ -5,6 +5,7 @@ ghost use Rattle.hx_engine.specs.Opening.{IsNewLog};
 use super::client::{Client, Want};
 use super::overlap::Meeting;
 use super::packets::{Order, enter};
+use super::{equal, holds};
 use hx_bells::{Bell, Source};
 use hx_blog::{Log, Reader};
 use hx_engine::{Entry, Exchange, FinishError, Logs, Pass, Venue};
@@ -13,7 +14,6 @@ use hx_market::{Bytes, Event};
 use hx_members::Setup;
 use hx_sessions::{Clock, DropCopy, Logins, Part, serve_all};
 use hx_testing::memory::{Behind, Input, Output, Rest};
-use hx_units::NoMemory;
 use std::alloc::Global;
 use std::io::{self, Read};
 use std::marker::Brand;
@@ -21,7 +21,6 @@ use std::process::Abort;
 use std::sync::Wait;
 use std::sync::atomic::Ordering;
 use std::sync::ledger::Blank;
-use std::test::*;
 use std::thread::Threads;
 use std::time::{Clock as Timer, Duration};
 
@@ -84,6 +83,11 @@ impl<'a> Day<'a> {
             left: None,
         }
     }
+
+    /// This one client comes.
+    pub fn of_one<R: Abort>(rt: &R, alloc: Global, client: Client<'a>) -> Self {
+        Day::of(alloc, vec![in alloc; client].expect(rt, "a client"))
+    }
 }
 
 // An input in memory, where a session sleeps until its last bytes are let go.
@@ -127,6 +131,15 @@ struct Stage<V: Venue> {
     ghost belongs: { reader.log ≡ V.log },
 }
 
+// The first member's message that enters an order.
+fn message<R: Abort>(rt: &R, alloc: Global, order: &Order) -> Event {
+    Event::Message {
+        member: 1,
+        time: 1000,
+        bytes: Bytes::of(alloc, enter(order).as_slice()).expect(rt, "a message"),
+    }
+}
+
 impl<V: Venue> Stage<V> {
     // Records an event by the first of the passes that are left: whether it was taken.
     fn record<R: Wait>(&mut self, rt: &R, event: &Event) -> bool {
@@ -137,28 +150,18 @@ impl<V: Venue> Stage<V> {
     }
 
     // Records orders of the first member, and then hours codes.
-    fn open<R: Wait + Abort>(
-        &mut self,
-        rt: &R,
-        orders: &[Order],
-        codes: &[u8],
-    ) -> Result<(), NoMemory> {
+    fn open<R: Wait + Abort>(&mut self, rt: &R, orders: &[Order], codes: &[u8]) {
         for order in orders {
-            let event = Event::Message {
-                member: 1,
-                time: 1000,
-                bytes: Bytes::of(self.alloc, enter(order).as_slice())?,
-            };
-            assert!(rt; self.record(rt, &event));
+            let event = message(rt, self.alloc, order);
+            holds(rt, self.record(rt, &event));
         }
         for code in codes {
             let event = Event::Hours {
                 time: 1000,
                 code: *code,
             };
-            assert!(rt; self.record(rt, &event));
+            holds(rt, self.record(rt, &event));
         }
-        Ok(())
     }
 
     // A part for a client, with the last of the passes that are left.
@@ -180,8 +183,8 @@ impl<V: Venue> Stage<V> {
     }
 
     // Ends the exchange, first without one of its passes: it is named, and all comes back.
-    fn finish<R: Abort>(mut self, rt: &R, entries: usize, messages: u64) -> Result<(), Fail> {
-        let last = self.passes.pop().ok_or("a pass")?;
+    fn finish<R: Abort>(mut self, rt: &R, entries: usize, messages: u64) {
+        let last = self.passes.pop().expect(rt, "a pass");
         let Err(
             FinishError::Missing {
                 number,
@@ -190,24 +193,24 @@ impl<V: Venue> Stage<V> {
             },
         ) = self.exchange.finish(self.passes)
         else {
-            return Err("a pass is missing".into());
+            panic!(rt; "a pass is missing");
         };
-        assert_eq!(rt; number, last.number());
-        passes.push(last)?;
+        equal(rt, number, last.number());
+        passes.push(last).expect(rt, "a place");
         let Ok(finished) = exchange.finish(passes) else {
-            return Err("all passes are there".into());
+            panic!(rt; "all passes are there");
         };
-        assert_eq!(rt; finished.history.len(), entries);
-        assert_eq!(rt; finished.feed, messages);
-        Ok(())
+        equal(rt, finished.history.len(), entries);
+        equal(rt, finished.feed, messages);
     }
 }
 
 // The parts of these clients, and what must come of each.
-fn parts_of<'a, V: Venue>(
+fn parts_of<'a, V: Venue, R: Abort>(
+    rt: &R,
     stage: &mut Stage<V>,
     clients: Vec<Client<'a>>,
-) -> Result<(Vec<OwnPart<'a, V>>, Vec<Want<'a>>), Fail> {
+) -> (Vec<OwnPart<'a, V>>, Vec<Want<'a>>) {
     let mut parts = Vec::new(stage.alloc);
     let mut wants = Vec::new(stage.alloc);
     for client in clients {
@@ -216,10 +219,11 @@ fn parts_of<'a, V: Venue>(
             output,
             want,
         } = client;
-        parts.push(stage.part(input, output).ok_or("a pass")?)?;
-        wants.push(want)?;
+        let part = stage.part(input, output).expect(rt, "a pass");
+        parts.push(part).expect(rt, "a part");
+        wants.push(want).expect(rt, "a want");
     }
-    Ok((parts, wants))
+    (parts, wants)
 }
 
 // Serves these clients at once, and looks at what came of it. Their passes are there again then.
@@ -230,8 +234,8 @@ fn serve<V: Venue + Send + Sync, R: Threads + Wait + Timer + Abort + Sync>(
     copies: &[DropCopy],
     gate: &Meeting,
     turns: u64,
-) -> Result<(), Fail> {
-    let (parts, wants) = parts_of(stage, clients)?;
+) {
+    let (parts, wants) = parts_of(rt, stage, clients);
     let logins = Logins {
         setup: &stage.setup,
         copies,
@@ -246,14 +250,13 @@ fn serve<V: Venue + Send + Sync, R: Threads + Wait + Timer + Abort + Sync>(
         turns,
     );
     let Ok(ended) = served else {
-        return Err("memory".into());
+        panic!(rt; "memory");
     };
-    assert_eq!(rt; ended.len(), wants.len());
+    equal(rt, ended.len(), wants.len());
     for ((part, outcome), want) in ended.into_iter().zip(&wants) {
         want.meet(rt, &part.output, part.pass.sent().len(), &outcome);
-        stage.passes.push(part.pass)?;
+        stage.passes.push(part.pass).expect(rt, "a place");
     }
-    Ok(())
 }
 
 // The logs of a new exchange, with a reader of the feed's, and its ledger.
@@ -270,7 +273,7 @@ fn play_at<V: Venue + Send + Sync, R: Threads + Wait + Timer + Abort + Sync>(
     setup: Setup,
     ends: Ends,
     day: Day,
-) -> Result<(), Fail>
+)
     requires feed { IsNewLog V.log ends.logs.feed }
     requires admitted { IsNewLog V.admitted ends.logs.admitted }
     requires kept { IsNewLog V.kept ends.logs.kept }
@@ -296,9 +299,11 @@ fn play_at<V: Venue + Send + Sync, R: Threads + Wait + Timer + Abort + Sync>(
         turns,
         left,
     } = day;
-    let own = setup.copy(alloc)?;
+    let own = setup.copy(alloc).expect(rt, "a setup");
     let journal = Unkept::new();
-    let (exchange, passes) = Exchange::<V, Unkept>::new(alloc, setup, logs, journal, blank, 3)?;
+    let (exchange, passes) = Exchange::<V, Unkept>::new(
+        alloc, setup, logs, journal, blank, 3,
+    ).expect(rt, "an exchange");
     let mut stage = Stage {
         alloc,
         setup: own,
@@ -306,18 +311,23 @@ fn play_at<V: Venue + Send + Sync, R: Threads + Wait + Timer + Abort + Sync>(
         passes,
         reader,
     };
-    stage.open(rt, &before, codes)?;
-    serve(rt, &mut stage, clients, &copies, &gate, turns)?;
-    serve(rt, &mut stage, later, &copies, &gate, turns)?;
-    assert!(rt; gate.was_in_time());
-    let made = gate.submits();
-    assert!(rt; made.is_some());
-    assert!(rt; submits.is_none() || submits == made);
-    assert!(rt; at_once.is_none() || at_once == Some(gate.at_once()));
-    match left {
-        Some((entries, messages)) => stage.finish(rt, entries, messages),
-        None => Ok(()),
+    stage.open(rt, &before, codes);
+    serve(rt, &mut stage, clients, &copies, &gate, turns);
+    serve(rt, &mut stage, later, &copies, &gate, turns);
+    expect_calls(rt, &gate, submits, at_once);
+    if let Some((entries, messages)) = left {
+        stage.finish(rt, entries, messages);
     }
+}
+
+// Nobody waited in vain, and the gate was called round each submit: so often, and round so many messages of the first,
+// where the test says so.
+fn expect_calls<R: Abort>(rt: &R, gate: &Meeting, submits: Option<u64>, at_once: Option<u64>) {
+    holds(rt, gate.was_in_time());
+    let made = gate.submits();
+    holds(rt, made.is_some());
+    holds(rt, submits.is_none() || submits == made);
+    holds(rt, at_once.is_none() || at_once == Some(gate.at_once()));
 }
 
 /// Plays a day at a new exchange of this setup, with three passes.
@@ -326,10 +336,10 @@ pub fn play_by<R: Threads + Wait + Timer + Abort + Sync>(
     alloc: Global,
     setup: Setup,
     day: Day,
-) -> Result<(), Fail> {
-    let (log, writer, reader) = Log::<Entry>::new(alloc, 5000)?;
-    let (admitted, register, _) = Log::<Entry>::new(alloc, 1)?;
-    let (kept, keeper, _) = Log::<Entry>::new(alloc, 1)?;
+) {
+    let (log, writer, reader) = Log::<Entry>::new(alloc, 5000).expect(rt, "a log");
+    let (admitted, register, _) = Log::<Entry>::new(alloc, 1).expect(rt, "a log");
+    let (kept, keeper, _) = Log::<Entry>::new(alloc, 1).expect(rt, "a log");
     let ends = Ends {
         logs: Logs {
             feed: (log, writer),
@@ -339,14 +349,11 @@ pub fn play_by<R: Threads + Wait + Timer + Abort + Sync>(
         reader,
         blank: Blank::new(3),
     };
-    play_at::<Brand, R>(rt, alloc, setup, ends, day)
+    play_at::<Brand, R>(rt, alloc, setup, ends, day);
 }
 
 /// Plays a day at a new exchange of the standard setup.
-pub fn play<R: Threads + Wait + Timer + Abort + Sync>(
-    rt: &R,
-    alloc: Global,
-    day: Day,
-) -> Result<(), Fail> {
-    play_by(rt, alloc, Setup::standard(alloc)?, day)
+pub fn play<R: Threads + Wait + Timer + Abort + Sync>(rt: &R, alloc: Global, day: Day) {
+    let setup = Setup::standard(alloc).expect(rt, "a setup");
+    play_by(rt, alloc, setup, day);
 }

@@ -1,5 +1,6 @@
 //! A day whose quiet chains are those of several members.
 
+use super::equal;
 use super::replaying::{expect_output, replayed};
 use hx_audit::{StrikeError, strike_all, strike_chains};
 use hx_market::{Event, PrepareError};
@@ -35,7 +36,8 @@ fn third_line(text: &[u8]) -> &[u8] {
 #[test]
 fn the_day_is_as_told(rt: HostRuntime) -> Result<(), Fail> {
     let day = Day::of(rt.alloc(), TWO_QUIET_MEMBERS)?;
-    expect_output(&rt, &day, replayed(rt.alloc(), &day.tape))
+    expect_output(&rt, &day, replayed(rt.alloc(), &day.tape));
+    Ok(())
 }
 
 #[test]
@@ -43,28 +45,29 @@ fn without_all_quiet_chains_one_line_stays(rt: HostRuntime) -> Result<(), Fail> 
     let day = Day::of(rt.alloc(), TWO_QUIET_MEMBERS)?;
     let mut output = Vec::new(rt.alloc());
     let mut reader = day.tape.as_slice();
-    let setup = standard(rt.alloc())?;
-    let counts = strike_all_tape(rt.alloc(), &setup, &mut reader, &mut output)?;
-    assert_eq!(rt; output.as_slice(), third_line(&day.tape));
-    assert_eq!(rt; (counts.events, counts.feed, counts.replies), (1, 0, 0));
+    let setup = standard(rt.alloc()).expect(&rt, "memory");
+    let counts = strike_all_tape(rt.alloc(), &setup, &mut reader, &mut output).expect(
+        &rt, "a strike",
+    );
+    equal(&rt, output.as_slice(), third_line(&day.tape));
+    equal(&rt, (counts.events, counts.feed, counts.replies), (1, 0, 0));
     Ok(())
 }
 
 #[test]
-fn a_bad_line_is_named(rt: HostRuntime) -> Result<(), Fail> {
+fn a_bad_line_is_named(rt: HostRuntime) {
     let mut output = Vec::new(rt.alloc());
     let mut reader: &[u8] = b"10 0 4b\n20 7 zz\n";
-    let setup = standard(rt.alloc())?;
+    let setup = standard(rt.alloc()).expect(&rt, "memory");
     match strike_all_tape(rt.alloc(), &setup, &mut reader, &mut output) {
-        Err(TapeError::Line { line, kind }) => assert_eq!(rt; (line, kind), (2, Kind::Bad)),
+        Err(TapeError::Line { line, kind }) => equal(&rt, (line, kind), (2, Kind::Bad)),
         _ => panic!(rt; "the second line is bad"),
     }
-    assert_eq!(rt; output.len(), 0);
-    Ok(())
+    equal(&rt, output.len(), 0);
 }
 
 // When the events are: each of this day has a time of its own.
-fn times(alloc: Global, events: &[Event]) -> Result<Vec<u64>, Fail> {
+fn times(rt: &impl Abort, alloc: Global, events: &[Event]) -> Vec<u64> {
     let mut times = Vec::new(alloc);
     for event in events {
         let (Event::Message { time, .. }
@@ -72,54 +75,57 @@ fn times(alloc: Global, events: &[Event]) -> Result<Vec<u64>, Fail> {
         | Event::Hours { time, .. }
         | Event::Halt { time, .. }
         | Event::Break { time, .. }) = event;
-        times.push(*time)?;
+        times.push(*time).expect(rt, "memory");
     }
-    Ok(times)
+    times
 }
 
 // The day's events without the chains of a member's tokens, by their times.
-fn left(alloc: Global, member: u16, tokens: &[Token]) -> Result<Vec<u64>, Fail> {
+fn left(rt: &impl Abort, alloc: Global, member: u16, tokens: &[Token]) -> Result<Vec<u64>, Fail> {
     let day = Day::of(alloc, TWO_QUIET_MEMBERS)?;
     let events = events_of(alloc, &day.tape)?;
-    let setup = standard(alloc)?;
-    let member = MemberNo::of(member).ok_or("no number of a member")?;
-    times(
-        alloc,
-        &strike_chains(alloc, &setup, &events, member, tokens)?,
-    )
+    let setup = standard(alloc).expect(rt, "memory");
+    let member = MemberNo::of(member).expect(rt, "a number of a member");
+    let kept = strike_chains(alloc, &setup, &events, member, tokens).expect(rt, "a strike");
+    Ok(times(rt, alloc, &kept))
 }
 
 #[test]
 fn all_quiet_chains_are_struck(rt: HostRuntime) -> Result<(), Fail> {
     let day = Day::of(rt.alloc(), TWO_QUIET_MEMBERS)?;
     let events = events_of(rt.alloc(), &day.tape)?;
-    let setup = standard(rt.alloc())?;
-    let kept = times(rt.alloc(), &strike_all(rt.alloc(), &setup, &events)?)?;
-    assert_eq!(rt; kept.as_slice(), [30].as_slice());
+    let setup = standard(rt.alloc()).expect(&rt, "memory");
+    let kept = strike_all(rt.alloc(), &setup, &events).expect(&rt, "a strike");
+    equal(
+        &rt,
+        times(&rt, rt.alloc(), &kept).as_slice(),
+        [30].as_slice(),
+    );
     Ok(())
 }
 
 #[test]
 fn listed_chains_are_struck(rt: HostRuntime) -> Result<(), Fail> {
-    let chain = left(rt.alloc(), 1, &[Token(*b"H9            ")])?;
-    assert_eq!(rt; chain.as_slice(), [20, 30].as_slice());
-    let none = left(rt.alloc(), 1, &[])?;
-    assert_eq!(rt; none.as_slice(), [10, 20, 30, 40].as_slice());
+    let chain = left(&rt, rt.alloc(), 1, &[Token(*b"H9            ")])?;
+    equal(&rt, chain.as_slice(), [20, 30].as_slice());
+    let none = left(&rt, rt.alloc(), 1, &[])?;
+    equal(&rt, none.as_slice(), [10, 20, 30, 40].as_slice());
     Ok(())
 }
 
 // Why a list of tokens is not struck from these events.
 fn refused(
+    rt: &impl Abort,
     alloc: Global,
     events: &[Event],
     member: u16,
     tokens: &[Token],
-) -> Result<StrikeError, Fail> {
-    let setup = standard(alloc)?;
-    let member = MemberNo::of(member).ok_or("no number of a member")?;
+) -> StrikeError {
+    let setup = standard(alloc).expect(rt, "memory");
+    let member = MemberNo::of(member).expect(rt, "a number of a member");
     match strike_chains(alloc, &setup, events, member, tokens) {
-        Ok(_) => Err("these tokens are quiet".into()),
-        Err(error) => Ok(error),
+        Ok(_) => panic!(rt; "these tokens are quiet"),
+        Err(error) => error,
     }
 }
 
@@ -134,8 +140,8 @@ fn a_token_that_is_not_quiet_is_named(rt: HostRuntime) -> Result<(), Fail> {
         (1, [quiet, displayed], displayed),
         (77, [quiet, displayed], quiet),
     ] {
-        let error = refused(rt.alloc(), &events, member, &tokens)?;
-        assert_eq!(rt; error, StrikeError::NotQuiet { token: want });
+        let error = refused(&rt, rt.alloc(), &events, member, &tokens);
+        equal(&rt, error, StrikeError::NotQuiet { token: want });
     }
     Ok(())
 }
@@ -144,14 +150,16 @@ fn a_token_that_is_not_quiet_is_named(rt: HostRuntime) -> Result<(), Fail> {
 fn a_refused_event_comes_before_a_token_that_is_not_quiet(rt: HostRuntime) -> Result<(), Fail> {
     let day = Day::of(rt.alloc(), TWO_QUIET_MEMBERS)?;
     let mut events = events_of(rt.alloc(), &day.tape)?;
-    events.push(Event::Tick {
-        time: 86_400_000_000_000,
-    })?;
-    let error = refused(rt.alloc(), &events, 3, &[Token(*b"T1            ")])?;
+    events
+        .push(Event::Tick {
+            time: 86_400_000_000_000,
+        })
+        .expect(&rt, "memory");
+    let error = refused(&rt, rt.alloc(), &events, 3, &[Token(*b"T1            ")]);
     let want = StrikeError::Refused {
         index: 4,
         error: PrepareError::BadTime,
     };
-    assert_eq!(rt; error, want);
+    equal(&rt, error, want);
     Ok(())
 }

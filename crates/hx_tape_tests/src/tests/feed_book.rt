@@ -1,68 +1,82 @@
 //! The book that a reader of the feed builds over a random day with halts, beside the shown live orders.
 
 use super::generated::tape;
+use super::{equal, holds};
 use hx_itch::Feed;
 use hx_levels::LevelBook;
 use hx_market::Market;
 use hx_members::Setup;
 use hx_testing::lines::{event_of, split_line};
 use std::alloc::Global;
+use std::process::Abort;
 use std::test::Fail;
 
 // An order of the reader's book: its reference, and its open shares.
 type Shown = (u64, u32);
 
 // The orders with this many shares less of one of them, or without it where none are left.
-fn less(alloc: Global, book: &[Shown], reference: u64, by: u32) -> Result<Vec<Shown>, Fail> {
+fn less(rt: &impl Abort, alloc: Global, book: &[Shown], reference: u64, by: u32) -> Vec<Shown> {
     let mut left = Vec::new(alloc);
     for (named, open) in book {
         let gone = if *named == reference { by } else { 0 };
         if *open > gone {
-            left.push((*named, open - gone))?;
+            left.push((*named, open - gone)).expect(rt, "memory");
         }
     }
-    Ok(left)
+    left
 }
 
 // The reader's book after a message of the feed; a replaced order goes to the end.
-fn after(alloc: Global, book: &[Shown], message: &Feed) -> Result<Vec<Shown>, Fail> {
+fn after(rt: &impl Abort, alloc: Global, book: &[Shown], message: &Feed) -> Vec<Shown> {
     match message {
-        Feed::AddOrder(order) => with(alloc, book, (order.reference, order.shares)),
-        Feed::AddOrderWithAttribution(order) => with(alloc, book, (order.reference, order.shares)),
-        Feed::OrderExecuted(order) => less(alloc, book, order.reference, order.shares),
-        Feed::OrderCancel(order) => less(alloc, book, order.reference, order.shares),
-        Feed::OrderDelete(order) => less(alloc, book, order.reference, u32::MAX),
+        Feed::AddOrder(order) => with(rt, alloc, book, (order.reference, order.shares)),
+        Feed::AddOrderWithAttribution(order) => with(
+            rt,
+            alloc,
+            book,
+            (order.reference, order.shares),
+        ),
+        Feed::OrderExecuted(order) => less(rt, alloc, book, order.reference, order.shares),
+        Feed::OrderCancel(order) => less(rt, alloc, book, order.reference, order.shares),
+        Feed::OrderDelete(order) => less(rt, alloc, book, order.reference, u32::MAX),
         Feed::OrderReplace(order) => {
-            let others = less(alloc, book, order.original_reference, u32::MAX)?;
-            with(alloc, &others, (order.reference, order.shares))
+            let others = less(rt, alloc, book, order.original_reference, u32::MAX);
+            with(rt, alloc, &others, (order.reference, order.shares))
         }
-        _ => less(alloc, book, 0, 0),
+        _ => less(rt, alloc, book, 0, 0),
     }
 }
 
 // The orders, with one more at the end.
-fn with(alloc: Global, book: &[Shown], order: Shown) -> Result<Vec<Shown>, Fail> {
-    let mut more = Vec::from_slice(alloc, book)?;
-    more.push(order)?;
-    Ok(more)
+fn with(rt: &impl Abort, alloc: Global, book: &[Shown], order: Shown) -> Vec<Shown> {
+    let mut more = Vec::from_slice(alloc, book).expect(rt, "memory");
+    more.push(order).expect(rt, "memory");
+    more
 }
 
 // The shown live orders, in time.
-fn shown(alloc: Global, market: &Market<LevelBook>) -> Result<Vec<Shown>, Fail> {
+fn shown(rt: &impl Abort, alloc: Global, market: &Market<LevelBook>) -> Vec<Shown> {
     let mut orders = Vec::new(alloc);
-    for order in &market.live()? {
+    for order in &market.live().expect(rt, "memory") {
         if order.shown {
-            orders.push((order.reference, order.shares))?;
+            orders
+                .push((order.reference, order.shares))
+                .expect(rt, "memory");
         }
     }
-    Ok(orders)
+    orders
 }
 
 #[test]
 fn the_feeds_book_is_the_shown_live_orders(rt: HostRuntime) -> Result<(), Fail> {
     let alloc = rt.alloc();
-    let day = tape(alloc)?;
-    let mut market = Market::new(alloc, Setup::standard(alloc)?, LevelBook::new(alloc))?;
+    let day = tape(&rt, alloc);
+    let mut market = Market::new(
+        alloc,
+        Setup::standard(alloc).expect(&rt, "memory"),
+        LevelBook::new(alloc),
+    )
+    .expect(&rt, "memory");
     let mut book = Vec::new(alloc);
     let mut rest = day.as_slice();
     let mut most = 0;
@@ -71,15 +85,17 @@ fn the_feeds_book_is_the_shown_live_orders(rt: HostRuntime) -> Result<(), Fail> 
             break;
         };
         let event = event_of(alloc, line)?;
-        let prepared = market.prepare(&event)?;
+        let prepared = market
+            .prepare(&event)
+            .expect(&rt, "an event that is accepted");
         let output = market.commit(prepared);
         for message in &output.feed {
-            book = after(alloc, &book, message)?;
+            book = after(&rt, alloc, &book, message);
         }
-        assert_eq!(rt; book.as_slice(), shown(alloc, &market)?.as_slice());
+        equal(&rt, book.as_slice(), shown(&rt, alloc, &market).as_slice());
         most = book.len().max(most);
         rest = others;
     }
-    assert!(rt; most > 4);
+    holds(&rt, most > 4);
     Ok(())
 }

@@ -2,6 +2,7 @@
 //! halts of one of the two stocks.
 
 use super::replaying::replayed;
+use super::{equal, holds};
 use hx_ouch::{Cancel, Enter, Inbound, Replace, encode_in};
 use hx_strike::{strike_all_tape, strike_tape};
 use hx_testing::lines::lines_that;
@@ -9,7 +10,6 @@ use hx_testing::setups::standard;
 use hx_units::{Firm, MemberNo, Symbol, Token};
 use std::alloc::Global;
 use std::process::Abort;
-use std::test::Fail;
 
 fn next_number(state: &mut u64) -> u64 {
     let x = *state;
@@ -112,7 +112,7 @@ fn operator_said(number: u64) -> &'static str {
 }
 
 /// The day's tape. The lines of a number between 12 and 24 are of one member, so that most messages name his own tokens.
-pub fn tape(alloc: Global) -> Result<Vec<u8>, Fail> {
+pub fn tape(rt: &impl Abort, alloc: Global) -> Vec<u8> {
     let mut text = Vec::new(alloc);
     let mut state = 88_172_645_463_325_252;
     for line in 100..2_100u64 {
@@ -120,68 +120,76 @@ pub fn tape(alloc: Global) -> Result<Vec<u8>, Fail> {
         let number = next_number(&mut state);
         if number % 64 < 3 {
             let said = operator_said(number % 64);
-            let sent = format!(in alloc; "{time} 0 {said}\n")?;
-            text.extend_from_slice(sent.as_bytes())?;
+            let sent = format!(in alloc; "{time} 0 {said}\n").expect(rt, "memory");
+            text.extend_from_slice(sent.as_bytes()).expect(rt, "memory");
         } else {
             let member = 1 + line / 16 % 3;
-            let digits = hex::encode(alloc, encode_in(&message(line, number)).as_slice())?;
-            let sent = format!(in alloc; "{time} {member} {digits}\n")?;
-            text.extend_from_slice(sent.as_bytes())?;
+            let digits = hex::encode(alloc, encode_in(&message(line, number)).as_slice()).expect(
+                rt, "memory",
+            );
+            let sent = format!(in alloc; "{time} {member} {digits}\n").expect(rt, "memory");
+            text.extend_from_slice(sent.as_bytes()).expect(rt, "memory");
         }
     }
-    Ok(text)
+    text
 }
 
 // What a replay writes.
-fn output(alloc: Global, tape: &[u8]) -> Result<Vec<u8>, Fail> {
+fn output(rt: &impl Abort, alloc: Global, tape: &[u8]) -> Vec<u8> {
     let (output, result) = replayed(alloc, tape);
-    result?;
-    Ok(output)
+    result.expect(rt, "a replay");
+    output
 }
 
-fn struck(alloc: Global, tape: &[u8], number: u16) -> Result<Vec<u8>, Fail> {
-    let setup = standard(alloc)?;
-    let member = MemberNo::of(number).ok_or("no number of a member")?;
+fn struck(rt: &impl Abort, alloc: Global, tape: &[u8], number: u16) -> Vec<u8> {
+    let setup = standard(alloc).expect(rt, "memory");
+    let member = MemberNo::of(number).expect(rt, "a number of a member");
     let mut left = Vec::new(alloc);
     let mut reader = tape;
-    strike_tape(alloc, &setup, &mut reader, &mut left, member)?;
-    Ok(left)
+    strike_tape(alloc, &setup, &mut reader, &mut left, member).expect(rt, "a strike");
+    left
 }
 
 #[test]
-fn each_members_quiet_chains_tell_nobody_else_anything(rt: HostRuntime) -> Result<(), Fail> {
+fn each_members_quiet_chains_tell_nobody_else_anything(rt: HostRuntime) {
     let alloc = rt.alloc();
-    let day = tape(alloc)?;
-    let whole = output(alloc, &day)?;
+    let day = tape(&rt, alloc);
+    let whole = output(&rt, alloc, &day);
     for (number, beginning) in [(1, b"M 1 "), (2, b"M 2 "), (3, b"M 3 ")] {
-        let left = struck(alloc, &day, number)?;
-        assert!(rt; left.len() < day.len());
-        let others = lines_that(alloc, &output(alloc, &left)?, beginning, false)?;
-        assert_eq!(rt;
+        let left = struck(&rt, alloc, &day, number);
+        holds(&rt, left.len() < day.len());
+        let others = lines_that(alloc, &output(&rt, alloc, &left), beginning, false).expect(
+            &rt, "memory",
+        );
+        equal(
+            &rt,
             others.as_slice(),
-            lines_that(alloc, &whole, beginning, false)?.as_slice()
+            lines_that(alloc, &whole, beginning, false)
+                .expect(&rt, "memory")
+                .as_slice(),
         );
     }
-    Ok(())
 }
 
 #[test]
-fn all_quiet_chains_leave_the_feed(rt: HostRuntime) -> Result<(), Fail> {
+fn all_quiet_chains_leave_the_feed(rt: HostRuntime) {
     let alloc = rt.alloc();
-    let day = tape(alloc)?;
-    let setup = standard(alloc)?;
+    let day = tape(&rt, alloc);
+    let setup = standard(alloc).expect(&rt, "memory");
     let mut left = Vec::new(alloc);
     let mut reader = day.as_slice();
-    strike_all_tape(alloc, &setup, &mut reader, &mut left)?;
+    strike_all_tape(alloc, &setup, &mut reader, &mut left).expect(&rt, "a strike");
     // More goes than of the member of whom most goes.
     for number in 1..=3 {
-        assert!(rt; left.len() < struck(alloc, &day, number)?.len());
+        holds(&rt, left.len() < struck(&rt, alloc, &day, number).len());
     }
-    let feed = lines_that(alloc, &output(alloc, &left)?, b"F ", true)?;
-    assert_eq!(rt;
+    let feed = lines_that(alloc, &output(&rt, alloc, &left), b"F ", true).expect(&rt, "memory");
+    equal(
+        &rt,
         feed.as_slice(),
-        lines_that(alloc, &output(alloc, &day)?, b"F ", true)?.as_slice()
+        lines_that(alloc, &output(&rt, alloc, &day), b"F ", true)
+            .expect(&rt, "memory")
+            .as_slice(),
     );
-    assert!(rt; feed.len() > 10_000);
-    Ok(())
+    holds(&rt, feed.len() > 10_000);
 }

@@ -1,5 +1,6 @@
 //! Days as tapes, replayed over both books.
 
+use super::equal;
 use hx_levels::ListBook;
 use hx_replay::{Counts, Kind, TapeError, replay, replay_on};
 use hx_testing::lines::count_lines;
@@ -47,19 +48,18 @@ fn replayed_on_list(alloc: Global, text: &[u8]) -> Replayed {
     (output, result)
 }
 
-pub fn expect_output<R: Abort>(rt: &R, day: &Day, replayed: Replayed) -> Result<(), Fail> {
+pub fn expect_output<R: Abort>(rt: &R, day: &Day, replayed: Replayed) {
     let (output, result) = replayed;
-    assert_eq!(rt; output.as_slice(), day.output.as_slice());
-    let counts = result?;
-    assert_eq!(rt; counts.feed, count_lines(&day.output, b"F "));
-    assert_eq!(rt; counts.replies, count_lines(&day.output, b"M "));
-    Ok(())
+    equal(rt, output.as_slice(), day.output.as_slice());
+    let counts = result.expect(rt, "a replay");
+    equal(rt, counts.feed, count_lines(&day.output, b"F "));
+    equal(rt, counts.replies, count_lines(&day.output, b"M "));
 }
 
 // A day over price levels, and over a plain list of orders.
-pub fn expect_day<R: AllocGlobal + Abort>(rt: &R, day: &Day) -> Result<(), Fail> {
-    expect_output(rt, day, replayed(rt.alloc(), &day.tape))?;
-    expect_output(rt, day, replayed_on_list(rt.alloc(), &day.tape))
+pub fn expect_day<R: AllocGlobal + Abort>(rt: &R, day: &Day) {
+    expect_output(rt, day, replayed(rt.alloc(), &day.tape));
+    expect_output(rt, day, replayed_on_list(rt.alloc(), &day.tape));
 }
 
 // A day by this setup, over price levels.
@@ -84,12 +84,13 @@ fn replayed_by_on_list(alloc: Global, setup: &[u8], text: &[u8]) -> Result<Repla
 // A day that begins closed, over price levels, and over a plain list of orders.
 fn expect_closed_day<R: AllocGlobal + Abort>(rt: &R, words: &str) -> Result<(), Fail> {
     let day = Day::of(rt.alloc(), words)?;
-    expect_output(rt, &day, replayed_by(rt.alloc(), CLOSED, &day.tape)?)?;
+    expect_output(rt, &day, replayed_by(rt.alloc(), CLOSED, &day.tape)?);
     expect_output(
         rt,
         &day,
         replayed_by_on_list(rt.alloc(), CLOSED, &day.tape)?,
-    )
+    );
+    Ok(())
 }
 
 #[test]
@@ -104,9 +105,9 @@ fn days_that_begin_closed(rt: HostRuntime) -> Result<(), Fail> {
 fn the_third_message_of_two(rt: HostRuntime) -> Result<(), Fail> {
     let day = Day::of(rt.alloc(), worked::LIMIT_OF_TWO_MESSAGES)?;
     let (output, result) = replayed_by(rt.alloc(), TWO_MESSAGES, &day.tape)?;
-    assert_eq!(rt; output.as_slice(), day.output.as_slice());
+    equal(&rt, output.as_slice(), day.output.as_slice());
     match result {
-        Err(TapeError::Line { line, kind }) => assert_eq!(rt; (line, kind), (3, Kind::Limit)),
+        Err(TapeError::Line { line, kind }) => equal(&rt, (line, kind), (3, Kind::Limit)),
         _ => panic!(&rt; "the member may send two messages"),
     }
     Ok(())
@@ -138,7 +139,7 @@ fn days_over_both_books(rt: HostRuntime) -> Result<(), Fail> {
         worked::TWO_END_AT_ONE_TICK,
     ];
     for words in days {
-        expect_day(&rt, &Day::of(rt.alloc(), words)?)?;
+        expect_day(&rt, &Day::of(rt.alloc(), words)?);
     }
     Ok(())
 }
@@ -146,42 +147,41 @@ fn days_over_both_books(rt: HostRuntime) -> Result<(), Fail> {
 #[test]
 fn minimum_passed_over_without_its_first_line(rt: HostRuntime) -> Result<(), Fail> {
     let day = Day::of(rt.alloc(), worked::MINIMUM_PASSED_OVER)?;
-    expect_day(&rt, &day.without_first(rt.alloc())?)
+    expect_day(&rt, &day.without_first(rt.alloc())?);
+    Ok(())
 }
 
 #[test]
-fn empty_tape(rt: HostRuntime) -> Result<(), Fail> {
+fn empty_tape(rt: HostRuntime) {
     let (output, result) = replayed(rt.alloc(), b"");
-    let counts = result?;
-    assert_eq!(rt; output.len(), 0);
-    assert_eq!(rt; (counts.events, counts.feed, counts.replies), (0, 0, 0));
-    Ok(())
+    let counts = result.expect(&rt, "a replay");
+    equal(&rt, output.len(), 0);
+    equal(&rt, (counts.events, counts.feed, counts.replies), (0, 0, 0));
 }
 
 #[test]
-fn an_event_without_output(rt: HostRuntime) -> Result<(), Fail> {
+fn an_event_without_output(rt: HostRuntime) {
     let (output, result) = replayed(rt.alloc(), b"20 1 00\n");
-    let counts = result?;
-    assert_eq!(rt; output.len(), 0);
-    assert_eq!(rt; counts.events, 1);
-    Ok(())
+    let counts = result.expect(&rt, "a replay");
+    equal(&rt, output.len(), 0);
+    equal(&rt, counts.events, 1);
 }
 
 // The second line is bad, behind the output of the day.
 fn expect_bad_line<R: Abort>(rt: &R, day: &Day, replayed: Replayed, want: Kind) {
     let (output, result) = replayed;
     match result {
-        Err(TapeError::Line { line, kind }) => assert_eq!(rt; (line, kind), (2, want)),
+        Err(TapeError::Line { line, kind }) => equal(rt, (line, kind), (2, want)),
         _ => panic!(rt; "the second line fails"),
     }
-    assert_eq!(rt; output.as_slice(), day.output.as_slice());
+    equal(rt, output.as_slice(), day.output.as_slice());
 }
 
 // The line behind the tape of one displayed order is bad, over either book.
 pub fn expect_bad<R: AllocGlobal + Abort>(rt: &R, text: &[u8], want: Kind) -> Result<(), Fail> {
     let day = Day::of(rt.alloc(), worked::ONE_DISPLAYED_ORDER)?;
-    let mut tape = day.tape.clone()?;
-    tape.extend_from_slice(text)?;
+    let mut tape = day.tape.clone().expect(rt, "memory");
+    tape.extend_from_slice(text).expect(rt, "memory");
     expect_bad_line(rt, &day, replayed(rt.alloc(), &tape), want);
     expect_bad_line(rt, &day, replayed_on_list(rt.alloc(), &tape), want);
     Ok(())
@@ -209,27 +209,25 @@ fn bad_lines(rt: HostRuntime) -> Result<(), Fail> {
 }
 
 #[test]
-fn member_at_limit(rt: HostRuntime) -> Result<(), Fail> {
+fn member_at_limit(rt: HostRuntime) {
     let mut text = Vec::new(rt.alloc());
     for _ in 0..1001 {
-        text.extend_from_slice(b"20 1 00\n")?;
+        text.extend_from_slice(b"20 1 00\n").expect(&rt, "memory");
     }
     let (_, result) = replayed(rt.alloc(), &text);
     match result {
-        Err(TapeError::Line { line, kind }) => assert_eq!(rt; (line, kind), (1001, Kind::Limit)),
+        Err(TapeError::Line { line, kind }) => equal(&rt, (line, kind), (1001, Kind::Limit)),
         _ => panic!(&rt; "the member may send 1,000 messages"),
     }
-    Ok(())
 }
 
-fn expect_text<R: AllocGlobal + Abort>(rt: &R, fault: TapeError, text: &str) -> Result<(), Fail> {
-    let told = format!(in rt.alloc(); "{fault}")?;
-    assert_eq!(rt; told.as_str(), text);
-    Ok(())
+fn expect_text<R: AllocGlobal + Abort>(rt: &R, fault: TapeError, text: &str) {
+    let told = format!(in rt.alloc(); "{fault}").expect(rt, "memory");
+    equal(rt, told.as_str(), text);
 }
 
 #[test]
-fn texts_of_faults(rt: HostRuntime) -> Result<(), Fail> {
+fn texts_of_faults(rt: HostRuntime) {
     let kinds = [
         (Kind::Bad, "line 7: bad line"),
         (Kind::Time, "line 7: bad time"),
@@ -237,10 +235,10 @@ fn texts_of_faults(rt: HostRuntime) -> Result<(), Fail> {
         (Kind::Limit, "line 7: member at limit"),
     ];
     for (kind, text) in kinds {
-        expect_text(&rt, TapeError::Line { line: 7, kind }, text)?;
+        expect_text(&rt, TapeError::Line { line: 7, kind }, text);
     }
-    expect_text(&rt, TapeError::NoMemory, "no memory")?;
-    expect_text(&rt, TapeError::Read, "read failed")?;
-    expect_text(&rt, TapeError::Write, "write failed")?;
-    expect_text(&rt, TapeError::Turns, "too many reads")
+    expect_text(&rt, TapeError::NoMemory, "no memory");
+    expect_text(&rt, TapeError::Read, "read failed");
+    expect_text(&rt, TapeError::Write, "write failed");
+    expect_text(&rt, TapeError::Turns, "too many reads");
 }

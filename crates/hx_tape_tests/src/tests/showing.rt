@@ -1,10 +1,10 @@
 //! Lines and their words, worked by hand from the layouts of the standards.
 
+use super::equal;
 use hx_show::{Choice, ShowError, show};
 use hx_units::MemberNo;
 use std::alloc::Global;
 use std::process::Abort;
-use std::test::Fail;
 
 // The words of a text's chosen lines.
 fn words(alloc: Global, text: &[u8], choice: Choice) -> Result<Vec<u8>, ShowError> {
@@ -15,12 +15,11 @@ fn words(alloc: Global, text: &[u8], choice: Choice) -> Result<Vec<u8>, ShowErro
 }
 
 // Whether each line has these words.
-fn expect_words<R: AllocGlobal + Abort>(rt: &R, rows: &[(&str, &str)]) -> Result<(), Fail> {
+fn expect_words<R: AllocGlobal + Abort>(rt: &R, rows: &[(&str, &str)]) {
     for (line, want) in rows {
-        let got = words(rt.alloc(), line.as_bytes(), Choice::All)?;
-        assert_eq!(rt; got.as_slice(), want.as_bytes());
+        let got = words(rt.alloc(), line.as_bytes(), Choice::All).expect(rt, "words");
+        equal(rt, got.as_slice(), want.as_bytes());
     }
-    Ok(())
 }
 
 const ENTERED: &str =
@@ -33,7 +32,7 @@ const ADDED: &str =
     "F 1 4100010000000000000014000000000000000142000000c84142434420202020000186a0\n";
 
 #[test]
-fn lines_of_a_tape(rt: HostRuntime) -> Result<(), Fail> {
+fn lines_of_a_tape(rt: HostRuntime) {
     expect_words(
         &rt,
         &[
@@ -59,11 +58,11 @@ fn lines_of_a_tape(rt: HostRuntime) -> Result<(), Fail> {
                 "00:00:00.000000006  operator                   Break                       match number 7\n",
             ),
         ],
-    )
+    );
 }
 
 #[test]
-fn lines_of_an_output(rt: HostRuntime) -> Result<(), Fail> {
+fn lines_of_an_output(rt: HostRuntime) {
     expect_words(
         &rt,
         &[
@@ -76,11 +75,11 @@ fn lines_of_an_output(rt: HostRuntime) -> Result<(), Fail> {
                 "00:00:00.000000020  feed 1                     Add Order                   reference 1, buy, 200 shares, stock ABCD, 10.0000 dollars, locate 1\n",
             ),
         ],
-    )
+    );
 }
 
 #[test]
-fn what_cannot_be_read(rt: HostRuntime) -> Result<(), Fail> {
+fn what_cannot_be_read(rt: HostRuntime) {
     expect_words(
         &rt,
         &[
@@ -98,26 +97,28 @@ fn what_cannot_be_read(rt: HostRuntime) -> Result<(), Fail> {
                 "                    feed 7                     unreadable message\n",
             ),
         ],
-    )
+    );
 }
 
 #[test]
-fn chosen_lines(rt: HostRuntime) -> Result<(), Fail> {
+fn chosen_lines(rt: HostRuntime) {
     let alloc = rt.alloc();
     let text = b"no line\n5 1 00\n6 2 00\nM 2 1 00\nF 1 00\n";
-    let feed = words(alloc, text, Choice::Feed)?;
-    assert_eq!(rt;
+    let feed = words(alloc, text, Choice::Feed).expect(&rt, "words");
+    equal(
+        &rt,
         feed.as_slice(),
-        "                    feed 1                     unreadable message\n".as_bytes()
+        "                    feed 1                     unreadable message\n".as_bytes(),
     );
     let member = words(
         alloc,
         text,
-        Choice::Member(MemberNo::of(2).ok_or("no member")?),
-    )?;
-    assert_eq!(rt;
+        Choice::Member(MemberNo::of(2).expect(&rt, "a member")),
+    )
+    .expect(&rt, "words");
+    equal(
+        &rt,
         member.as_slice(),
-        "00:00:00.000000006  member 2                   unreadable message\n                    member 2 reply 1           unreadable message\n".as_bytes()
+        "00:00:00.000000006  member 2                   unreadable message\n                    member 2 reply 1           unreadable message\n".as_bytes(),
     );
-    Ok(())
 }

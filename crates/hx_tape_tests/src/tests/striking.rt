@@ -1,5 +1,6 @@
 //! Tapes without the messages of a member's quiet chains.
 
+use super::equal;
 use super::replaying::{Replayed, expect_output, replayed};
 use hx_replay::{Counts, Kind, TapeError};
 use hx_strike::strike_tape;
@@ -34,30 +35,20 @@ pub fn struck(alloc: Global, text: &[u8], number: u16) -> Replayed {
 }
 
 // This many lines stay of a text, and they are these.
-pub fn expect_kept<R: Abort>(
-    rt: &R,
-    struck: Replayed,
-    kept: &[u8],
-    events: u64,
-) -> Result<(), Fail> {
+pub fn expect_kept<R: Abort>(rt: &R, struck: Replayed, kept: &[u8], events: u64) {
     let (output, result) = struck;
-    assert_eq!(rt; output.as_slice(), kept);
-    let counts = result?;
-    assert_eq!(rt;
+    equal(rt, output.as_slice(), kept);
+    let counts = result.expect(rt, "a strike");
+    equal(
+        rt,
         (counts.events, counts.feed, counts.replies),
-        (events, 0, 0)
+        (events, 0, 0),
     );
-    Ok(())
 }
 
 // All lines stay.
-fn expect_whole<R: AllocGlobal + Abort>(
-    rt: &R,
-    text: &[u8],
-    number: u16,
-    events: u64,
-) -> Result<(), Fail> {
-    expect_kept(rt, struck(rt.alloc(), text, number), text, events)
+fn expect_whole<R: AllocGlobal + Abort>(rt: &R, text: &[u8], number: u16, events: u64) {
+    expect_kept(rt, struck(rt.alloc(), text, number), text, events);
 }
 
 // The first line goes, and with it the first output line alone.
@@ -68,8 +59,9 @@ fn expect_first_struck<R: AllocGlobal + Abort>(
 ) -> Result<(), Fail> {
     let day = Day::of(rt.alloc(), words)?;
     let left = day.without_first(rt.alloc())?;
-    expect_kept(rt, struck(rt.alloc(), &day.tape, 1), &left.tape, events)?;
-    expect_output(rt, &left, replayed(rt.alloc(), &left.tape))
+    expect_kept(rt, struck(rt.alloc(), &day.tape, 1), &left.tape, events);
+    expect_output(rt, &left, replayed(rt.alloc(), &left.tape));
+    Ok(())
 }
 
 #[test]
@@ -85,32 +77,37 @@ fn minimum_passed_over_leaves_the_others(rt: HostRuntime) -> Result<(), Fail> {
 #[test]
 fn chain_that_traded_stays(rt: HostRuntime) -> Result<(), Fail> {
     let day = Day::of(rt.alloc(), worked::CHAIN_THAT_TRADED)?;
-    expect_whole(&rt, &day.tape, 1, 6)
+    expect_whole(&rt, &day.tape, 1, 6);
+    Ok(())
 }
 
 #[test]
 fn chain_before_it_traded_goes(rt: HostRuntime) -> Result<(), Fail> {
     let day = Day::of(rt.alloc(), worked::CHAIN_THAT_TRADED)?;
     let text = first_lines(&day.tape, 4);
-    expect_kept(&rt, struck(rt.alloc(), text, 1), b"", 0)
+    expect_kept(&rt, struck(rt.alloc(), text, 1), b"", 0);
+    Ok(())
 }
 
 #[test]
 fn display_changes_stay(rt: HostRuntime) -> Result<(), Fail> {
     let day = Day::of(rt.alloc(), worked::DISPLAY_CHANGES)?;
-    expect_whole(&rt, &day.tape, 1, 5)
+    expect_whole(&rt, &day.tape, 1, 5);
+    Ok(())
 }
 
 #[test]
 fn first_display_change_stays(rt: HostRuntime) -> Result<(), Fail> {
     let day = Day::of(rt.alloc(), worked::DISPLAY_CHANGES)?;
-    expect_whole(&rt, first_lines(&day.tape, 2), 1, 2)
+    expect_whole(&rt, first_lines(&day.tape, 2), 1, 2);
+    Ok(())
 }
 
 #[test]
 fn other_members_keep_their_lines(rt: HostRuntime) -> Result<(), Fail> {
     let day = Day::of(rt.alloc(), worked::HIDDEN_THEN_DISPLAYED)?;
-    expect_whole(&rt, &day.tape, 4095, 2)
+    expect_whole(&rt, &day.tape, 4095, 2);
+    Ok(())
 }
 
 // The line behind the tape of one displayed order is at fault, and nothing is written.
@@ -119,10 +116,10 @@ fn expect_fault<R: AllocGlobal + Abort>(rt: &R, text: &[u8], want: Kind) -> Resu
     let mut output = Vec::new(rt.alloc());
     let mut reader = day.tape.as_slice().chain(text);
     match strike(rt.alloc(), &mut reader, &mut output, 1) {
-        Err(TapeError::Line { line, kind }) => assert_eq!(rt; (line, kind), (2, want)),
+        Err(TapeError::Line { line, kind }) => equal(rt, (line, kind), (2, want)),
         _ => panic!(rt; "the second line is at fault"),
     }
-    assert_eq!(rt; output.len(), 0);
+    equal(rt, output.len(), 0);
     Ok(())
 }
 
@@ -158,23 +155,22 @@ impl Read for Endless<'_> {
 }
 
 // The first line of the endless text is bad, and the strike ends there.
-fn expect_end<R: AllocGlobal + Abort>(rt: &R, text: &[u8]) -> Result<(), Fail> {
+fn expect_end<R: AllocGlobal + Abort>(rt: &R, text: &[u8]) {
     let mut output = Vec::new(rt.alloc());
     let mut reader = Endless { text };
     match strike(rt.alloc(), &mut reader, &mut output, 1) {
-        Err(TapeError::Line { line, kind }) => assert_eq!(rt; (line, kind), (1, Kind::Bad)),
+        Err(TapeError::Line { line, kind }) => equal(rt, (line, kind), (1, Kind::Bad)),
         _ => panic!(rt; "the first line is at fault"),
     }
-    assert_eq!(rt; output.len(), 0);
-    Ok(())
+    equal(rt, output.len(), 0);
 }
 
 #[test]
-fn a_bad_line_ends_an_endless_tape(rt: HostRuntime) -> Result<(), Fail> {
-    expect_end(&rt, b"20 1 zz\n")
+fn a_bad_line_ends_an_endless_tape(rt: HostRuntime) {
+    expect_end(&rt, b"20 1 zz\n");
 }
 
 #[test]
-fn bytes_without_a_line_feed_end(rt: HostRuntime) -> Result<(), Fail> {
-    expect_end(&rt, b"20 1 41")
+fn bytes_without_a_line_feed_end(rt: HostRuntime) {
+    expect_end(&rt, b"20 1 41");
 }

@@ -2,6 +2,7 @@
 ghost use Rattle.std.specs.Prelude.{◌<◌, ◌^◌};
 ghost use Rattle.hx_itch.specs.Message.{feed_time};
 
+use super::equal;
 use arrayvec::ArrayVec;
 use hx_itch::{
     AddOrder, AddOrderWithAttribution, BrokenTrade, Feed, OrderCancel, OrderDelete, OrderExecuted,
@@ -25,11 +26,11 @@ fn longer(bytes: &[u8]) -> ArrayVec<u8, 45> {
 fn is_feed(rt: &impl Abort, bytes: &[u8], message: Feed)
     requires { feed_time message < 2 ^ 48 }
 {
-    assert_eq!(rt; decode(bytes), Some(message));
-    assert_eq!(rt; encode(&message).as_slice(), bytes);
-    assert_eq!(rt; decode(longer(bytes).as_slice()), None);
+    equal(rt, decode(bytes), Some(message));
+    equal(rt, encode(&message).as_slice(), bytes);
+    equal(rt, decode(longer(bytes).as_slice()), None);
     if let Some((_, shorter)) = bytes.split_last() {
-        assert_eq!(rt; decode(shorter), None);
+        equal(rt, decode(shorter), None);
     }
 }
 
@@ -160,7 +161,7 @@ fn a_halt(rt: HostRuntime) {
     });
     is_feed(&rt, bytes, message);
     let reserved = b"H\x00\x01\x00\x00\x00\x00\x00\x00\x00\x1eABCD    H?T1  ";
-    assert_eq!(rt; decode(reserved), Some(message));
+    equal(&rt, decode(reserved), Some(message));
 }
 
 // An execution is broken.
@@ -184,5 +185,5 @@ fn a_tracking_number(rt: HostRuntime) {
         time: 50,
         reference: 1,
     };
-    assert_eq!(rt; decode(bytes), Some(Feed::OrderDelete(message)));
+    equal(&rt, decode(bytes), Some(Feed::OrderDelete(message)));
 }

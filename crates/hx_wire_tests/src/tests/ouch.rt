@@ -1,4 +1,5 @@
 //! The messages of worked histories, as the exchange and its members exchange them.
+use super::equal;
 use arrayvec::ArrayVec;
 use hx_ouch::{
     Accepted, BrokenTrade, Cancel, Canceled, Enter, Executed, Inbound, Outbound, Rejected, Replace,
@@ -32,21 +33,21 @@ fn longer(bytes: &[u8]) -> ArrayVec<u8, 81> {
 
 // The bytes are this message of a member, and those of one byte less or more are none.
 fn is_inbound(rt: &impl Abort, bytes: &[u8], message: Inbound) {
-    assert_eq!(rt; decode_in(bytes), Some(message));
-    assert_eq!(rt; encode_in(&message).as_slice(), bytes);
-    assert_eq!(rt; decode_in(longer(bytes).as_slice()), None);
+    equal(rt, decode_in(bytes), Some(message));
+    equal(rt, encode_in(&message).as_slice(), bytes);
+    equal(rt, decode_in(longer(bytes).as_slice()), None);
     if let Some((_, shorter)) = bytes.split_last() {
-        assert_eq!(rt; decode_in(shorter), None);
+        equal(rt, decode_in(shorter), None);
     }
 }
 
 // The bytes are this reply, and those of one byte less or more are none.
 fn is_outbound(rt: &impl Abort, bytes: &[u8], message: Outbound) {
-    assert_eq!(rt; decode_out(bytes), Some(message));
-    assert_eq!(rt; encode_out(&message).as_slice(), bytes);
-    assert_eq!(rt; decode_out(longer(bytes).as_slice()), None);
+    equal(rt, decode_out(bytes), Some(message));
+    equal(rt, encode_out(&message).as_slice(), bytes);
+    equal(rt, decode_out(longer(bytes).as_slice()), None);
     if let Some((_, shorter)) = bytes.split_last() {
-        assert_eq!(rt; decode_out(shorter), None);
+        equal(rt, decode_out(shorter), None);
     }
 }
 

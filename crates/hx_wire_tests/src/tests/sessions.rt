@@ -1,24 +1,17 @@
 //! A session from its login to its end, byte for byte (SoupBinTCP 3.00), in the standard setup.
+use super::{equal, holds};
 use arrayvec::ArrayVec;
 use hx_members::Setup;
 use hx_session_core::{Action, Delivery, Intake, Turn, start};
 use hx_soup::{LoginRequest, Payload, SoupPacket, accepted};
 use hx_units::MemberNo;
-use std::alloc::{AllocError, Global};
-use std::test::Fail;
+use std::alloc::Global;
+use std::process::Abort;
 
 // What a packet asks for.
-fn asked(
-    alloc: Global,
-    intake: &mut Intake,
-    kind: u8,
-    payload: &[u8],
-) -> Result<Action, AllocError> {
-    let packet = SoupPacket {
-        kind,
-        payload: Payload::of(Vec::from_slice(alloc, payload)?),
-    };
-    Ok(intake.packet(&packet))
+fn asked(rt: &impl Abort, alloc: Global, intake: &mut Intake, kind: u8, payload: &[u8]) -> Action {
+    let payload = Payload::of(Vec::from_slice(alloc, payload).expect(rt, "memory"));
+    intake.packet(&SoupPacket { kind, payload })
 }
 
 // A reply of one byte.
@@ -40,52 +33,51 @@ const LOGIN: LoginRequest = LoginRequest {
 };
 
 #[test]
-fn a_login_for_the_third_reply(rt: HostRuntime) -> Result<(), Fail> {
-    let setup = Setup::standard(rt.alloc())?;
-    assert_eq!(rt;
-        asked(rt.alloc(), &mut Intake::new(), b'L', PAYLOAD)?,
-        Action::Login(LOGIN)
+fn a_login_for_the_third_reply(rt: HostRuntime) {
+    let setup = Setup::standard(rt.alloc()).expect(&rt, "memory");
+    equal(
+        &rt,
+        asked(&rt, rt.alloc(), &mut Intake::new(), b'L', PAYLOAD),
+        Action::Login(LOGIN),
     );
-    let start = start(&setup, &LOGIN, 5).map_err(|_| "accepted")?;
-    assert_eq!(rt; Some(start.member), MemberNo::of(1));
-    assert_eq!(rt;
+    let start = start(&setup, &LOGIN, 5).expect(&rt, "accepted");
+    equal(&rt, Some(start.member), MemberNo::of(1));
+    equal(
+        &rt,
         accepted(*setup.session(), start.first).as_slice(),
-        b"\0\x1fAHX00000001                   3".as_slice()
+        b"\0\x1fAHX00000001                   3".as_slice(),
     );
-    Ok(())
 }
 
 #[test]
-fn replies_from_the_third_on(rt: HostRuntime) -> Result<(), Fail> {
+fn replies_from_the_third_on(rt: HostRuntime) {
     let mut delivery = Delivery::new(3, 0);
     for letter in *b"345" {
         assert!(rt; delivery.next() < 6);
         let Turn::Frame(frame) = delivery.turn(&[reply(letter)], false, 0) else {
-            return Err("a reply".into());
+            panic!(rt; "a reply");
         };
-        assert_eq!(rt; frame.as_slice(), [0, 2, b'S', letter].as_slice());
+        equal(&rt, frame.as_slice(), [0, 2, b'S', letter].as_slice());
     }
-    assert_eq!(rt; delivery.next(), 6);
-    Ok(())
+    equal(&rt, delivery.next(), 6);
 }
 
 #[test]
-fn a_number_above_the_next(rt: HostRuntime) -> Result<(), Fail> {
-    let setup = Setup::standard(rt.alloc())?;
+fn a_number_above_the_next(rt: HostRuntime) {
+    let setup = Setup::standard(rt.alloc()).expect(&rt, "memory");
     for (asked, first) in [(0, 6), (1, 1), (5, 5), (6, 6), (7, 6), (9, 6)] {
         let login = LoginRequest {
             sequence: asked,
             ..LOGIN
         };
-        let start = start(&setup, &login, 5).map_err(|_| "accepted")?;
-        assert_eq!(rt; start.first, first);
+        let start = start(&setup, &login, 5).expect(&rt, "accepted");
+        equal(&rt, start.first, first);
     }
-    Ok(())
 }
 
 #[test]
-fn letters_of_rejected_logins(rt: HostRuntime) -> Result<(), Fail> {
-    let setup = Setup::standard(rt.alloc())?;
+fn letters_of_rejected_logins(rt: HostRuntime) {
+    let setup = Setup::standard(rt.alloc()).expect(&rt, "memory");
     let sessions = [
         (*b"HX00000001", None),
         (*b"hx00000001", Some(b'S')),
@@ -94,59 +86,94 @@ fn letters_of_rejected_logins(rt: HostRuntime) -> Result<(), Fail> {
     ];
     for (session, letter) in sessions {
         let login = LoginRequest { session, ..LOGIN };
-        assert_eq!(rt; start(&setup, &login, 5).err(), letter);
+        equal(&rt, start(&setup, &login, 5).err(), letter);
     }
     let stranger = LoginRequest {
         user: *b"BRAVO ",
         session: *b"HX00000002",
         ..LOGIN
     };
-    assert_eq!(rt; start(&setup, &stranger, 5).err(), Some(b'A'));
-    Ok(())
+    equal(&rt, start(&setup, &stranger, 5).err(), Some(b'A'));
 }
 
 #[test]
-fn packets_of_a_client(rt: HostRuntime) -> Result<(), Fail> {
+fn packets_of_a_client(rt: HostRuntime) {
     let alloc = rt.alloc();
     let mut intake = Intake::new();
-    assert_eq!(rt;
-        asked(alloc, &mut intake, b'L', PAYLOAD)?,
-        Action::Login(LOGIN)
+    equal(
+        &rt,
+        asked(&rt, alloc, &mut intake, b'L', PAYLOAD),
+        Action::Login(LOGIN),
     );
-    assert_eq!(rt; asked(alloc, &mut intake, b'U', b"O")?, Action::Submit);
+    equal(
+        &rt,
+        asked(&rt, alloc, &mut intake, b'U', b"O"),
+        Action::Submit,
+    );
     let ignored: [(u8, &[u8]); 3] = [(b'U', b""), (b'R', b"x"), (b'+', b"")];
     for (kind, payload) in ignored {
-        assert_eq!(rt; asked(alloc, &mut intake, kind, payload)?, Action::Ignore);
+        equal(
+            &rt,
+            asked(&rt, alloc, &mut intake, kind, payload),
+            Action::Ignore,
+        );
     }
-    assert_eq!(rt; asked(alloc, &mut intake, b'O', b"x")?, Action::Logout);
-    assert_eq!(rt; asked(alloc, &mut intake, b'U', b"O")?, Action::Ignore);
-    Ok(())
+    equal(
+        &rt,
+        asked(&rt, alloc, &mut intake, b'O', b"x"),
+        Action::Logout,
+    );
+    equal(
+        &rt,
+        asked(&rt, alloc, &mut intake, b'U', b"O"),
+        Action::Ignore,
+    );
 }
 
 #[test]
-fn packets_that_are_faults(rt: HostRuntime) -> Result<(), Fail> {
+fn packets_that_are_faults(rt: HostRuntime) {
     let alloc = rt.alloc();
-    assert_eq!(rt;
-        asked(alloc, &mut Intake::new(), b'L', &PAYLOAD[..45])?,
-        Action::Fault
+    equal(
+        &rt,
+        asked(&rt, alloc, &mut Intake::new(), b'L', &PAYLOAD[..45]),
+        Action::Fault,
     );
-    assert_eq!(rt; asked(alloc, &mut Intake::new(), b'R', b"")?, Action::Fault);
+    equal(
+        &rt,
+        asked(&rt, alloc, &mut Intake::new(), b'R', b""),
+        Action::Fault,
+    );
     let mut intake = Intake::new();
-    assert_eq!(rt;
-        asked(alloc, &mut intake, b'L', PAYLOAD)?,
-        Action::Login(LOGIN)
+    equal(
+        &rt,
+        asked(&rt, alloc, &mut intake, b'L', PAYLOAD),
+        Action::Login(LOGIN),
     );
-    assert_eq!(rt; asked(alloc, &mut intake, b'L', PAYLOAD)?, Action::Fault);
-    assert_eq!(rt; asked(alloc, &mut intake, b'L', PAYLOAD)?, Action::Ignore);
+    equal(
+        &rt,
+        asked(&rt, alloc, &mut intake, b'L', PAYLOAD),
+        Action::Fault,
+    );
+    equal(
+        &rt,
+        asked(&rt, alloc, &mut intake, b'L', PAYLOAD),
+        Action::Ignore,
+    );
     let mut intake = Intake::Open;
-    assert_eq!(rt; asked(alloc, &mut intake, b'S', b"O")?, Action::Fault);
-    Ok(())
+    equal(
+        &rt,
+        asked(&rt, alloc, &mut intake, b'S', b"O"),
+        Action::Fault,
+    );
 }
 
 #[test]
-fn heartbeats_and_the_end(rt: HostRuntime) -> Result<(), Fail> {
+fn heartbeats_and_the_end(rt: HostRuntime) {
     let mut delivery = Delivery::new(6, 5);
-    assert!(rt; matches!(delivery.turn(&[], false, 1_000_000_004), Turn::Idle));
+    holds(
+        &rt,
+        matches!(delivery.turn(&[], false, 1_000_000_004), Turn::Idle),
+    );
     let turns: [(u64, bool, &[u8]); 3] = [
         (1_000_000_005, false, b"\0\x01H"),
         (5, false, b"\0\x01H"),
@@ -155,11 +182,13 @@ fn heartbeats_and_the_end(rt: HostRuntime) -> Result<(), Fail> {
     for (now, ended, bytes) in turns {
         assert_eq!(rt; delivery.next(), 6);
         let Turn::Frame(frame) = delivery.turn(&[], ended, now) else {
-            return Err("a packet".into());
+            panic!(rt; "a packet");
         };
-        assert_eq!(rt; frame.as_slice(), bytes);
+        equal(&rt, frame.as_slice(), bytes);
     }
     assert_eq!(rt; delivery.next(), 6);
-    assert!(rt; matches!(delivery.turn(&[reply(b'6')], true, 5), Turn::Over));
-    Ok(())
+    holds(
+        &rt,
+        matches!(delivery.turn(&[reply(b'6')], true, 5), Turn::Over),
+    );
 }

@@ -1,11 +1,12 @@
 //! Texts that are cut at a byte, and numbers in decimal.
+use super::equal;
 use hx_text::{read_number, split_once};
 
 #[test]
 fn cut_at_the_first_space(rt: HostRuntime) {
     let cut = split_once(b"10 1 XT1", b' ');
-    assert_eq!(rt; cut, Some((b"10".as_slice(), b"1 XT1".as_slice())));
-    assert_eq!(rt; split_once(b"10", b' '), None);
+    equal(&rt, cut, Some((b"10".as_slice(), b"1 XT1".as_slice())));
+    equal(&rt, split_once(b"10", b' '), None);
 }
 
 #[test]
@@ -20,6 +21,6 @@ fn numbers_in_decimal(rt: HostRuntime) {
         (b"", None),
     ];
     for (text, number) in numbers {
-        assert_eq!(rt; read_number(text), number);
+        equal(&rt, read_number(text), number);
     }
 }

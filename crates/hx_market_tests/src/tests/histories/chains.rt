@@ -1,5 +1,6 @@
 //! The chains of a member.
 
+use super::super::equal;
 use super::with_second;
 use hx_audit::{Chain, StrikeError, chains};
 use hx_market::{Event, PrepareError};
@@ -13,20 +14,25 @@ use std::process::Abort;
 use std::test::Fail;
 
 // The chains of a member after a day, by the standard setup.
-fn chains_after(alloc: Global, words: &str, member: u16) -> Result<Vec<Chain>, Fail> {
-    let setup = Setup::standard(alloc)?;
+fn chains_after(
+    rt: &impl Abort,
+    alloc: Global,
+    words: &str,
+    member: u16,
+) -> Result<Vec<Chain>, Fail> {
+    let setup = Setup::standard(alloc).expect(rt, "memory");
     let events = events_of(alloc, &Day::of(alloc, words)?.tape)?;
-    let member = MemberNo::of(member).ok_or("no number of a member")?;
-    Ok(chains(alloc, &setup, &events, member)?)
+    let member = MemberNo::of(member).expect(rt, "a number of a member");
+    Ok(chains(alloc, &setup, &events, member).expect(rt, "chains"))
 }
 
 // Why these events are not audited.
-fn refused(alloc: Global, events: &[Event]) -> Result<StrikeError, Fail> {
-    let setup = Setup::standard(alloc)?;
-    let member = MemberNo::of(1).ok_or("no number of a member")?;
+fn refused(rt: &impl Abort, alloc: Global, events: &[Event]) -> StrikeError {
+    let setup = Setup::standard(alloc).expect(rt, "memory");
+    let member = MemberNo::of(1).expect(rt, "a number of a member");
     match chains(alloc, &setup, events, member) {
-        Ok(_) => Err("all events are accepted".into()),
-        Err(error) => Ok(error),
+        Ok(_) => panic!(rt; "all events are accepted"),
+        Err(error) => error,
     }
 }
 
@@ -38,12 +44,12 @@ fn expect_chain<R: AllocGlobal + Abort>(
     tokens: &[Token],
     facts: ChainFacts,
 ) -> Result<(), Fail> {
-    let mut chains = chains_after(rt.alloc(), words, member)?;
-    assert_eq!(rt; chains.len(), 1);
-    let chain = chains.pop().ok_or("no chain")?;
-    assert_eq!(rt; chain.tokens.as_slice(), tokens);
-    assert_eq!(rt; chain.facts, facts);
-    assert_eq!(rt; chain.tokens.into_vec().len(), tokens.len());
+    let mut chains = chains_after(rt, rt.alloc(), words, member)?;
+    equal(rt, chains.len(), 1);
+    let chain = chains.pop().expect(rt, "a chain");
+    equal(rt, chain.tokens.as_slice(), tokens);
+    equal(rt, chain.facts, facts);
+    equal(rt, chain.tokens.into_vec().len(), tokens.len());
     Ok(())
 }
 
@@ -84,18 +90,19 @@ fn a_failed_replace_keeps_its_token(rt: HostRuntime) -> Result<(), Fail> {
 
 #[test]
 fn a_stranger_has_no_chains(rt: HostRuntime) -> Result<(), Fail> {
-    let none = chains_after(rt.alloc(), CHAIN_THAT_TRADED, 77)?;
-    assert_eq!(rt; none.len(), 0);
+    let none = chains_after(&rt, rt.alloc(), CHAIN_THAT_TRADED, 77)?;
+    equal(&rt, none.len(), 0);
     Ok(())
 }
 
 #[test]
 fn a_refusal_tells_its_event(rt: HostRuntime) -> Result<(), Fail> {
-    let error = refused(rt.alloc(), &with_second(rt.alloc(), 86_400_000_000_000, 1)?)?;
+    let events = with_second(&rt, rt.alloc(), 86_400_000_000_000, 1)?;
+    let error = refused(&rt, rt.alloc(), &events);
     let late = StrikeError::Refused {
         index: 1,
         error: PrepareError::BadTime,
     };
-    assert_eq!(rt; error, late);
+    equal(&rt, error, late);
     Ok(())
 }

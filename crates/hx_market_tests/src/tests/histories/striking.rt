@@ -1,5 +1,6 @@
 //! Histories without the messages of quiet chains.
 
+use super::super::equal;
 use super::with_second;
 use hx_audit::{StrikeError, strike};
 use hx_market::{Event, PrepareError};
@@ -13,37 +14,36 @@ use std::process::Abort;
 use std::test::Fail;
 
 // The events of a tape without the messages of a member's quiet chains, by the standard setup.
-fn struck(alloc: Global, tape: &[u8], member: u16) -> Result<Vec<Event>, Fail> {
-    let setup = Setup::standard(alloc)?;
+fn struck(rt: &impl Abort, alloc: Global, tape: &[u8], member: u16) -> Result<Vec<Event>, Fail> {
+    let setup = Setup::standard(alloc).expect(rt, "memory");
     let events = events_of(alloc, tape)?;
-    let member = MemberNo::of(member).ok_or("no number of a member")?;
-    Ok(strike(alloc, &setup, &events, member)?)
+    let member = MemberNo::of(member).expect(rt, "a number of a member");
+    Ok(strike(alloc, &setup, &events, member).expect(rt, "a strike"))
 }
 
 // Why these events are not audited.
-fn refused(alloc: Global, events: &[Event]) -> Result<StrikeError, Fail> {
-    let setup = Setup::standard(alloc)?;
-    let member = MemberNo::of(1).ok_or("no number of a member")?;
+fn refused(rt: &impl Abort, alloc: Global, events: &[Event]) -> StrikeError {
+    let setup = Setup::standard(alloc).expect(rt, "memory");
+    let member = MemberNo::of(1).expect(rt, "a number of a member");
     match strike(alloc, &setup, events, member) {
-        Ok(_) => Err("all events are accepted".into()),
-        Err(error) => Ok(error),
+        Ok(_) => panic!(rt; "all events are accepted"),
+        Err(error) => error,
     }
 }
 
 // A message as its line of a tape.
-fn write_line(alloc: Global, text: &mut Vec<u8>, event: &Event) -> Result<(), Fail> {
+fn write_line(rt: &impl Abort, alloc: Global, text: &mut Vec<u8>, event: &Event) {
     let Event::Message {
         member,
         time,
         bytes,
     } = event
     else {
-        return Err("no message".into());
+        panic!(rt; "no message");
     };
-    let digits = hex::encode(alloc, bytes.as_slice())?;
-    let line = format!(in alloc; "{time} {member} {digits}\n")?;
-    text.extend_from_slice(line.as_bytes())?;
-    Ok(())
+    let digits = hex::encode(alloc, bytes.as_slice()).expect(rt, "memory");
+    let line = format!(in alloc; "{time} {member} {digits}\n").expect(rt, "memory");
+    text.extend_from_slice(line.as_bytes()).expect(rt, "memory");
 }
 
 // These lines of a tape stay.
@@ -54,10 +54,10 @@ fn expect_struck<R: AllocGlobal + Abort>(
     left: &[u8],
 ) -> Result<(), Fail> {
     let mut text = Vec::new(rt.alloc());
-    for event in &struck(rt.alloc(), tape, member)? {
-        write_line(rt.alloc(), &mut text, event)?;
+    for event in &struck(rt, rt.alloc(), tape, member)? {
+        write_line(rt, rt.alloc(), &mut text, event);
     }
-    assert_eq!(rt; text.as_slice(), left);
+    equal(rt, text.as_slice(), left);
     Ok(())
 }
 
@@ -89,37 +89,39 @@ fn a_displayed_chain_stays(rt: HostRuntime) -> Result<(), Fail> {
 
 #[test]
 fn refusals_tell_their_event(rt: HostRuntime) -> Result<(), Fail> {
-    let error = refused(rt.alloc(), &with_second(rt.alloc(), 86_400_000_000_000, 1)?)?;
+    let events = with_second(&rt, rt.alloc(), 86_400_000_000_000, 1)?;
+    let error = refused(&rt, rt.alloc(), &events);
     let late = StrikeError::Refused {
         index: 1,
         error: PrepareError::BadTime,
     };
-    assert_eq!(rt; error, late);
-    let error = refused(rt.alloc(), &with_second(rt.alloc(), 20, 77)?)?;
+    equal(&rt, error, late);
+    let events = with_second(&rt, rt.alloc(), 20, 77)?;
+    let error = refused(&rt, rt.alloc(), &events);
     let stranger = StrikeError::Refused {
         index: 1,
         error: PrepareError::NoMember,
     };
-    assert_eq!(rt; error, stranger);
-    let text = format!(in rt.alloc(); "{error}")?;
-    assert_eq!(rt; text.as_str(), "event 1 refused: no such member");
+    equal(&rt, error, stranger);
+    let text = format!(in rt.alloc(); "{error}").expect(&rt, "memory");
+    equal(&rt, text.as_str(), "event 1 refused: no such member");
     Ok(())
 }
 
 #[test]
 fn a_message_above_the_limit_is_refused(rt: HostRuntime) -> Result<(), Fail> {
     let day = Day::of(rt.alloc(), HIDDEN_THEN_DISPLAYED)?;
-    let (line, _) = split_line(&day.tape).ok_or("no line")?;
+    let (line, _) = split_line(&day.tape).expect(&rt, "a line");
     let mut text = Vec::new(rt.alloc());
     for _ in 0..1001 {
-        text.extend_from_slice(line)?;
-        text.push(b'\n')?;
+        text.extend_from_slice(line).expect(&rt, "memory");
+        text.push(b'\n').expect(&rt, "memory");
     }
-    let error = refused(rt.alloc(), &events_of(rt.alloc(), &text)?)?;
+    let error = refused(&rt, rt.alloc(), &events_of(rt.alloc(), &text)?);
     let limit = StrikeError::Refused {
         index: 1000,
         error: PrepareError::Limit { member: 1 },
     };
-    assert_eq!(rt; error, limit);
+    equal(&rt, error, limit);
     Ok(())
 }

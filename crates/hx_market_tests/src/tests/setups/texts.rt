@@ -1,3 +1,4 @@
+use super::super::{equal, holds};
 use super::*;
 use hx_testing::setups::{CLOSED, STANDARD, setup_of, widest};
 
@@ -32,31 +33,33 @@ member 2 FMB2 alpha PWBRAVO 1000
 ";
 
 // The number of the bad line, if there is one.
-fn bad_line(alloc: Global, text: &[u8]) -> Result<Option<u64>, NoMemory> {
+fn bad_line(rt: &impl Abort, alloc: Global, text: &[u8]) -> Option<u64> {
     match Setup::read(alloc, text) {
-        Ok(_) => Ok(None),
-        Err(SetupError::Bad { line }) => Ok(Some(line)),
-        Err(SetupError::NoMemory) => Err(NoMemory),
+        Ok(_) => None,
+        Err(SetupError::Bad { line }) => Some(line),
+        Err(SetupError::NoMemory) => panic!(rt; "no memory"),
     }
 }
 
 #[test]
-fn bad_setups(rt: HostRuntime) -> Result<(), Fail> {
+fn bad_setups(rt: HostRuntime) {
     let alloc = rt.alloc();
-    assert_eq!(rt; bad_line(alloc, b"")?, Some(1));
-    assert_eq!(rt; bad_line(alloc, TWO_LINES)?, Some(3));
-    assert_eq!(rt; bad_line(alloc, THREE_LINES)?, Some(4));
-    assert_eq!(rt; bad_line(alloc, SHORT_TAIL)?, Some(3));
-    assert_eq!(rt; bad_line(alloc, OTHER_ORDER)?, Some(5));
-    assert_eq!(rt; bad_line(alloc, &CLOSED[..CLOSED.len() - 1])?, Some(5));
-    assert_eq!(rt; bad_line(alloc, CLOSED)?, None);
-    Ok(())
+    equal(&rt, bad_line(&rt, alloc, b""), Some(1));
+    equal(&rt, bad_line(&rt, alloc, TWO_LINES), Some(3));
+    equal(&rt, bad_line(&rt, alloc, THREE_LINES), Some(4));
+    equal(&rt, bad_line(&rt, alloc, SHORT_TAIL), Some(3));
+    equal(&rt, bad_line(&rt, alloc, OTHER_ORDER), Some(5));
+    equal(
+        &rt,
+        bad_line(&rt, alloc, &CLOSED[..CLOSED.len() - 1]),
+        Some(5),
+    );
+    equal(&rt, bad_line(&rt, alloc, CLOSED), None);
 }
 
 #[test]
-fn a_user_in_another_case(rt: HostRuntime) -> Result<(), Fail> {
-    assert_eq!(rt; bad_line(rt.alloc(), SAME_USER)?, Some(5));
-    Ok(())
+fn a_user_in_another_case(rt: HostRuntime) {
+    equal(&rt, bad_line(&rt, rt.alloc(), SAME_USER), Some(5));
 }
 
 #[test]
@@ -71,10 +74,10 @@ fn standard_text(rt: HostRuntime) -> Result<(), Fail> {
 }
 
 fn expect_closed<R: Abort>(rt: &R, setup: &Setup) {
-    assert_eq!(rt; setup.session(), b"HX00000002");
-    assert!(rt; !setup.start_open());
-    assert_eq!(rt; setup.stocks().len(), 1);
-    assert_eq!(rt; setup.members().len(), 2);
+    equal(rt, setup.session(), b"HX00000002");
+    holds(rt, !setup.start_open());
+    equal(rt, setup.stocks().len(), 1);
+    equal(rt, setup.members().len(), 2);
 }
 
 #[test]
@@ -85,31 +88,32 @@ fn closed_text(rt: HostRuntime) -> Result<(), Fail> {
 }
 
 fn expect_widest<R: Abort>(rt: &R, setup: &Setup) {
-    assert_eq!(rt; setup.locate(Symbol(*b"S1000   ")), Some(1000));
-    assert_eq!(rt;
+    equal(rt, setup.locate(Symbol(*b"S1000   ")), Some(1000));
+    equal(
+        rt,
         setup.login(b"u4095 ", b"p         "),
-        Some(number(rt, 4095))
+        Some(number(rt, 4095)),
     );
 }
 
 #[test]
 fn widest_text(rt: HostRuntime) -> Result<(), Fail> {
     let alloc = rt.alloc();
-    let mut text = widest(alloc)?;
+    let mut text = widest(alloc).expect(&rt, "memory");
     let setup = setup_of(alloc, &text)?;
     expect_widest(&rt, &setup);
-    text.extend_from_slice(b"member 4096 FMA1 U4096 P 1\n")?;
-    assert_eq!(rt; bad_line(alloc, &text)?, Some(5098));
+    text.extend_from_slice(b"member 4096 FMA1 U4096 P 1\n")
+        .expect(&rt, "memory");
+    equal(&rt, bad_line(&rt, alloc, &text), Some(5098));
     Ok(())
 }
 
 #[test]
-fn texts_of_errors(rt: HostRuntime) -> Result<(), Fail> {
+fn texts_of_errors(rt: HostRuntime) {
     let bad = SetupError::Bad { line: 3 };
-    let text = format!(in rt.alloc(); "{bad}")?;
-    assert_eq!(rt; text.as_str(), "setup line 3: bad line");
+    let text = format!(in rt.alloc(); "{bad}").expect(&rt, "memory");
+    equal(&rt, text.as_str(), "setup line 3: bad line");
     let want = SetupError::from(NoMemory);
-    let text = format!(in rt.alloc(); "{want}")?;
-    assert_eq!(rt; text.as_str(), "no memory");
-    Ok(())
+    let text = format!(in rt.alloc(); "{want}").expect(&rt, "memory");
+    equal(&rt, text.as_str(), "no memory");
 }

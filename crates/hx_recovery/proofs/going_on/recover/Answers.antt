@@ -5,13 +5,13 @@ use Rattle.hx_recovery.proofs.going_on.recover.Goals as goal
 
 pub returns-in_ok-events-in-Ok-clause-appended : goal.returns-in_ok-events-in-Ok-clause-appended
 returns-in_ok-events-in-Ok-clause-appended g c =
-    appended_as _ _ _ _ _ c.in_ok-events-in-Ok.events.items c.in-Ok.ensures.opened (sym c.deref.ensures.value ∙ c.in_ok-events-in-Ok.ensures)
+    appended_as _ _ _ _ _ c.in_ok-events-in-Ok.events.items c.in-Ok.ensures.opened (sym c.deref.ensures.value ∙ c.in_ok-events-in-Ok.ensures.tape)
 
 pub returns-in_ok-events-in-Ok-clause-kept : goal.returns-in_ok-events-in-Ok-clause-kept
 returns-in_ok-events-in-Ok-clause-kept g c =
-    kept_as _ _ _ _ _ c.in_ok-events-in-Ok.events.items c.in-Ok.ensures.opened (sym c.deref.ensures.value ∙ c.in_ok-events-in-Ok.ensures)
+    kept_as _ _ _ _ _ c.in_ok-events-in-Ok.events.items c.in-Ok.ensures.opened (sym c.deref.ensures.value ∙ c.in_ok-events-in-Ok.ensures.tape)
 
 pub returns-in_ok-events-in-Ok-clause-read : goal.returns-in_ok-events-in-Ok-clause-read
 returns-in_ok-events-in-Ok-clause-read g c =
-    read_as _ _ _ _ _ c.in_ok-events-in-Ok.events.items c.in-Ok.ensures.opened (sym c.deref.ensures.value ∙ c.in_ok-events-in-Ok.ensures)
+    read_as _ _ _ _ _ c.in_ok-events-in-Ok.events.items c.in-Ok.ensures.opened (sym c.deref.ensures.value ∙ c.in_ok-events-in-Ok.ensures.tape)
     ∙ ap recovered c.opened.ensures.seen

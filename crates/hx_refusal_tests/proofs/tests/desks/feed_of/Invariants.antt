@@ -2,4 +2,4 @@ use Rattle.std.proofs.Common.{◌≡◌}
 use Rattle.hx_refusal_tests.proofs.tests.desks.feed_of.Given as goal
 
 abbrev pub invariant-loop-number : goal.invariant-loop-number
-invariant-loop-number l = l.reader.log ≡ l.fn.reader.log
+invariant-loop-number g l = l.reader.log ≡ l.fn.reader.log

@@ -1,4 +1,0 @@
-//! Tests.
-
-mod boards;
-mod texts;

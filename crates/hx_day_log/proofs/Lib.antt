@@ -1,0 +1,2 @@
+-- What is read of a log of a day.
+pub mod Reading

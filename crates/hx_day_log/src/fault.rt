@@ -1,0 +1,89 @@
+//! Why a day does not go on from its log.
+
+use hx_log::{KeepError, LogError};
+use hx_recovery::RecoveryError;
+use std::alloc::{AllocError, AllocFailed};
+use thiserror::Error;
+
+/// Why a day does not go on from its log.
+#[derive(Clone, Copy, Debug, PartialEq, Eq, Drop, Error)]
+pub enum DayLogError {
+    /// A record of it is no event.
+    #[error("log record {record} is no event")]
+    NoEvent {
+        /// Its number among the lines that count, from 1.
+        record: u64,
+    },
+    /// What stands at this number is no record of it.
+    #[error("log damaged at number {number}")]
+    Damaged {
+        /// The number.
+        number: u64,
+    },
+    /// No node of the log can be asked.
+    #[error("log unreachable")]
+    Unreachable,
+    /// No answer came to a record that was sent: it may stand there, now or later.
+    #[error("log failed")]
+    Failed,
+    /// Others write to it all the time.
+    #[error("log in use")]
+    InUse,
+    /// A growth was refused.
+    #[error("no memory")]
+    NoMemory,
+}
+
+impl DayLogError {
+    /// The status that the program ends with.
+    pub fn status(&self) -> u8 {
+        match self {
+            DayLogError::NoEvent { .. } | DayLogError::Damaged { .. } => 1,
+            DayLogError::NoMemory => 3,
+            DayLogError::Unreachable | DayLogError::Failed | DayLogError::InUse => 4,
+        }
+    }
+}
+
+impl From<AllocError> for DayLogError {
+    fn from(_e: AllocError) -> DayLogError {
+        DayLogError::NoMemory
+    }
+}
+
+impl<T: Drop> From<AllocFailed<T>> for DayLogError {
+    fn from(_e: AllocFailed<T>) -> DayLogError {
+        DayLogError::NoMemory
+    }
+}
+
+impl From<LogError> for DayLogError {
+    fn from(e: LogError) -> DayLogError {
+        match e {
+            LogError::NoMemory => DayLogError::NoMemory,
+            LogError::NoRecord { number } => DayLogError::Damaged { number },
+            LogError::Unreachable => DayLogError::Unreachable,
+            LogError::Taken => DayLogError::InUse,
+            LogError::Gap | LogError::Unknown => DayLogError::Failed,
+        }
+    }
+}
+
+impl From<KeepError> for DayLogError {
+    fn from(e: KeepError) -> DayLogError {
+        match e {
+            KeepError::Log(error) => DayLogError::from(error),
+            KeepError::NotInOffice | KeepError::NoHead | KeepError::Lines(_) => DayLogError::Failed,
+        }
+    }
+}
+
+impl From<RecoveryError> for DayLogError {
+    fn from(e: RecoveryError) -> DayLogError {
+        match e {
+            RecoveryError::NoMemory => DayLogError::NoMemory,
+            RecoveryError::NoEvent { record } => DayLogError::NoEvent { record },
+            RecoveryError::Open(_) => DayLogError::Failed,
+        }
+    }
+}

@@ -1,0 +1,5 @@
+//! The operator's words, schedule and socket.
+
+mod schedules;
+mod sockets;
+mod words;

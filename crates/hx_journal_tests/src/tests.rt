@@ -1,0 +1,17 @@
+//! Tests of the journal of a day in a file, and of the tool over it.
+
+mod journal;
+mod journal_tool;
+
+use std::fmt::Debug;
+use std::process::Abort;
+
+// Both are the same, or the test ends.
+fn equal<R: Abort, T: PartialEq + Debug + Drop>(rt: &R, found: T, wanted: T) {
+    assert_eq!(rt; found, wanted);
+}
+
+// It is so, or the test ends.
+fn holds<R: Abort>(rt: &R, is_so: bool) {
+    assert!(rt; is_so);
+}

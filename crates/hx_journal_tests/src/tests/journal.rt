@@ -1,0 +1,271 @@
+//! The journal of a day in a file: what it keeps, what a crash leaves, what is damaged.
+
+use crate::tests::{equal, holds};
+use hx_journal::*;
+use std::alloc::Global;
+use std::os::unix::fs::MetadataExt;
+use std::process::Abort;
+use std::{fs, thread};
+
+// A day of five records in three blocks. The sums are zlib's.
+const DAY: &[u8] = b"#hx1 HX00000006 20260711 9fc2
+one
+two
+#1 8 81178952 609977658
+three
+#3 6 609977658 141501702
+four
+five
+#4 10 141501702 707532057
+";
+
+const TAPE: &[u8] = b"one\ntwo\nthree\nfour\nfive\n";
+
+// Where the head, and each block, ends.
+const HEAD_END: usize = 30;
+
+const FIRST_END: usize = 62;
+
+const SECOND_END: usize = 93;
+
+type MemoryJournal = FileJournal<Noted<MemoryFile>>;
+
+type Opened = Result<(MemoryJournal, Vec<u8>), OpenError>;
+
+// Opens a file in memory, whose calls fail after this many, as the journal of a day.
+fn opened_for(rt: &impl Abort, alloc: Global, day: &[u8], bytes: &[u8], calls: u64) -> Opened {
+    let head = Head::new(alloc, b"HX00000006", day, b"9fc2").expect(rt, "a head");
+    let file = MemoryFile::new(alloc, bytes, calls).expect(rt, "a file");
+    match FileJournal::open(alloc, Noted::opened(file, bytes), bytes, &head) {
+        Ok(found) => Ok(found),
+        Err((error, _file)) => Err(error),
+    }
+}
+
+fn opened(rt: &impl Abort, alloc: Global, bytes: &[u8], calls: u64) -> Opened {
+    opened_for(rt, alloc, b"20260711", bytes, calls)
+}
+
+fn first_block<J: Journal>(journal: &mut J) -> Result<(), JournalError> {
+    journal.append(b"one")?;
+    journal.append(b"two")?;
+    journal.sync()
+}
+
+fn second_block<J: Journal>(journal: &mut J) -> Result<(), JournalError> {
+    journal.append(b"three")?;
+    journal.sync()
+}
+
+fn third_block<J: Journal>(journal: &mut J) -> Result<(), JournalError> {
+    journal.append(b"four")?;
+    journal.append(b"five")?;
+    journal.sync()
+}
+
+// Writes the day until a call fails, and returns how long the tape is whose records are then told
+// of.
+fn write_day<J: Journal>(journal: &mut J) -> usize {
+    if first_block(journal).is_err() {
+        return 0;
+    }
+    if second_block(journal).is_err() {
+        return 8;
+    }
+    if third_block(journal).is_err() {
+        return 14;
+    }
+    24
+}
+
+#[test]
+fn a_day_is_a_text(rt: HostRuntime) {
+    let alloc = rt.alloc();
+    let (mut journal, tape) = opened(&rt, alloc, b"", 99).expect(&rt, "a new day");
+    equal(&rt, tape.len(), 0);
+    equal(&rt, write_day(&mut journal), 24);
+    equal(&rt, journal.device().file().bytes(), DAY);
+    equal(&rt, write_day(&mut Unkept::new()), 24);
+    let (journal, tape) = opened(&rt, alloc, DAY, 99).expect(&rt, "the day");
+    equal(&rt, tape.as_slice(), TAPE);
+    equal(&rt, journal.count(), 5);
+}
+
+// What is read of a file that a crash left begins with what was told, and is a beginning of the
+// day; and the day goes on.
+fn recovers(rt: &impl Abort, alloc: Global, image: &[u8], told: usize) {
+    let (mut journal, tape) = opened(rt, alloc, image, 99).expect(rt, "opened");
+    holds(rt, TAPE.starts_with(&tape));
+    holds(rt, told <= tape.len());
+    holds(rt, matches!(tape.len(), 0 | 8 | 14 | 24));
+    equal(rt, journal.append(b"more"), Ok(()));
+    equal(rt, journal.sync(), Ok(()));
+    let bytes = journal.device().file().bytes();
+    let (_journal, again) = opened(rt, alloc, bytes, 99).expect(rt, "opened again");
+    holds(rt, again.starts_with(&tape));
+    holds(rt, again.ends_with(b"more\n"));
+}
+
+// Each of the files that a crash leaves where bytes in front or behind are written, and the others
+// are not.
+fn recovers_torn(rt: &impl Abort, alloc: Global, file: &MemoryFile, told: usize) {
+    let (old, new) = (file.stable_len(), file.bytes().len());
+    for len in old.min(new)..=old.max(new) {
+        for part in 0..=len {
+            let behind = file.torn(alloc, len, 0..part).expect(rt, "a file");
+            recovers(rt, alloc, &behind, told);
+            let in_front = file.torn(alloc, len, part..len).expect(rt, "a file");
+            recovers(rt, alloc, &in_front, told);
+        }
+    }
+}
+
+// The day is written, and each call of the file fails in turn: the first sync, the second write,
+// and so on.
+#[test]
+fn a_crash_at_each_call_leaves_what_was_told(rt: HostRuntime) {
+    let alloc = rt.alloc();
+    for calls in 4..11 {
+        let (mut journal, _tape) = opened(&rt, alloc, b"", calls).expect(&rt, "a new day");
+        let told = write_day(&mut journal);
+        recovers_torn(&rt, alloc, journal.device().file(), told);
+        if told < 24 {
+            equal(&rt, journal.append(b"more"), Err(JournalError::Closed));
+            equal(&rt, journal.sync(), Err(JournalError::Closed));
+        }
+    }
+}
+
+// A file whose calls fail after this many is not opened, and what a crash then leaves of it is read as
+// before.
+fn fails_to_open(rt: &impl Abort, alloc: Global, bytes: &[u8], calls: u64, told: usize) {
+    let head = Head::new(alloc, b"HX00000006", b"20260711", b"9fc2").expect(rt, "a head");
+    let file = MemoryFile::new(alloc, bytes, calls).expect(rt, "a file");
+    match FileJournal::open(alloc, Noted::opened(file, bytes), bytes, &head) {
+        Ok((_journal, _tape)) => panic!(rt; "opened"),
+        Err((error, file)) => {
+            equal(rt, error, OpenError::Journal(JournalError::Failed));
+            recovers_torn(rt, alloc, file.file(), told);
+        }
+    }
+}
+
+// A torn end is cut and synced, and the first line of a new file written and synced: each of these
+// calls fails in turn.
+#[test]
+fn a_crash_while_it_is_opened_changes_nothing(rt: HostRuntime) {
+    let alloc = rt.alloc();
+    let mut torn = Vec::from_slice(alloc, DAY).expect(&rt, "the day");
+    torn.extend_from_slice(b"six\nse").expect(&rt, "a torn end");
+    for calls in 0..2 {
+        fails_to_open(&rt, alloc, &torn, calls, 24);
+    }
+    for calls in 0..4 {
+        fails_to_open(&rt, alloc, b"", calls, 0);
+    }
+}
+
+// The first byte of the block that has this place of the day's text; 0 for the head.
+fn block_at(place: usize) -> usize {
+    if place < HEAD_END {
+        0
+    } else if place < FIRST_END {
+        HEAD_END
+    } else if place < SECOND_END {
+        FIRST_END
+    } else {
+        SECOND_END
+    }
+}
+
+// Where a bit that was flipped in the last block looks like a torn end: its mark is none any more,
+// since its `#` or the line feed in front is gone, or it does not end, or a byte is zero.
+fn looks_torn(place: usize, byte: u8) -> bool {
+    place >= SECOND_END && (matches!(place, 102 | 103 | 128) || byte == 0)
+}
+
+// What is found where this bit of the day's text was flipped, so that its byte is this one.
+fn expect_damage(rt: &impl Abort, found: Opened, place: usize, bit: u32, byte: u8) {
+    match found {
+        Ok((_journal, tape)) => {
+            assert!(rt;
+                looks_torn(place, byte),
+                "bit {bit} of byte {place} was missed"
+            );
+            equal(rt, tape.as_slice(), b"one\ntwo\nthree\n".as_slice());
+        }
+        Err(OpenError::OtherHead(_)) => holds(rt, place < HEAD_END),
+        Err(error) => {
+            let at = block_at(place);
+            assert_eq!(rt;
+                error,
+                OpenError::Damaged { at },
+                "bit {bit} of byte {place}"
+            );
+        }
+    }
+}
+
+// Each bit of the day's text is flipped in turn.
+#[test]
+fn each_flipped_bit_is_damage(rt: HostRuntime) {
+    let alloc = rt.alloc();
+    let mut text = Vec::from_slice(alloc, DAY).expect(&rt, "the day");
+    for place in 0..text.len() {
+        for bit in 0..8u32 {
+            let flipped = text[place] ^ (1 << bit);
+            text[place] = flipped;
+            let found = opened(&rt, alloc, &text, 99);
+            expect_damage(&rt, found, place, bit, flipped);
+            text[place] = flipped ^ (1 << bit);
+        }
+    }
+}
+
+#[test]
+fn another_day_is_refused_by_name(rt: HostRuntime) {
+    let alloc = rt.alloc();
+    let other_day = opened_for(&rt, alloc, b"20260712", DAY, 0).err();
+    equal(&rt, other_day, Some(OpenError::OtherHead(HeadPart::Day)));
+    // Nor is a tape that is no journal cut to nothing.
+    let no_journal = opened(&rt, alloc, TAPE, 0).err();
+    equal(&rt, no_journal, Some(OpenError::Damaged { at: 0 }));
+}
+
+const PATH: &str = "hx_journal_test.journal";
+
+#[test]
+fn a_second_open_of_a_file_is_refused(rt: HostRuntime) {
+    let alloc = rt.alloc();
+    let _ = fs::remove_file(&rt, PATH);
+    let head = Head::new(alloc, b"HX00000006", b"20260711", b"9fc2").expect(&rt, "a head");
+    let Ok((device, text)) = open_file(&rt, PATH) else {
+        panic!(rt; "not made");
+    };
+    let Ok((mut journal, _tape)) = FileJournal::open(alloc, device, &text, &head) else {
+        panic!(rt; "not opened");
+    };
+    holds(&rt, matches!(open_file(&rt, PATH), Err(FileError::InUse)));
+    equal(&rt, write_day(&mut journal), 24);
+    drop(journal);
+    let Ok((_device, again)) = open_file(&rt, PATH) else {
+        panic!(rt; "not opened again");
+    };
+    equal(&rt, again.as_slice(), DAY);
+    let mode = fs::metadata(&rt, PATH).expect(&rt, "a file").mode();
+    equal(&rt, mode & 0o777, 0o600);
+    fs::remove_file(&rt, PATH).expect(&rt, "removed");
+}
+
+#[test]
+fn another_thread_may_write_the_day(rt: HostRuntime) {
+    let (mut journal, _tape) = opened(&rt, rt.alloc(), b"", 99).expect(&rt, "a new day");
+    let mut unkept = Unkept::new();
+    let (told, other) = thread::join(
+        &rt,
+        move || write_day(&mut journal),
+        move || write_day(&mut unkept),
+    );
+    equal(&rt, told, 24);
+    equal(&rt, other, 24);
+}

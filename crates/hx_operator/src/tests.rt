@@ -1,3 +1,0 @@
-mod schedules;
-mod sockets;
-mod words;

@@ -1,5 +1,0 @@
-//! Tests.
-
-mod answers;
-mod browsers;
-mod news;
