@@ -34,6 +34,8 @@ pub const SERVE: Subcommand = Subcommand {
         SYNC,
         DAY,
         AHEAD,
+        LOG,
+        WRITER,
     ],
     choice: None,
 };
@@ -255,5 +257,25 @@ const AHEAD: Argument = Argument {
     takes: ValueParser::Unsigned(1, 1_000_000_000),
     usual: Some("65536"),
     help: "How many events may wait for the journal: where more would, no message is taken",
+    ..OPTION
+};
+
+// What a day that a log of several machines keeps has besides.
+
+const LOG: Argument = Argument {
+    name: "log",
+    value: "ADDR:PORT,..",
+    with: Some("writer"),
+    without: Some("journal"),
+    help: "The nodes of an etcd whose log keeps the day, in place of --journal",
+    ..OPTION
+};
+
+const WRITER: Argument = Argument {
+    name: "writer",
+    value: "N",
+    takes: ValueParser::Unsigned(1, 999_999_999),
+    with: Some("log"),
+    help: "With --log, the number of this process, which no other has or had",
     ..OPTION
 };

@@ -1,10 +1,12 @@
 //! Why the program ends without success.
 
 use hx_day_journal::DayJournalError;
+use hx_day_log::DayLogError;
 use hx_journal_tool::ToolError;
 use hx_operator::{OperateError, ScheduleError, SocketError};
 use hx_runs::RunError;
 use hx_serve::ServeError;
+use hx_units::NoMemory;
 use hx_watch::WatchError;
 use std::alloc::{AllocError, AllocFailed};
 
@@ -65,6 +67,8 @@ pub enum Failure {
     #[error(transparent)]
     Day(DayJournalError),
     #[error(transparent)]
+    Log(DayLogError),
+    #[error(transparent)]
     Run(RunError),
     #[error(transparent)]
     Serve(ServeError),
@@ -85,6 +89,7 @@ impl Failure {
             | Failure::NoCopy { .. }
             | Failure::NoDay => 2,
             Failure::Day(error) => error.status(),
+            Failure::Log(error) => error.status(),
             Failure::Run(error) => error.status(),
             Failure::Serve(ServeError::Line { .. }) | Failure::Watch(WatchError::Screen { .. }) => {
                 1
@@ -133,6 +138,18 @@ impl<T: Drop> From<AllocFailed<T>> for Failure {
 impl From<DayJournalError> for Failure {
     fn from(e: DayJournalError) -> Failure {
         Failure::Day(e)
+    }
+}
+
+impl From<DayLogError> for Failure {
+    fn from(e: DayLogError) -> Failure {
+        Failure::Log(e)
+    }
+}
+
+impl From<NoMemory> for Failure {
+    fn from(_e: NoMemory) -> Failure {
+        Failure::NoMemory
     }
 }
 

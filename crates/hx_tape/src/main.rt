@@ -7,6 +7,7 @@ mod failure;
 mod fittings;
 mod input;
 mod journal;
+mod logged;
 mod operate;
 mod serve;
 mod watch;

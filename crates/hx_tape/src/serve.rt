@@ -6,15 +6,18 @@ ghost use Rattle.hx_journal.specs.Records.{records_of};
 ghost use Rattle.hx_tape_lines.specs.Text.{record_of};
 ghost use Rattle.hx_desk.specs.Entries.{restored};
 ghost use Rattle.hx_engine.specs.Journals.{lines};
+ghost use Rattle.hx_log_journal.specs.States.{kept, is_open, appended as logged};
 
 use crate::addresses::addresses_of;
 use crate::failure::Failure;
 use crate::fittings::{copies_of, fittings_of};
 use crate::input::WakingInput;
+use crate::logged::open_nodes;
 use clap::ArgMatches;
 use hx_day_journal::{Syncs, Wanted, day_of, digest_of, last_time, open_journal};
 use hx_engine::Journal;
 use hx_journal::{FileJournal, Noted, RawFile};
+use hx_log_journal::LogJournal;
 use hx_members::{Seed, Setup};
 use hx_runs::{read_setup_text, setup_of};
 use hx_serve::{
@@ -169,6 +172,37 @@ fn host_kept<
     host(rt, matches, hosting, beginning, input)
 }
 
+// Serves a day from what its log keeps.
+fn host_logged<
+    R: AllocGlobal
+        + Print
+        + Files
+        + Log
+        + Net<Listener = TcpListener, Stream = TcpStream>
+        + Clock
+        + Threads
+        + Wait
+        + Sync,
+    G: Gate + Sync,
+    B: Board + Sync,
+    L: hx_log::Log + Drop + Send,
+    I: Read + Send + Drop,
+>(
+    rt: &R,
+    matches: &ArgMatches<'_>,
+    hosting: &Hosting<'_, G, B>,
+    beginning: Beginning<LogJournal<L>>,
+    input: I,
+) -> Result<(), Failure>
+    requires journal { logged L.committed beginning.recovered.journal
+        ≡ lines record_of (restored beginning.recovered.events.items) }
+    requires kept { kept L.committed beginning.recovered.journal
+        ≡ lines record_of (restored beginning.recovered.events.items) }
+    requires is_open { is_open beginning.recovered.journal.fault ≡ true }
+{
+    host(rt, matches, hosting, beginning, input)
+}
+
 // What a day starts with besides its journal.
 #[derive(Drop)]
 struct Start {
@@ -257,7 +291,48 @@ where
     host_kept(rt, matches, hosting, beginning, input)
 }
 
-// Serves a day with a seed that is drawn: over its journal, where the command line names one.
+// Serves a day over its log. The log may fail, or the day end, and then nobody waits for the operator's next line.
+fn begin_logged<
+    'x,
+    R: AllocGlobal
+        + Input
+        + Print
+        + Files<File = fs::File>
+        + Log
+        + Net<Listener = TcpListener, Stream = TcpStream>
+        + Clock
+        + Threads
+        + Wait
+        + Sync,
+    G: Gate + Sync,
+    B: Board + Sync,
+>(
+    rt: &'x R,
+    matches: &ArgMatches<'_>,
+    plan: Plan<'x>,
+    hosting: &Hosting<'_, G, B>,
+    nodes: &str,
+    start: Start,
+) -> Result<(), Failure>
+where
+    R::Reader: Send,
+{
+    let Start { seed, fittings } = start;
+    let writer = matches.get_one::<u64>("writer").unwrap_or(0);
+    let recovered = open_nodes(rt, nodes, writer)?;
+    plan.last
+        .fetch_max(last_time(&recovered.events), Ordering::SeqCst);
+    let input = WakingInput::new(rt.reader());
+    let beginning = Beginning {
+        seed,
+        recovered,
+        ahead: matches.get_one::<u64>("ahead").unwrap_or(u64::MAX),
+        fittings,
+    };
+    host_logged(rt, matches, hosting, beginning, input)
+}
+
+// Serves a day with a seed that is drawn: over its journal or its log, if the command line names one.
 fn begin<
     'x,
     R: AllocGlobal
@@ -288,7 +363,8 @@ where
     };
     let seed = Seed::Drawn(keys);
     let journal = matches.get_str("journal");
-    let times = if plan.open.is_some() || journal.is_some() {
+    let nodes = matches.get_str("log");
+    let times = if plan.open.is_some() || journal.is_some() || nodes.is_some() {
         Times::of_day(plan.day, plan.last)
     } else {
         Times::of_machine()
@@ -308,8 +384,11 @@ where
         copies: plan.copies,
     };
     let start = Start { seed, fittings };
-    match journal {
-        Some(path) => begin_kept(rt, matches, plan, &hosting, board, path, start),
+    if let Some(path) = journal {
+        return begin_kept(rt, matches, plan, &hosting, board, path, start);
+    }
+    match nodes {
+        Some(nodes) => begin_logged(rt, matches, plan, &hosting, nodes, start),
         None => begin_unkept(rt, matches, &hosting, start),
     }
 }

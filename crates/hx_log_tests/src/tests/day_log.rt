@@ -1,6 +1,6 @@
 //! A day that begins over a log.
 
-use crate::tests::{equal, holds};
+use crate::tests::equal;
 use hx_day_log::*;
 use hx_engine::{Journal, Recovered};
 use hx_log::MemoryLog;
@@ -24,49 +24,38 @@ fn opened<R: Abort>(
     open_log(alloc, log, writer, &Unwatched).expect(rt, "a log")
 }
 
-// The log, with a day of two lines kept by one sync more: the code Q of the hours at the first nanosecond, and a message of
-// member 1.
-fn keep_day<R: Abort>(rt: &R, mut journal: LogJournal<MemoryLog>) -> MemoryLog {
-    journal.append(b"1 0 51").expect(rt, "room");
-    journal.append(b"2 1 4f48").expect(rt, "room");
+// The log, with these lines kept by one sync more.
+fn kept<R: Abort>(rt: &R, journal: LogJournal<MemoryLog>, lines: &[&[u8]]) -> MemoryLog {
+    let mut journal = journal;
+    for line in lines {
+        journal.append(line).expect(rt, "room");
+    }
     journal.sync().expect(rt, "a log");
     journal.into_follower().into_log()
 }
 
-// The log, with a line kept that is no event.
-fn keep_word<R: Abort>(rt: &R, mut journal: LogJournal<MemoryLog>) -> MemoryLog {
-    journal.append(b"1 0 51").expect(rt, "room");
-    journal.append(b"buy").expect(rt, "room");
-    journal.sync().expect(rt, "a log");
-    journal.into_follower().into_log()
-}
+// The first event is the code Q of the hours at the first nanosecond, the second a message of member 1.
+const LINES: &[&[u8]] = &[b"1 0 51", b"2 1 4f48"];
 
-// These are the events of that day.
+// The first event of a day, and how many there are.
 fn expect_day<R: Abort>(rt: &R, events: &[Event]) {
     equal(rt, events.len(), 2);
-    let first = events.first().expect(rt, "an event");
-    let second = events.last().expect(rt, "an event");
-    holds(
-        rt,
-        matches!(
-            first,
-            Event::Hours {
-                time: 1,
-                code: b'Q'
-            }
-        ),
+    let is_code = matches!(
+        events[0],
+        Event::Hours {
+            time: 1,
+            code: b'Q'
+        }
     );
-    holds(
-        rt,
-        matches!(
-            second,
-            Event::Message {
-                member: 1,
-                time: 2,
-                ..
-            }
-        ),
+    let is_message = matches!(
+        events[1],
+        Event::Message {
+            member: 1,
+            time: 2,
+            ..
+        }
     );
+    equal(rt, (is_code, is_message), (true, true));
 }
 
 #[test]
@@ -74,7 +63,7 @@ fn a_day_goes_on_from_its_log(rt: HostRuntime) {
     let alloc = rt.alloc();
     let first = opened(&rt, alloc, MemoryLog::new(alloc), 1);
     equal(&rt, first.events.len(), 0);
-    let log = keep_day(&rt, first.journal);
+    let log = kept(&rt, first.journal, LINES);
     let second = opened(&rt, alloc, log, 2);
     expect_day(&rt, &second.events);
     // Two takeovers, and a record of both lines.
@@ -85,7 +74,7 @@ fn a_day_goes_on_from_its_log(rt: HostRuntime) {
 fn a_record_that_is_no_event_is_told_by_its_number(rt: HostRuntime) {
     let alloc = rt.alloc();
     let first = opened(&rt, alloc, MemoryLog::new(alloc), 1);
-    let log = keep_word(&rt, first.journal);
+    let log = kept(&rt, first.journal, &[b"1 0 51", b"buy"]);
     let fault = open_log(alloc, log, 2, &Unwatched).err();
     equal(&rt, fault, Some(DayLogError::NoEvent { record: 2 }));
 }
@@ -105,7 +94,7 @@ fn a_large_day_is_read(rt: HostRuntime) {
     let mut log = MemoryLog::new(alloc);
     for writer in 1..=500u64 {
         let day = opened(&rt, alloc, log, writer);
-        log = keep_day(&rt, day.journal);
+        log = kept(&rt, day.journal, LINES);
     }
     equal(&rt, opened(&rt, alloc, log, 501).events.len(), 1000);
 }

@@ -5,15 +5,20 @@ use hx_serve::{Json, Left, Notice, Refusal, ServeArgs};
 use hx_sessions::Ended;
 use hx_units::MemberNo;
 use std::alloc::Global;
+use std::fmt::Display;
 use std::net::{Ipv4Addr, SocketAddr};
 use std::process::Abort;
 
+// What is shown reads so.
+fn shows<R: Abort, D: Display + Drop>(rt: &R, alloc: Global, shown: D, words: &str) {
+    let text = format!(in alloc; "{}", shown).expect(rt, "memory");
+    equal(rt, text.as_str(), words);
+}
+
 // A notice in words and as JSON.
 fn reads<R: Abort>(rt: &R, alloc: Global, notice: Notice, words: &str, json: &str) {
-    let told = format!(in alloc; "{}", notice).expect(rt, "memory");
-    equal(rt, told.as_str(), words);
-    let told = format!(in alloc; "{}", Json { notice }).expect(rt, "memory");
-    equal(rt, told.as_str(), json);
+    shows(rt, alloc, notice, words);
+    shows(rt, alloc, Json { notice }, json);
 }
 
 // Where a member comes from.

@@ -217,28 +217,58 @@ fn hear_no_end<R: Abort>(rt: &R, alloc: Global, vendor: &Vendor) {
     holds(rt, !vendor.hears_the_end(rt));
 }
 
+// The day until its disk fails, of which nobody hears the end.
+fn until_the_disk_fails<
+    R: AllocGlobal
+        + Files<File = fs::File>
+        + Net<Listener = TcpListener, Stream = TcpStream>
+        + Threads
+        + Wait
+        + Clock
+        + Log
+        + Abort
+        + Sync,
+>(rt: &R, stage: &Stage, path: &str) {
+    let (served, _) = join(
+        rt,
+        || serve_file(rt, stage, path, OPENING + 4),
+        || trade_until_the_disk_fails(rt, stage.ports.0),
+    );
+    equal(rt, served.err(), Some(ServeError::Journal));
+    hear_no_end(rt, rt.alloc(), &stage.vendor);
+}
+
+// The day goes on to its end.
+fn to_the_end<
+    R: AllocGlobal
+        + Files<File = fs::File>
+        + Net<Listener = TcpListener, Stream = TcpStream>
+        + Threads
+        + Wait
+        + Clock
+        + Log
+        + Abort
+        + Sync,
+>(rt: &R, stage: &Stage, path: &str) {
+    let (served, _) = join(
+        rt,
+        || serve_file(rt, stage, path, u64::MAX),
+        || go_on(rt, stage),
+    );
+    let day = served.expect(rt, "a day");
+    holds(rt, day.fault.is_none());
+    // Two orders before, one after, and the four codes.
+    equal(rt, day.history.len(), 7);
+}
+
 #[test]
 fn a_day_goes_on_from_its_journal(rt: HostRuntime) {
     let stage = Stage::new(&rt, USUAL);
     let path = path_of(&rt, rt.alloc(), stage.ports.0);
     let _ = fs::remove_file(&rt, path.as_str());
-    let (served, _) = join(
-        &rt,
-        || serve_file(&rt, &stage, &path, OPENING + 4),
-        || trade_until_the_disk_fails(&rt, stage.ports.0),
-    );
-    equal(&rt, served.err(), Some(ServeError::Journal));
-    hear_no_end(&rt, rt.alloc(), &stage.vendor);
+    until_the_disk_fails(&rt, &stage, path.as_str());
     let stage = Stage::new(&rt, USUAL);
-    let (served, _) = join(
-        &rt,
-        || serve_file(&rt, &stage, &path, u64::MAX),
-        || go_on(&rt, &stage),
-    );
-    let day = served.expect(&rt, "a day");
-    holds(&rt, day.fault.is_none());
-    // Two orders before, one after, and the four codes.
-    equal(&rt, day.history.len(), 7);
+    to_the_end(&rt, &stage, path.as_str());
     equal(&rt, stage.board.events.load(Ordering::SeqCst), 2);
     equal(&rt, stage.board.feed.load(Ordering::SeqCst), 1);
     let _ = fs::remove_file(&rt, path.as_str());
