@@ -4,6 +4,7 @@
 mod commands;
 mod journal;
 mod operate;
+mod relay;
 mod serve;
 mod watch;
 

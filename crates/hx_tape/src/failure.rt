@@ -3,6 +3,7 @@
 use hx_day_journal::DayJournalError;
 use hx_journal_tool::ToolError;
 use hx_operator::{OperateError, ScheduleError, SocketError};
+use hx_relay::RelayError;
 use hx_runs::RunError;
 use hx_serve::ServeError;
 use hx_watch::WatchError;
@@ -56,6 +57,9 @@ pub enum Failure {
     /// A server refused its operator's words, and has said why.
     #[error("refused")]
     Refused,
+    /// A feed that is relayed fell silent before its end, or some of it is missing.
+    #[error("the end was not heard")]
+    NoEnd,
     /// A growth was refused.
     #[error("no memory")]
     NoMemory,
@@ -72,6 +76,8 @@ pub enum Failure {
     Watch(WatchError),
     #[error(transparent)]
     Journal(ToolError),
+    #[error(transparent)]
+    Relay(RelayError),
 }
 
 impl Failure {
@@ -113,6 +119,8 @@ impl Failure {
                 | SocketError::Path
                 | SocketError::Failed,
             ) => 4,
+            Failure::NoEnd | Failure::Relay(RelayError::Network) => 4,
+            Failure::Relay(RelayError::NoMemory) => 3,
             Failure::Operate(error) => error.status(),
         }
     }
@@ -127,6 +135,12 @@ impl From<AllocError> for Failure {
 impl<T: Drop> From<AllocFailed<T>> for Failure {
     fn from(e: AllocFailed<T>) -> Failure {
         Failure::from(AllocError::from(e))
+    }
+}
+
+impl From<RelayError> for Failure {
+    fn from(e: RelayError) -> Failure {
+        Failure::Relay(e)
     }
 }
 

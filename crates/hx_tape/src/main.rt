@@ -8,6 +8,7 @@ mod fittings;
 mod input;
 mod journal;
 mod operate;
+mod relay;
 mod serve;
 mod watch;
 
@@ -18,6 +19,7 @@ use hx_runs::{RunError, read_words, refuse, run_command};
 use journal::journal_file;
 use log::Log;
 use operate::operate_server;
+use relay::relay_day;
 use serve::serve_input;
 use std::fs;
 use std::net::{Net, TcpListener, TcpStream};
@@ -75,6 +77,7 @@ where
         Some(("watch", matches)) => watch_feed(rt, matches),
         Some(("operate", matches)) => operate_server(rt, matches),
         Some(("journal", matches)) => journal_file(rt, matches),
+        Some(("relay", matches)) => relay_day(rt, matches),
         _ => Ok(run_command(rt, matches)?),
     }
 }
