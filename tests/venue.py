@@ -12,13 +12,15 @@ import tapes
 
 HOST = "127.0.0.1"
 SESSION = "HX00000008"
+STOCKS = ("ABCD",)
 END_OF_SESSION = 65535
 # The codes of the hours that are left of a day that begins open.
 CLOSING = b"".join(b"%d 0 %s\n" % (86_399_999_000_000 + at, code) for at, code in enumerate((b"51", b"4d", b"45", b"43")))
 
 
-def setup_text(members):
-    lines = [f"session {SESSION}", "start open", "stock ABCD 5120000000644e435a20502020314e000000004e"]
+def setup_text(members, session=SESSION, stocks=STOCKS):
+    lines = [f"session {session}", "start open"]
+    lines += [f"stock {name} 5120000000644e435a20502020314e000000004e" for name in stocks]
     lines += [f"member {n} {firm(n)} US{n:04d} PASS{n:04d} 10000000" for n in range(1, members + 1)]
     return "\n".join(lines) + "\n"
 
@@ -38,21 +40,32 @@ def frame(kind, payload=b""):
 
 
 class Server:
-    """A server with a journal, or what other words say, which can be killed and started again with the same words."""
+    """A server with a journal, or what other words say, which can be killed and started again with the same words.
 
-    def __init__(self, program, folder, journal, members, places=None, more=(), ticks=0, end=1):
-        self.program, self.journal = program, journal
+    Its setup has this session and these stocks. It is at `host`, and its feed goes to `vendors`, where those are not at
+    127.0.0.1."""
+
+    def __init__(self, program, folder, journal, members, places=None, more=(), ticks=0, end=1, session=SESSION,
+                 stocks=STOCKS, host=HOST, vendors=HOST, feed=None):
+        self.program, self.journal, self.session, self.stocks, self.host = program, journal, session, stocks, host
         self.setup = os.path.join(folder, "setup")
         with open(self.setup, "w", encoding="ascii") as file:
-            file.write(setup_text(members))
+            file.write(setup_text(members, session, stocks))
         self.port, self.requests = free_port(socket.SOCK_STREAM), free_port(socket.SOCK_DGRAM)
-        self.feed = free_port(socket.SOCK_DGRAM)
-        self.words = [program, "serve", "--open", "--end", str(end), "--port", str(self.port), "--feed", str(self.feed),
-                      "--requests", str(self.requests), "--sessions", str(places or members), "--setup", self.setup,
+        self.feed = feed or free_port(socket.SOCK_DGRAM)
+        self.words = [program, "serve", "--open", "--end", str(end), *self.doors(vendors),
+                      "--sessions", str(places or members), "--setup", self.setup,
                       "--capacity", "1000000", "--answers", "100000", "--connections-per-address", "1000",
                       "--tick", str(ticks), *(["--journal", journal] if journal else []), *more]
         self.notices = []
         self.process = None
+
+    def doors(self, vendors):
+        """The words of where it listens, and where its feed goes."""
+        if self.host == HOST == vendors:
+            return ["--port", str(self.port), "--feed", str(self.feed), "--requests", str(self.requests)]
+        return ["--listen", f"{self.host}:{self.port}", "--feed", f"{vendors}:{self.feed}",
+                "--requests", f"{self.host}:{self.requests}"]
 
     def start(self, stdin=subprocess.PIPE):
         self.process = subprocess.Popen(self.words, stdin=stdin, stdout=subprocess.PIPE, stderr=subprocess.PIPE)
@@ -95,16 +108,16 @@ def packets_of(line):
         kept += more
 
 
-def login(number, first):
-    """The login of a member who expects this reply next."""
-    return frame(b"L", b"US%04d" % number + b"PASS%04d  " % number + b" " * 10 + b"%20d" % first)
+def login(number, first, session=""):
+    """The login of a member who expects this reply next, to this session or to whichever is there."""
+    return frame(b"L", b"US%04d" % number + b"PASS%04d  " % number + session.encode().ljust(10) + b"%20d" % first)
 
 
 class Orders:
-    """Orders at random, with tokens of their own."""
+    """Orders at random, with tokens of their own, for these stocks in turn."""
 
-    def __init__(self, name, seed):
-        self.name, self.random, self.sent = name, random.Random(seed), 0
+    def __init__(self, name, seed, stocks=STOCKS):
+        self.name, self.random, self.sent, self.stocks = name, random.Random(seed), 0, stocks
 
     def token(self, number):
         return f"{self.name}T{number:08d}"
@@ -115,7 +128,8 @@ class Orders:
         kind = self.random.random()
         price = 100_000 + 100 * self.random.randrange(-4, 5)
         if kind < 0.7 or self.sent < 5:
-            return tapes.enter(token, self.random.choice("BS"), self.random.randrange(1, 500), "ABCD", price,
+            stock = self.stocks[self.sent % len(self.stocks)]
+            return tapes.enter(token, self.random.choice("BS"), self.random.randrange(1, 500), stock, price,
                                display=self.random.choice("YN"))
         other = self.token(self.random.randrange(max(1, self.sent - 20), self.sent))
         if kind < 0.85:
@@ -124,12 +138,18 @@ class Orders:
 
 
 class Member(threading.Thread):
-    """A member who trades at random while the server is there, and comes again when it is not."""
+    """A member who trades at random while the server is there, and comes again when it is not.
 
-    def __init__(self, server, number, seed):
+    Where there are other servers he tries one after the other; and a line on which he is told nothing for `patience`
+    times 50 milliseconds he gives up."""
+
+    def __init__(self, server, number, seed, others=(), patience=None):
         super().__init__(daemon=True)
-        self.server, self.number, self.random = server, number, random.Random(seed)
-        self.orders = Orders(f"M{number}", seed)
+        self.servers, self.patience = (server, *others), patience
+        self.number, self.random = number, random.Random(seed)
+        self.orders = Orders(f"M{number}", seed, server.stocks)
+        # (when he logged in, and where)
+        self.logins = []
         self.told = []
         self.stop, self.quiet, self.failure, self.again = False, threading.Event(), None, 0
 
@@ -141,29 +161,39 @@ class Member(threading.Thread):
         else:
             self.told.append(message)
 
-    def talk(self, line):
+    def answer(self, packets):
+        """The first packet; none where he gives the line up, or it has ended."""
+        for idle, packet in enumerate(packets):
+            if packet is not None or idle == self.patience:
+                return packet
+        return None
+
+    def talk(self, line, server):
         from_the_start = self.random.random() < 0.2
         first = 1 if from_the_start else len(self.told) + 1
         line.sendall(login(self.number, first))
         line.settimeout(0.05)
         packets = packets_of(line)
-        answer = next((it for it in packets if it is not None), None)
+        answer = self.answer(packets)
         if answer is None:
             return False
         if answer[:1] != b"A":
             raise OSError("no login")
+        self.logins.append((time.monotonic(), server))
         if int(answer[11:31]) != first:
             self.failure = f"member {self.number}: asked for reply {first}, and got {answer!r}"
-        number, waiting, idle = first, 0, 0
+        number, waiting, idle, silent = first, 0, 0, 0
         for packet in packets:
             if packet is None:
                 # (some messages have no reply)
-                idle += 1
+                idle, silent = idle + 1, silent + 1
                 waiting = 0 if idle % 10 == 0 else waiting
+                if silent == self.patience and not self.stop:
+                    return False
             elif packet[:1] == b"S":
                 self.take(number, packet[1:])
                 number += 1
-                waiting = max(0, waiting - 1)
+                waiting, silent = max(0, waiting - 1), 0
             elif packet[:1] == b"Z":
                 return True
             if not self.stop and waiting < 3:
@@ -174,10 +204,11 @@ class Member(threading.Thread):
 
     def run(self):
         while self.failure is None:
+            server = self.servers[self.again % len(self.servers)]
             try:
-                with socket.create_connection((HOST, self.server.port), timeout=1) as line:
+                with socket.create_connection((server.host, server.port), timeout=1) as line:
                     line.setsockopt(socket.IPPROTO_TCP, socket.TCP_NODELAY, 1)
-                    if self.talk(line):
+                    if self.talk(line, server):
                         return
             except OSError:
                 time.sleep(0.01)
@@ -185,17 +216,21 @@ class Member(threading.Thread):
 
 
 class Vendor(threading.Thread):
-    """Listens to the feed, and asks for what he misses."""
+    """Listens to the feed, and asks for what he misses.
 
-    def __init__(self, server, seed):
+    Where there are other servers he asks the next one when one does not answer. He listens at the server's port of the
+    feed, or at `feed`, of the address `host`."""
+
+    def __init__(self, server, seed, others=(), feed=None, host=HOST):
         super().__init__(daemon=True)
-        self.server, self.random = server, random.Random(seed)
+        self.servers, self.at, self.random = (server, *others), 0, random.Random(seed)
+        self.session = server.session.encode()
         self.socket = socket.socket(socket.AF_INET, socket.SOCK_DGRAM)
         self.socket.setsockopt(socket.SOL_SOCKET, socket.SO_RCVBUF, 1 << 22)
-        self.socket.bind((HOST, server.feed))
+        self.socket.bind((host, feed or server.feed))
         self.socket.settimeout(0.5)
         self.asking = socket.socket(socket.AF_INET, socket.SOCK_DGRAM)
-        self.asking.bind((HOST, 0))
+        self.asking.bind((host, 0))
         self.asking.settimeout(0.05)
         self.told, self.failure, self.asked = [], None, 0
         self.ended = threading.Event()
@@ -219,10 +254,12 @@ class Vendor(threading.Thread):
 
     def ask(self, first, count):
         self.asked += 1
+        server = self.servers[self.at]
         try:
-            self.asking.sendto(struct.pack(">10sQH", SESSION.encode(), first, count), (HOST, self.server.requests))
+            self.asking.sendto(struct.pack(">10sQH", self.session, first, count), (server.host, server.requests))
             self.take(self.asking.recv(2000))
         except OSError:
+            self.at = (self.at + 1) % len(self.servers)
             time.sleep(0.005)
 
     def run(self):
@@ -232,7 +269,7 @@ class Vendor(threading.Thread):
             except OSError:
                 continue
             session, sequence, count = struct.unpack_from(">10sQH", packet)
-            if session != SESSION.encode():
+            if session != self.session:
                 self.failure = f"vendor: another session, {session!r}"
             self.take(packet)
             while len(self.told) + 1 < sequence and not self.ended.is_set():

@@ -1,16 +1,19 @@
 //! The commands besides those over tapes.
 
+use crate::follow::FOLLOW;
 use crate::journal::JOURNAL;
 use crate::operate::OPERATE;
+use crate::relay::RELAY;
 use crate::serve::SERVE;
 use crate::watch::WATCH;
 use clap::Command;
 use hx_tape_commands::{Subcommand, tape_command, with_subcommands};
 use std::alloc::{AllocError, Global};
 
-const COMMANDS: &[Subcommand] = &[SERVE, OPERATE, WATCH, JOURNAL];
+const COMMANDS: &[Subcommand] = &[SERVE, OPERATE, WATCH, JOURNAL, FOLLOW, RELAY];
 
-/// The program's whole command line: the commands over tapes, serve, operate, watch and journal.
+/// The program's whole command line: the commands over tapes, serve, operate, watch, journal,
+/// follow and relay.
 pub fn command<'a>(alloc: Global) -> Result<Command<'a>, AllocError> {
     with_subcommands(alloc, tape_command(alloc)?, COMMANDS)
 }

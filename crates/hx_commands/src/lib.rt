@@ -2,8 +2,10 @@
 #![tactic(auto)]
 
 mod commands;
+mod follow;
 mod journal;
 mod operate;
+mod relay;
 mod serve;
 mod watch;
 

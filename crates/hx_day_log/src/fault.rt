@@ -29,6 +29,9 @@ pub enum DayLogError {
     /// Others write to it all the time.
     #[error("log in use")]
     InUse,
+    /// The tape could not be written.
+    #[error("write failed")]
+    Write,
     /// A growth was refused.
     #[error("no memory")]
     NoMemory,
@@ -40,7 +43,10 @@ impl DayLogError {
         match self {
             DayLogError::NoEvent { .. } | DayLogError::Damaged { .. } => 1,
             DayLogError::NoMemory => 3,
-            DayLogError::Unreachable | DayLogError::Failed | DayLogError::InUse => 4,
+            DayLogError::Unreachable
+            | DayLogError::Failed
+            | DayLogError::InUse
+            | DayLogError::Write => 4,
         }
     }
 }

@@ -1,9 +1,11 @@
 //! The log of a served day as an operator meets it: who begins reads all that stands in it, takes over, and goes on from the
-//! events that it keeps.
+//! events that it keeps. A standby reads on, and takes over once who is in office is gone. A follower writes the tape.
 #![tactic(auto)]
 
 mod fault;
+mod following;
 mod opening;
 
 pub use fault::DayLogError;
-pub use opening::open_log;
+pub use following::write_on;
+pub use opening::{News, Watch, open_log, stand_by};

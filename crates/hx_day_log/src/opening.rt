@@ -1,51 +1,90 @@
-//! How the log of a day is opened.
-ghost use Rattle.std.specs.Prelude.{◌≡◌, [], None, true, IfOk};
-ghost use Rattle.hx_journal.specs.Lines.{text_of, AreLines};
+//! How a day over a log is opened: at once, or by a standby once who is in office is gone.
+ghost use Rattle.std.specs.Prelude.{◌≡◌, [], None, true, IfOk, OnOk};
 ghost use Rattle.hx_tape_lines.specs.Text.{record_of};
 ghost use Rattle.hx_desk.specs.Entries.{restored};
 ghost use Rattle.hx_engine.specs.Journals.{lines};
-ghost use Rattle.hx_log_journal.specs.States.{kept, appended, is_open};
+ghost use Rattle.hx_log_journal.specs.States.{told, kept, appended, is_open};
+ghost use Rattle.hx_day_log.specs.Events.{HasEvents};
 
 use crate::fault::DayLogError;
 use hx_engine::Recovered;
 use hx_log::{KeepError, Log, LogError};
 use hx_log_journal::{Follower, LogJournal};
-use hx_recovery::{Progress, events_of};
+use hx_market::Event;
+use hx_recovery::{Progress, RecoveryError, events_of};
 use std::alloc::Global;
 
-// So often a day that begins reads on, where others write meanwhile.
-const MOST_TURNS: u64 = 1_000_000;
+// A log is read this many times at most.
+const MOST_READS: u64 = 1_000_000_000_000;
 
-// Reads all that stands in the log and takes over: the journal, and the text of the lines that it keeps.
-fn take_over<L: Log + Drop>(
-    alloc: Global,
-    log: L,
-    writer: u64,
-) -> Result<(LogJournal<L>, Vec<u8>), DayLogError>
-    ensures text { IfOk result (λ r. r.1.items ≡ text_of (kept L.committed r.0)) }
-    ensures lines { IfOk result (λ r. AreLines (kept L.committed r.0)) }
-    ensures waiting { IfOk result (λ r. r.0.waiting ≡ []) }
-    ensures is_open { IfOk result (λ r. r.0.fault ≡ None) }
-{
-    let mut standby = Follower::new(log, writer);
-    let mut tape = Vec::new(alloc);
-    for _ in 0..MOST_TURNS {
-        let text = standby.read_on(alloc)?;
-        tape.extend_from_slice(&text)?;
-        standby = match standby.take_over(alloc) {
-            Ok(journal) => return Ok((journal, tape)),
-            Err((KeepError::Log(LogError::Taken), standby)) => standby,
-            Err((error, _standby)) => return Err(DayLogError::from(error)),
-        };
+/// What a reading of a log gave.
+#[derive(Clone, Copy, Debug, PartialEq, Eq, Drop)]
+pub enum News {
+    /// Records, of which some may not count.
+    Some,
+    /// No record stood there.
+    None,
+    /// No node of the log told.
+    Unreachable,
+}
+
+impl News {
+    // Those of a reading that had read this many records before, and this many after.
+    pub(crate) fn of(before: u64, after: u64) -> News {
+        if before == after {
+            News::None
+        } else {
+            News::Some
+        }
     }
-    Err(DayLogError::InUse)
+}
+
+/// What a standby sees of who is in office.
+pub trait Watch {
+    /// Waits for a moment, and returns whether the holder of the office has been gone for too long: the writer of this
+    /// number, or 0 where nobody was in office yet. The news are those of the reading before.
+    fn is_gone(&mut self, news: News, holder: u64) -> bool;
+}
+
+// Why a record is no event, of a text of lines behind this many.
+fn behind(events: usize, error: RecoveryError) -> DayLogError {
+    match error {
+        RecoveryError::NoEvent { record } => DayLogError::NoEvent {
+            record: (events as u64).saturating_add(record),
+        },
+        other => DayLogError::from(other),
+    }
+}
+
+// Reads on, and adds the events of the lines that count.
+fn read_on<L: Log, P: Progress>(
+    alloc: Global,
+    standby: &mut Follower<L>,
+    events: &mut Vec<Event>,
+    progress: &P,
+) -> Result<News, DayLogError>
+    requires { HasEvents (told L.committed standby.old) events.old.items }
+    ensures { OnOk result (HasEvents (told L.committed standby.new) events.new.items) }
+{
+    let before = standby.count_read();
+    let text = match standby.read_on(alloc) {
+        Ok(text) => text,
+        Err(LogError::Unreachable | LogError::Unknown) => return Ok(News::Unreachable),
+        Err(error) => return Err(DayLogError::from(error)),
+    };
+    let mut more = match events_of(alloc, &text, progress) {
+        Ok(more) => more,
+        Err(error) => return Err(behind(events.len(), error)),
+    };
+    events.append(&mut more)?;
+    Ok(News::of(before, standby.count_read()))
 }
 
 /// Opens the log of a day as this writer, from 1 on, who takes over: the journal of an exchange, and the events that it
 /// keeps, which are those of all lines that count in the log. Whoever was in office before is deposed by that. A writer's
 /// number is given to one process alone. The progress is told of each event that is read.
 ///
-/// Errors: where a record is no event it has taken over nevertheless; what the others leave in the log is as for
+/// Errors: where a record is no event, nothing is taken over; what the others leave in the log is as for
 /// `Follower::take_over`.
 pub fn open_log<L: Log + Drop, P: Progress>(
     alloc: Global,
@@ -57,9 +96,55 @@ pub fn open_log<L: Log + Drop, P: Progress>(
         ≡ lines record_of (restored r.events.items)) }
     ensures kept { IfOk result (λ r. kept L.committed r.journal
         ≡ lines record_of (restored r.events.items)) }
+    ensures waiting { IfOk result (λ r. r.journal.waiting ≡ []) }
     ensures is_open { IfOk result (λ r. is_open r.journal.fault ≡ true) }
 {
-    let (journal, tape) = take_over(alloc, log, writer)?;
-    let events = events_of(alloc, &tape, progress)?;
-    Ok(Recovered { journal, events })
+    let mut standby = Follower::new(log, writer);
+    let mut events = Vec::new(alloc);
+    for _ in 0..MOST_READS {
+        if let News::Unreachable = read_on(alloc, &mut standby, &mut events, progress)? {
+            return Err(DayLogError::Unreachable);
+        }
+        standby = match standby.take_over(alloc) {
+            Ok(journal) => return Ok(Recovered { journal, events }),
+            Err((KeepError::Log(LogError::Taken), standby)) => standby,
+            Err((error, _standby)) => return Err(DayLogError::from(error)),
+        };
+    }
+    Err(DayLogError::InUse)
+}
+
+/// Stands by as this writer: reads the log as records come, until the watch says that who is in office is gone, and then
+/// opens the day as `open_log` does. If another took over meanwhile, it stands by on.
+///
+/// Errors: a record that is no event, or no record; no memory. While no node tells it stands by on.
+pub fn stand_by<L: Log + Drop, W: Watch, P: Progress>(
+    alloc: Global,
+    log: L,
+    writer: u64,
+    watch: &mut W,
+    progress: &P,
+) -> Result<Recovered<LogJournal<L>>, DayLogError>
+    ensures appended { IfOk result (λ r. appended L.committed r.journal
+        ≡ lines record_of (restored r.events.items)) }
+    ensures kept { IfOk result (λ r. kept L.committed r.journal
+        ≡ lines record_of (restored r.events.items)) }
+    ensures waiting { IfOk result (λ r. r.journal.waiting ≡ []) }
+    ensures is_open { IfOk result (λ r. is_open r.journal.fault ≡ true) }
+{
+    let mut standby = Follower::new(log, writer);
+    let mut events = Vec::new(alloc);
+    for _ in 0..MOST_READS {
+        let news = read_on(alloc, &mut standby, &mut events, progress)?;
+        if watch.is_gone(news, standby.holder()) {
+            standby = match standby.take_over(alloc) {
+                Ok(journal) => return Ok(Recovered { journal, events }),
+                Err((KeepError::Log(LogError::NoMemory), _standby)) => {
+                    return Err(DayLogError::NoMemory);
+                }
+                Err((_error, standby)) => standby,
+            };
+        }
+    }
+    Err(DayLogError::InUse)
 }

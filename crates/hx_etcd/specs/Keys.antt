@@ -14,3 +14,7 @@ key_of n = codes "hx/" ++ (noughts 12 n ++ decimal n)
 -- the first key behind all that begin with `hx/`: "0" is the byte behind "/"
 abbrev pub keys_end : List ℕ
 keys_end = codes "hx0"
+
+-- the key under which a writer shows that he is there: `hy/` and his number
+abbrev pub sign_key : (writer : ℕ) → List ℕ
+sign_key writer = codes "hy/" ++ decimal writer

@@ -3,10 +3,10 @@ ghost use Rattle.std.specs.Prelude.{◌≡◌, IfOk};
 ghost use Rattle.std.specs.String.{string_bytes};
 ghost use Rattle.json.specs.Print.{print};
 ghost use Rattle.json.specs.Tree.{json_tokens};
-ghost use Rattle.hx_etcd.specs.Documents.{base64_of, transaction_of, question_of, append_text, range_text};
-ghost use Rattle.hx_etcd.specs.Keys.{key_of, keys_end};
+ghost use Rattle.hx_etcd.specs.Documents.{base64_of, transaction_of, question_of, putting_of, finding_of, append_text, range_text, sign_text, sign_question_text};
+ghost use Rattle.hx_etcd.specs.Keys.{key_of, keys_end, sign_key};
 
-use crate::keys::key;
+use crate::keys::{key, sign_key};
 use crate::parts::Part::{Array, EndArray, EndObject, Key, Object, Text};
 use crate::parts::text_of;
 use base64::engine::general_purpose::STANDARD;
@@ -126,4 +126,55 @@ pub(crate) fn range_body(alloc: Global, from: u64, most: u64) -> Result<Vec<u8>,
     let key = encoded_key(alloc, from)?;
     let end = encoded(alloc, KEYS_END)?;
     question(alloc, key.as_str(), end.as_str(), buffer.format(most))
+}
+
+// The text that puts a value under a key.
+fn putting<'a>(alloc: Global, key: &'a str, value: &'a str) -> Result<Vec<u8>, NoMemory>
+    ensures { IfOk result (λ text.
+        text.items ≡ print (json_tokens (putting_of key.now value.now))) }
+{
+    text_of(
+        alloc,
+        &[
+            Object,
+            Key("key"),
+            Text(key),
+            Key("value"),
+            Text(value),
+            EndObject,
+        ],
+    )
+}
+
+// The question for what stands under a key.
+fn finding<'a>(alloc: Global, key: &'a str) -> Result<Vec<u8>, NoMemory>
+    ensures { IfOk result (λ text.
+        text.items ≡ print (json_tokens (finding_of key.now))) }
+{
+    text_of(alloc, &[Object, Key("key"), Text(key), EndObject])
+}
+
+// The key of a writer's sign of life as JSON has it.
+fn encoded_sign_key(alloc: Global, writer: u64) -> Result<String, NoMemory>
+    ensures { IfOk result (λ text. string_bytes text ≡ base64_of (sign_key writer)) }
+{
+    let key = sign_key(alloc, writer)?;
+    encoded(alloc, &key)
+}
+
+// The text that shows a writer's sign of life.
+pub(crate) fn sign_body(alloc: Global, writer: u64, sign: &[u8]) -> Result<Vec<u8>, NoMemory>
+    ensures { IfOk result (λ body. body.items ≡ sign_text writer sign.now) }
+{
+    let key = encoded_sign_key(alloc, writer)?;
+    let value = encoded(alloc, sign)?;
+    putting(alloc, key.as_str(), value.as_str())
+}
+
+// The question for it.
+pub(crate) fn sign_question_body(alloc: Global, writer: u64) -> Result<Vec<u8>, NoMemory>
+    ensures { IfOk result (λ body. body.items ≡ sign_question_text writer) }
+{
+    let key = encoded_sign_key(alloc, writer)?;
+    finding(alloc, key.as_str())
 }

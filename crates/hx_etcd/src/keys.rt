@@ -1,6 +1,6 @@
 //! The keys of records.
 ghost use Rattle.std.specs.Prelude.{◌≡◌, IfOk};
-ghost use Rattle.hx_etcd.specs.Keys.{key_of};
+ghost use Rattle.hx_etcd.specs.Keys.{key_of, sign_key};
 
 use hx_units::NoMemory;
 use itoa::Buffer;
@@ -21,5 +21,16 @@ pub fn key(alloc: Global, number: u64) -> Result<Vec<u8>, NoMemory>
     key.extend_from_slice(b"hx/")?;
     key.extend_from_slice(&NOUGHTS[..missing])?;
     key.extend_from_slice(digits)?;
+    Ok(key)
+}
+
+// The key under which a writer shows that he is there: `hy/` and his number, as `hy/7`.
+pub(crate) fn sign_key(alloc: Global, writer: u64) -> Result<Vec<u8>, NoMemory>
+    ensures { IfOk result (λ key. key.items ≡ sign_key writer) }
+{
+    let mut buffer = Buffer::new();
+    let mut key = Vec::new(alloc);
+    key.extend_from_slice(b"hy/")?;
+    key.extend_from_slice(buffer.format(writer).as_bytes())?;
     Ok(key)
 }

@@ -1,5 +1,6 @@
-//! A client's side of etcd's JSON gateway (etcd 3.4, `/v3/kv/txn` and `/v3/kv/range`), for a log of records that several
-//! append to: the requests as texts, and what their answers say. There is no socket here.
+//! A client's side of etcd's JSON gateway (etcd 3.4, `/v3/kv/txn`, `/v3/kv/range` and `/v3/kv/put`), for a log of records
+//! that several append to, and for the signs of life of its writers: the requests as texts, and what their answers
+//! say. There is no socket here.
 #![tactic(auto)]
 
 mod append;
@@ -11,6 +12,7 @@ mod parts;
 mod range;
 mod requests;
 mod response;
+mod signs;
 mod told;
 
 pub use append::{Appended, read_append_answer};
@@ -19,4 +21,5 @@ pub use keys::key;
 pub use range::read_range_answer;
 pub use requests::{append_request, range_request};
 pub use response::CallError;
+pub use signs::{read_sign_answer, sign_question, sign_request};
 pub use told::{Answer, AnswerError, Field};

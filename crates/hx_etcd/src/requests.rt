@@ -14,7 +14,7 @@ const HEAD: &[u8] =
     b" HTTP/1.1\r\nHost: etcd\r\nContent-Type: application/json\r\nContent-Length: ";
 
 // A request of this path and this JSON text.
-fn request(alloc: Global, path: &[u8], body: &[u8]) -> Result<Vec<u8>, NoMemory>
+pub(crate) fn request(alloc: Global, path: &[u8], body: &[u8]) -> Result<Vec<u8>, NoMemory>
     ensures { IfOk result (λ text. text.items ≡ request_text path.now body.now) }
 {
     let mut buffer = Buffer::new();

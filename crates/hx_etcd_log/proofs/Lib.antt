@@ -1,3 +1,4 @@
 pub mod Since
 pub mod Known
 pub mod Outcomes
+pub mod Sent

@@ -16,11 +16,13 @@ mod log;
 mod nodes;
 mod noted;
 mod reading;
+mod signs;
 mod sockets;
 mod told;
 
 pub use log::EtcdLog;
 pub use nodes::{AskError, Nodes};
+pub use signs::Signs;
 pub use sockets::TcpNodes;
 
 #[cfg(test)]

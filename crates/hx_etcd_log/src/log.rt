@@ -17,7 +17,7 @@ use std::alloc::Global;
 /// A log in an etcd, as this client knows it: of the records that stand there it knows how many answers have told, and
 /// keeps the last of them until it reads on. What nodes answer against that is an error.
 #[derive(Drop)]
-pub struct EtcdLog<N: Nodes> {
+pub struct EtcdLog<N> {
     pub(crate) alloc: Global,
     pub(crate) nodes: N,
     // What the nodes were asked.

@@ -17,7 +17,7 @@ struct Node {
 /// The nodes of an etcd over TCP, without encryption. A connection is opened when a node is asked, and is kept until a
 /// call over it fails.
 #[derive(Drop)]
-pub struct TcpNodes<'a, R: Net<Stream = TcpStream>> {
+pub struct TcpNodes<'a, R> {
     net: &'a R,
     alloc: Global,
     nodes: Vec<Node>,

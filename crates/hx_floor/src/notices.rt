@@ -94,6 +94,13 @@ pub enum Notice {
         /// And this many messages of the feed.
         feed: u64,
     },
+    /// The log is read as records come, until who is in office is gone.
+    StandingBy,
+    /// The office is taken over.
+    InOffice {
+        /// With this many events, which are played next.
+        events: u64,
+    },
     /// The disk has no room for the journal: nothing is told until there is room.
     JournalWaits,
     /// There is room again.
@@ -202,6 +209,8 @@ impl Display for Notice {
             Notice::Resumed { events, feed } => {
                 write!(f, "resumed at event {events}, feed {feed}")
             }
+            Notice::StandingBy => f.write_str("standing by"),
+            Notice::InOffice { events } => write!(f, "in office with {events} events"),
             Notice::JournalWaits => f.write_str(
                 "journal full: nothing is told until there is room",
             ),
@@ -279,6 +288,9 @@ impl Display for Json {
                 f,
                 "{{\"notice\":\"resumed\",\"events\":{events},\"feed\":{feed}}}"
             ),
+            Notice::InOffice { events } => {
+                write!(f, "{{\"notice\":\"in office\",\"events\":{events}}}")
+            }
             Notice::Dropped { member, from } => {
                 let member = member.get();
                 write!(
@@ -296,6 +308,7 @@ impl Display for Json {
             Notice::Closing
             | Notice::Scheduled { .. }
             | Notice::Crowd
+            | Notice::StandingBy
             | Notice::JournalWaits
             | Notice::JournalGoesOn
             | Notice::StandardSetup

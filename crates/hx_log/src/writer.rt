@@ -1,5 +1,5 @@
 //! A writer of a log.
-ghost use Rattle.std.specs.Prelude.{◌≡◌, ◌↔◌, ◌<◌, List, length, IsTrue, IfOk, IfErr, OnOk, OnErr};
+ghost use Rattle.std.specs.Prelude.{◌≡◌, ◌↔◌, ◌<◌, ◌-◌, List, length, IsTrue, IfOk, IfErr, OnOk, OnErr};
 ghost use mathlib.Core.List.{IsPrefix};
 ghost use Rattle.hx_journal.specs.Lines.{text_of};
 ghost use Rattle.hx_terms.specs.Lines.{AreTapeLines};
@@ -41,6 +41,20 @@ impl LogWriter {
         ensures { IsTrue result ↔ (self.now.reading.writer ≡ self.now.writer) }
     {
         self.reading.writer == self.writer
+    }
+
+    /// Who is in office, as far as it has read; 0 if nobody was yet.
+    pub fn holder(&self) -> u64
+        ensures { result ≡ self.now.reading.writer }
+    {
+        self.reading.writer
+    }
+
+    /// How many records it has read.
+    pub fn count_read(&self) -> u64
+        ensures { result ≡ self.now.reading.number - 1 }
+    {
+        self.reading.number.saturating_sub(1)
     }
 
     /// Reads on: the lines that count of what stands behind what it has read, as a part of a tape. None where nothing

@@ -54,6 +54,20 @@ impl<L: Log> Follower<L> {
         self.log
     }
 
+    /// Who is in office, as far as it has read; 0 if nobody was yet.
+    pub fn holder(&self) -> u64
+        ensures { result ≡ self.now.writer.reading.writer }
+    {
+        self.writer.holder()
+    }
+
+    /// How many records it has read.
+    pub fn count_read(&self) -> u64
+        ensures { result ≡ count_read self.now.writer.reading }
+    {
+        self.writer.count_read()
+    }
+
     /// It has read the first records of the log. The call does nothing.
     pub fn stands(&self)
         ensures { HasRead (L.committed self.now.log) self.now.writer.reading }

@@ -5,19 +5,26 @@
 mod addresses;
 mod failure;
 mod fittings;
+mod follow;
+mod hosting;
 mod input;
 mod journal;
+mod logged;
 mod operate;
+mod relay;
 mod serve;
+mod signs;
 mod watch;
 
 use clap::ArgMatches;
 use failure::Failure;
+use follow::follow_log;
 use hx_commands::command;
 use hx_runs::{RunError, read_words, refuse, run_command};
 use journal::journal_file;
 use log::Log;
 use operate::operate_server;
+use relay::relay_day;
 use serve::serve_input;
 use std::fs;
 use std::net::{Net, TcpListener, TcpStream};
@@ -75,6 +82,8 @@ where
         Some(("watch", matches)) => watch_feed(rt, matches),
         Some(("operate", matches)) => operate_server(rt, matches),
         Some(("journal", matches)) => journal_file(rt, matches),
+        Some(("follow", matches)) => follow_log(rt, matches),
+        Some(("relay", matches)) => relay_day(rt, matches),
         _ => Ok(run_command(rt, matches)?),
     }
 }

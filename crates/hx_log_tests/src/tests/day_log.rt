@@ -11,6 +11,7 @@ use std::alloc::Global;
 use std::process::Abort;
 
 mod rivals;
+mod standby;
 
 use rivals::RivalLog;
 

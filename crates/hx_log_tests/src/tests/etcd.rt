@@ -3,6 +3,7 @@
 mod appends;
 mod calls;
 mod ranges;
+mod signs;
 mod texts;
 
 use hx_etcd::{Answer, read_append_answer};

@@ -59,8 +59,9 @@ fn tell_ended(out: &mut Output, time: u64, orders: &[Live]) -> Result<(), NoMemo
     Ok(())
 }
 
-/// The due orders end, behind what is told first; this many hours codes are past then. `NoMemory` where what they tell
-/// finds no room.
+/// Ends the due orders, whose messages stand behind the `first` ones. Of the hours codes, `hours` are past then.
+///
+/// Errors: `NoMemory` if the messages find no room.
 pub fn end_orders<B: Book>(
     state: &State<B>,
     orders: Vec<Live>,

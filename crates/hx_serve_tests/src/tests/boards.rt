@@ -103,7 +103,11 @@ impl Board for Counting {
                 self.feed.store(feed, Ordering::SeqCst);
                 &self.resumed
             }
-            Notice::JournalWaits | Notice::JournalGoesOn | Notice::Reading { .. } => &self.waits,
+            Notice::JournalWaits
+            | Notice::JournalGoesOn
+            | Notice::Reading { .. }
+            | Notice::StandingBy
+            | Notice::InOffice { .. } => &self.waits,
             Notice::Closing | Notice::StandardSetup => &self.closings,
             Notice::Scheduled { .. } | Notice::Dropped { .. } | Notice::Forbidden { .. } => {
                 &self.directed

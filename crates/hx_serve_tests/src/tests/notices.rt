@@ -101,6 +101,25 @@ fn notices_of_the_day_in_words_and_as_json(rt: HostRuntime) {
 }
 
 #[test]
+fn notices_of_a_standby_in_words_and_as_json(rt: HostRuntime) {
+    let alloc = rt.alloc();
+    reads(
+        &rt,
+        alloc,
+        Notice::StandingBy,
+        "standing by",
+        "{\"notice\":\"standing by\"}",
+    );
+    reads(
+        &rt,
+        alloc,
+        Notice::InOffice { events: 7 },
+        "in office with 7 events",
+        "{\"notice\":\"in office\",\"events\":7}",
+    );
+}
+
+#[test]
 fn the_feed_does_not_go_to_the_port_of_requests(rt: HostRuntime) {
     holds(&rt, ServeArgs::of(9001, 9002, 9002, 1, 10, 10).is_none());
     holds(&rt, ServeArgs::of(9001, 9002, 9003, 1, 10, 10).is_some());

@@ -85,7 +85,7 @@ impl Vendor {
         panic!(rt; "only heartbeats")
     }
 
-    /// The next packet that is no heartbeat has this number and so many messages.
+    /// Expects that the next packet with messages begins at this number, and holds `count` of them.
     pub fn expect_packet<R: Abort>(&self, rt: &R, alloc: Global, sequence: u64, count: u64) {
         let packet = self.receive_other(rt, alloc);
         equal(rt, (packet.sequence, packet.count), (sequence, count));

@@ -71,6 +71,31 @@ pub const NONE: &str = "\
     {\"header\":{\"cluster_id\":\"6001611773266757492\",\"member_id\":\"13049071153751544597\",\
     \"revision\":\"3\",\"raft_term\":\"2\"}}";
 
+// The writer 7 shows the sign `12` under the key hy/7, and it is asked for; so is that of the writer 8, who has shown none.
+pub const SIGN_HEAD: &str = "POST /v3/kv/put HTTP/1.1\r\nHost: etcd\r\n\
+    Content-Type: application/json\r\nContent-Length: ";
+
+pub const SIGN_7: &str = r#"{"key":"aHkvNw==","value":"MTI="}"#;
+
+pub const ASK_7: &str = r#"{"key":"aHkvNw=="}"#;
+
+pub const ASK_8: &str = r#"{"key":"aHkvOA=="}"#;
+
+// The sign is shown; it is told; none is.
+pub const SHOWN_7: &str = "\
+    {\"header\":{\"cluster_id\":\"6001611773266757492\",\"member_id\":\"13049071153751544597\",\
+    \"revision\":\"4\",\"raft_term\":\"2\"}}";
+
+pub const SEEN_7: &str = "\
+    {\"header\":{\"cluster_id\":\"6001611773266757492\",\"member_id\":\"13049071153751544597\",\
+    \"revision\":\"4\",\"raft_term\":\"2\"},\"kvs\":[{\"key\":\"aHkvNw==\",\
+    \"create_revision\":\"4\",\"mod_revision\":\"4\",\"version\":\"1\",\"value\":\"MTI=\"}],\
+    \"count\":\"1\"}";
+
+pub const NO_SIGN: &str = "\
+    {\"header\":{\"cluster_id\":\"6001611773266757492\",\"member_id\":\"13049071153751544597\",\
+    \"revision\":\"4\",\"raft_term\":\"2\"}}";
+
 // What stands in front of a body that has a length, up to that length.
 pub const ANSWER_HEAD: &str = "HTTP/1.1 200 OK\r\n\
     Access-Control-Allow-Headers: accept, content-type, authorization\r\n\

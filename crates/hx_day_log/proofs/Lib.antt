@@ -1,2 +1,0 @@
--- What is read of a log of a day.
-pub mod Reading

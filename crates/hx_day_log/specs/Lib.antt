@@ -1,0 +1,2 @@
+-- What is told of the log of a day.
+pub mod Events

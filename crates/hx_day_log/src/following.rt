@@ -1,0 +1,34 @@
+//! The tape of a day as its log keeps it.
+ghost use Rattle.std.specs.Prelude.{OnOk};
+ghost use Rattle.hx_log_journal.specs.States.{told};
+ghost use Rattle.hx_day_log.specs.Events.{IsWritten};
+
+use crate::fault::DayLogError;
+use crate::opening::News;
+use hx_log::{Log, LogError};
+use hx_log_journal::Follower;
+use std::alloc::Global;
+use std::io::Write;
+
+/// Reads on, writes the lines that count of what is new, and flushes the writer.
+///
+/// Errors: those of the log but that no node told, which is news; `Write`, after which some of the lines may be written.
+pub fn write_on<L: Log, W: Write>(
+    alloc: Global,
+    follower: &mut Follower<L>,
+    writer: &mut W,
+) -> Result<News, DayLogError>
+    ensures { OnOk result (IsWritten (told L.committed follower.old) (told L.committed follower.new)
+        (W.contents writer.old) (W.contents writer.new)) }
+{
+    let before = follower.count_read();
+    let text = match follower.read_on(alloc) {
+        Ok(text) => text,
+        Err(LogError::Unreachable | LogError::Unknown) => return Ok(News::Unreachable),
+        Err(error) => return Err(DayLogError::from(error)),
+    };
+    if writer.write_all(&text).is_err() || writer.flush().is_err() {
+        return Err(DayLogError::Write);
+    }
+    Ok(News::of(before, follower.count_read()))
+}

@@ -1,0 +1,16 @@
+-- What a client was told of a log may go to another thread, and so may a log whose nodes may. `search`
+-- does not look as deep by itself: who sends a log lists these.
+use denote.Param.Send.{IsSend, sendable, view_send}
+use Rattle.std.proofs.Crossing.{crosses}
+use Rattle.hx_etcd_log.specs.contracts.noted.Noted as noted
+use Rattle.hx_etcd_log.specs.contracts.told.Told as told
+use Rattle.hx_etcd_log.specs.contracts.told.Told.TheInside as inside
+
+pub noted_send : IsSend noted.the_row
+noted_send = search sendable
+
+inside_send : IsSend inside.the_row
+inside_send = search (sendable, crosses, noted_send) depth 20
+
+pub told_send : IsSend told.the_row
+told_send = view_send _ _ _ _ _ inside_send

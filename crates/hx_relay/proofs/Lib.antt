@@ -1,0 +1,2 @@
+-- What a relay keeps.
+pub mod Keeping

@@ -1,0 +1,2 @@
+-- What a relay keeps of a feed.
+pub mod Relays

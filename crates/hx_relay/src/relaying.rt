@@ -1,0 +1,161 @@
+//! A relay at work.
+
+use crate::Relay;
+use crate::fault::RelayError;
+use crate::sockets::Lines;
+use hx_mold::{MoldPacket, decode_packet, encode_request};
+use std::alloc::Global;
+use std::net::{Net, SocketAddr};
+use std::time::{Clock, Duration, Instant};
+
+// The most bytes of a datagram.
+const DATAGRAM: usize = 65_536;
+
+// How many messages ahead of a missing one are kept.
+const PLACES: usize = 65_536;
+
+// What is missing is asked for again after this many milliseconds.
+const AGAIN: u64 = 20;
+
+// A feed that is silent for this many seconds is over.
+const SILENCE: u64 = 30;
+
+/// Where a relay hears, sends and answers.
+#[derive(Clone, Copy)]
+pub struct RelayArgs<'a> {
+    /// Where the feed comes to.
+    pub feed: SocketAddr,
+    /// Where it asks for what it misses, at one after the other.
+    pub requests: &'a [SocketAddr],
+    /// Where the feed goes on to.
+    pub to: &'a [SocketAddr],
+    /// Where vendors ask it.
+    pub answers: SocketAddr,
+}
+
+// The session of a datagram, if it is a packet.
+fn session_of(datagram: &[u8]) -> Option<[u8; 10]> {
+    match decode_packet(datagram)? {
+        MoldPacket::Blocks { session, .. } => Some(session),
+        MoldPacket::Heartbeat { session, .. } => Some(session),
+        MoldPacket::EndOfSession { session, .. } => Some(session),
+    }
+}
+
+// A relay of a session that was heard of.
+#[derive(Drop)]
+struct Relaying {
+    session: [u8; 10],
+    relay: Relay,
+    // When a packet of the session was heard last, and when something was asked for.
+    heard: Instant,
+    asked: Option<Instant>,
+    // How often something was asked for.
+    asks: usize,
+}
+
+// The time that has passed on the machine's clock.
+fn now<R: Clock>(rt: &R) -> Result<Instant, RelayError> {
+    Instant::now(rt).map_err(|_| RelayError::Network)
+}
+
+impl Relaying {
+    // Waits for the first packet, of whichever session: a relay of that.
+    fn begin<R: Clock>(
+        rt: &R,
+        alloc: Global,
+        lines: &Lines,
+        buffer: &mut [u8],
+        args: &RelayArgs<'_>,
+    ) -> Result<Relaying, RelayError> {
+        for _ in 0..u64::MAX {
+            if let Some(count) = lines.hear(buffer)?
+                && let Some(datagram) = buffer.get(..count)
+                && let Some(session) = session_of(datagram)
+            {
+                let mut relaying = Relaying {
+                    session,
+                    relay: Relay::new(alloc, session, PLACES)?,
+                    heard: now(rt)?,
+                    asked: None,
+                    asks: 0,
+                };
+                relaying.take(lines, datagram, args)?;
+                return Ok(relaying);
+            }
+        }
+        Err(RelayError::Network)
+    }
+
+    // Sends a datagram on if it is a packet of the session, and keeps its messages.
+    fn take(
+        &mut self,
+        lines: &Lines,
+        datagram: &[u8],
+        args: &RelayArgs<'_>,
+    ) -> Result<bool, RelayError> {
+        if session_of(datagram) != Some(self.session) {
+            return Ok(false);
+        }
+        for to in args.to {
+            lines.send(datagram, *to);
+        }
+        self.relay.receive(datagram)?;
+        Ok(true)
+    }
+
+    // Asks for what is missing, if that is due.
+    fn ask(&mut self, lines: &Lines, args: &RelayArgs<'_>, now: Instant) {
+        let Some(request) = self.relay.request() else {
+            return;
+        };
+        if let Some(asked) = &self.asked
+            && now.saturating_duration_since(*asked) < Duration::from_millis(AGAIN)
+        {
+            return;
+        }
+        self.asked = Some(now);
+        let place = self.asks.checked_rem(args.requests.len()).unwrap_or(0);
+        self.asks = self.asks.wrapping_add(1);
+        if let Some(to) = args.requests.get(place) {
+            lines.send(encode_request(request).as_slice(), *to);
+        }
+    }
+
+    // Whether the feed has been silent for too long.
+    fn is_over(&self, now: Instant) -> bool {
+        now.saturating_duration_since(self.heard) >= Duration::from_secs(SILENCE)
+    }
+}
+
+/// Relays a feed: sends its packets on as they come, asks for what it misses, and answers requests for messages, until the
+/// feed has been silent for 30 seconds. It waits for the first packet, of whichever session, for as long as none comes.
+/// Returns whether the session has ended and nothing is missing.
+///
+/// Errors: a socket that cannot be bound or read; no memory.
+pub fn relay_feed<R: AllocGlobal + Net + Clock>(
+    rt: &R,
+    args: &RelayArgs<'_>,
+) -> Result<bool, RelayError> {
+    let alloc = rt.alloc();
+    let Ok(lines) = Lines::open(rt, args.feed, args.answers) else {
+        return Err(RelayError::Network);
+    };
+    let mut buffer = vec![in alloc; 0u8; DATAGRAM]?;
+    let mut relaying = Relaying::begin(rt, alloc, &lines, &mut buffer, args)?;
+    for _ in 0..u64::MAX {
+        let time = now(rt)?;
+        if relaying.is_over(time) {
+            break;
+        }
+        relaying.ask(&lines, args, time);
+        lines.answer(&mut relaying.relay, &mut buffer)?;
+        if let Some(count) = lines.hear(&mut buffer)?
+            && let Some(datagram) = buffer.get(..count)
+            && relaying.take(&lines, datagram, args)?
+        {
+            relaying.heard = now(rt)?;
+        }
+    }
+    Ok(relaying.relay.is_whole())
+}
