@@ -3,8 +3,12 @@ import os
 import socket
 import struct
 import subprocess
+import sys
 import tempfile
 import time
+
+sys.path.append(os.path.join(os.path.dirname(os.path.abspath(__file__)), "..", "tests"))
+from etcds import Etcd  # noqa: E402
 
 HOST = "127.0.0.1"
 # More sessions than that are those of an open day.
@@ -80,7 +84,7 @@ class Day:
         self.folder = tempfile.TemporaryDirectory(dir=".")
         self.is_open = members > SESSIONS
         kept = ["--open", "--connections-per-address", str(members)] if self.is_open else []
-        kept += ["--journal", os.path.join(self.folder.name, "day"), "--sync", sync] if sync else []
+        kept += self.kept_by(sync)
         self.feed = socket.socket(socket.AF_INET, socket.SOCK_DGRAM)
         self.feed.setsockopt(socket.SOL_SOCKET, socket.SO_RCVBUF, 1 << 22)
         self.feed.bind((HOST, 0))
@@ -100,6 +104,15 @@ class Day:
             for member in self.members:
                 member.log_in()
 
+    def kept_by(self, sync):
+        """The words of what keeps the day: a journal, which is brought to the disk so, or the log of an etcd."""
+        self.etcd = None
+        if sync == "log":
+            self.etcd = Etcd(self.folder.name)
+            self.etcd.start_all()
+            return ["--log", self.etcd.words(), "--writer", "1"]
+        return ["--journal", os.path.join(self.folder.name, "day"), "--sync", sync] if sync else []
+
     def processor_seconds(self):
         """What the server has used, and what of it the kernel, for the server."""
         with open(f"/proc/{self.server.pid}/stat") as file:
@@ -115,8 +128,10 @@ class Day:
         if self.is_open:
             self.server.kill()
             print("   ended, status", self.server.wait())
-            return
-        for member in self.members:
-            member.line.sendall(frame(b"O"))
-        self.server.stdin.close()
-        print("  ", self.server.stdout.read().decode().strip(), "status", self.server.wait())
+        else:
+            for member in self.members:
+                member.line.sendall(frame(b"O"))
+            self.server.stdin.close()
+            print("  ", self.server.stdout.read().decode().strip(), "status", self.server.wait())
+        if self.etcd:
+            self.etcd.stop()

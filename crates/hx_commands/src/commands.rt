@@ -1,5 +1,7 @@
 //! The commands besides those over tapes.
 
+use crate::follow::FOLLOW;
+use crate::handover::HANDOVER;
 use crate::journal::JOURNAL;
 use crate::operate::OPERATE;
 use crate::relay::RELAY;
@@ -9,9 +11,10 @@ use clap::Command;
 use hx_tape_commands::{Subcommand, tape_command, with_subcommands};
 use std::alloc::{AllocError, Global};
 
-const COMMANDS: &[Subcommand] = &[SERVE, OPERATE, WATCH, JOURNAL, RELAY];
+const COMMANDS: &[Subcommand] = &[SERVE, OPERATE, WATCH, JOURNAL, FOLLOW, HANDOVER, RELAY];
 
-/// The program's whole command line: the commands over tapes, serve, operate, watch, journal and relay.
+/// The program's whole command line: the commands over tapes, serve, operate, watch, journal,
+/// follow, handover and relay.
 pub fn command<'a>(alloc: Global) -> Result<Command<'a>, AllocError> {
     with_subcommands(alloc, tape_command(alloc)?, COMMANDS)
 }

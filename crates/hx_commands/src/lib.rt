@@ -2,6 +2,8 @@
 #![tactic(auto)]
 
 mod commands;
+mod follow;
+mod handover;
 mod journal;
 mod operate;
 mod relay;

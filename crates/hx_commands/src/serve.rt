@@ -34,6 +34,10 @@ pub const SERVE: Subcommand = Subcommand {
         SYNC,
         DAY,
         AHEAD,
+        LOG,
+        WRITER,
+        STANDBY,
+        PATIENCE,
     ],
     choice: None,
 };
@@ -255,5 +259,41 @@ const AHEAD: Argument = Argument {
     takes: ValueParser::Unsigned(1, 1_000_000_000),
     usual: Some("65536"),
     help: "How many events may wait for the journal: where more would, no message is taken",
+    ..OPTION
+};
+
+// What a day that a log of several machines keeps has besides.
+
+const LOG: Argument = Argument {
+    name: "log",
+    value: "ADDR:PORT,..",
+    with: Some("writer"),
+    without: Some("journal"),
+    help: "The nodes of an etcd whose log keeps the day, in place of --journal",
+    ..OPTION
+};
+
+const WRITER: Argument = Argument {
+    name: "writer",
+    value: "N",
+    takes: ValueParser::Unsigned(1, 999_999_999),
+    with: Some("log"),
+    help: "With --log, the number of this process, which no other has or had",
+    ..OPTION
+};
+
+const STANDBY: Argument = Argument {
+    name: "standby",
+    with: Some("log"),
+    help: "With --log, waits until the server that is in office is gone",
+    ..FLAG
+};
+
+const PATIENCE: Argument = Argument {
+    name: "patience",
+    value: "MS",
+    takes: ValueParser::Unsigned(100, 3_600_000),
+    usual: Some("1200"),
+    help: "With --standby, for how many milliseconds nothing comes from who is in office",
     ..OPTION
 };

@@ -1,6 +1,6 @@
 //! The tape of a day as its log keeps it.
-ghost use Rattle.std.specs.Prelude.{OnOk};
-ghost use Rattle.hx_log_journal.specs.States.{told};
+ghost use Rattle.std.specs.Prelude.{◌≡◌, ◌≤◌, length, IfOk, OnOk};
+ghost use Rattle.hx_log_journal.specs.States.{told, count_read};
 ghost use Rattle.hx_day_log.specs.Events.{IsWritten};
 
 use crate::fault::DayLogError;
@@ -10,7 +10,8 @@ use hx_log_journal::Follower;
 use std::alloc::Global;
 use std::io::Write;
 
-/// Reads on, writes the lines that count of what is new, and flushes the writer.
+/// Reads on, writes the lines that count of what is new, and flushes the writer. There is no news only if all that stood
+/// there was read before.
 ///
 /// Errors: those of the log but that no node told, which is news; `Write`, after which some of the lines may be written.
 pub fn write_on<L: Log, W: Write>(
@@ -18,8 +19,10 @@ pub fn write_on<L: Log, W: Write>(
     follower: &mut Follower<L>,
     writer: &mut W,
 ) -> Result<News, DayLogError>
-    ensures { OnOk result (IsWritten (told L.committed follower.old) (told L.committed follower.new)
+    ensures written { OnOk result (IsWritten (told L.committed follower.old) (told L.committed follower.new)
         (W.contents writer.old) (W.contents writer.new)) }
+    ensures none { IfOk result (λ news. news ≡ News.None
+        → length (L.committed follower.old.log) ≤ count_read follower.old.writer.reading) }
 {
     let before = follower.count_read();
     let text = match follower.read_on(alloc) {

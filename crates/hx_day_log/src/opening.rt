@@ -1,5 +1,5 @@
 //! How a day over a log is opened: at once, or by a standby once who is in office is gone.
-ghost use Rattle.std.specs.Prelude.{◌≡◌, [], None, true, IfOk, OnOk};
+ghost use Rattle.std.specs.Prelude.{◌≡◌, ◌≢◌, [], None, true, IfOk, OnOk};
 ghost use Rattle.hx_tape_lines.specs.Text.{record_of};
 ghost use Rattle.hx_desk.specs.Entries.{restored};
 ghost use Rattle.hx_engine.specs.Journals.{lines};
@@ -30,7 +30,10 @@ pub enum News {
 
 impl News {
     // Those of a reading that had read this many records before, and this many after.
-    pub(crate) fn of(before: u64, after: u64) -> News {
+    pub(crate) fn of(before: u64, after: u64) -> News
+        ensures none { result ≡ News.None → before ≡ after }
+        ensures some { result ≡ News.Some → before ≢ after }
+    {
         if before == after {
             News::None
         } else {

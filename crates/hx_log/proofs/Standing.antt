@@ -254,11 +254,11 @@ follows old new known more at now text h grows behind is good text_is =
     drop_front (x ∷ xs) ys = drop_front xs ys
 
 -- who stands where it stood has read nothing
-pub none_more : (at now : Reading) (more : List Record) → now ≡ after_all at more → now ≡ at → more ≡ []
+pub none_more : (at now : Reading) (more : List Record) → now ≡ after_all at more → now.number ≡ at.number → more ≡ []
 none_more at now [] is same = refl
 none_more at now (r ∷ more) is same =
     let number : now.number ≡ at.number + length (r ∷ more) = ap (λ (a : Reading). a.number) is ∙ number_after_all at (r ∷ more) in
-    absurd (omega (arith, number, ap (λ (a : Reading). a.number) same))
+    absurd (omega (arith, number, same))
 
 -- ---- what goes wrong
 

@@ -64,7 +64,7 @@ impl LogWriter {
         ensures ok { IfOk result (λ text. (known : List Record)
             → IsAt (L.committed log.old) known self.old.reading
             → Follows (L.committed log.new) known self.old.reading self.new.reading text.items) }
-        ensures some { OnOk result (self.new.reading ≡ self.old.reading
+        ensures some { OnOk result (self.new.reading.number ≡ self.old.reading.number
             → length (L.committed log.old) < self.old.reading.number) }
         ensures err { OnErr result (self.new ≡ self.old) }
         ensures grows { IsPrefix (L.committed log.old) (L.committed log.new) }

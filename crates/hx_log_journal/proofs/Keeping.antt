@@ -1,6 +1,6 @@
 -- What the calls of a journal and of a reader leave.
-use Rattle.std.specs.Prelude.{Result, Ok, Err, IfOk, OnErr, Option, None, Some, is_some, false}
-use Rattle.std.proofs.Common.{◌≡◌, ℕ, List, [], ◌∷◌, ◌++◌, refl, sym, ap, ◌∙◌, subst, append_assoc}
+use Rattle.std.specs.Prelude.{Result, Ok, Err, IfOk, OnOk, OnErr, Option, None, Some, is_some, false}
+use Rattle.std.proofs.Common.{◌≡◌, ℕ, ◌<◌, ◌≤◌, List, [], ◌∷◌, ◌++◌, length, refl, sym, ap, ◌∙◌, subst, append_assoc, arith}
 use Rattle.std.proofs.lemmas.List.{append-nil}
 use mathlib.Core.List.{IsPrefix}
 use Rattle.hx_journal.specs.Lines.{text_of, lines_of}
@@ -18,7 +18,7 @@ use Rattle.hx_log.specs.Writers.{IsAt, Follows, Keeps}
 use Rattle.hx_log_journal.specs.States.{count_read, read_of, HasRead, taken_of, TellsMore, IsInOffice}
 use Rattle.hx_log_journal.specs.Faults.{IsClosedBy}
 use Rattle.hx_log_journal.specs.Stops.{IsLeftSince}
-use Rattle.hx_log_journal.proofs.Known.{still_read, same_taken, tells_more, read_on, kept_read, kept_is, kept_lines, kept_taken, kept_count, kept_office}
+use Rattle.hx_log_journal.proofs.Known.{number_is, still_read, same_taken, tells_more, read_on, kept_read, kept_is, kept_lines, kept_taken, kept_count, kept_office}
 use Rattle.hx_log_journal.proofs.Leaving.{unmoved_leaves, kept_leaves}
 
 -- ---- a reader that reads on
@@ -38,6 +38,16 @@ module _ (old new : List Record) (a b : LogWriter) (h : HasRead old a.reading) (
       → IfOk result (λ t. TellsMore (taken_of old a.reading) (taken_of new b.reading) (items t))
   tells (Ok t) items ok = tells_more old new a.reading b.reading (items t) h (ok (read_of old a.reading) h)
   tells (Err e) items ok = tt
+
+  -- who has read no more records read all that stood there
+  pub none_more : {T E : Type 0} (result : Result T E) (items : T → List ℕ) → IfOk result (λ t. (known : List Record) → IsAt old known a.reading → Follows new known a.reading b.reading (items t))
+      → OnOk result (b.reading.number ≡ a.reading.number → length old < a.reading.number)
+      → OnOk result (count_read b.reading ≡ count_read a.reading → length old ≤ count_read a.reading)
+  none_more (Ok t) items ok some = λ same.
+      let now = number_is new b.reading (read_on old new a.reading b.reading (items t) h (ok (read_of old a.reading) h)) in
+      let before = number_is old a.reading h in
+      omega (arith, before, some (omega (arith, before, now, same)))
+  none_more (Err e) items ok some = tt
 
   pub tells_same : {T E : Type 0} (result : Result T E) → OnErr result (b ≡ a) → OnErr result (taken_of new b.reading ≡ taken_of old a.reading)
   tells_same (Ok t) err = tt

@@ -25,6 +25,9 @@ many_read log known at h =
     let number_is : at.number ≡ 1 + length known = ap (λ (a : Reading). a.number) h.reading ∙ number_after_all start known in
     omega (arith, number_is)
 
+pub number_is : (log : List Record) (at : Reading) → HasRead log at → at.number ≡ 1 + length (read_of log at)
+number_is log at h = ap (λ (a : Reading). a.number) h.reading ∙ number_after_all start (read_of log at)
+
 -- and they are those
 pub read_is : (log known : List Record) (at : Reading) → IsAt log known at → read_of log at ≡ known
 read_is log known at h = ap (λ (n : ℕ). take n log) (many_read log known at h) ∙ front_of known log h.begins

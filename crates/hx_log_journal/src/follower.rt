@@ -81,7 +81,8 @@ impl<L: Log> Follower<L> {
         ensures who { self.new.writer.writer ≡ self.old.writer.writer }
         ensures ok { IfOk result (λ text.
             TellsMore (told L.committed self.old) (told L.committed self.new) text.items) }
-        ensures some { OnOk result (self.new.writer ≡ self.old.writer
+        ensures some { OnOk result
+            (count_read self.new.writer.reading ≡ count_read self.old.writer.reading
             → length (L.committed self.old.log) ≤ count_read self.old.writer.reading) }
         ensures grows { IsPrefix (L.committed self.old.log) (L.committed self.new.log) }
         ensures err { OnErr result (self.new.writer ≡ self.old.writer) }

@@ -1,9 +1,9 @@
 -- What a relay keeps grows with the steps of its reader, and is a beginning of the feed.
-use Rattle.std.proofs.Common.{◌≡◌, ◌∙◌, ℕ, suc, List, [], ◌∷◌, ◌++◌, Option, Some, refl, ap, ap₂, sym, subst}
+use Rattle.std.proofs.Common.{◌≡◌, ◌∙◌, ℕ, ◌<◌, suc, List, [], ◌∷◌, ◌++◌, Option, None, Some, refl, ap, ap₂, sym, subst, arith}
 use Rattle.std.specs.Option.{option_to_list}
 use Rattle.std.proofs.lemmas.List.{append_assoc, append-nil}
 use Rattle.std.specs.List.{AllByRecursion}
-use Rattle.hx_reader.specs.Readings.{Reading, opening, ready, handed, is_whole}
+use Rattle.hx_reader.specs.Readings.{Reading, opening, first_kept, ready, vacated, handed, is_whole}
 use Rattle.hx_reader.specs.Runs.{Step, Comes, IsAsked, after, gives, after_all, given, TellsOf, IsBeginning}
 use Rattle.hx_reader.proofs.Orders as orders
 use Rattle.hx_relay.specs.declared.relay.Relay.{Relay}
@@ -35,6 +35,26 @@ comes session places steps bytes old new read reader same = record {
   asked = 0;
   read = one_step session places steps (Comes bytes) old new read reader (ap (λ z. z.messages) same ∙ sym (append-nil old.server.messages)) (ap (λ z. z.session) same);
 }
+
+-- how many messages of a window have come, and were not handed out
+abbrev pub kept_count : List (Option (List ℕ)) → ℕ
+kept_count [] = 0
+kept_count (None ∷ window) = kept_count window
+kept_count (Some m ∷ window) = suc (kept_count window)
+
+vacant_behind : (window : List (Option (List ℕ))) → kept_count (window ++ None ∷ []) ≡ kept_count window
+vacant_behind [] = refl
+vacant_behind (None ∷ window) = vacant_behind window
+vacant_behind (Some m ∷ window) = ap suc (vacant_behind window)
+
+-- one fewer where one is handed out
+pub one_fewer : (r : Reading) (m : List ℕ) → ready r ≡ Some m → kept_count (handed r (ready r)).window < kept_count r.window
+one_fewer r m is = subst (λ (o : Option (List ℕ)). kept_count (handed r o).window < kept_count r.window) (sym is) (fewer r.window is)
+  where
+    fewer : (window : List (Option (List ℕ))) → first_kept r.next window ≡ Some m → kept_count (vacated window) < kept_count window
+    fewer [] none = absurd (let z : None ≡ Some m = none in cc)
+    fewer (None ∷ window) none = absurd (let z : None ≡ Some m = none in cc)
+    fewer (Some k ∷ window) there = omega (arith, vacant_behind window)
 
 -- the reader is asked once more
 pub asked_more : (session : List ℕ) (places : ℕ) (steps : List Step) (bytes message : List ℕ) (old new : Relay) → HasTaken session places steps bytes old → ready old.reader ≡ Some message → new.reader ≡ handed old.reader (ready old.reader) → new.server.messages ≡ old.server.messages ++ message ∷ [] → new.server.session ≡ old.server.session → HasTaken session places steps bytes new

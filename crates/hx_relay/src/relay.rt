@@ -1,6 +1,6 @@
 //! What a relay knows of a feed.
-ghost use Rattle.std.specs.Prelude.{◌≡◌, List, ℕ, [], IfOk, option_map};
-ghost use Rattle.hx_reader.specs.Readings.{is_whole, request_of};
+ghost use Rattle.std.specs.Prelude.{◌≡◌, List, ℕ, [], None, IfOk, OnOk, option_map};
+ghost use Rattle.hx_reader.specs.Readings.{is_whole, ready, request_of};
 ghost use Rattle.hx_reader.specs.Runs.{Step};
 ghost use Rattle.hx_retransmit.specs.Turns.{Serves};
 ghost use Rattle.hx_relay.specs.Relays.{HasRead, HasTaken};
@@ -31,18 +31,16 @@ impl Relay {
         })
     }
 
-    /// Takes a datagram, whatever its bytes: keeps the messages that are next in order then. After `NoMemory` some of them
+    /// Takes a datagram, whatever its bytes: keeps all messages that are next in order then. After `NoMemory` some of them
     /// are kept, and the next datagram brings the others.
     pub fn receive(&mut self, datagram: &[u8]) -> Result<(), NoMemory>
-        ensures { (session : List ℕ) (places : ℕ) (steps : List Step)
+        ensures taken { (session : List ℕ) (places : ℕ) (steps : List Step)
             → HasRead session places steps self.old
             → HasTaken session places steps datagram.now self.new }
+        ensures all { OnOk result (ready self.new.reader ≡ None) }
     {
         self.reader.receive(datagram);
-        for _ in 0..u64::MAX {
-            let Some(message) = self.reader.peek() else {
-                return Ok(());
-            };
+        while let Some(message) = self.reader.peek() {
             self.server.append(slice::from_ref(message))?;
             let _ = self.reader.hand_out();
         }

@@ -1,11 +1,13 @@
 //! Why the program ends without success.
 
 use hx_day_journal::DayJournalError;
+use hx_day_log::DayLogError;
 use hx_journal_tool::ToolError;
 use hx_operator::{OperateError, ScheduleError, SocketError};
 use hx_relay::RelayError;
 use hx_runs::RunError;
 use hx_serve::ServeError;
+use hx_units::NoMemory;
 use hx_watch::WatchError;
 use std::alloc::{AllocError, AllocFailed};
 
@@ -60,6 +62,9 @@ pub enum Failure {
     /// A feed that is relayed fell silent before its end, or some of it is missing.
     #[error("the end was not heard")]
     NoEnd,
+    /// Another server has taken over.
+    #[error("deposed")]
+    Deposed,
     /// A growth was refused.
     #[error("no memory")]
     NoMemory,
@@ -68,6 +73,8 @@ pub enum Failure {
     NoDay,
     #[error(transparent)]
     Day(DayJournalError),
+    #[error(transparent)]
+    Log(DayLogError),
     #[error(transparent)]
     Run(RunError),
     #[error(transparent)]
@@ -91,6 +98,7 @@ impl Failure {
             | Failure::NoCopy { .. }
             | Failure::NoDay => 2,
             Failure::Day(error) => error.status(),
+            Failure::Log(error) => error.status(),
             Failure::Run(error) => error.status(),
             Failure::Serve(ServeError::Line { .. }) | Failure::Watch(WatchError::Screen { .. }) => {
                 1
@@ -119,6 +127,7 @@ impl Failure {
                 | SocketError::Path
                 | SocketError::Failed,
             ) => 4,
+            Failure::Deposed => 5,
             Failure::NoEnd | Failure::Relay(RelayError::Network) => 4,
             Failure::Relay(RelayError::NoMemory) => 3,
             Failure::Operate(error) => error.status(),
@@ -147,6 +156,18 @@ impl From<RelayError> for Failure {
 impl From<DayJournalError> for Failure {
     fn from(e: DayJournalError) -> Failure {
         Failure::Day(e)
+    }
+}
+
+impl From<DayLogError> for Failure {
+    fn from(e: DayLogError) -> Failure {
+        Failure::Log(e)
+    }
+}
+
+impl From<NoMemory> for Failure {
+    fn from(_e: NoMemory) -> Failure {
+        Failure::NoMemory
     }
 }
 

@@ -5,15 +5,23 @@
 mod addresses;
 mod failure;
 mod fittings;
+mod follow;
+mod handover;
+mod hosting;
 mod input;
 mod journal;
+mod leaving;
+mod logged;
 mod operate;
 mod relay;
 mod serve;
+mod signs;
 mod watch;
 
 use clap::ArgMatches;
 use failure::Failure;
+use follow::follow_log;
+use handover::hand_over;
 use hx_commands::command;
 use hx_runs::{RunError, read_words, refuse, run_command};
 use journal::journal_file;
@@ -77,6 +85,8 @@ where
         Some(("watch", matches)) => watch_feed(rt, matches),
         Some(("operate", matches)) => operate_server(rt, matches),
         Some(("journal", matches)) => journal_file(rt, matches),
+        Some(("follow", matches)) => follow_log(rt, matches),
+        Some(("handover", matches)) => hand_over(rt, matches),
         Some(("relay", matches)) => relay_day(rt, matches),
         _ => Ok(run_command(rt, matches)?),
     }

@@ -1,37 +1,31 @@
 //! The command that serves a day.
-ghost use Rattle.std.specs.Prelude.{◌≡◌, true};
-ghost use Rattle.hx_disk.specs.Calls.{seen_of};
-ghost use Rattle.hx_journal.specs.Files.{stored, appended};
-ghost use Rattle.hx_journal.specs.Records.{records_of};
-ghost use Rattle.hx_tape_lines.specs.Text.{record_of};
-ghost use Rattle.hx_desk.specs.Entries.{restored};
-ghost use Rattle.hx_engine.specs.Journals.{lines};
 
 use crate::addresses::addresses_of;
 use crate::failure::Failure;
 use crate::fittings::{copies_of, fittings_of};
+use crate::hosting::{host, host_kept, host_logged};
 use crate::input::WakingInput;
+use crate::logged::{Candidate, is_deposed, nodes_of, signs_of, take_office};
+use crate::signs::Beacon;
 use clap::ArgMatches;
 use hx_day_journal::{Syncs, Wanted, day_of, digest_of, last_time, open_journal};
-use hx_engine::Journal;
-use hx_journal::{FileJournal, Noted, RawFile};
 use hx_members::{Seed, Setup};
 use hx_runs::{read_setup_text, setup_of};
 use hx_serve::{
     Addresses, Beginning, Board, Fittings, Hosting, JsonNotices, Meter, Metered, Notices, OpenArgs,
-    ServeArgs, ServeError, Silent, Tally, Times, serve_kept, today,
+    ServeArgs, ServeError, Silent, Tally, Times, today,
 };
 use hx_sessions::{DropCopy, Gate};
 use log::Log;
+use std::fs;
 use std::hash::RandomState;
-use std::io::Read;
 use std::net::{Net, TcpListener, TcpStream};
 use std::random::RandomSource;
 use std::rt::{Clock, Files};
 use std::sync::Wait;
-use std::sync::atomic::{AtomicU64, Ordering};
+use std::sync::atomic::{AtomicBool, AtomicU64, Ordering};
 use std::thread::Threads;
-use std::{fs, io};
+use std::time::Duration;
 
 // The most sessions of a day that is not open.
 const SESSIONS: u16 = 63;
@@ -99,76 +93,6 @@ fn day_asked<R: Clock>(rt: &R, matches: &ArgMatches<'_>) -> Result<u64, Failure>
     }
 }
 
-// Serves a day from what it begins with.
-fn host<
-    R: AllocGlobal
-        + Print
-        + Files
-        + Log
-        + Net<Listener = TcpListener, Stream = TcpStream>
-        + Clock
-        + Threads
-        + Wait
-        + Sync,
-    J: Journal + Drop + Send,
-    G: Gate + Sync,
-    B: Board + Sync,
-    I: Read + Send + Drop,
->(
-    rt: &R,
-    matches: &ArgMatches<'_>,
-    hosting: &Hosting<'_, G, B>,
-    beginning: Beginning<J>,
-    input: I,
-) -> Result<(), Failure>
-    requires journal { J.appended beginning.recovered.journal
-        ≡ lines record_of (restored beginning.recovered.events.items) }
-    requires safe { (J.kept beginning.recovered.journal ≡ J.appended beginning.recovered.journal)
-        × (J.is_open beginning.recovered.journal ≡ true) }
-{
-    let alloc = rt.alloc();
-    let path = matches.get_str("history");
-    let mut output = io::writer(rt);
-    match serve_kept(rt, alloc, hosting, beginning, input, &mut output, path) {
-        Ok(()) => Ok(()),
-        Err(ServeError::HistoryIsThere) => Err(Failure::HistoryIsThere {
-            path: String::from_str(alloc, path.unwrap_or(""))?,
-        }),
-        Err(fault) => Err(Failure::Serve(fault)),
-    }
-}
-
-// Serves a day from what its journal in a file keeps.
-fn host_kept<
-    R: AllocGlobal
-        + Print
-        + Files
-        + Log
-        + Net<Listener = TcpListener, Stream = TcpStream>
-        + Clock
-        + Threads
-        + Wait
-        + Sync,
-    G: Gate + Sync,
-    B: Board + Sync,
-    F: RawFile + Drop + Send,
-    I: Read + Send + Drop,
->(
-    rt: &R,
-    matches: &ArgMatches<'_>,
-    hosting: &Hosting<'_, G, B>,
-    beginning: Beginning<FileJournal<Noted<F>>>,
-    input: I,
-) -> Result<(), Failure>
-    requires journal { records_of (appended (λ d. seen_of d.log.events) beginning.recovered.journal)
-        ≡ lines record_of (restored beginning.recovered.events.items) }
-    requires kept { records_of (stored (λ d. seen_of d.log.events) beginning.recovered.journal)
-        ≡ lines record_of (restored beginning.recovered.events.items) }
-    requires is_open { beginning.recovered.journal.is_open ≡ true }
-{
-    host(rt, matches, hosting, beginning, input)
-}
-
 // What a day starts with besides its journal.
 #[derive(Drop)]
 struct Start {
@@ -200,13 +124,14 @@ where
     R::Reader: Send,
 {
     let Start { seed, fittings } = start;
+    let path = matches.get_str("history");
     let mut beginning = Beginning::unkept(rt.alloc(), seed);
     beginning.fittings = fittings;
     if hosting.open.is_none() {
-        return host(rt, matches, hosting, beginning, rt.reader());
+        return host(rt, path, hosting, beginning, rt.reader());
     }
     let input = WakingInput::new(rt.reader());
-    host(rt, matches, hosting, beginning, input)
+    host(rt, path, hosting, beginning, input)
 }
 
 // Serves a day over its journal. The journal may fail, or the day end, and then nobody waits for the operator's next line.
@@ -254,10 +179,133 @@ where
         ahead: matches.get_one::<u64>("ahead").unwrap_or(u64::MAX),
         fittings,
     };
-    host_kept(rt, matches, hosting, beginning, input)
+    let path = matches.get_str("history");
+    host_kept(rt, path, hosting, beginning, input)
 }
 
-// Serves a day with a seed that is drawn: over its journal, where the command line names one.
+// Who takes the log of a day over, and when, as the command line asks.
+fn candidate_of<'y>(matches: &ArgMatches<'_>, has_left: &'y AtomicBool) -> Candidate<'y> {
+    let patience = matches.get_one::<u64>("patience");
+    Candidate {
+        writer: matches.get_one::<u64>("writer").unwrap_or(0),
+        patience: match patience {
+            Some(patience) if matches.get_flag("standby") => Some(Duration::from_millis(patience)),
+            _ => None,
+        },
+        has_left,
+    }
+}
+
+// Serves a day over its log, and shows meanwhile that it is in office there. The log may fail, or the day end, and then
+// nobody waits for the operator's next line.
+fn begin_logged<
+    'x,
+    R: AllocGlobal
+        + Input
+        + Print
+        + Files<File = fs::File>
+        + Log
+        + Net<Listener = TcpListener, Stream = TcpStream>
+        + Clock
+        + RandomSource
+        + Threads
+        + Wait
+        + Sync,
+    G: Gate + Sync,
+    B: Board + Sync,
+>(
+    rt: &'x R,
+    matches: &ArgMatches<'_>,
+    plan: Plan<'x>,
+    hosting: &Hosting<'_, G, B>,
+    nodes: &str,
+    seed: Seed,
+) -> Result<(), Failure>
+where
+    R::Reader: Send,
+{
+    let nodes = nodes_of(rt.alloc(), nodes)?;
+    let has_left = AtomicBool::new(false);
+    let candidate = candidate_of(matches, &has_left);
+    // A standby opens its sockets only once it is in office.
+    let early = match candidate.patience {
+        None => Some(fittings_of(rt, matches)?),
+        Some(_) => None,
+    };
+    let recovered = take_office(rt, hosting.board, &nodes, candidate)?;
+    let fittings = match early {
+        Some(fittings) => fittings,
+        None => fittings_of(rt, matches)?,
+    };
+    plan.last
+        .fetch_max(last_time(&recovered.events), Ordering::SeqCst);
+    let beginning = Beginning {
+        seed,
+        recovered,
+        ahead: matches.get_one::<u64>("ahead").unwrap_or(u64::MAX),
+        fittings,
+    };
+    let beacon = Beacon {
+        signs: signs_of(rt, &nodes)?,
+        writer: candidate.writer,
+        has_left: &has_left,
+    };
+    let (path, input) = (matches.get_str("history"), WakingInput::new(rt.reader()));
+    match host_logged(rt, path, hosting, beginning, input, beacon) {
+        Err(Failure::Serve(ServeError::Journal))
+            if has_left.load(Ordering::SeqCst) || is_deposed(rt, &nodes, candidate.writer) => {
+            Err(Failure::Deposed)
+        }
+        other => other,
+    }
+}
+
+// The times of a day: those of one that is open, or kept, never fall.
+fn times_of<'x>(matches: &ArgMatches<'_>, plan: Plan<'x>) -> Times<'x> {
+    let is_kept = matches.get_str("journal").is_some() || matches.get_str("log").is_some();
+    if plan.open.is_some() || is_kept {
+        Times::of_day(plan.day, plan.last)
+    } else {
+        Times::of_machine()
+    }
+}
+
+// Serves a day over a journal of this machine, or one that nothing keeps.
+fn begin_here<
+    'x,
+    R: AllocGlobal
+        + Input
+        + Print
+        + Files<File = fs::File>
+        + Log
+        + Net<Listener = TcpListener, Stream = TcpStream>
+        + Clock
+        + RandomSource
+        + Threads
+        + Wait
+        + Sync,
+    G: Gate + Sync,
+    B: Board + Sync,
+>(
+    rt: &'x R,
+    matches: &ArgMatches<'_>,
+    plan: Plan<'x>,
+    hosting: &Hosting<'_, G, B>,
+    board: &'x B,
+    seed: Seed,
+) -> Result<(), Failure>
+where
+    R::Reader: Send,
+{
+    let fittings = fittings_of(rt, matches)?;
+    let start = Start { seed, fittings };
+    match matches.get_str("journal") {
+        Some(path) => begin_kept(rt, matches, plan, hosting, board, path, start),
+        None => begin_unkept(rt, matches, hosting, start),
+    }
+}
+
+// Serves a day with a seed that is drawn: over its journal or its log, if the command line names one.
 fn begin<
     'x,
     R: AllocGlobal
@@ -287,13 +335,6 @@ where
         return Err(Failure::Serve(ServeError::Read));
     };
     let seed = Seed::Drawn(keys);
-    let journal = matches.get_str("journal");
-    let times = if plan.open.is_some() || journal.is_some() {
-        Times::of_day(plan.day, plan.last)
-    } else {
-        Times::of_machine()
-    };
-    let fittings = fittings_of(rt, matches)?;
     let hosting = Hosting {
         setup: plan.setup,
         is_standard: plan.text.is_none(),
@@ -302,15 +343,14 @@ where
         gate,
         board,
         open: plan.open,
-        times,
+        times: times_of(matches, plan),
         tally: &Tally::new(),
         meter: plan.meter,
         copies: plan.copies,
     };
-    let start = Start { seed, fittings };
-    match journal {
-        Some(path) => begin_kept(rt, matches, plan, &hosting, board, path, start),
-        None => begin_unkept(rt, matches, &hosting, start),
+    match matches.get_str("log") {
+        Some(nodes) => begin_logged(rt, matches, plan, &hosting, nodes, seed),
+        None => begin_here(rt, matches, plan, &hosting, board, seed),
     }
 }
 

@@ -24,8 +24,13 @@ use std::thread::Threads;
 
 const EACH: u32 = 2500;
 
-const FOUR_MEMBERS: &[u8] =
-    b"session HX00000004\nstart open\nstock ABCD 5120000000644e435a20502020314e000000004e\nmember 1 FMA1 ALPHA PWALPHA 5000\nmember 2 FMB2 BRAVO PWBRAVO 5000\nmember 3 FMC3 CHARLI PWCHARLI 5000\nmember 4 FMD4 DELTA PWDELTA 5000\n";
+const FOUR_MEMBERS: &[u8] = b"session HX00000004\n\
+     start open\n\
+     stock ABCD 5120000000644e435a20502020314e000000004e\n\
+     member 1 FMA1 ALPHA PWALPHA 5000\n\
+     member 2 FMB2 BRAVO PWBRAVO 5000\n\
+     member 3 FMC3 CHARLI PWCHARLI 5000\n\
+     member 4 FMD4 DELTA PWDELTA 5000\n";
 
 // A member's thread: what he sends through, what he reads by, and what he has read.
 #[derive(Drop)]

@@ -200,8 +200,11 @@ fn a_log_of_one_slot(rt: HostRuntime) {
     expect_replies(&rt, &desk, 3, &[Reply::Accepted(*b"H2", 50, private(3, 1))]);
 }
 
-const FEW: &[u8] =
-    b"session HX00000003\nstart open\nstock ABCD 5120000000644e435a20502020314e000000004e\nmember 1 FMA1 ALPHA PWALPHA 2\nmember 2 FMB2 BRAVO PWBRAVO 1000\n";
+const FEW: &[u8] = b"session HX00000003\n\
+     start open\n\
+     stock ABCD 5120000000644e435a20502020314e000000004e\n\
+     member 1 FMA1 ALPHA PWALPHA 2\n\
+     member 2 FMB2 BRAVO PWBRAVO 1000\n";
 
 const LATE: u64 = 86_400_000_000_000;
 

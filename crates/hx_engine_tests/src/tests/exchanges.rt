@@ -160,8 +160,11 @@ fn a_pass_is_missing(rt: HostRuntime) -> Result<(), Fail> {
     play::<OnePassMissing, _>(&rt, alloc, setup, 100, 3)
 }
 
-const CLOSED: &[u8] =
-    b"session HX00000002\nstart closed\nstock ABCD 5120000000644e435a20502020314e000000004e\nmember 1 FMA1 ALPHA PWALPHA 1000\nmember 2 FMB2 BRAVO PWBRAVO 1000\n";
+const CLOSED: &[u8] = b"session HX00000002\n\
+     start closed\n\
+     stock ABCD 5120000000644e435a20502020314e000000004e\n\
+     member 1 FMA1 ALPHA PWALPHA 1000\n\
+     member 2 FMB2 BRAVO PWBRAVO 1000\n";
 
 // The codes of a day come one after the other, with orders between them: the day is over after the last, and not
 // before.

@@ -19,8 +19,11 @@ use std::thread::Threads;
 use std::time::Clock;
 
 // The first member may send two messages, the second one many.
-const FEW: &[u8] =
-    b"session HX00000003\nstart open\nstock ABCD 5120000000644e435a20502020314e000000004e\nmember 1 FMA1 ALPHA PWALPHA 2\nmember 2 FMB2 BRAVO PWBRAVO 1000\n";
+const FEW: &[u8] = b"session HX00000003\n\
+     start open\n\
+     stock ABCD 5120000000644e435a20502020314e000000004e\n\
+     member 1 FMA1 ALPHA PWALPHA 2\n\
+     member 2 FMB2 BRAVO PWBRAVO 1000\n";
 
 // The order of a member under this token, refused or not.
 fn submit<V: Venue, R: Wait + Abort>(

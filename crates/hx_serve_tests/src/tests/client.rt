@@ -13,16 +13,16 @@ pub const BUY: &[u8; 49] =
     b"OT1            B\0\0\0\x64ABCD    \0\x01\x86\xa0\0\x01\x86\x9f    YON\0\0\0\0NR";
 
 /// What is told the first member of it behind the time: an Accepted message with reference 1.
-pub const BOUGHT: &[u8; 57] =
-    b"T1            B\0\0\0\x64ABCD    \0\x01\x86\xa0\0\x01\x86\x9fFMA1Y\0\0\0\0\0\0\0\x01ON\0\0\0\0NL ";
+pub const BOUGHT: &[u8; 57] = b"T1            B\0\0\0\x64ABCD    \
+     \0\x01\x86\xa0\0\x01\x86\x9fFMA1Y\0\0\0\0\0\0\0\x01ON\0\0\0\0NL ";
 
 /// A hidden one under the token H1.
 pub const HIDDEN: &[u8; 49] =
     b"OH1            B\0\0\0\x64ABCD    \0\x01\x86\xa0\0\x01\x86\x9f    NON\0\0\0\0NR";
 
 /// What is told the second member of it behind the time: an Accepted message with his first private reference.
-pub const HID: &[u8; 57] =
-    b"H1            B\0\0\0\x64ABCD    \0\x01\x86\xa0\0\x01\x86\x9fFMB2N\x80\0\x02\0\0\0\0\x01ON\0\0\0\0NL ";
+pub const HID: &[u8; 57] = b"H1            B\0\0\0\x64ABCD    \
+     \0\x01\x86\xa0\0\x01\x86\x9fFMB2N\x80\0\x02\0\0\0\0\x01ON\0\0\0\0NL ";
 
 /// The login of ALPHA, member 1, from his first reply on: a Login Request Packet's payload.
 pub const ALPHA: &[u8; 46] = b"ALPHA PWALPHA                               1 ";

@@ -103,8 +103,10 @@ fn bad_lines_end_the_operators_input_alone(rt: HostRuntime) {
     }
 }
 
-const CLOSED: &[u8] =
-    b"session HX00000001\nstart closed\nstock ABCD 5120000000644e435a20502020314e000000004e\nmember 1 FMA1 ALPHA PWALPHA 1000\n";
+const CLOSED: &[u8] = b"session HX00000001\n\
+     start closed\n\
+     stock ABCD 5120000000644e435a20502020314e000000004e\n\
+     member 1 FMA1 ALPHA PWALPHA 1000\n";
 
 // A member logs in, and breaks the protocol.
 fn breaks_off<R: Net<Listener = TcpListener, Stream = TcpStream> + Clock + Abort>(

@@ -45,8 +45,8 @@ impl Gate for Holding {
 }
 
 // What is told the second member of his displayed order: an Accepted message with reference 2.
-const BRAVO_BOUGHT: &[u8; 57] =
-    b"T1            B\0\0\0\x64ABCD    \0\x01\x86\xa0\0\x01\x86\x9fFMB2Y\0\0\0\0\0\0\0\x02ON\0\0\0\0NL ";
+const BRAVO_BOUGHT: &[u8; 57] = b"T1            B\0\0\0\x64ABCD    \
+     \0\x01\x86\xa0\0\x01\x86\x9fFMB2Y\0\0\0\0\0\0\0\x02ON\0\0\0\0NL ";
 
 fn wait_until_held<R: Clock + Abort>(rt: &R, gate: &Holding) {
     for _ in 0..5000 {

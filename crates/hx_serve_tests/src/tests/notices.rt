@@ -39,7 +39,8 @@ fn notices_of_sessions_in_words_and_as_json(rt: HostRuntime) {
         alloc,
         Notice::Ended { member, from, how },
         "session end member 7 from 127.0.0.1:5000: logged out",
-        "{\"notice\":\"session end\",\"member\":7,\"from\":\"127.0.0.1:5000\",\"how\":\"logged out\"}",
+        "{\"notice\":\"session end\",\"member\":7,\"from\":\"127.0.0.1:5000\",\"how\":\"logged \
+         out\"}",
     );
     let faulted = Notice::Faulted {
         fault: 4,
@@ -59,7 +60,8 @@ fn notices_of_sessions_in_words_and_as_json(rt: HostRuntime) {
         alloc,
         Notice::Left { from, why },
         "connection from 127.0.0.1:5000 closed: no login in time",
-        "{\"notice\":\"connection closed\",\"from\":\"127.0.0.1:5000\",\"why\":\"no login in time\"}",
+        "{\"notice\":\"connection closed\",\"from\":\"127.0.0.1:5000\",\"why\":\"no login in \
+         time\"}",
     );
 }
 
@@ -89,7 +91,8 @@ fn notices_of_the_day_in_words_and_as_json(rt: HostRuntime) {
         alloc,
         Notice::OpenToOthers,
         "open to other machines: put a line that encrypts before it (see OPERATING)",
-        "{\"notice\":\"open to other machines: put a line that encrypts before it (see OPERATING)\"}",
+        "{\"notice\":\"open to other machines: put a line that encrypts before it (see \
+         OPERATING)\"}",
     );
     reads(
         &rt,

@@ -23,10 +23,12 @@ fn expect_words<R: AllocGlobal + Abort>(rt: &R, rows: &[(&str, &str)]) {
 }
 
 const ENTERED: &str =
-    "10 1 4f483120202020202020202020202042000000644142434420202020000186a00001869f202020204e4f4e000000004e52\n";
+    "10 1 4f483120202020202020202020202042000000644142434420202020000186a00001869f202020204e4f4e0\
+     00000004e52\n";
 
 const REPLIED: &str =
-    "M 1 1 41000000000000000a483120202020202020202020202042000000644142434420202020000186a00001869f464d41314e80000100000000014f4e000000004e4c20\n";
+    "M 1 1 41000000000000000a483120202020202020202020202042000000644142434420202020000186a0000186\
+     9f464d41314e80000100000000014f4e000000004e4c20\n";
 
 const ADDED: &str =
     "F 1 4100010000000000000014000000000000000142000000c84142434420202020000186a0\n";
@@ -38,12 +40,16 @@ fn lines_of_a_tape(rt: HostRuntime) {
         &[
             (
                 ENTERED,
-                "00:00:00.000000010  member 1                   Enter Order                 token H1, buy, 100 shares, stock ABCD, 10.0000 dollars, hidden, system hours, minimum 0 shares, firm blank, capacity O, intermarket sweep N, cross type N, customer type R\n",
+                "00:00:00.000000010  member 1                   Enter Order                 \
+                 token H1, buy, 100 shares, stock ABCD, 10.0000 dollars, hidden, system \
+                 hours, minimum 0 shares, firm blank, capacity O, intermarket sweep N, cross \
+                 type N, customer type R\n",
             ),
             // A cancel at 09:30 of all that is open.
             (
                 "34200000000000 4095 58543120202020202020202020202000000000\n",
-                "09:30:00.000000000  member 4095                Cancel Order                token T1, in all 0 shares\n",
+                "09:30:00.000000000  member 4095                Cancel Order                \
+                 token T1, in all 0 shares\n",
             ),
             (
                 "5 0 4b\n",
@@ -51,11 +57,13 @@ fn lines_of_a_tape(rt: HostRuntime) {
             ),
             (
                 "5 0 51\n",
-                "00:00:00.000000005  operator                   Hours                       start of market hours\n",
+                "00:00:00.000000005  operator                   Hours                       \
+                 start of market hours\n",
             ),
             (
                 "6 0 420000000000000007\n",
-                "00:00:00.000000006  operator                   Break                       match number 7\n",
+                "00:00:00.000000006  operator                   Break                       \
+                 match number 7\n",
             ),
         ],
     );
@@ -68,11 +76,15 @@ fn lines_of_an_output(rt: HostRuntime) {
         &[
             (
                 REPLIED,
-                "00:00:00.000000010  member 1 reply 1           Accepted                    token H1, buy, 100 shares, stock ABCD, 10.0000 dollars, hidden, system hours, minimum 0 shares, firm FMA1, reference 9223373136366403585, capacity O, intermarket sweep N, cross type N, order state L\n",
+                "00:00:00.000000010  member 1 reply 1           Accepted                    \
+                 token H1, buy, 100 shares, stock ABCD, 10.0000 dollars, hidden, system \
+                 hours, minimum 0 shares, firm FMA1, reference 9223373136366403585, capacity \
+                 O, intermarket sweep N, cross type N, order state L\n",
             ),
             (
                 ADDED,
-                "00:00:00.000000020  feed 1                     Add Order                   reference 1, buy, 200 shares, stock ABCD, 10.0000 dollars, locate 1\n",
+                "00:00:00.000000020  feed 1                     Add Order                   \
+                 reference 1, buy, 200 shares, stock ABCD, 10.0000 dollars, locate 1\n",
             ),
         ],
     );
@@ -119,6 +131,8 @@ fn chosen_lines(rt: HostRuntime) {
     equal(
         &rt,
         member.as_slice(),
-        "00:00:00.000000006  member 2                   unreadable message\n                    member 2 reply 1           unreadable message\n".as_bytes(),
+        "00:00:00.000000006  member 2                   unreadable message\n\
+         \x20                   member 2 reply 1           unreadable message\n"
+            .as_bytes(),
     );
 }

@@ -54,8 +54,8 @@ fn is_outbound(rt: &impl Abort, bytes: &[u8], message: Outbound) {
 // A displayed buy, and a sell that is immediate or cancel.
 #[test]
 fn enter_order(rt: HostRuntime) {
-    let bytes =
-        b"OT1            B\x00\x00\x00dABCD    \x00\x01\x86\xa0\x00\x01\x86\x9f    YON\x00\x00\x00\x00NR";
+    let bytes = b"OT1            B\x00\x00\x00dABCD    \x00\x01\x86\xa0\x00\x01\x86\x9f    \
+         YON\x00\x00\x00\x00NR";
     let message = Enter {
         token: token(*b"T1"),
         side: b'B',
@@ -73,8 +73,8 @@ fn enter_order(rt: HostRuntime) {
     };
     is_inbound(&rt, bytes, Inbound::Enter(message));
 
-    let bytes =
-        b"OS1            S\x00\x00\x00\x1eABCD    \x00\x01\x86\xa0\x00\x00\x00\x00    NON\x00\x00\x00\x00NR";
+    let bytes = b"OS1            S\x00\x00\x00\x1eABCD    \x00\x01\x86\xa0\x00\x00\x00\x00    \
+         NON\x00\x00\x00\x00NR";
     let message = Enter {
         token: token(*b"S1"),
         side: b'S',
@@ -96,8 +96,8 @@ fn enter_order(rt: HostRuntime) {
 // An order is replaced by one that is not displayed; and cancelled but for 99 shares.
 #[test]
 fn replace_and_cancel_order(rt: HostRuntime) {
-    let bytes =
-        b"UT1            T2            \x00\x00\x00d\x00\x01\x86\xa0\x00\x01\x86\x9fNN\x00\x00\x00\x00";
+    let bytes = b"UT1            T2            \
+         \x00\x00\x00d\x00\x01\x86\xa0\x00\x01\x86\x9fNN\x00\x00\x00\x00";
     let message = Replace {
         existing_token: token(*b"T1"),
         replacement_token: token(*b"T2"),
@@ -121,8 +121,9 @@ fn replace_and_cancel_order(rt: HostRuntime) {
 // A displayed order is accepted; a hidden one takes its place, with the first number of its own.
 #[test]
 fn accepted_and_replaced(rt: HostRuntime) {
-    let bytes =
-        b"A\x00\x00\x00\x00\x00\x00\x03\xe8T1            B\x00\x00\x00dABCD    \x00\x01\x86\xa0\x00\x01\x86\x9fFMA1Y\x00\x00\x00\x00\x00\x00\x00\x01ON\x00\x00\x00\x00NL ";
+    let bytes = b"A\x00\x00\x00\x00\x00\x00\x03\xe8T1            B\x00\x00\x00dABCD    \
+         \x00\x01\x86\xa0\x00\x01\x86\x9fFMA1Y\x00\x00\x00\x00\x00\x00\x00\x01ON\x00\x00\x00\
+         \x00NL ";
     let message = Accepted {
         time: 1_000,
         token: token(*b"T1"),
@@ -143,8 +144,9 @@ fn accepted_and_replaced(rt: HostRuntime) {
     };
     is_outbound(&rt, bytes, Outbound::Accepted(message));
 
-    let bytes =
-        b"U\x00\x00\x00\x00\x00\x00\x00\x14T2            B\x00\x00\x00dABCD    \x00\x01\x86\xa0\x00\x01\x86\x9fFMA1N\x80\x00\x01\x00\x00\x00\x00\x01ON\x00\x00\x00\x00NLT1             ";
+    let bytes = b"U\x00\x00\x00\x00\x00\x00\x00\x14T2            B\x00\x00\x00dABCD    \
+         \x00\x01\x86\xa0\x00\x01\x86\x9fFMA1N\x80\x00\x01\x00\x00\x00\x00\x01ON\x00\x00\x00\
+         \x00NLT1             ";
     let message = Replaced {
         time: 20,
         replacement_token: token(*b"T2"),
@@ -179,8 +181,8 @@ fn canceled_executed_and_rejected(rt: HostRuntime) {
     };
     is_outbound(&rt, bytes, Outbound::Canceled(message));
 
-    let bytes =
-        b"E\x00\x00\x00\x00\x00\x00\x00\x14T1            \x00\x00\x00\x1e\x00\x01\x86\xa0A\x00\x00\x00\x00\x00\x00\x00\x01";
+    let bytes = b"E\x00\x00\x00\x00\x00\x00\x00\x14T1            \
+         \x00\x00\x00\x1e\x00\x01\x86\xa0A\x00\x00\x00\x00\x00\x00\x00\x01";
     let message = Executed {
         time: 20,
         token: token(*b"T1"),
@@ -191,8 +193,8 @@ fn canceled_executed_and_rejected(rt: HostRuntime) {
     };
     is_outbound(&rt, bytes, Outbound::Executed(message));
 
-    let bytes =
-        b"E\x00\x00\x00\x00\x00\x00\x00\x1eS1            \x00\x00\x00d\x00\x01\x86\xa0R\x00\x00\x00\x00\x00\x00\x00\x02";
+    let bytes = b"E\x00\x00\x00\x00\x00\x00\x00\x1eS1            \
+         \x00\x00\x00d\x00\x01\x86\xa0R\x00\x00\x00\x00\x00\x00\x00\x02";
     let message = Executed {
         time: 30,
         token: token(*b"S1"),

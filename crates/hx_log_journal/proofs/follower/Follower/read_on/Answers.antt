@@ -1,7 +1,7 @@
-use Rattle.std.specs.Prelude.{IfOk, OnErr}
-use Rattle.std.proofs.Common.{◌≡◌, subst}
-use Rattle.hx_log_journal.specs.States.{told, TellsMore}
-use Rattle.hx_log_journal.proofs.Keeping.{followed, tells, tells_same}
+use Rattle.std.specs.Prelude.{IfOk, OnOk, OnErr}
+use Rattle.std.proofs.Common.{◌≡◌, ◌≤◌, length, subst}
+use Rattle.hx_log_journal.specs.States.{count_read, told, TellsMore}
+use Rattle.hx_log_journal.proofs.Keeping.{followed, none_more, tells, tells_same}
 use Rattle.hx_log_journal.proofs.follower.Follower.read_on.Goals as goal
 
 pub invariant_of-self : goal.invariant_of-self
@@ -18,3 +18,8 @@ pub returns-clause-same : goal.returns-clause-same
 returns-clause-same g c =
     subst (λ f. OnErr c.follow.result (told g.L.Log.committed (record { log = c.follow.new.log; writer = c.follow.new.self }) ≡ told g.L.Log.committed f)) c.self.view_is
     (tells_same (g.L.Log.committed c.self.inside.log) (g.L.Log.committed c.follow.new.log) c.self.inside.writer c.follow.new.self c.self.invariant c.follow.ensures.grows c.follow.result c.follow.ensures.err)
+
+pub returns-clause-some : goal.returns-clause-some
+returns-clause-some g c =
+    subst (λ f. OnOk c.follow.result (count_read c.follow.new.self.reading ≡ count_read f.writer.reading → length (g.L.Log.committed f.log) ≤ count_read f.writer.reading)) c.self.view_is
+    (none_more (g.L.Log.committed c.self.inside.log) (g.L.Log.committed c.follow.new.log) c.self.inside.writer c.follow.new.self c.self.invariant c.follow.ensures.grows c.follow.result (λ t. t.items) c.follow.ensures.ok c.follow.ensures.some)

@@ -1,17 +1,22 @@
-use Rattle.std.proofs.Common.{rules, ◌≡◌, ◌∙◌, List, ℕ, [], ◌∷◌, ◌++◌, Some, refl, ap, sym}
+use Rattle.std.proofs.Common.{rules, ◌≡◌, ◌∙◌, ◌<◌, List, ℕ, [], ◌∷◌, ◌++◌, Some, refl, ap, sym, subst}
 use Rattle.hx_units.specs.Fields.{texts}
-use Rattle.hx_reader.specs.Readings.{ready}
-use Rattle.hx_relay.proofs.Keeping.{comes, asked_more}
+use Rattle.hx_reader.specs.Readings.{Reading, ready}
+use Rattle.hx_relay.proofs.Keeping.{comes, asked_more, kept_count, one_fewer}
 use Rattle.hx_relay.proofs.relay.Relay.receive.Goals as goal
 
-pub loop-init : goal.loop-init
-loop-init c session places steps read =
+pub loop-message-init : goal.loop-message-init
+loop-message-init c session places steps read =
     comes session places steps c.args.datagram.now c.args.self.now (record { reader = c.receive.new.self; server = c.args.self.now.server }) read c.receive.ensures refl
 
-pub loop-preserved : goal.loop-preserved
-loop-preserved c session places steps read =
-    let is : ready c.loop.self.reader ≡ Some c.in-Some.message.now.items = search rules in
+pub loop-message-preserved : goal.loop-message-preserved
+loop-message-preserved c session places steps read =
+    let is : ready c.loop-message.self.reader ≡ Some c.in-Some.message.now.items = search rules in
     let one : texts c.from_ref.result.now ≡ c.in-Some.message.now.items ∷ [] = ap texts c.from_ref.ensures.value in
     let kept = c.in_ok-append.ensures.ok in
-    asked_more session places steps c.args.datagram.now c.in-Some.message.now.items c.loop.self (record { reader = c.hand_out.new.self; server = c.append.new.self }) (c.loop.invariant session places steps read) is c.hand_out.ensures.after
-    (ap (λ s. s.messages) kept ∙ ap (λ (l : List (List ℕ)). c.loop.self.server.messages ++ l) one) (ap (λ s. s.session) kept)
+    asked_more session places steps c.args.datagram.now c.in-Some.message.now.items c.loop-message.self (record { reader = c.hand_out.new.self; server = c.append.new.self }) (c.loop-message.invariant session places steps read) is c.hand_out.ensures.after
+    (ap (λ s. s.messages) kept ∙ ap (λ (l : List (List ℕ)). c.loop-message.self.server.messages ++ l) one) (ap (λ s. s.session) kept)
+
+pub loop-message-smaller : goal.loop-message-smaller
+loop-message-smaller c =
+    let is : ready c.loop-message.self.reader ≡ Some c.in-Some.message.now.items = search rules in
+    subst (λ (r : Reading). kept_count r.window < kept_count c.loop-message.self.reader.window) (sym c.hand_out.ensures.after) (one_fewer c.loop-message.self.reader c.in-Some.message.now.items is)

@@ -1,0 +1,28 @@
+//! The command that asks a standby to take over.
+
+use clap::builder::ValueParser;
+use hx_tape_commands::{Argument, OPTION, Subcommand};
+
+/// The nodes of the log, and who leaves office.
+pub const HANDOVER: Subcommand = Subcommand {
+    name: "handover",
+    about: "Has a standby take over at once from the server that is in office",
+    arguments: &[
+        Argument {
+            name: "log",
+            value: "ADDR:PORT,..",
+            is_required: true,
+            help: "The nodes of an etcd whose log keeps the day",
+            ..OPTION
+        },
+        Argument {
+            name: "writer",
+            value: "N",
+            takes: ValueParser::Unsigned(1, 999_999_999),
+            is_required: true,
+            help: "The number of the server that leaves office",
+            ..OPTION
+        },
+    ],
+    choice: None,
+};

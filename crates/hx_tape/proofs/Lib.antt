@@ -1,0 +1,2 @@
+-- What the program's proofs share.
+mod Sent

@@ -1,0 +1,43 @@
+//! The command that follows the log of a day.
+
+use crate::failure::Failure;
+use crate::logged::{log_of, nodes_of};
+use clap::ArgMatches;
+use hx_day_log::{DayLogError, News, write_on};
+use hx_log_journal::Follower;
+use std::net::{Net, TcpStream};
+use std::rt::Clock;
+use std::time::Duration;
+use std::{io, thread};
+
+// The log is read this often, in milliseconds.
+const READ_AGAIN: u64 = 20;
+
+// And this many times at most.
+const MOST_READS: u64 = 1_000_000_000_000;
+
+// A follower writes nothing to the log.
+const NO_WRITER: u64 = 0;
+
+/// Writes the tape of a day as its log keeps it; once, or on and on.
+pub fn follow_log<R: AllocGlobal + Print + Net<Stream = TcpStream> + Clock>(
+    rt: &R,
+    matches: &ArgMatches<'_>,
+) -> Result<(), Failure> {
+    let alloc = rt.alloc();
+    let nodes = nodes_of(alloc, matches.get_str("log").unwrap_or(""))?;
+    let mut follower = Follower::new(log_of(rt, &nodes)?, NO_WRITER);
+    let mut output = io::writer(rt);
+    let is_once = matches.get_flag("once");
+    for _ in 0..MOST_READS {
+        match write_on(alloc, &mut follower, &mut output)? {
+            News::Some => {}
+            News::None if is_once => return Ok(()),
+            News::Unreachable if is_once => return Err(Failure::Log(DayLogError::Unreachable)),
+            News::None | News::Unreachable => {
+                thread::sleep(rt, Duration::from_millis(READ_AGAIN));
+            }
+        }
+    }
+    Ok(())
+}

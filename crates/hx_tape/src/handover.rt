@@ -1,0 +1,27 @@
+//! The command by which an operator has a standby take over.
+
+use crate::failure::Failure;
+use crate::leaving::OPERATOR;
+use crate::logged::{nodes_of, signs_of};
+use clap::ArgMatches;
+use hx_day_log::DayLogError;
+use std::net::{Net, TcpStream};
+
+/// Says to whoever stands by that this writer leaves office. The word stands: one who stands by later takes over from
+/// this writer, too.
+///
+/// Errors: no node has taken the word.
+pub fn hand_over<R: AllocGlobal + Net<Stream = TcpStream>>(
+    rt: &R,
+    matches: &ArgMatches<'_>,
+) -> Result<(), Failure> {
+    let alloc = rt.alloc();
+    let nodes = nodes_of(alloc, matches.get_str("log").unwrap_or(""))?;
+    let writer = matches.get_one::<u64>("writer").unwrap_or(0);
+    let word = format!(in alloc; "{writer}")?;
+    if signs_of(rt, &nodes)?.show(OPERATOR, word.as_bytes()) {
+        Ok(())
+    } else {
+        Err(Failure::Log(DayLogError::Unreachable))
+    }
+}

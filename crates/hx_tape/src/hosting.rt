@@ -1,0 +1,177 @@
+//! A day that is served from what it begins with: that nothing keeps, or a journal in a file, or a log.
+ghost use Rattle.std.specs.Prelude.{◌≡◌, true};
+ghost use Rattle.hx_disk.specs.Calls.{seen_of};
+ghost use Rattle.hx_journal.specs.Files.{stored, appended};
+ghost use Rattle.hx_journal.specs.Records.{records_of};
+ghost use Rattle.hx_tape_lines.specs.Text.{record_of};
+ghost use Rattle.hx_desk.specs.Entries.{restored};
+ghost use Rattle.hx_engine.specs.Journals.{lines};
+ghost use Rattle.hx_etcd_log.specs.EtcdLogs.{committed_of};
+ghost use Rattle.hx_log_journal.specs.States.{kept, is_open, appended as logged};
+
+use crate::failure::Failure;
+use crate::signs::Beacon;
+use hx_engine::Journal;
+use hx_etcd_log::{EtcdLog, Nodes};
+use hx_journal::{FileJournal, Noted, RawFile};
+use hx_log_journal::LogJournal;
+use hx_serve::{Beginning, Board, Hosting, ServeError, serve_kept};
+use hx_sessions::Gate;
+use log::Log;
+use std::io;
+use std::io::Read;
+use std::net::{Net, TcpListener, TcpStream};
+use std::rt::{Clock, Files};
+use std::sync::Wait;
+use std::sync::atomic::{AtomicBool, Ordering};
+use std::thread::{Threads, join};
+
+// Serves a day from what it begins with. Its history is written to the file at the path, if there is one.
+pub(crate) fn host<
+    R: AllocGlobal
+        + Print
+        + Files
+        + Log
+        + Net<Listener = TcpListener, Stream = TcpStream>
+        + Clock
+        + Threads
+        + Wait
+        + Sync,
+    J: Journal + Drop + Send,
+    G: Gate + Sync,
+    B: Board + Sync,
+    I: Read + Send + Drop,
+>(
+    rt: &R,
+    path: Option<&str>,
+    hosting: &Hosting<'_, G, B>,
+    beginning: Beginning<J>,
+    input: I,
+) -> Result<(), Failure>
+    requires journal { J.appended beginning.recovered.journal
+        ≡ lines record_of (restored beginning.recovered.events.items) }
+    requires safe { (J.kept beginning.recovered.journal ≡ J.appended beginning.recovered.journal)
+        × (J.is_open beginning.recovered.journal ≡ true) }
+{
+    let alloc = rt.alloc();
+    let mut output = io::writer(rt);
+    match serve_kept(rt, alloc, hosting, beginning, input, &mut output, path) {
+        Ok(()) => Ok(()),
+        Err(ServeError::HistoryIsThere) => Err(Failure::HistoryIsThere {
+            path: String::from_str(alloc, path.unwrap_or(""))?,
+        }),
+        Err(fault) => Err(Failure::Serve(fault)),
+    }
+}
+
+// Serves a day from what its journal in a file keeps.
+pub(crate) fn host_kept<
+    R: AllocGlobal
+        + Print
+        + Files
+        + Log
+        + Net<Listener = TcpListener, Stream = TcpStream>
+        + Clock
+        + Threads
+        + Wait
+        + Sync,
+    G: Gate + Sync,
+    B: Board + Sync,
+    F: RawFile + Drop + Send,
+    I: Read + Send + Drop,
+>(
+    rt: &R,
+    path: Option<&str>,
+    hosting: &Hosting<'_, G, B>,
+    beginning: Beginning<FileJournal<Noted<F>>>,
+    input: I,
+) -> Result<(), Failure>
+    requires journal { records_of (appended (λ d. seen_of d.log.events) beginning.recovered.journal)
+        ≡ lines record_of (restored beginning.recovered.events.items) }
+    requires kept { records_of (stored (λ d. seen_of d.log.events) beginning.recovered.journal)
+        ≡ lines record_of (restored beginning.recovered.events.items) }
+    requires is_open { beginning.recovered.journal.is_open ≡ true }
+{
+    host(rt, path, hosting, beginning, input)
+}
+
+// Serves a day from what it begins with, and shows meanwhile that its writer is in office.
+fn host_shown<
+    R: AllocGlobal
+        + Print
+        + Files
+        + Log
+        + Net<Listener = TcpListener, Stream = TcpStream>
+        + Clock
+        + Threads
+        + Wait
+        + Sync,
+    J: Journal + Drop + Send,
+    G: Gate + Sync,
+    B: Board + Sync,
+    N: Nodes + Drop + Send,
+    I: Read + Send + Drop,
+>(
+    rt: &R,
+    path: Option<&str>,
+    hosting: &Hosting<'_, G, B>,
+    beginning: Beginning<J>,
+    input: I,
+    beacon: Beacon<'_, N>,
+) -> Result<(), Failure>
+    requires journal { J.appended beginning.recovered.journal
+        ≡ lines record_of (restored beginning.recovered.events.items) }
+    requires safe { (J.kept beginning.recovered.journal ≡ J.appended beginning.recovered.journal)
+        × (J.is_open beginning.recovered.journal ≡ true) }
+{
+    let is_over = AtomicBool::new(false);
+    let flag = &is_over;
+    let ((), served) = join(
+        rt,
+        move || beacon.shine(rt, flag),
+        move ||
+            requires { (J.appended beginning.recovered.journal
+                ≡ lines record_of (restored beginning.recovered.events.items))
+                × (J.kept beginning.recovered.journal ≡ J.appended beginning.recovered.journal)
+                × (J.is_open beginning.recovered.journal ≡ true) }
+        {
+            let served = host(rt, path, hosting, beginning, input);
+            flag.store(true, Ordering::SeqCst);
+            served
+        },
+    );
+    served
+}
+
+// Serves a day from what its log keeps, and shows meanwhile that its writer is in office there.
+pub(crate) fn host_logged<
+    R: AllocGlobal
+        + Print
+        + Files
+        + Log
+        + Net<Listener = TcpListener, Stream = TcpStream>
+        + Clock
+        + Threads
+        + Wait
+        + Sync,
+    G: Gate + Sync,
+    B: Board + Sync,
+    N: Nodes + Drop + Send,
+    S: Nodes + Drop + Send,
+    I: Read + Send + Drop,
+>(
+    rt: &R,
+    path: Option<&str>,
+    hosting: &Hosting<'_, G, B>,
+    beginning: Beginning<LogJournal<EtcdLog<N>>>,
+    input: I,
+    beacon: Beacon<'_, S>,
+) -> Result<(), Failure>
+    requires journal { logged committed_of beginning.recovered.journal
+        ≡ lines record_of (restored beginning.recovered.events.items) }
+    requires kept { kept committed_of beginning.recovered.journal
+        ≡ lines record_of (restored beginning.recovered.events.items) }
+    requires is_open { is_open beginning.recovered.journal.fault ≡ true }
+{
+    host_shown(rt, path, hosting, beginning, input, beacon)
+}
