@@ -1,7 +1,10 @@
 -- What a client was told of a log may go to another thread, and so may a log whose nodes may. `search`
 -- does not look as deep by itself: who sends a log lists these.
-use denote.Param.Send.{IsSend, sendable, view_send}
+use denote.RattleType.{RattleType}
+use denote.Struct.Declared as declared
+use denote.Param.Send.{IsSend, sendable, view_send, struct_send, recorded_send}
 use Rattle.std.proofs.Crossing.{crosses}
+use Rattle.hx_etcd_log.specs.contracts.log.EtcdLog as etcd_log
 use Rattle.hx_etcd_log.specs.contracts.noted.Noted as noted
 use Rattle.hx_etcd_log.specs.contracts.told.Told as told
 use Rattle.hx_etcd_log.specs.contracts.told.Told.TheInside as inside
@@ -14,3 +17,10 @@ inside_send = search (sendable, crosses, noted_send) depth 20
 
 pub told_send : IsSend told.the_row
 told_send = view_send _ _ _ _ _ inside_send
+
+module _ (T : RattleType) (sends : IsSend T) where
+  pub etcd_log_send : IsSend (etcd_log.the_row T)
+  etcd_log_send =
+      recorded_send _ _ _ (etcd_log.the_type T).to_one
+      (struct_send (declared.shape (etcd_log.the_type T))
+      (search (sendable, crosses), (sends, (noted_send, (told_send, (search (sendable, crosses), tt))))))

@@ -1,6 +1,7 @@
 use denote.Param.Send.{sendable}
 use Rattle.std.proofs.Crossing.{crosses}
-use Rattle.hx_tape.proofs.Sent.{etcd_log_send, journal_send}
+use Rattle.hx_etcd_log.proofs.Sent.{etcd_log_send}
+use Rattle.hx_log_journal.proofs.Sent.{journal_send}
 use Rattle.hx_tape.proofs.hosting.host_logged.Goals as goal
 
 -- the journal goes to the threads of the day

@@ -1,2 +1,0 @@
--- What the program's proofs share.
-mod Sent
