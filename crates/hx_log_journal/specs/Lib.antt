@@ -2,3 +2,4 @@ pub mod States
 pub mod Stops
 pub mod Faults
 pub mod Laws
+pub mod Mirrors
