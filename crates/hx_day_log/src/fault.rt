@@ -1,5 +1,6 @@
 //! Why a day does not go on from its log.
 
+use hx_journal::JournalError;
 use hx_log::{KeepError, LogError};
 use hx_recovery::RecoveryError;
 use std::alloc::{AllocError, AllocFailed};
@@ -20,6 +21,15 @@ pub enum DayLogError {
         /// The number.
         number: u64,
     },
+    /// The journal beside it keeps a record that is not the log's.
+    #[error("journal record {record} is not the log's")]
+    OtherJournal {
+        /// Its number, from 1.
+        record: u64,
+    },
+    /// The journal beside it failed.
+    #[error("journal failed")]
+    JournalFailed,
     /// No node of the log can be asked.
     #[error("log unreachable")]
     Unreachable,
@@ -41,9 +51,12 @@ impl DayLogError {
     /// The status that the program ends with.
     pub fn status(&self) -> u8 {
         match self {
-            DayLogError::NoEvent { .. } | DayLogError::Damaged { .. } => 1,
+            DayLogError::NoEvent { .. }
+            | DayLogError::Damaged { .. }
+            | DayLogError::OtherJournal { .. } => 1,
             DayLogError::NoMemory => 3,
-            DayLogError::Unreachable
+            DayLogError::JournalFailed
+            | DayLogError::Unreachable
             | DayLogError::Failed
             | DayLogError::InUse
             | DayLogError::Write => 4,
@@ -60,6 +73,18 @@ impl From<AllocError> for DayLogError {
 impl<T: Drop> From<AllocFailed<T>> for DayLogError {
     fn from(_e: AllocFailed<T>) -> DayLogError {
         DayLogError::NoMemory
+    }
+}
+
+impl From<JournalError> for DayLogError {
+    fn from(e: JournalError) -> DayLogError {
+        match e {
+            JournalError::Memory => DayLogError::NoMemory,
+            JournalError::NoRoom
+            | JournalError::Failed
+            | JournalError::Full
+            | JournalError::Closed => DayLogError::JournalFailed,
+        }
     }
 }
 

@@ -4,8 +4,10 @@
 
 mod fault;
 mod following;
+mod mirroring;
 mod opening;
 
 pub use fault::DayLogError;
 pub use following::write_on;
+pub use mirroring::catch_up;
 pub use opening::{News, Watch, open_log, stand_by};

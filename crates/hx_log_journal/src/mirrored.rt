@@ -8,7 +8,7 @@ ghost use Rattle.hx_log_journal.specs.States.{kept, appended, count_read};
 ghost use Rattle.hx_log_journal.specs.Stops.{IsLeftSince};
 
 use crate::LogJournal;
-use crate::syncing::sync_both;
+use crate::syncing::{first_fault, sync_both};
 use hx_journal::{Journal, JournalError};
 use hx_log::{KeepError, Log};
 use std::alloc::Global;
