@@ -268,8 +268,7 @@ const LOG: Argument = Argument {
     name: "log",
     value: "ADDR:PORT,..",
     with: Some("writer"),
-    without: Some("journal"),
-    help: "The nodes of an etcd whose log keeps the day, in place of --journal",
+    help: "The nodes of an etcd whose log keeps the day; with --journal the file keeps it too",
     ..OPTION
 };
 
