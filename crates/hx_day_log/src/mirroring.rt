@@ -3,7 +3,7 @@ ghost use Rattle.std.specs.Prelude.{◌≡◌, ◌≤◌, ◌++◌, true, length
 ghost use Rattle.hx_tape_lines.specs.Text.{record_of};
 ghost use Rattle.hx_desk.specs.Entries.{restored};
 ghost use Rattle.hx_engine.specs.Journals.{lines};
-ghost use Rattle.hx_log_journal.specs.Mirrors.{Mirrors};
+ghost use Rattle.hx_mirror.specs.Mirrors.{Mirrors};
 
 use crate::fault::DayLogError;
 use hx_journal::Journal;

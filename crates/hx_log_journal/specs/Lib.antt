@@ -2,4 +2,3 @@ pub mod States
 pub mod Stops
 pub mod Faults
 pub mod Laws
-pub mod Mirrors

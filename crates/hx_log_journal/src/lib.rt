@@ -1,13 +1,9 @@
-//! The journal of an exchange over a log that several append to, alone or with a mirror, and the standby that reads the
-//! log and takes over.
+//! The journal of an exchange over a log that several append to, and the standby that reads the log and takes over.
 #![tactic(auto)]
 
 mod follower;
 pub mod laws;
 mod log_journal;
-mod mirrored;
-mod syncing;
 
 pub use follower::Follower;
 pub use log_journal::LogJournal;
-pub use mirrored::MirroredJournal;

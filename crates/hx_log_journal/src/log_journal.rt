@@ -3,9 +3,8 @@ ghost use Rattle.std.specs.Prelude.{◌≡◌, ◌++◌, [], ◌∷◌, None, tr
 ghost use mathlib.Core.List.{IsPrefix};
 ghost use Rattle.hx_journal.specs.Crashes.{Leaves};
 ghost use Rattle.hx_journal.specs.Errors.{IsCause};
-ghost use Rattle.hx_journal.specs.Lines.{text_of, lines_of};
+ghost use Rattle.hx_journal.specs.Lines.{text_of};
 ghost use Rattle.hx_journal.specs.Records.{IsRecord};
-ghost use Rattle.hx_terms.specs.Lines.{AreTapeLines};
 ghost use Rattle.hx_log_journal.specs.Faults.{IsAppendFault, IsSyncFault};
 ghost use Rattle.hx_log_journal.specs.States.{HasRead, kept, appended, is_open, faults, count_read};
 ghost use Rattle.hx_log_journal.specs.Stops.{IsLeftSince};
@@ -176,15 +175,6 @@ impl<L: Log> LogJournal<L> {
         ensures { result ≡ self.now.fault }
     {
         self.fault
-    }
-
-    /// The lines that wait for the next sync, each with a line feed behind it.
-    pub fn waiting(&self) -> &[u8]
-        ensures text { result.now ≡ text_of self.now.waiting }
-        ensures of_tape { AreTapeLines self.now.waiting }
-        ensures lines { lines_of result.now ≡ self.now.waiting }
-    {
-        &self.waiting
     }
 
     /// A reader that goes on from what is kept. The lines that wait are gone.

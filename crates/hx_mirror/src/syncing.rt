@@ -1,21 +1,20 @@
 //! Two journals that are synced at the same time.
-ghost use Rattle.std.specs.Prelude.{◌≡◌, ◌++◌, true, false, OnOk, IsErrOf};
+ghost use Rattle.std.specs.Prelude.{◌≡◌, ◌++◌, true, false, Ok, OnOk, IsErrOf};
 ghost use Rattle.hx_journal.specs.Crashes.{Leaves};
-ghost use Rattle.hx_journal.specs.Lines.{text_of, lines_of};
-ghost use Rattle.hx_terms.specs.Lines.{AreTapeLines};
+ghost use Rattle.hx_journal.specs.Lines.{lines_of};
+ghost use Rattle.hx_mirror.specs.Mirrors.{IsOfRecords};
 
 use hx_journal::{Journal, JournalError};
 use hx_text::split_once;
 use std::thread::{Threads, join_mut};
 
-// Appends the lines of a text, each with a line feed behind it, and sees that they are kept.
-fn write_lines<M: Journal>(mirror: &mut M, text: &[u8]) -> Result<(), JournalError>
-    requires text { text.now ≡ text_of (lines_of text.now) }
-    requires lines { AreTapeLines (lines_of text.now) }
+// Appends the records of a text, each with a line feed behind it, and sees that they are kept.
+fn write_records<M: Journal>(mirror: &mut M, text: &[u8]) -> Result<(), JournalError>
+    requires { IsOfRecords text.now }
     ensures appended { OnOk result
         (M.appended mirror.new ≡ M.appended mirror.old ++ lines_of text.now) }
     ensures kept { OnOk result (M.kept mirror.new ≡ M.appended mirror.new) }
-    ensures open { OnOk result (M.is_open mirror.new ≡ true) }
+    ensures is_open { OnOk result (M.is_open mirror.new ≡ true) }
 {
     let mut rest = text;
     while let Some((line, others)) = split_once(rest, b'\n') {
@@ -25,18 +24,18 @@ fn write_lines<M: Journal>(mirror: &mut M, text: &[u8]) -> Result<(), JournalErr
     mirror.sync()
 }
 
-/// Syncs a journal, and appends the lines of a text to another one and syncs that, at the same time.
+/// Syncs a journal, and appends the records of a text to another one and syncs that, at the same time.
 pub(crate) fn sync_both<T: Threads, J: Journal + Send, M: Journal + Send>(
     rt: &T,
     journal: &mut J,
     mirror: &mut M,
     text: &[u8],
 ) -> (Result<(), JournalError>, Result<(), JournalError>)
-    requires text { text.now ≡ text_of (lines_of text.now) }
-    requires lines { AreTapeLines (lines_of text.now) }
+    requires { IsOfRecords text.now }
     ensures kept { OnOk result.0 (J.kept journal.new ≡ J.appended journal.old) }
     ensures appended { OnOk result.0 (J.appended journal.new ≡ J.appended journal.old) }
     ensures still { OnOk result.0 (J.is_open journal.new ≡ true) }
+    ensures was_open { OnOk result.0 (J.is_open journal.old ≡ true) }
     ensures closed { IsErrOf result.0 JournalError.Closed → J.is_open journal.old ≡ false }
     ensures any_moment { J.is_open journal.old ≡ true
         → Leaves (J.moment journal.old) (J.moment journal.new)
@@ -45,13 +44,14 @@ pub(crate) fn sync_both<T: Threads, J: Journal + Send, M: Journal + Send>(
     ensures written { OnOk result.1
         (M.appended mirror.new ≡ M.appended mirror.old ++ lines_of text.now) }
     ensures written_kept { OnOk result.1 (M.kept mirror.new ≡ M.appended mirror.new) }
-    ensures open { OnOk result.1 (M.is_open mirror.new ≡ true) }
+    ensures is_open { OnOk result.1 (M.is_open mirror.new ≡ true) }
 {
     let mut keep = || -> Result<(), JournalError>
         ensures kept { OnOk result (J.kept journal.exit.now ≡ J.appended journal.entry.now) }
         ensures appended { OnOk result
             (J.appended journal.exit.now ≡ J.appended journal.entry.now) }
         ensures still { OnOk result (J.is_open journal.exit.now ≡ true) }
+        ensures was_open { OnOk result (J.is_open journal.entry.now ≡ true) }
         ensures closed { IsErrOf result JournalError.Closed
             → J.is_open journal.entry.now ≡ false }
         ensures any_moment { J.is_open journal.entry.now ≡ true
@@ -60,14 +60,13 @@ pub(crate) fn sync_both<T: Threads, J: Journal + Send, M: Journal + Send>(
             (J.kept journal.entry.now) (J.appended journal.entry.now) }
     { journal.sync() };
     let mut write = || -> Result<(), JournalError>
-        requires text { text.now ≡ text_of (lines_of text.now) }
-        requires lines { AreTapeLines (lines_of text.now) }
+        requires { IsOfRecords text.now }
         ensures written { OnOk result (M.appended mirror.exit.now
-            ≡ M.appended mirror.entry.now ++ lines_of text.now) }
+            ≡ M.appended mirror.entry.now ++ lines_of text.entry.now) }
         ensures written_kept { OnOk result
             (M.kept mirror.exit.now ≡ M.appended mirror.exit.now) }
-        ensures open { OnOk result (M.is_open mirror.exit.now ≡ true) }
-    { write_lines(mirror, text) };
+        ensures is_open { OnOk result (M.is_open mirror.exit.now ≡ true) }
+    { write_records(mirror, text) };
     join_mut(rt, &mut keep, &mut write)
 }
 
@@ -76,8 +75,8 @@ pub(crate) fn first_fault(
     kept: Result<(), JournalError>,
     mirrored: Result<(), JournalError>,
 ) -> Result<(), JournalError>
-    ensures first { OnOk result (kept ≡ Ok ()) }
-    ensures other { OnOk result (mirrored ≡ Ok ()) }
+    ensures first { OnOk result (kept ≡ Ok tt) }
+    ensures other { OnOk result (mirrored ≡ Ok tt) }
     ensures closed { IsErrOf result JournalError.Closed → IsErrOf kept JournalError.Closed }
 {
     kept?;

@@ -1,0 +1,144 @@
+//! A journal with a mirror.
+ghost use Rattle.std.specs.Prelude.{◌≡◌, ◌++◌, [], ◌∷◌, true, OnOk, OnErr};
+ghost use Rattle.hx_journal.specs.Lines.{lines_of};
+ghost use Rattle.hx_journal.specs.Records.{IsRecord};
+ghost use Rattle.hx_mirror.specs.Mirrors.{Mirrors, both_open};
+
+use crate::counted::Counted;
+use crate::syncing::{first_fault, sync_both};
+use hx_journal::{Journal, JournalError};
+use std::alloc::{AllocError, Global};
+use std::marker::Model;
+use std::thread::Threads;
+
+/// A journal and its mirror, another journal that keeps the same records. Both are synced at the same time, each in a
+/// thread of its own. What recovery reads after a crash is what the first one leaves.
+#[derive(Drop)]
+pub struct MirroredJournal<'x, T, J: Journal, M: Journal> {
+    rt: &'x T,
+    journal: J,
+    mirror: M,
+    // The text of the records that the mirror gets at the next sync. Its memory is kept.
+    waiting: Vec<u8>,
+    // Whether no sync of one of them has failed.
+    in_step: bool,
+    failed: Counted,
+}
+
+impl<'x, T, J: Journal, M: Journal> Model for MirroredJournal<'x, T, J, M> {
+    ghost use Rattle.hx_journal.specs.Lines.{lines_of};
+    ghost use Rattle.hx_mirror.specs.Mirrors.{MirroredState, IsInStep};
+
+    ghost Value = { MirroredState J M };
+
+    ghost view = { λ s. record {
+      journal = s.journal;
+      mirror = s.mirror;
+      in_step = s.in_step;
+      failed = s.failed.count;
+    } };
+
+    ghost invariant = { λ s. IsInStep J.appended J.kept M.appended M.kept M.is_open
+        s.journal s.mirror s.waiting.items s.in_step };
+}
+
+impl<'x, T: Threads, J: Journal + Send, M: Journal + Send> Journal for MirroredJournal<'x, T, J, M> {
+    ghost appended = { λ s. J.appended s.journal };
+
+    ghost kept = { λ s. J.kept s.journal };
+
+    ghost is_open = { λ s. both_open J.is_open s };
+
+    ghost faults = { λ s. s.failed };
+
+    ghost moment = { λ s. J.moment s.journal };
+
+    ghost left_since = { λ s. J.left_since s.journal };
+
+    /// Appends a record to the journal. The mirror gets it at the next sync.
+    fn append(&mut self, bytes: &[u8]) -> Result<(), JournalError> {
+        if !self.in_step {
+            return Err(JournalError::Closed);
+        }
+        let before = self.waiting.len();
+        push_line(&mut self.waiting, bytes)?;
+        let appended = self.journal.append(bytes);
+        if appended.is_err() {
+            self.waiting.truncate(before);
+            self.failed.count_up();
+        }
+        appended
+    }
+
+    /// Syncs the journal, and appends to the mirror what it lacks and syncs that, at the same time. After an error of one
+    /// of them both are closed.
+    fn sync(&mut self) -> Result<(), JournalError> {
+        if !self.in_step {
+            return Err(JournalError::Closed);
+        }
+        let (kept, mirrored) = sync_both(
+            self.rt,
+            &mut self.journal,
+            &mut self.mirror,
+            &self.waiting,
+        );
+        let synced = first_fault(kept, mirrored);
+        if synced.is_err() {
+            self.in_step = false;
+            self.failed.count_up();
+        } else {
+            self.waiting.clear();
+        }
+        synced
+    }
+
+    fn is_quick(&self) -> bool {
+        false
+    }
+
+    fn stands(&self) {
+        self.journal.stands();
+    }
+}
+
+impl<'x, T, J: Journal, M: Journal> MirroredJournal<'x, T, J, M> {
+    /// A journal of which nothing waits, and a mirror that keeps the same records.
+    pub fn new(rt: &'x T, alloc: Global, journal: J, mirror: M) -> MirroredJournal<'x, T, J, M>
+        requires synced { J.appended journal ≡ J.kept journal }
+        requires mirrors { Mirrors M.appended M.kept M.is_open mirror (J.kept journal) }
+        ensures { result ≡ record {
+          journal = journal;
+          mirror = mirror;
+          in_step = true;
+          failed = 0;
+        } }
+    {
+        MirroredJournal {
+            rt,
+            journal,
+            mirror,
+            waiting: Vec::new(alloc),
+            in_step: true,
+            failed: Counted::new(),
+        }
+    }
+
+    /// Unless a sync of one of them has failed, the mirror keeps what the journal keeps. The call does nothing.
+    pub fn mirrors(&self)
+        ensures { self.now.in_step ≡ true → Mirrors M.appended M.kept M.is_open
+            self.now.mirror (J.kept self.now.journal) }
+    {
+        let _ = &self.mirror;
+    }
+}
+
+// Adds a line, or nothing.
+fn push_line(lines: &mut Vec<u8>, line: &[u8]) -> Result<(), AllocError>
+    ensures ok { OnOk result (lines.new.items ≡ lines.old.items ++ line.now ++ 10 ∷ []) }
+    ensures err { OnErr result (lines.new.items ≡ lines.old.items) }
+{
+    lines.reserve(line.len() + 1)?;
+    lines.extend_from_slice(line)?;
+    lines.push(b'\n')?;
+    Ok(())
+}
