@@ -1,7 +1,6 @@
 //! A journal with a mirror: another journal that keeps the same records, and is synced at the same time.
 #![tactic(auto)]
 
-mod counted;
 mod mirrored;
 mod syncing;
 

@@ -4,9 +4,8 @@ ghost use Rattle.hx_journal.specs.Lines.{lines_of};
 ghost use Rattle.hx_journal.specs.Records.{IsRecord};
 ghost use Rattle.hx_mirror.specs.Mirrors.{Mirrors, both_open};
 
-use crate::counted::Counted;
 use crate::syncing::{first_fault, sync_both};
-use hx_journal::{Journal, JournalError};
+use hx_journal::{CallLog, Journal, JournalError};
 use std::alloc::{AllocError, Global};
 use std::marker::Model;
 use std::thread::Threads;
@@ -22,11 +21,12 @@ pub struct MirroredJournal<'x, T, J: Journal, M: Journal> {
     waiting: Vec<u8>,
     // Whether no sync of one of them has failed.
     in_step: bool,
-    failed: Counted,
+    // The calls that have failed, known to contracts alone.
+    failed: CallLog,
 }
 
 impl<'x, T, J: Journal, M: Journal> Model for MirroredJournal<'x, T, J, M> {
-    ghost use Rattle.hx_journal.specs.Lines.{lines_of};
+    ghost use Rattle.std.specs.Prelude.{length};
     ghost use Rattle.hx_mirror.specs.Mirrors.{MirroredState, IsInStep};
 
     ghost Value = { MirroredState J M };
@@ -35,7 +35,7 @@ impl<'x, T, J: Journal, M: Journal> Model for MirroredJournal<'x, T, J, M> {
       journal = s.journal;
       mirror = s.mirror;
       in_step = s.in_step;
-      failed = s.failed.count;
+      failed = length s.failed.events;
     } };
 
     ghost invariant = { λ s. IsInStep J.appended J.kept M.appended M.kept M.is_open
@@ -65,7 +65,7 @@ impl<'x, T: Threads, J: Journal + Send, M: Journal + Send> Journal for MirroredJ
         let appended = self.journal.append(bytes);
         if appended.is_err() {
             self.waiting.truncate(before);
-            self.failed.count_up();
+            self.failed.note(&[], &[]);
         }
         appended
     }
@@ -85,7 +85,7 @@ impl<'x, T: Threads, J: Journal + Send, M: Journal + Send> Journal for MirroredJ
         let synced = first_fault(kept, mirrored);
         if synced.is_err() {
             self.in_step = false;
-            self.failed.count_up();
+            self.failed.note(&[], &[]);
         } else {
             self.waiting.clear();
         }
@@ -119,7 +119,7 @@ impl<'x, T, J: Journal, M: Journal> MirroredJournal<'x, T, J, M> {
             mirror,
             waiting: Vec::new(alloc),
             in_step: true,
-            failed: Counted::new(),
+            failed: CallLog::new(),
         }
     }
 
