@@ -1,7 +1,7 @@
-//! A journal with a mirror: another journal that keeps the same records, and is synced at the same time.
+//! A journal with a mirror: another journal that keeps the same records.
 #![tactic(auto)]
 
 mod mirrored;
-mod syncing;
+mod writing;
 
 pub use mirrored::MirroredJournal;

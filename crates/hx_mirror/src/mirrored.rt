@@ -1,20 +1,18 @@
 //! A journal with a mirror.
-ghost use Rattle.std.specs.Prelude.{◌≡◌, ◌++◌, [], ◌∷◌, true, OnOk, OnErr};
+ghost use Rattle.std.specs.Prelude.{◌≡◌, ◌≢◌, ◌+◌, ◌++◌, [], ◌∷◌, true, false, OnOk, OnErr};
 ghost use Rattle.hx_journal.specs.Lines.{lines_of};
 ghost use Rattle.hx_journal.specs.Records.{IsRecord};
 ghost use Rattle.hx_mirror.specs.Mirrors.{Mirrors, both_open};
 
-use crate::syncing::{first_fault, sync_both};
+use crate::writing::write_records;
 use hx_journal::{CallLog, Journal, JournalError};
 use std::alloc::{AllocError, Global};
 use std::marker::Model;
-use std::thread::Threads;
 
-/// A journal and its mirror, another journal that keeps the same records. Both are synced at the same time, each in a
-/// thread of its own. What recovery reads after a crash is what the first one leaves.
+/// A journal and its mirror, another journal that keeps the same records: what is synced is kept by both. The mirror is
+/// never ahead. What recovery reads after a crash is what the first one leaves.
 #[derive(Drop)]
-pub struct MirroredJournal<'x, T, J: Journal, M: Journal> {
-    rt: &'x T,
+pub struct MirroredJournal<J: Journal, M: Journal> {
     journal: J,
     mirror: M,
     // The text of the records that the mirror gets at the next sync. Its memory is kept.
@@ -25,7 +23,7 @@ pub struct MirroredJournal<'x, T, J: Journal, M: Journal> {
     failed: CallLog,
 }
 
-impl<'x, T, J: Journal, M: Journal> Model for MirroredJournal<'x, T, J, M> {
+impl<J: Journal, M: Journal> Model for MirroredJournal<J, M> {
     ghost use Rattle.std.specs.Prelude.{length};
     ghost use Rattle.hx_mirror.specs.Mirrors.{MirroredState, IsInStep};
 
@@ -42,7 +40,7 @@ impl<'x, T, J: Journal, M: Journal> Model for MirroredJournal<'x, T, J, M> {
         s.journal s.mirror s.waiting.items s.in_step };
 }
 
-impl<'x, T: Threads, J: Journal + Send, M: Journal + Send> Journal for MirroredJournal<'x, T, J, M> {
+impl<J: Journal, M: Journal> Journal for MirroredJournal<J, M> {
     ghost appended = { λ s. J.appended s.journal };
 
     ghost kept = { λ s. J.kept s.journal };
@@ -70,26 +68,24 @@ impl<'x, T: Threads, J: Journal + Send, M: Journal + Send> Journal for MirroredJ
         appended
     }
 
-    /// Syncs the journal, and appends to the mirror what it lacks and syncs that, at the same time. After an error of one
-    /// of them both are closed.
+    /// Syncs the journal, and then appends to the mirror what it lacks, and syncs that. After an error of one of them both
+    /// are closed.
     fn sync(&mut self) -> Result<(), JournalError> {
         if !self.in_step {
             return Err(JournalError::Closed);
         }
-        let (kept, mirrored) = sync_both(
-            self.rt,
-            &mut self.journal,
-            &mut self.mirror,
-            &self.waiting,
-        );
-        let synced = first_fault(kept, mirrored);
-        if synced.is_err() {
+        if let Err(error) = self.journal.sync() {
             self.in_step = false;
             self.failed.note(&[], &[]);
-        } else {
-            self.waiting.clear();
+            return Err(error);
         }
-        synced
+        if let Err(error) = write_records(&mut self.mirror, &self.waiting) {
+            self.in_step = false;
+            self.failed.note(&[], &[]);
+            return Err(told_as(error));
+        }
+        self.waiting.clear();
+        Ok(())
     }
 
     fn is_quick(&self) -> bool {
@@ -101,9 +97,9 @@ impl<'x, T: Threads, J: Journal + Send, M: Journal + Send> Journal for MirroredJ
     }
 }
 
-impl<'x, T, J: Journal, M: Journal> MirroredJournal<'x, T, J, M> {
+impl<J: Journal, M: Journal> MirroredJournal<J, M> {
     /// A journal of which nothing waits, and a mirror that keeps the same records.
-    pub fn new(rt: &'x T, alloc: Global, journal: J, mirror: M) -> MirroredJournal<'x, T, J, M>
+    pub fn new(alloc: Global, journal: J, mirror: M) -> MirroredJournal<J, M>
         requires synced { J.appended journal ≡ J.kept journal }
         requires mirrors { Mirrors M.appended M.kept M.is_open mirror (J.kept journal) }
         ensures { result ≡ record {
@@ -114,7 +110,6 @@ impl<'x, T, J: Journal, M: Journal> MirroredJournal<'x, T, J, M> {
         } }
     {
         MirroredJournal {
-            rt,
             journal,
             mirror,
             waiting: Vec::new(alloc),
@@ -129,6 +124,16 @@ impl<'x, T, J: Journal, M: Journal> MirroredJournal<'x, T, J, M> {
             self.now.mirror (J.kept self.now.journal) }
     {
         let _ = &self.mirror;
+    }
+}
+
+// The error of a mirror: one that is closed has failed.
+fn told_as(error: JournalError) -> JournalError
+    ensures { result ≢ JournalError.Closed }
+{
+    match error {
+        JournalError::Closed => JournalError::Failed,
+        other => other,
     }
 }
 

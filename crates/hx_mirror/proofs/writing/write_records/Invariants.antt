@@ -1,7 +1,7 @@
 use Rattle.std.proofs.Common.{length}
 use Rattle.hx_journal.specs.Lines.{lines_of}
 use Rattle.hx_mirror.specs.Mirrors.{IsHalfWritten}
-use Rattle.hx_mirror.proofs.syncing.write_records.Given as goal
+use Rattle.hx_mirror.proofs.writing.write_records.Given as goal
 
 abbrev pub decreases-loop-line : goal.decreases-loop-line
 decreases-loop-line g l = length l.rest
