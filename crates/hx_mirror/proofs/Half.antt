@@ -17,10 +17,6 @@ are_append : (front behind : List (List ℕ)) → AllByRecursion IsRecord front 
 are_append [] behind p q = q
 are_append (r ∷ front) behind p q = (p.0, are_append front behind p.1 q)
 
--- nothing is written yet
-pub none_written : (before : List (List ℕ)) (text : List ℕ) → IsOfRecords text → IsHalfWritten before before (lines_of text) text
-none_written before text h = record { others = lines_of text; rest_is = h.is; records = h.records; all_are = refl }
-
 -- the first of the others, of a rest that is cut behind it
 pub next_written : (before now then all : List (List ℕ)) (rest line behind : List ℕ) → IsHalfWritten before now all rest → Lacks 10 line → rest ≡ line ++ 10 ∷ behind
     → IsRecord line × (then ≡ now ++ line ∷ [] → IsHalfWritten before then all behind)
@@ -28,13 +24,15 @@ next_written before now then all rest line behind h ends cut =
     let first = first_line h.others line behind (are_lines h.others h.records) ends (sym h.rest_is ∙ cut) in
     let others = first.0 in
     let is : h.others ≡ line ∷ others = first.1 in
-    let good : AllByRecursion IsRecord (line ∷ others) = subst (AllByRecursion IsRecord) is h.records in
-    (good.0, λ (e : then ≡ now ++ line ∷ []). record {
-      others = others;
-      rest_is = sym first.2;
-      records = good.1;
-      all_are = ap (λ (l : List (List ℕ)). l ++ others) e ∙ append_assoc now (line ∷ []) others ∙ ap (λ (l : List (List ℕ)). now ++ l) (sym is) ∙ h.all_are;
-    })
+    let good : AllByRecursion IsRecord (line ∷ others) = subst (AllByRecursion IsRecord) is h.records in (
+      good.0,
+      λ (e : then ≡ now ++ line ∷ []). record {
+        others = others;
+        rest_is = sym first.2;
+        records = good.1;
+        all_are = ap (λ (l : List (List ℕ)). l ++ others) e ∙ append_assoc now (line ∷ []) others ∙ ap (λ (l : List (List ℕ)). now ++ l) (sym is) ∙ h.all_are;
+      },
+    )
 
 -- where the rest has no line, all are written
 pub all_written : (before now all : List (List ℕ)) (rest : List ℕ) → IsHalfWritten before now all rest → Lacks 10 rest → now ≡ before ++ all
@@ -75,35 +73,3 @@ module _ {J M : Type 0} (appended kept : J → List (List ℕ)) (mirrored mirror
               mirrors = mirrors_same mirrored mirror_kept is_open mirror (kept old) (kept new) same far.mirrors;
             };
       }
-
-  -- where nothing was appended
-  pub none_more : (old new : J) (mirror : M) (text more : List ℕ) (in_step : Bool) → IsInStep appended kept mirrored mirror_kept is_open old mirror text in_step → more ≡ text
-      → appended new ≡ appended old → kept new ≡ kept old → IsInStep appended kept mirrored mirror_kept is_open new mirror more in_step
-  none_more old new mirror text more in_step h is none same = record {
-    text = subst IsOfRecords (sym is) h.text;
-    as_far = λ step.
-        let far = h.as_far step in
-        record {
-          appended_is = none ∙ far.appended_is ∙ ap (λ (l : List (List ℕ)). l ++ lines_of text) (sym same) ∙ ap (λ (l : List ℕ). kept new ++ lines_of l) (sym is);
-          mirrors = mirrors_same mirrored mirror_kept is_open mirror (kept old) (kept new) same far.mirrors;
-        };
-  }
-
-  -- where both are synced, nothing waits
-  pub all_synced : (old new : J) (before now : M) (text none : List ℕ) (in_step : Bool) → in_step ≡ true → IsInStep appended kept mirrored mirror_kept is_open old before text in_step → none ≡ []
-      → appended new ≡ appended old → kept new ≡ appended old → mirrored now ≡ mirrored before ++ lines_of text → mirror_kept now ≡ mirrored now → is_open now ≡ true
-      → IsInStep appended kept mirrored mirror_kept is_open new now none in_step
-  all_synced old new before now text none in_step step h is same synced written written_kept opened =
-      let far = h.as_far step in
-      let all : mirrored now ≡ kept new = written ∙ ap (λ (l : List (List ℕ)). l ++ lines_of text) far.mirrors.appended_is ∙ sym far.appended_is ∙ sym synced in
-      record {
-        text = subst IsOfRecords (sym is) (record { is = refl; records = tt });
-        as_far = λ _. record {
-          appended_is = same ∙ sym synced ∙ sym (append-nil (kept new)) ∙ ap (λ (l : List ℕ). kept new ++ lines_of l) (sym is);
-          mirrors = record { appended_is = all; kept_is = written_kept ∙ all; opened = opened };
-        };
-      }
-
-  -- where they are out of step, only the text that waits is known
-  pub out_of_step : (old new : J) (before now : M) (text : List ℕ) (in_step : Bool) → IsInStep appended kept mirrored mirror_kept is_open old before text in_step → IsInStep appended kept mirrored mirror_kept is_open new now text false
-  out_of_step old new before now text in_step h = record { text = h.text; as_far = λ step. absurd (cc (step)) }

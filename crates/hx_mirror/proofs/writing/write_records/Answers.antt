@@ -5,9 +5,11 @@ use Rattle.hx_mirror.proofs.Half.{none_written, next_written, all_written}
 use Rattle.hx_mirror.proofs.writing.write_records.Goals as goal
 
 pub append-requires : goal.append-requires
-append-requires g c = record { record_is =
-    (next_written (g.M.Journal.appended c.args.mirror.now) (g.M.Journal.appended c.loop-line.mirror) (g.M.Journal.appended c.loop-line.mirror) (lines_of c.args.text.now) c.loop-line.rest.now c.in-Some.line.now c.in-Some.others.now c.loop-line.invariant
-    c.in-Some.ensures.some.1 c.in-Some.ensures.some.0).0 }
+append-requires g c = record {
+  record_is =
+      (next_written (g.M.Journal.appended c.args.mirror.now) (g.M.Journal.appended c.loop-line.mirror) (g.M.Journal.appended c.loop-line.mirror) (lines_of c.args.text.now) c.loop-line.rest.now c.in-Some.line.now c.in-Some.others.now c.loop-line.invariant
+      c.in-Some.ensures.some.1 c.in-Some.ensures.some.0).0;
+}
 
 pub loop-line-preserved : goal.loop-line-preserved
 loop-line-preserved g c =
