@@ -1,7 +1,7 @@
 use Rattle.std.specs.Prelude.{Result, Ok, Err, OnOk}
 use Rattle.std.proofs.Common.{◌≡◌, ◌++◌, ◌∙◌, List, ℕ}
 use Rattle.hx_journal.specs.Lines.{lines_of}
-use Rattle.hx_mirror.proofs.Half.{none_written, next_written, all_written}
+use Rattle.hx_mirror.proofs.Half.{next_written, all_written}
 use Rattle.hx_mirror.proofs.writing.write_records.Goals as goal
 
 pub append-requires : goal.append-requires
