@@ -1,5 +1,5 @@
 //! A mirror of a day's log: a journal that is brought up to the events of the log.
-ghost use Rattle.std.specs.Prelude.{◌≡◌, ◌≤◌, ◌++◌, true, length, take, IfOk, OnOk};
+ghost use Rattle.std.specs.Prelude.{◌≡◌, ◌≤◌, ◌++◌, true, length, take, map, IfOk, OnOk};
 ghost use Rattle.hx_tape_lines.specs.Text.{record_of};
 ghost use Rattle.hx_desk.specs.Entries.{restored};
 ghost use Rattle.hx_engine.specs.Journals.{lines};
@@ -29,8 +29,8 @@ fn is_same(alloc: Global, one: &Event, other: &Event) -> Result<bool, AllocError
 fn count_same(alloc: Global, one: &[Event], other: &[Event]) -> Result<usize, AllocError>
     ensures of_one { IfOk result (λ n. n ≤ length one.now) }
     ensures of_other { IfOk result (λ n. n ≤ length other.now) }
-    ensures same { IfOk result (λ n. lines record_of (restored (take n one.now))
-        ≡ lines record_of (restored (take n other.now))) }
+    ensures same { IfOk result (λ n. map record_of (take n one.now)
+        ≡ map record_of (take n other.now)) }
 {
     let most = one.len().min(other.len());
     for place in 0..most {
@@ -48,7 +48,7 @@ fn append_records<M: Journal>(
     events: &[Event],
 ) -> Result<(), DayLogError>
     ensures { OnOk result (M.appended mirror.new
-        ≡ M.appended mirror.old ++ lines record_of (restored events.now)) }
+        ≡ M.appended mirror.old ++ map record_of events.now) }
 {
     let mut text = Vec::new(alloc);
     for event in events {
@@ -68,7 +68,7 @@ fn keep_records<M: Journal>(
     requires kept { M.kept mirror.old ≡ M.appended mirror.old }
     requires open { M.is_open mirror.old ≡ true }
     ensures { OnOk result (Mirrors M.appended M.kept M.is_open mirror.new
-        (M.appended mirror.old ++ lines record_of (restored events.now))) }
+        (M.appended mirror.old ++ map record_of events.now)) }
 {
     let mut rest = events;
     while !rest.is_empty() {
