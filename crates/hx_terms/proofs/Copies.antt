@@ -2,7 +2,7 @@
 use Rattle.std.specs.Prelude.{◌≢◌, Result, Ok, Err, IfOk, IfErr}
 use Rattle.std.specs.List.{AllByRecursion}
 use Rattle.std.proofs.Common.{◌≡◌, ℕ, ◌+◌, ◌-◌, ◌≤◌, Bool, true, false, List, [], ◌∷◌, ◌++◌, length, take, drop, refl, sym, ap, ◌∙◌, subst, arith, append_assoc, length-append}
-use Rattle.std.proofs.Math.Seq.{drop-append_seam}
+use Rattle.std.proofs.Math.Seq.{take-append_seam, drop-append_seam}
 use Rattle.std.proofs.lemmas.List.Elements.{All-head, All-tail}
 use Rattle.hx_text.specs.Cuts.{Lacks}
 use Rattle.hx_journal.specs.Lines.{text_of}
@@ -15,7 +15,7 @@ use Rattle.hx_terms.specs.declared.text.TextError.TheVariants as fault
 use Rattle.hx_terms.specs.Records.{Record}
 use Rattle.hx_terms.specs.Lines.{AreTapeLines, IsOfLog}
 use Rattle.hx_terms.specs.Texts.{head_line, spelled, IsTextFault}
-use Rattle.hx_terms.specs.Copies.{texts_of, BeginsNone, IsCut, AreWhole, AreAllWhole, HasBadPiece, IsRecordsFault, AreTaken}
+use Rattle.hx_terms.specs.Copies.{texts_of, BeginsNone, IsCut, AreWhole, AreAllWhole, IsRecordsFault, AreTaken}
 use Rattle.hx_terms.proofs.Spelling.{line_lacks, head_lacks, same_record, fault_is_none}
 
 -- ---- marks
