@@ -19,6 +19,8 @@ const MOST_RECORDS: u64 = 100;
 pub(crate) enum Found {
     // Some of them, or none where none stands there.
     Page(Vec<LogRecord>),
+    // The first of them is not there, and later ones are.
+    Gone,
     // What stands at this number is no record of it.
     Bad(u64),
 }
@@ -35,6 +37,7 @@ impl<N: Nodes> EtcdLog<N> {
                 self.told.add_page(page);
                 Ok(())
             }
+            Found::Gone => Err(LogError::Trimmed { number: from }),
             Found::Bad(number) => Err(LogError::NoRecord { number }),
         }
     }
@@ -88,6 +91,7 @@ fn read_found(alloc: Global, from: u64, answer: &Answer) -> Option<Found>
 {
     match read_range_answer(alloc, from, answer) {
         Ok(page) => Some(Found::Page(page)),
+        Err(AnswerError::NoKey { number }) if number == from => Some(Found::Gone),
         Err(error) => Some(Found::Bad(bad_number(&error)?)),
     }
 }
