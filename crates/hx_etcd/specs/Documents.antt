@@ -111,10 +111,13 @@ trim_text number =
     print (json_tokens (trimming_of (base64_of (key_of 1)) (base64_of (key_of number))
     (base64_of trim_key) (base64_of (decimal number))))
 
--- the text that gives up all that is older than a revision
+-- that all that is older than a revision is given up
+abbrev pub compacting_of : (revision : List ℕ) → Json
+compacting_of revision = one_member (codes "revision") (string revision)
+
+-- the text that asks for it
 abbrev pub compact_text : (revision : ℕ) → List ℕ
-compact_text revision =
-    print (json_tokens (one_member (codes "revision") (string (decimal revision))))
+compact_text revision = print (json_tokens (compacting_of (decimal revision)))
 
 -- what stands from one key up to another, and how much of it at most
 abbrev pub question_of : (key64 end64 most : List ℕ) → Json

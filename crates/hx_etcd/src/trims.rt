@@ -3,7 +3,7 @@ ghost use Rattle.std.specs.Prelude.{◌≡◌, IfOk, IfErr, IfSome, IfNone, OnOk
 ghost use Rattle.json.specs.Print.{print};
 ghost use Rattle.json.specs.Tree.{json_tokens};
 ghost use Rattle.json.specs.Value.{value_view};
-ghost use Rattle.hx_etcd.specs.Documents.{trimming_of, trim_text, compact_text};
+ghost use Rattle.hx_etcd.specs.Documents.{trimming_of, compacting_of, trim_text, compact_text};
 ghost use Rattle.hx_etcd.specs.Requests.{request_text};
 ghost use Rattle.hx_etcd.specs.Trims.{HasRevision, HasNoRevision, Says, IsSayingFault, IsTrimmed, IsTrimFault, IsCompacted, IsCompactFault};
 
@@ -112,20 +112,20 @@ pub fn trim_request(alloc: Global, number: u64) -> Result<Vec<u8>, NoMemory>
     request(alloc, b"/v3/kv/txn", &body)
 }
 
+// That a revision is compacted.
+fn compacting<'a>(alloc: Global, revision: &'a str) -> Result<Vec<u8>, NoMemory>
+    ensures { IfOk result (λ text.
+        text.items ≡ print (json_tokens (compacting_of revision.now))) }
+{
+    text_of(alloc, &[Object, Key("revision"), Text(revision), EndObject])
+}
+
 // The text that gives up what is older than a revision.
 fn compact_body(alloc: Global, revision: u64) -> Result<Vec<u8>, NoMemory>
     ensures { IfOk result (λ body. body.items ≡ compact_text revision) }
 {
     let mut buffer = Buffer::new();
-    text_of(
-        alloc,
-        &[
-            Object,
-            Key("revision"),
-            Text(buffer.format(revision)),
-            EndObject,
-        ],
-    )
+    compacting(alloc, buffer.format(revision))
 }
 
 /// The request that frees what was deleted before this revision. `read_compaction_answer` reads the answer.

@@ -46,6 +46,12 @@ IsNoRecordAt number e =
     (e ≡ bad.NoKey number) ⊎ ((e ≡ bad.OtherNumber number)
     ⊎ ((error : TextError) × (e ≡ bad.NoRecord number error)))
 
+-- what is found where an answer has this fault
+abbrev pub IsFaultFound : (from : ℕ) → AnswerError → Found → Type 0
+IsFaultFound from e (Page page) = ⊥
+IsFaultFound from e Gone = e ≡ bad.NoKey from
+IsFaultFound from e (Bad number) = IsNoRecordAt number e × (e ≢ bad.NoKey from)
+
 -- an answer contradicts at this number what is known of the log, or what a record is
 pub record Contradicts (from number : ℕ) (answer : Answer) : Type 0 where
   pub error : AnswerError

@@ -2,7 +2,7 @@
 ghost use Rattle.std.specs.Prelude.{◌≡◌, ◌+◌, length, IfOk, IfErr, IfSome, OnOk};
 ghost use Rattle.hx_etcd_log.specs.Asks.{OneSince, Tells, IsMissed, IsNotTold};
 ghost use Rattle.hx_etcd_log.specs.EtcdLogs.{asks_of};
-ghost use Rattle.hx_etcd_log.specs.Reads.{asking_from, IsNoRecordAt, IsFoundIn, IsFetched, IsFetchFault};
+ghost use Rattle.hx_etcd_log.specs.Reads.{asking_from, IsFaultFound, IsFoundIn, IsFetched, IsFetchFault};
 
 use crate::asking::{error_of, lost_after};
 use crate::{AskError, EtcdLog, Nodes};
@@ -91,19 +91,19 @@ fn read_found(alloc: Global, from: u64, answer: &Answer) -> Option<Found>
 {
     match read_range_answer(alloc, from, answer) {
         Ok(page) => Some(Found::Page(page)),
-        Err(AnswerError::NoKey { number }) if number == from => Some(Found::Gone),
-        Err(error) => Some(Found::Bad(bad_number(&error)?)),
+        Err(error) => fault_found(from, &error),
     }
 }
 
-// The number at which an answer has something else than its record.
-fn bad_number(error: &AnswerError) -> Option<u64>
-    ensures { IfSome result (λ number. IsNoRecordAt number error.now) }
+// What an answer that is wrong says of the records from a number on.
+fn fault_found(from: u64, error: &AnswerError) -> Option<Found>
+    ensures { IfSome result (IsFaultFound from error.now) }
 {
     match *error {
+        AnswerError::NoKey { number } if number == from => Some(Found::Gone),
         AnswerError::NoKey { number }
         | AnswerError::OtherNumber { number }
-        | AnswerError::NoRecord { number, .. } => Some(number),
+        | AnswerError::NoRecord { number, .. } => Some(Found::Bad(number)),
         _ => None,
     }
 }

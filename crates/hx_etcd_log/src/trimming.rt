@@ -1,7 +1,7 @@
 //! What the copies of a log show in an etcd, and how the log is trimmed.
 ghost use Rattle.std.specs.Prelude.{◌≡◌, ◌<◌, ◌≤◌, ◌+◌, ℕ, [], IfSome, IfNone};
 ghost use Rattle.std.specs.List.{AllByRecursion};
-ghost use Rattle.hx_etcd_log.specs.Trims.{HasBehind};
+ghost use Rattle.hx_etcd_log.specs.Trims.{HasBehind, IsLeast, lesser};
 
 use crate::asker::Asker;
 use crate::{AskError, Nodes};
@@ -82,20 +82,34 @@ pub fn trim_place(counts: &[Option<u64>], stay: u64) -> Option<u64>
     ensures none { IfNone result ((n : ℕ) → 1 < n → AllByRecursion (HasBehind n stay) counts.now
         → counts.now ≡ []) }
 {
-    let mut least = None;
-    for count in counts {
-        least = lesser(least, (*count)?);
-    }
-    match least?.checked_sub(stay) {
+    match least_of(counts)?.checked_sub(stay) {
         Some(place) if place > 1 => Some(place),
         _ => None,
     }
 }
 
+// The least of what copies have shown; none where one of them has shown nothing, or there is none.
+fn least_of(counts: &[Option<u64>]) -> Option<u64>
+    ensures some { IfSome result (IsLeast counts.now) }
+    ensures none { IfNone result ((n stay : ℕ) → AllByRecursion (HasBehind n stay) counts.now
+        → counts.now ≡ []) }
+{
+    let mut least = None;
+    for count in counts {
+        let Some(count) = *count else {
+            return None;
+        };
+        least = lesser(least, count);
+    }
+    least
+}
+
 // The lesser of two numbers, of which the first may not be there.
-fn lesser(one: Option<u64>, other: u64) -> Option<u64> {
+fn lesser(one: Option<u64>, other: u64) -> Option<u64>
+    ensures { result ≡ lesser one other }
+{
     match one {
-        Some(one) if one < other => Some(one),
-        _ => Some(other),
+        Some(one) => Some(one.min(other)),
+        None => Some(other),
     }
 }
