@@ -1,6 +1,7 @@
 //! A copy of a log in a file, as it is read page by page.
 use crate::{PageError, Pages};
 use hx_terms::{LogRecord, RecordsError, read_records};
+use hx_text::split_once;
 use std::alloc::Global;
 use std::io::Read;
 
@@ -10,8 +11,9 @@ const MOST_READ: usize = 16 * 1024;
 // A page is looked for this many times, at most.
 const MOST_READS: u64 = 1_000_000_000_000;
 
-/// A copy of a log, of which only whole records are told: behind each of them another begins. What is read of it is done
-/// with; where it grows it is read on.
+/// A copy of a log, of which only whole records are told: behind each of them another begins. Where it grows it is read
+/// on. A zero ends it: what a crash leaves of a file may have zeros where it was written last, and is as it was written
+/// in front of them.
 #[derive(Drop)]
 pub struct TextPages<R: Read + Drop> {
     alloc: Global,
@@ -20,6 +22,8 @@ pub struct TextPages<R: Read + Drop> {
     text: Vec<u8>,
     // How many bytes are told.
     len: u64,
+    // Whether a zero was read.
+    is_over: bool,
 }
 
 impl<R: Read + Drop> TextPages<R> {
@@ -30,6 +34,7 @@ impl<R: Read + Drop> TextPages<R> {
             reader,
             text: Vec::new(alloc),
             len: 0,
+            is_over: false,
         }
     }
 
@@ -38,9 +43,9 @@ impl<R: Read + Drop> TextPages<R> {
         self.len
     }
 
-    /// Whether it has bytes behind these, as far as it is read.
-    pub fn has_more(&self) -> bool {
-        !self.text.is_empty()
+    /// What stands behind these, as far as it is read.
+    pub fn rest(&self) -> &[u8] {
+        &self.text
     }
 
     /// The reader, given out. What was read and not told is gone.
@@ -65,11 +70,21 @@ impl<R: Read + Drop> TextPages<R> {
         Ok(found.records)
     }
 
-    // Reads what comes next, and tells whether something came.
+    // Reads what comes next, up to a zero, and tells whether something came.
     fn fill(&mut self) -> Result<bool, PageError> {
+        if self.is_over {
+            return Ok(false);
+        }
         let mut room = [0u8; MOST_READ];
         let Ok(count) = self.reader.read(&mut room) else {
             return Err(PageError::Failed);
+        };
+        let count = match split_once(&room[..count], 0) {
+            Some((front, _)) => {
+                self.is_over = true;
+                front.len().min(count)
+            }
+            None => count,
         };
         if self.text.extend_from_slice(&room[..count]).is_err() {
             return Err(PageError::NoMemory);

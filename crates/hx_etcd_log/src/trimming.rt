@@ -6,9 +6,10 @@ ghost use Rattle.hx_etcd_log.specs.Trims.{HasBehind, IsLeast, lesser};
 use crate::asker::Asker;
 use crate::{AskError, Nodes};
 use hx_etcd::{
-    Trimmed, compaction_request, copy_question, copy_request, read_compaction_answer,
-    read_sign_answer, read_trim_answer, trim_request,
+    AnswerError, Trimmed, compaction_request, copy_question, copy_request, range_request,
+    read_compaction_answer, read_range_answer, read_sign_answer, read_trim_answer, trim_request,
 };
+use hx_terms::LogRecord;
 use hx_text::read_number;
 use std::alloc::Global;
 
@@ -47,6 +48,21 @@ impl<N: Nodes> Copies<N> {
         match read_sign_answer(self.alloc, &answer) {
             Ok(Some(text)) => Ok(read_number(&text)),
             Ok(None) => Ok(None),
+            Err(_) => Err(AskError::Lost),
+        }
+    }
+
+    /// The record of this number, where it stands; none where it does not.
+    ///
+    /// Errors: no node gave an answer that tells it.
+    pub fn stands(&mut self, number: u64) -> Result<Option<LogRecord>, AskError> {
+        let Ok(request) = range_request(self.alloc, number, 1) else {
+            return Err(AskError::Unsent);
+        };
+        let answer = self.asker.ask(&request)?;
+        match read_range_answer(self.alloc, number, &answer) {
+            Ok(mut found) => Ok(found.pop()),
+            Err(AnswerError::NoKey { .. }) => Ok(None),
             Err(_) => Err(AskError::Lost),
         }
     }

@@ -184,7 +184,10 @@ where
 }
 
 // Who takes the log of a day over, and when, as the command line asks.
-fn candidate_of<'y>(matches: &ArgMatches<'_>, has_left: &'y AtomicBool) -> Candidate<'y> {
+fn candidate_of<'y>(
+    matches: &'y ArgMatches<'_>,
+    has_left: &'y AtomicBool,
+) -> Candidate<'y> {
     let patience = matches.get_one::<u64>("patience");
     Candidate {
         writer: matches.get_one::<u64>("writer").unwrap_or(0),
@@ -193,6 +196,7 @@ fn candidate_of<'y>(matches: &ArgMatches<'_>, has_left: &'y AtomicBool) -> Candi
             _ => None,
         },
         has_left,
+        from: matches.get_str("from"),
     }
 }
 
@@ -253,7 +257,7 @@ where
     let (path, input) = (matches.get_str("history"), WakingInput::new(rt.reader()));
     match host_logged(rt, path, hosting, beginning, input, beacon) {
         Err(Failure::Serve(ServeError::Journal))
-            if has_left.load(Ordering::SeqCst) || is_deposed(rt, &nodes, candidate.writer) => {
+            if has_left.load(Ordering::SeqCst) || is_deposed(rt, &nodes, candidate) => {
             Err(Failure::Deposed)
         }
         other => other,
