@@ -89,7 +89,7 @@ fn tail_of<R: AllocGlobal + Files<File = fs::File>>(rt: &R, path: &str) -> io::R
 
 // Where the first line begins that begins a record; the end of the text where none does.
 fn first_mark(text: &[u8]) -> usize {
-    match text.windows(2).position(|pair| pair == b"\n#") {
+    match text.windows(2).position(|pair| pair == b"\n#".as_slice()) {
         Some(at) => at.saturating_add(1).min(text.len()),
         None => text.len(),
     }
