@@ -82,7 +82,7 @@ pub fn copy_log<R: AllocGlobal + Files<File = fs::File> + Net<Stream = TcpStream
     let nodes = nodes_of(alloc, matches.get_str("log").unwrap_or(""))?;
     let mut log = log_of(rt, &nodes)?;
     let mut file = open_copy(rt, &nodes, matches.get_str("to").unwrap_or(""), &mut log)?;
-    let mut next = log.len().max(0).saturating_add(1);
+    let mut next = log.len().saturating_add(1);
     let mut shown = Shown {
         rt,
         copies: copies_of(rt, &nodes)?,
@@ -95,7 +95,7 @@ pub fn copy_log<R: AllocGlobal + Files<File = fs::File> + Net<Stream = TcpStream
     for _ in 0..MOST_READS {
         let news = copy_on(alloc, &mut log, &mut next, &mut file)?;
         shown.sync(&file, next.saturating_sub(1))?;
-        if shown.is_due() && news != News::Some {
+        if shown.is_due() {
             shown.show();
         }
         match news {
