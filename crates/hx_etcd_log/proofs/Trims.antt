@@ -1,8 +1,8 @@
 -- Where a log may be trimmed.
 use Rattle.std.specs.Prelude.{Option, Some, None, min}
 use Rattle.std.specs.List.{AllByRecursion}
-use Rattle.std.proofs.Common.{◌≡◌, ℕ, zero, suc, get_or, ◌+◌, ◌-◌, ◌<◌, ◌≤◌, List, [], ◌∷◌, ◌++◌, length, take, sym, ap, ◌∙◌, subst, arith}
-use Rattle.std.proofs.lemmas.List.{take_all, take_more}
+use Rattle.std.proofs.Common.{◌≡◌, ℕ, get_or, ◌+◌, ◌-◌, ◌<◌, ◌≤◌, List, [], ◌∷◌, ◌++◌, length, take, sym, ap, ◌∙◌, subst, arith}
+use Rattle.std.proofs.lemmas.List.{take_more}
 use Rattle.hx_etcd_log.specs.Trims.{HasBehind, IsLeast, lesser}
 
 -- each has so many
@@ -44,20 +44,11 @@ pushed counts None count h = subst (λ (l : List (Option ℕ)). IsLeast (l ++ So
 pushed counts (Some m) count h = least_push m count counts h
 
 -- one more count
-pub one_more : (counts : List (Option ℕ)) (i count : ℕ) (least : Option ℕ) (c : Option ℕ) → i < length counts → c ≡ get_or counts i c → c ≡ Some count → SoFar (take i counts) least
+pub one_more : (counts : List (Option ℕ)) (i count : ℕ) (least : Option ℕ) → i < length counts → get_or counts i None ≡ Some count → SoFar (take i counts) least
     → SoFar (take (i + 1) counts) (lesser least count)
-one_more counts i count least c lt is some h =
-    let more : take (i + 1) counts ≡ take i counts ++ Some count ∷ [] = take_more counts i c lt ∙ ap (λ (x : Option ℕ). take i counts ++ x ∷ []) (sym is ∙ some) in
+one_more counts i count least lt is h =
+    let more : take (i + 1) counts ≡ take i counts ++ Some count ∷ [] = take_more counts i None lt ∙ ap (λ (x : Option ℕ). take i counts ++ x ∷ []) is in
     subst (λ (l : List (Option ℕ)). SoFar l (lesser least count)) (sym more) (pushed (take i counts) least count h)
-
-pub all_seen : (counts : List (Option ℕ)) (i : ℕ) (least : Option ℕ) → length counts ≡ i → SoFar (take i counts) least → SoFar counts least
-all_seen counts i least end h = subst (λ (l : List (Option ℕ)). SoFar l least) (take_all i counts (omega (arith, end))) h
-
--- a copy that has shown nothing has none behind
-pub none_behind : (counts : List (Option ℕ)) (i n stay : ℕ) (c : Option ℕ) → i < length counts → c ≡ get_or counts i c → c ≡ None → AllByRecursion (HasBehind n stay) counts → ⊥
-none_behind [] i n stay c lt is none h = omega (arith, lt)
-none_behind (x ∷ counts) zero n stay c lt is none h = cc (is, none, h.0.1)
-none_behind (x ∷ counts) (suc i) n stay c lt is none h = none_behind counts i n stay c (omega (arith, lt)) is none h.1
 
 -- ---- the place
 

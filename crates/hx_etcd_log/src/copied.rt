@@ -92,7 +92,7 @@ impl<P: Pages, N: Nodes> CopiedLog<P, N> {
         ensures err { IfErr result (IsBadPage (length (records_of self.old))) }
         ensures same { OnErr result (self.new.log ≡ self.old.log) }
     {
-        let due = self.log.len() + 1;
+        let due = self.log.told.len() + 1;
         let page = match self.pages.next(alloc, due) {
             Ok(page) => page,
             Err(PageError::Failed) => return Err(LogError::BadCopy { number: due }),

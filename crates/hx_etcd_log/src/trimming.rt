@@ -98,10 +98,12 @@ pub fn trim_place(counts: &[Option<u64>], stay: u64) -> Option<u64>
     ensures none { IfNone result ((n : ℕ) → 1 < n → AllByRecursion (HasBehind n stay) counts.now
         → counts.now ≡ []) }
 {
-    match least_of(counts)?.checked_sub(stay) {
-        Some(place) if place > 1 => Some(place),
-        _ => None,
+    let least = least_of(counts)?;
+    if least <= stay {
+        return None;
     }
+    let place = least - stay;
+    if place > 1 { Some(place) } else { None }
 }
 
 // The least of what copies have shown; none where one of them has shown nothing, or there is none.
