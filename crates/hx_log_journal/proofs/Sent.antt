@@ -20,10 +20,19 @@ module _ (T : RattleType) (g : Ghosts T.Denot) (sends : IsSend T) where
   inside_send : IsSend (inside.the_row T g)
   inside_send =
       recorded_send _ _ _ (inside.the_type T g).to_one
-      (struct_send (declared.shape (inside.the_type T g))
-      (search (sendable, crosses), (sends, (writer_send,
-      (search (sendable, crosses) depth 20,
-      (search (sendable, crosses, error_send) depth 20, tt))))))
+      (struct_send (declared.shape (inside.the_type T g)) (
+        search (sendable, crosses),
+        (
+          sends,
+          (
+            writer_send,
+            (
+              search (sendable, crosses) depth 20,
+              (search (sendable, crosses, error_send) depth 20, tt),
+            ),
+          ),
+        ),
+      ))
 
   pub journal_send : IsSend (journal.the_row T g)
   journal_send = view_send _ _ _ _ _ inside_send

@@ -22,10 +22,7 @@ const NO_WRITER: u64 = 0;
 /// Writes the tape of a day as its log keeps it, begun with a copy if there is one; once, or on and on.
 pub fn follow_log<
     R: AllocGlobal + Print + Files<File = fs::File> + Net<Stream = TcpStream> + Clock,
->(
-    rt: &R,
-    matches: &ArgMatches<'_>,
-) -> Result<(), Failure> {
+>(rt: &R, matches: &ArgMatches<'_>) -> Result<(), Failure> {
     let alloc = rt.alloc();
     let nodes = nodes_of(alloc, matches.get_str("log").unwrap_or(""))?;
     let log = copied_log_of(rt, &nodes, matches.get_str("from"))?;

@@ -13,14 +13,14 @@ use crate::signs::SignWatch;
 use hx_day_log::{open_log, stand_by};
 use hx_doors::address_of;
 use hx_engine::Recovered;
-use hx_etcd_log::{Copies, CopiedLog, EtcdLog, Signs, TcpNodes, TextPages};
+use hx_etcd_log::{CopiedLog, Copies, EtcdLog, Signs, TcpNodes, TextPages};
 use hx_log::LogError;
 use hx_log_journal::{Follower, LogJournal};
 use hx_recovery::Unwatched;
 use hx_serve::{Board, Notice};
 use std::alloc::Global;
-use std::net::{Net, SocketAddr, TcpStream};
 use std::fs;
+use std::net::{Net, SocketAddr, TcpStream};
 use std::rt::{Clock, Files};
 use std::sync::atomic::AtomicBool;
 use std::time::Duration;
@@ -70,10 +70,7 @@ pub type FileLog<N> = CopiedLog<Option<TextPages<fs::File>>, N>;
 /// The log of these nodes, begun with the copy in a file, if one is named. Nothing is read yet.
 ///
 /// Errors: those of `pages_of`.
-pub fn copied_log_of<
-    'x,
-    R: AllocGlobal + Files<File = fs::File> + Net<Stream = TcpStream>,
->(
+pub fn copied_log_of<'x, R: AllocGlobal + Files<File = fs::File> + Net<Stream = TcpStream>>(
     rt: &'x R,
     nodes: &[SocketAddr],
     from: Option<&str>,

@@ -184,10 +184,7 @@ where
 }
 
 // Who takes the log of a day over, and when, as the command line asks.
-fn candidate_of<'y>(
-    matches: &'y ArgMatches<'_>,
-    has_left: &'y AtomicBool,
-) -> Candidate<'y> {
+fn candidate_of<'y>(matches: &'y ArgMatches<'_>, has_left: &'y AtomicBool) -> Candidate<'y> {
     let patience = matches.get_one::<u64>("patience");
     Candidate {
         writer: matches.get_one::<u64>("writer").unwrap_or(0),

@@ -87,7 +87,11 @@ fn what_is_no_copy_is_refused(rt: HostRuntime) {
 const THIRD: &str = r#"{"header":{},"kvs":[
     {"key":"aHgvMDAwMDAwMDAwMDAz","value":"IzMgMSA3IDEK"}]}"#;
 
-fn begun(alloc: Global, text: &'static [u8], turns: &'static [Turn]) -> CopiedLog<TextPages<Cut>, Script> {
+fn begun(
+    alloc: Global,
+    text: &'static [u8],
+    turns: &'static [Turn],
+) -> CopiedLog<TextPages<Cut>, Script> {
     let pages = TextPages::new(alloc, Cut::of(text, 100));
     CopiedLog::new(alloc, pages, Script::of(alloc, turns))
 }

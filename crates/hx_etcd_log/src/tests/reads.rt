@@ -43,11 +43,7 @@ const READS: &[(&[Turn], Result<usize, LogError>, usize)] = &[
         Err(LogError::NoRecord { number: 1 }),
         1,
     ),
-    (
-        &[Turn::Says(GAP)],
-        Err(LogError::NoRecord { number: 2 }),
-        1,
-    ),
+    (&[Turn::Says(GAP)], Err(LogError::NoRecord { number: 2 }), 1),
 ];
 
 #[test]

@@ -43,7 +43,10 @@ fn trims_are_told(rt: HostRuntime) {
     equal(&rt, none, Ok(Trimmed::NotThere));
     let compacted = read_compaction_answer(alloc, &answer(&rt, alloc, 200, COMPACTED));
     equal(&rt, compacted, Ok(()));
-    let seen = read_sign_answer(alloc, &answer(&rt, alloc, 200, COPY_SEEN)).expect(&rt, "an answer");
+    let seen = read_sign_answer(alloc, &answer(&rt, alloc, 200, COPY_SEEN)).expect(
+        &rt,
+        "an answer",
+    );
     equal(&rt, seen.as_deref(), Some(b"2".as_slice()));
 }
 
