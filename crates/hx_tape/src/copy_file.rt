@@ -17,8 +17,8 @@ use std::{fs, io};
 // A copy has so many pages at most.
 const MOST_PAGES: u64 = 1_000_000_000_000;
 
-// Its last whole record is looked for in so many bytes at its end.
-const TAIL: u64 = 4 * 1024 * 1024;
+// Its last whole record is looked for in so many bytes at its end, and then in more.
+const TAILS: [u64; 2] = [64 * 1024, 8 * 1024 * 1024];
 
 // Why the file at a path can't be used.
 fn failed<R: AllocGlobal>(rt: &R, path: &str) -> Failure {
@@ -61,10 +61,7 @@ fn check_copy<R: AllocGlobal + Files<File = fs::File> + Net<Stream = TcpStream>>
     nodes: &[SocketAddr],
     path: &str,
 ) -> Result<(), Failure> {
-    let Ok(tail) = tail_of(rt, path) else {
-        return Err(failed(rt, path));
-    };
-    let Some(last) = last_record(rt, &tail)? else {
+    let Some(last) = last_whole(rt, path)? else {
         return Ok(());
     };
     match copies_of(rt, nodes)?.stands(last.head().number) {
@@ -74,11 +71,31 @@ fn check_copy<R: AllocGlobal + Files<File = fs::File> + Net<Stream = TcpStream>>
     }
 }
 
-// The last bytes of a file, from the first record on that begins among them.
-fn tail_of<R: AllocGlobal + Files<File = fs::File>>(rt: &R, path: &str) -> io::Result<Vec<u8>> {
+// The last whole record of a copy, if there is one.
+fn last_whole<R: AllocGlobal + Files<File = fs::File>>(
+    rt: &R,
+    path: &str,
+) -> Result<Option<LogRecord>, Failure> {
+    for size in TAILS {
+        let Ok(tail) = tail_of(rt, path, size) else {
+            return Err(failed(rt, path));
+        };
+        if let Some(last) = last_record(rt, &tail)? {
+            return Ok(Some(last));
+        }
+    }
+    Ok(None)
+}
+
+// The last bytes of a file, so many at most, from the first record on that begins among them.
+fn tail_of<R: AllocGlobal + Files<File = fs::File>>(
+    rt: &R,
+    path: &str,
+    most: u64,
+) -> io::Result<Vec<u8>> {
     let mut file = fs::File::open(rt, path)?;
     let size = file.seek(SeekFrom::End(0))?;
-    let from = size.saturating_sub(TAIL);
+    let from = size.saturating_sub(most);
     file.seek(SeekFrom::Start(from))?;
     let mut bytes = Vec::new(rt.alloc());
     file.read_to_end(&mut bytes)?;
