@@ -14,6 +14,8 @@ HOST = "127.0.0.1"
 SESSION = "HX00000008"
 STOCKS = ("ABCD",)
 END_OF_SESSION = 65535
+# How long something is waited for, in seconds.
+PATIENCE = 60
 # The codes of the hours that are left of a day that begins open.
 CLOSING = b"".join(b"%d 0 %s\n" % (86_399_999_000_000 + at, code) for at, code in enumerate((b"51", b"4d", b"45", b"43")))
 
@@ -87,6 +89,15 @@ class Server:
         self.process.stdin.flush()
         output = self.process.stdout.read().decode().strip()
         return output, self.process.wait()
+
+
+def wait_for(what, holds, seconds=PATIENCE):
+    """Waits until it holds, and fails where it does not in time."""
+    limit = time.monotonic() + seconds
+    while not (found := holds()):
+        assert time.monotonic() < limit, f"not in {seconds} seconds: {what}"
+        time.sleep(0.005)
+    return found
 
 
 def packets_of(line):
@@ -213,6 +224,35 @@ class Member(threading.Thread):
             except OSError:
                 time.sleep(0.01)
             self.again += 1
+
+
+class Stayer(threading.Thread):
+    """A member's second line, which stays with a server whatever becomes of that."""
+
+    def __init__(self, server, member, name, seed):
+        super().__init__(daemon=True)
+        self.member, self.orders = member, Orders(name, seed)
+        self.first, self.told = len(member.told) + 1, []
+        self.line = socket.create_connection((server.host, server.port), timeout=PATIENCE)
+        self.line.sendall(login(member.number, self.first))
+        self.packets = packets_of(self.line)
+        assert next(self.packets)[:1] == b"A", "no login"
+
+    def send(self):
+        """Sends orders, whether anybody reads them or not."""
+        for _ in range(5):
+            self.line.sendall(frame(b"U", self.orders.next()))
+
+    def run(self):
+        for packet in self.packets:
+            if packet is not None and packet[:1] == b"S":
+                self.told.append(packet[1:])
+        self.line.close()
+
+    def compare(self):
+        """What it was told is what the member was told."""
+        wanted = self.member.told[self.first - 1:][:len(self.told)]
+        assert self.told == wanted, f"a line of member {self.member.number} was told otherwise from {self.first} on"
 
 
 class Vendor(threading.Thread):

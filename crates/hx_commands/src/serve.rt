@@ -38,6 +38,7 @@ pub const SERVE: Subcommand = Subcommand {
         WRITER,
         STANDBY,
         PATIENCE,
+        FROM,
     ],
     choice: None,
 };
@@ -294,5 +295,13 @@ const PATIENCE: Argument = Argument {
     takes: ValueParser::Unsigned(100, 3_600_000),
     usual: Some("1200"),
     help: "With --standby, for how many milliseconds nothing comes from who is in office",
+    ..OPTION
+};
+
+const FROM: Argument = Argument {
+    name: "from",
+    value: "FILE",
+    with: Some("log"),
+    help: "With --log, a copy of the log, with which it is begun",
     ..OPTION
 };

@@ -30,6 +30,18 @@ pub enum DayLogError {
     /// The journal beside it failed.
     #[error("journal failed")]
     JournalFailed,
+    /// The record of this number is trimmed: only copies of the log have it still.
+    #[error("log trimmed behind number {number}: begin with a copy of it")]
+    Trimmed {
+        /// The number.
+        number: u64,
+    },
+    /// The copy that the log begins with can't be read, or has something else where the record of this number is due.
+    #[error("copy damaged at number {number}")]
+    BadCopy {
+        /// The number.
+        number: u64,
+    },
     /// No node of the log can be asked.
     #[error("log unreachable")]
     Unreachable,
@@ -53,12 +65,14 @@ impl DayLogError {
         match self {
             DayLogError::NoEvent { .. }
             | DayLogError::Damaged { .. }
+            | DayLogError::BadCopy { .. }
             | DayLogError::OtherJournal { .. } => 1,
             DayLogError::NoMemory => 3,
             DayLogError::JournalFailed
             | DayLogError::Unreachable
             | DayLogError::Failed
             | DayLogError::InUse
+            | DayLogError::Trimmed { .. }
             | DayLogError::Write => 4,
         }
     }
@@ -93,6 +107,8 @@ impl From<LogError> for DayLogError {
         match e {
             LogError::NoMemory => DayLogError::NoMemory,
             LogError::NoRecord { number } => DayLogError::Damaged { number },
+            LogError::Trimmed { number } => DayLogError::Trimmed { number },
+            LogError::BadCopy { number } => DayLogError::BadCopy { number },
             LogError::Unreachable => DayLogError::Unreachable,
             LogError::Taken => DayLogError::InUse,
             LogError::Gap | LogError::Unknown => DayLogError::Failed,

@@ -1,5 +1,6 @@
 //! Tests of a log that several append to, in memory and in an etcd, and of a journal and a day over it.
 
+mod copies;
 mod day_log;
 mod etcd;
 mod log;

@@ -211,7 +211,7 @@ where
 }
 
 // Who takes the log of a day over, and when, as the command line asks.
-fn candidate_of<'y>(matches: &ArgMatches<'_>, has_left: &'y AtomicBool) -> Candidate<'y> {
+fn candidate_of<'y>(matches: &'y ArgMatches<'_>, has_left: &'y AtomicBool) -> Candidate<'y> {
     let patience = matches.get_one::<u64>("patience");
     Candidate {
         writer: matches.get_one::<u64>("writer").unwrap_or(0),
@@ -220,6 +220,7 @@ fn candidate_of<'y>(matches: &ArgMatches<'_>, has_left: &'y AtomicBool) -> Candi
             _ => None,
         },
         has_left,
+        from: matches.get_str("from"),
     }
 }
 
@@ -288,7 +289,7 @@ where
     };
     match served {
         Err(Failure::Serve(ServeError::Journal))
-            if has_left.load(Ordering::SeqCst) || is_deposed(rt, &nodes, candidate.writer) => {
+            if has_left.load(Ordering::SeqCst) || is_deposed(rt, &nodes, candidate) => {
             Err(Failure::Deposed)
         }
         other => other,
