@@ -5,6 +5,7 @@ mod day_log;
 mod etcd;
 mod log;
 mod log_journal;
+mod mirrors;
 mod terms;
 
 use std::fmt::Debug;

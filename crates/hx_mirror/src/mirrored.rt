@@ -118,6 +118,14 @@ impl<J: Journal, M: Journal> MirroredJournal<J, M> {
         }
     }
 
+    /// Both, given out. What waits for the mirror is gone.
+    pub fn into_both(self) -> (J, M)
+        ensures journal { result.0 ≡ self.journal }
+        ensures mirror { result.1 ≡ self.mirror }
+    {
+        (self.journal, self.mirror)
+    }
+
     /// Unless a sync of one of them has failed, the mirror keeps what the journal keeps. The call does nothing.
     pub fn mirrors(&self)
         ensures { self.now.in_step ≡ true → Mirrors M.appended M.kept M.is_open
