@@ -2,7 +2,7 @@
 use Rattle.std.specs.Prelude.{◌≡◌, ℕ, ◌+◌, ◌≤◌, min, List, Option, Some, None}
 use Rattle.std.specs.List.{AllByRecursion}
 
--- a copy has the record of this number, and so many behind it
+-- a copy has the record of this number, and this many behind it
 abbrev pub HasBehind : (number stay : ℕ) → (shown : Option ℕ) → Type 0
 HasBehind number stay shown = (count : ℕ) × (shown ≡ Some count) × (number + stay ≤ count)
 
