@@ -4,7 +4,6 @@ use denote.Struct.Declared as declared
 use denote.Param.Send.{IsSend, sendable, view_send, struct_send, recorded_send}
 use Rattle.std.proofs.Crossing.{crosses}
 use Rattle.hx_journal.specs.declared.journal.Journal.{Ghosts}
-use Rattle.hx_disk.specs.contracts.call_log.CallLog as call_log
 use Rattle.hx_mirror.specs.contracts.mirrored.MirroredJournal as mirrored
 use Rattle.hx_mirror.specs.contracts.mirrored.MirroredJournal.TheInside as inside
 

@@ -52,8 +52,9 @@ fn events<R: Abort>(rt: &R, alloc: Global, tape: &[u8]) -> Vec<Event> {
 
 // A day over a log in memory, with a mirror whose calls fail after this many.
 fn begun<R: Abort>(rt: &R, alloc: Global, calls: u64) -> Both {
-    let Recovered { journal, .. } =
-        open_log(alloc, MemoryLog::new(alloc), 1, &Unwatched).expect(rt, "a log");
+    let Recovered { journal, .. } = open_log(alloc, MemoryLog::new(alloc), 1, &Unwatched).expect(
+        rt, "a log",
+    );
     let (mirror, _) = mirror_of(rt, alloc, b"", calls);
     MirroredJournal::new(alloc, journal, mirror)
 }
@@ -67,7 +68,11 @@ fn the_mirror_keeps_what_the_log_keeps(rt: HostRuntime) {
     both.sync().expect(&rt, "both");
     both.append(b"3 0 4d").expect(&rt, "room");
     let (_, mirror) = both.into_both();
-    equal(&rt, tape_of(&rt, alloc, &mirror).as_slice(), b"1 0 51\n2 1 4f48\n");
+    equal(
+        &rt,
+        tape_of(&rt, alloc, &mirror).as_slice(),
+        b"1 0 51\n2 1 4f48\n",
+    );
 }
 
 #[test]
@@ -91,9 +96,17 @@ fn a_mirror_is_brought_up_to_its_log(rt: HostRuntime) {
     let has = events(&rt, alloc, b"1 0 51\n");
     let all = events(&rt, alloc, b"1 0 51\n2 1 4f48\n");
     catch_up(alloc, &mut mirror, &has, &all).expect(&rt, "a mirror");
-    equal(&rt, tape_of(&rt, alloc, &mirror).as_slice(), b"1 0 51\n2 1 4f48\n");
+    equal(
+        &rt,
+        tape_of(&rt, alloc, &mirror).as_slice(),
+        b"1 0 51\n2 1 4f48\n",
+    );
     catch_up(alloc, &mut mirror, &all, &all).expect(&rt, "a mirror");
-    equal(&rt, tape_of(&rt, alloc, &mirror).as_slice(), b"1 0 51\n2 1 4f48\n");
+    equal(
+        &rt,
+        tape_of(&rt, alloc, &mirror).as_slice(),
+        b"1 0 51\n2 1 4f48\n",
+    );
 }
 
 #[test]
@@ -127,5 +140,8 @@ fn a_large_day_has_a_mirror(rt: HostRuntime) {
     let all = events(&rt, alloc, &tape);
     let (mut fresh, _) = mirror_of(&rt, alloc, b"", MANY);
     catch_up(alloc, &mut fresh, &[], &all).expect(&rt, "a mirror");
-    holds(&rt, tape_of(&rt, alloc, &fresh).as_slice() == tape.as_slice());
+    holds(
+        &rt,
+        tape_of(&rt, alloc, &fresh).as_slice() == tape.as_slice(),
+    );
 }
