@@ -21,7 +21,7 @@ pub enum DayLogError {
         number: u64,
     },
     /// The record of this number is trimmed: only copies of the log have it still.
-    #[error("log trimmed behind number {number}: begin with a copy of it")]
+    #[error("log trimmed at number {number}: begin with a copy of it")]
     Trimmed {
         /// The number.
         number: u64,
