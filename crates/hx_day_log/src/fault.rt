@@ -31,7 +31,7 @@ pub enum DayLogError {
     #[error("journal failed")]
     JournalFailed,
     /// The record of this number is trimmed: only copies of the log have it still.
-    #[error("log trimmed behind number {number}: begin with a copy of it")]
+    #[error("log trimmed at number {number}: begin with a copy of it")]
     Trimmed {
         /// The number.
         number: u64,

@@ -27,7 +27,8 @@ HasHeader j header = get (codes "header") j ≡ Some header
 -- what the value of an answer says of a trim
 abbrev pub Says : Json → Trimmed → Type 0
 Says j (Done n) =
-    (is_told (codes "succeeded") j ≡ true) × ((header : Json) × HasHeader j header × HasRevision header n)
+    (is_told (codes "succeeded") j ≡ true)
+    × ((header : Json) × HasHeader j header × HasRevision header n)
 Says j NotThere =
     (is_told (codes "succeeded") j ≡ false) × (get (codes "header") j ≢ None)
 
