@@ -151,16 +151,16 @@ class Orders:
 class Member(threading.Thread):
     """A member who trades at random while the server is there, and comes again when it is not.
 
-    Where there are other servers he tries one after the other; and a line on which he is told nothing for `patience`
-    times 50 milliseconds he gives up."""
+    Where there are other servers he tries one after the other. A line on which he is told nothing for `patience` times 50
+    milliseconds he gives up, and one to a server that knows less than he was told."""
 
     def __init__(self, server, number, seed, others=(), patience=None):
         super().__init__(daemon=True)
         self.servers, self.patience = (server, *others), patience
         self.number, self.random = number, random.Random(seed)
         self.orders = Orders(f"M{number}", seed, server.stocks)
-        # (when he logged in, and where)
-        self.logins = []
+        # (when he logged in, and where; where he was told less than he had, and as which writer)
+        self.logins, self.behind = [], []
         self.told = []
         self.stop, self.quiet, self.failure, self.again = False, threading.Event(), None, 0
 
@@ -191,6 +191,10 @@ class Member(threading.Thread):
         if answer[:1] != b"A":
             raise OSError("no login")
         self.logins.append((time.monotonic(), server))
+        if int(answer[11:31]) < first and len(self.servers) > 1:
+            # (it knows less than he does, so another one has taken over from it)
+            self.behind.append((server, server.writer))
+            return False
         if int(answer[11:31]) != first:
             self.failure = f"member {self.number}: asked for reply {first}, and got {answer!r}"
         number, waiting, idle, silent = first, 0, 0, 0
