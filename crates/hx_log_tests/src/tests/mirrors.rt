@@ -15,6 +15,9 @@ type Mirror = FileJournal<Noted<MemoryFile>>;
 
 type Both = MirroredJournal<LogJournal<MemoryLog>, Mirror>;
 
+// How many bytes the first line of a mirror has: `#hx1 HX00000006 20260711 9fc2`, and its line feed.
+const FIRST_LINE: usize = 30;
+
 // Calls of a file that never fails.
 const MANY: u64 = 1_000_000;
 
@@ -58,7 +61,10 @@ fn has_lines(both: Both, text: &[u8], count: usize) -> bool {
     let (_, mirror) = both.into_both();
     let bytes = mirror.device().file().bytes();
     let lines = bytes.iter().filter(|b| **b == b'\n').count();
-    lines == count && bytes.windows(text.len()).any(|part| part == text)
+    match bytes.get(FIRST_LINE..) {
+        Some(rest) => lines == count && rest.starts_with(text),
+        None => false,
+    }
 }
 
 #[test]
@@ -66,7 +72,7 @@ fn the_mirror_keeps_what_the_log_keeps(rt: HostRuntime) {
     let alloc = rt.alloc();
     let mut both = day(&rt, alloc);
     both.append(b"3 0 4d").expect(&rt, "room");
-    holds(&rt, has_lines(both, b"\n1 0 51\n2 1 4f48\n#", 4));
+    holds(&rt, has_lines(both, b"1 0 51\n2 1 4f48\n#", 4));
 }
 
 #[test]
@@ -74,10 +80,10 @@ fn a_mirror_is_brought_up_to_its_log(rt: HostRuntime) {
     let alloc = rt.alloc();
     let (log, bytes) = day_kept(&rt, alloc);
     let both = begun(&rt, alloc, log, b"", MANY).expect(&rt, "a day");
-    holds(&rt, has_lines(both, b"\n1 0 51\n2 1 4f48\n#", 4));
+    holds(&rt, has_lines(both, b"1 0 51\n2 1 4f48\n#", 4));
     let (log, _) = day_kept(&rt, alloc);
     let both = begun(&rt, alloc, log, &bytes, MANY).expect(&rt, "a day");
-    holds(&rt, has_lines(both, b"\n1 0 51\n2 1 4f48\n#", 4));
+    holds(&rt, has_lines(both, b"1 0 51\n2 1 4f48\n#", 4));
 }
 
 #[test]
@@ -101,7 +107,7 @@ fn each_call_of_a_mirror_may_fail(rt: HostRuntime) {
         };
         both.append(b"1 0 51").expect(&rt, "room");
         if both.sync().is_err() {
-            failed += 1;
+            failed = failed.saturating_add(1);
             equal(&rt, both.append(b"2 1 4f48"), Err(JournalError::Closed));
             equal(&rt, both.sync(), Err(JournalError::Closed));
         }
