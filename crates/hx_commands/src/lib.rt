@@ -2,6 +2,7 @@
 #![tactic(auto)]
 
 mod commands;
+mod copy;
 mod follow;
 mod handover;
 mod journal;

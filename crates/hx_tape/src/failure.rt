@@ -62,6 +62,24 @@ pub enum Failure {
     /// A feed that is relayed fell silent before its end, or some of it is missing.
     #[error("the end was not heard")]
     NoEnd,
+    /// A copy of a log can't be read or written.
+    #[error("copy failed: {path}")]
+    CopyFile {
+        /// Its file.
+        path: String,
+    },
+    /// Another process keeps the copy.
+    #[error("copy in use")]
+    CopyInUse,
+    /// A file is no copy of this log, or the log is trimmed behind it.
+    #[error("{path} is no copy of this log, or the log is trimmed behind it")]
+    OtherLog {
+        /// Its name.
+        path: String,
+    },
+    /// A word that is no number of a copy.
+    #[error("error: --copies takes numbers from 1 on, with commas between")]
+    NoCopies,
     /// Another server has taken over.
     #[error("deposed")]
     Deposed,
@@ -96,6 +114,7 @@ impl Failure {
             | Failure::ManyFeeds
             | Failure::ManySessions
             | Failure::NoCopy { .. }
+            | Failure::NoCopies
             | Failure::NoDay => 2,
             Failure::Day(error) => error.status(),
             Failure::Log(error) => error.status(),
@@ -104,7 +123,8 @@ impl Failure {
                 1
             }
             Failure::Serve(ServeError::NoMemory) | Failure::Watch(WatchError::NoMemory) => 3,
-            Failure::HistoryIsThere { .. } => 4,
+            Failure::OtherLog { .. } => 1,
+            Failure::HistoryIsThere { .. } | Failure::CopyFile { .. } | Failure::CopyInUse => 4,
             Failure::Serve(
                 ServeError::Read
                 | ServeError::Write

@@ -6,15 +6,17 @@ ghost use Rattle.hx_journal.specs.Records.{records_of};
 ghost use Rattle.hx_tape_lines.specs.Text.{record_of};
 ghost use Rattle.hx_desk.specs.Entries.{restored};
 ghost use Rattle.hx_engine.specs.Journals.{lines};
-ghost use Rattle.hx_etcd_log.specs.EtcdLogs.{committed_of};
+ghost use Rattle.hx_etcd_log.specs.Copied.{records_of as told_of};
 ghost use Rattle.hx_log_journal.specs.States.{kept, is_open, appended as logged};
 
 use crate::failure::Failure;
 use crate::signs::Beacon;
-use hx_engine::Journal;
-use hx_etcd_log::{EtcdLog, Nodes};
+use hx_day_log::catch_up;
+use hx_engine::{Journal, Recovered};
+use hx_etcd_log::{CopiedLog, Nodes, Pages};
 use hx_journal::{FileJournal, Noted, RawFile};
 use hx_log_journal::LogJournal;
+use hx_mirror::MirroredJournal;
 use hx_serve::{Beginning, Board, Hosting, ServeError, serve_kept};
 use hx_sessions::Gate;
 use log::Log;
@@ -156,6 +158,7 @@ pub(crate) fn host_logged<
         + Sync,
     G: Gate + Sync,
     B: Board + Sync,
+    P: Pages + Drop + Send,
     N: Nodes + Drop + Send,
     S: Nodes + Drop + Send,
     I: Read + Send + Drop,
@@ -163,15 +166,74 @@ pub(crate) fn host_logged<
     rt: &R,
     path: Option<&str>,
     hosting: &Hosting<'_, G, B>,
-    beginning: Beginning<LogJournal<EtcdLog<N>>>,
+    beginning: Beginning<LogJournal<CopiedLog<P, N>>>,
     input: I,
     beacon: Beacon<'_, S>,
 ) -> Result<(), Failure>
-    requires journal { logged committed_of beginning.recovered.journal
+    requires journal { logged told_of beginning.recovered.journal
         ≡ lines record_of (restored beginning.recovered.events.items) }
-    requires kept { kept committed_of beginning.recovered.journal
+    requires kept { kept told_of beginning.recovered.journal
         ≡ lines record_of (restored beginning.recovered.events.items) }
     requires is_open { is_open beginning.recovered.journal.fault ≡ true }
 {
+    host_shown(rt, path, hosting, beginning, input, beacon)
+}
+
+// The same, and a journal beside the log keeps what the log does. It is brought up to the log first.
+pub(crate) fn host_mirrored<
+    R: AllocGlobal
+        + Print
+        + Files
+        + Log
+        + Net<Listener = TcpListener, Stream = TcpStream>
+        + Clock
+        + Threads
+        + Wait
+        + Sync,
+    G: Gate + Sync,
+    B: Board + Sync,
+    P: Pages + Drop + Send,
+    N: Nodes + Drop + Send,
+    M: Journal + Drop + Send,
+    S: Nodes + Drop + Send,
+    I: Read + Send + Drop,
+>(
+    rt: &R,
+    path: Option<&str>,
+    hosting: &Hosting<'_, G, B>,
+    beginning: Beginning<LogJournal<CopiedLog<P, N>>>,
+    mirror: Recovered<M>,
+    input: I,
+    beacon: Beacon<'_, S>,
+) -> Result<(), Failure>
+    requires journal { logged told_of beginning.recovered.journal
+        ≡ lines record_of (restored beginning.recovered.events.items) }
+    requires kept { kept told_of beginning.recovered.journal
+        ≡ lines record_of (restored beginning.recovered.events.items) }
+    requires is_open { is_open beginning.recovered.journal.fault ≡ true }
+    requires mirror { M.appended mirror.journal
+        ≡ lines record_of (restored mirror.events.items) }
+    requires mirror_kept { M.kept mirror.journal ≡ M.appended mirror.journal }
+    requires mirror_open { M.is_open mirror.journal ≡ true }
+{
+    let alloc = rt.alloc();
+    let Recovered {
+        journal: mut beside,
+        events: has,
+    } = mirror;
+    let Beginning {
+        seed,
+        recovered: Recovered { journal, events },
+        ahead,
+        fittings,
+    } = beginning;
+    catch_up(alloc, &mut beside, &has, &events)?;
+    let journal = MirroredJournal::new(alloc, journal, beside);
+    let beginning = Beginning {
+        seed,
+        recovered: Recovered { journal, events },
+        ahead,
+        fittings,
+    };
     host_shown(rt, path, hosting, beginning, input, beacon)
 }

@@ -3,22 +3,25 @@ ghost use Rattle.std.specs.Prelude.{◌≡◌, true, IfOk};
 ghost use Rattle.hx_tape_lines.specs.Text.{record_of};
 ghost use Rattle.hx_desk.specs.Entries.{restored};
 ghost use Rattle.hx_engine.specs.Journals.{lines};
-ghost use Rattle.hx_etcd_log.specs.EtcdLogs.{committed_of};
+ghost use Rattle.hx_etcd_log.specs.Copied.{records_of};
 ghost use Rattle.hx_log_journal.specs.States.{kept, appended, is_open};
 
+use crate::copy_file::pages_of;
 use crate::failure::Failure;
 use crate::leaving::OfficeNodes;
 use crate::signs::SignWatch;
 use hx_day_log::{open_log, stand_by};
 use hx_doors::address_of;
 use hx_engine::Recovered;
-use hx_etcd_log::{EtcdLog, Signs, TcpNodes};
+use hx_etcd_log::{CopiedLog, Copies, EtcdLog, Signs, TcpNodes, TextPages};
+use hx_log::LogError;
 use hx_log_journal::{Follower, LogJournal};
 use hx_recovery::Unwatched;
 use hx_serve::{Board, Notice};
 use std::alloc::Global;
+use std::fs;
 use std::net::{Net, SocketAddr, TcpStream};
-use std::rt::Clock;
+use std::rt::{Clock, Files};
 use std::sync::atomic::AtomicBool;
 use std::time::Duration;
 
@@ -61,6 +64,29 @@ pub fn log_of<'x, R: AllocGlobal + Net<Stream = TcpStream>>(
     Ok(EtcdLog::new(rt.alloc(), tcp_nodes(rt, nodes)?))
 }
 
+/// A log in the etcd of these nodes that is begun with the copy in a file, if one is named.
+pub type FileLog<N> = CopiedLog<Option<TextPages<fs::File>>, N>;
+
+/// The log of these nodes, begun with the copy in a file, if one is named. Nothing is read yet.
+///
+/// Errors: those of `pages_of`.
+pub fn copied_log_of<'x, R: AllocGlobal + Files<File = fs::File> + Net<Stream = TcpStream>>(
+    rt: &'x R,
+    nodes: &[SocketAddr],
+    from: Option<&str>,
+) -> Result<FileLog<TcpNodes<'x, R>>, Failure> {
+    let pages = pages_of(rt, nodes, from)?;
+    Ok(CopiedLog::new(rt.alloc(), pages, tcp_nodes(rt, nodes)?))
+}
+
+/// The copies of the log of these nodes.
+pub fn copies_of<'x, R: AllocGlobal + Net<Stream = TcpStream>>(
+    rt: &'x R,
+    nodes: &[SocketAddr],
+) -> Result<Copies<TcpNodes<'x, R>>, Failure> {
+    Ok(Copies::new(rt.alloc(), tcp_nodes(rt, nodes)?))
+}
+
 /// The signs of life of who is in office there.
 pub fn signs_of<'x, R: AllocGlobal + Net<Stream = TcpStream>>(
     rt: &'x R,
@@ -80,24 +106,30 @@ pub struct Candidate<'x> {
     pub patience: Option<Duration>,
     /// Whether he has left office.
     pub has_left: &'x AtomicBool,
+    /// The file of a copy with which the log is begun, if there is one.
+    pub from: Option<&'x str>,
 }
 
 /// The journal of an exchange whose day a log keeps, over TCP.
-pub type OfficeJournal<'x, R> = LogJournal<EtcdLog<OfficeNodes<'x, R>>>;
+pub type OfficeJournal<'x, R> = LogJournal<FileLog<OfficeNodes<'x, R>>>;
 
 /// Takes the log of a day over: the journal of the exchange, and the events that it keeps. The board is told when it
 /// stands by and when it is in office.
 ///
-/// Errors: those of `open_log` and `stand_by`.
-pub fn take_office<'x, R: AllocGlobal + Net<Stream = TcpStream> + Clock, B: Board>(
+/// Errors: those of `pages_of`, `open_log` and `stand_by`.
+pub fn take_office<
+    'x,
+    R: AllocGlobal + Files<File = fs::File> + Net<Stream = TcpStream> + Clock,
+    B: Board,
+>(
     rt: &'x R,
     board: &B,
     nodes: &[SocketAddr],
     candidate: Candidate<'x>,
 ) -> Result<Recovered<OfficeJournal<'x, R>>, Failure>
-    ensures appended { IfOk result (λ r. appended committed_of r.journal
+    ensures appended { IfOk result (λ r. appended records_of r.journal
         ≡ lines record_of (restored r.events.items)) }
-    ensures kept { IfOk result (λ r. kept committed_of r.journal
+    ensures kept { IfOk result (λ r. kept records_of r.journal
         ≡ lines record_of (restored r.events.items)) }
     ensures is_open { IfOk result (λ r. is_open r.journal.fault ≡ true) }
 {
@@ -106,12 +138,14 @@ pub fn take_office<'x, R: AllocGlobal + Net<Stream = TcpStream> + Clock, B: Boar
         writer,
         patience,
         has_left,
+        from,
     } = candidate;
+    let pages = pages_of(rt, nodes, from)?;
     let office = OfficeNodes {
         nodes: tcp_nodes(rt, nodes)?,
         has_left,
     };
-    let log = EtcdLog::new(alloc, office);
+    let log = CopiedLog::new(alloc, pages, office);
     let recovered = match patience {
         None => open_log(alloc, log, writer, &Unwatched)?,
         Some(patience) => {
@@ -125,20 +159,26 @@ pub fn take_office<'x, R: AllocGlobal + Net<Stream = TcpStream> + Clock, B: Boar
     Ok(recovered)
 }
 
-/// Whether the log says that another writer is in office. It does not if no node tells.
-pub fn is_deposed<R: AllocGlobal + Net<Stream = TcpStream>>(
+/// Whether the log says that the candidate is not in office: that another one is, or that it is trimmed where he has not
+/// read it. It does not if no node tells.
+pub fn is_deposed<R: AllocGlobal + Files<File = fs::File> + Net<Stream = TcpStream>>(
     rt: &R,
     nodes: &[SocketAddr],
-    writer: u64,
+    candidate: Candidate<'_>,
 ) -> bool {
-    let Ok(log) = log_of(rt, nodes) else {
-        return false;
+    let writer = candidate.writer;
+    let log = match copied_log_of(rt, nodes, candidate.from) {
+        Ok(log) => log,
+        Err(Failure::OtherLog { .. }) => return true,
+        Err(_) => return false,
     };
     let mut reader = Follower::new(log, writer);
     for _ in 0..MOST_READS {
         let before = reader.count_read();
-        if reader.read_on(rt.alloc()).is_err() {
-            return false;
+        match reader.read_on(rt.alloc()) {
+            Ok(_) => {}
+            Err(LogError::Trimmed { .. }) => return true,
+            Err(_) => return false,
         }
         if reader.count_read() == before {
             break;

@@ -1,14 +1,22 @@
 //! The command that serves a day.
+ghost use Rattle.std.specs.Prelude.{◌≡◌, true, IfOk};
+ghost use Rattle.hx_disk.specs.Calls.{seen_of};
+ghost use Rattle.hx_journal.specs.Files.{stored, appended};
+ghost use Rattle.hx_journal.specs.Records.{records_of};
+ghost use Rattle.hx_tape_lines.specs.Text.{record_of};
+ghost use Rattle.hx_desk.specs.Entries.{restored};
+ghost use Rattle.hx_engine.specs.Journals.{lines};
 
 use crate::addresses::addresses_of;
 use crate::failure::Failure;
 use crate::fittings::{copies_of, fittings_of};
-use crate::hosting::{host, host_kept, host_logged};
+use crate::hosting::{host, host_kept, host_logged, host_mirrored};
 use crate::input::WakingInput;
 use crate::logged::{Candidate, is_deposed, nodes_of, signs_of, take_office};
 use crate::signs::Beacon;
 use clap::ArgMatches;
-use hx_day_journal::{Syncs, Wanted, day_of, digest_of, last_time, open_journal};
+use hx_day_journal::{DayFile, Syncs, Wanted, day_of, digest_of, last_time, open_journal};
+use hx_engine::Recovered;
 use hx_members::{Seed, Setup};
 use hx_runs::{read_setup_text, setup_of};
 use hx_serve::{
@@ -134,6 +142,32 @@ where
     host(rt, path, hosting, beginning, input)
 }
 
+// Opens the file that keeps a day.
+fn open_file<'x, R: AllocGlobal + Files<File = fs::File> + Clock, B: Board>(
+    rt: &'x R,
+    matches: &ArgMatches<'_>,
+    plan: Plan<'_>,
+    board: &'x B,
+    path: &str,
+) -> Result<Recovered<DayFile<'x, B, R>>, Failure>
+    ensures appended { IfOk result (λ r.
+        records_of (appended (λ d. seen_of d.log.events) r.journal)
+        ≡ lines record_of (restored r.events.items)) }
+    ensures kept { IfOk result (λ r.
+        records_of (stored (λ d. seen_of d.log.events) r.journal)
+        ≡ lines record_of (restored r.events.items)) }
+    ensures is_open { IfOk result (λ r. r.journal.is_open ≡ true) }
+{
+    let setup = digest_of(rt.alloc(), plan.text)?;
+    let wanted = Wanted {
+        session: plan.setup.session(),
+        day: plan.day,
+        setup: &setup,
+        syncs: syncs_of(matches),
+    };
+    Ok(open_journal(rt, board, path, wanted)?)
+}
+
 // Serves a day over its journal. The journal may fail, or the day end, and then nobody waits for the operator's next line.
 fn begin_kept<
     'x,
@@ -162,14 +196,7 @@ where
     R::Reader: Send,
 {
     let Start { seed, fittings } = start;
-    let setup = digest_of(rt.alloc(), plan.text)?;
-    let wanted = Wanted {
-        session: plan.setup.session(),
-        day: plan.day,
-        setup: &setup,
-        syncs: syncs_of(matches),
-    };
-    let recovered = open_journal(rt, board, path, wanted)?;
+    let recovered = open_file(rt, matches, plan, board, path)?;
     plan.last
         .fetch_max(last_time(&recovered.events), Ordering::SeqCst);
     let input = WakingInput::new(rt.reader());
@@ -184,7 +211,7 @@ where
 }
 
 // Who takes the log of a day over, and when, as the command line asks.
-fn candidate_of<'y>(matches: &ArgMatches<'_>, has_left: &'y AtomicBool) -> Candidate<'y> {
+fn candidate_of<'y>(matches: &'y ArgMatches<'_>, has_left: &'y AtomicBool) -> Candidate<'y> {
     let patience = matches.get_one::<u64>("patience");
     Candidate {
         writer: matches.get_one::<u64>("writer").unwrap_or(0),
@@ -193,6 +220,7 @@ fn candidate_of<'y>(matches: &ArgMatches<'_>, has_left: &'y AtomicBool) -> Candi
             _ => None,
         },
         has_left,
+        from: matches.get_str("from"),
     }
 }
 
@@ -225,6 +253,10 @@ where
     R::Reader: Send,
 {
     let nodes = nodes_of(rt.alloc(), nodes)?;
+    let mirror = match matches.get_str("journal") {
+        Some(path) => Some(open_file(rt, matches, plan, hosting.board, path)?),
+        None => None,
+    };
     let has_left = AtomicBool::new(false);
     let candidate = candidate_of(matches, &has_left);
     // A standby opens its sockets only once it is in office.
@@ -251,9 +283,13 @@ where
         has_left: &has_left,
     };
     let (path, input) = (matches.get_str("history"), WakingInput::new(rt.reader()));
-    match host_logged(rt, path, hosting, beginning, input, beacon) {
+    let served = match mirror {
+        Some(mirror) => host_mirrored(rt, path, hosting, beginning, mirror, input, beacon),
+        None => host_logged(rt, path, hosting, beginning, input, beacon),
+    };
+    match served {
         Err(Failure::Serve(ServeError::Journal))
-            if has_left.load(Ordering::SeqCst) || is_deposed(rt, &nodes, candidate.writer) => {
+            if has_left.load(Ordering::SeqCst) || is_deposed(rt, &nodes, candidate) => {
             Err(Failure::Deposed)
         }
         other => other,
