@@ -12,19 +12,18 @@ use clap::Command;
 use hx_tape_commands::{Subcommand, tape_command, with_subcommands};
 use std::alloc::{AllocError, Global};
 
-// Of a server and its day.
-const SERVING: &[Subcommand] = &[SERVE, OPERATE, WATCH, JOURNAL];
+const SERVER_COMMANDS: &[Subcommand] = &[SERVE, OPERATE, WATCH, JOURNAL, RELAY];
 
-// Of the log of a day, and of its feed.
-const LOGGED: &[Subcommand] = &[FOLLOW, HANDOVER, COPY, TRIM, RELAY];
+const LOG_COMMANDS: &[Subcommand] = &[FOLLOW, HANDOVER, COPY, TRIM];
 
-/// The program's whole command line: the commands over tapes, serve, operate, watch, journal,
-/// follow, handover, copy, trim and relay.
-pub fn command<'a>(alloc: Global) -> Result<Command<'a>, AllocError> {
-    with_subcommands(alloc, serving(alloc)?, LOGGED)
+// A command line with the commands over a log besides.
+fn with_log_commands<'a>(alloc: Global, command: Command<'a>) -> Result<Command<'a>, AllocError> {
+    with_subcommands(alloc, command, LOG_COMMANDS)
 }
 
-// Those over tapes, and those of a server.
-fn serving<'a>(alloc: Global) -> Result<Command<'a>, AllocError> {
-    with_subcommands(alloc, tape_command(alloc)?, SERVING)
+/// The program's whole command line: the commands over tapes, serve, operate, watch, journal, relay,
+/// follow, handover, copy and trim.
+pub fn command<'a>(alloc: Global) -> Result<Command<'a>, AllocError> {
+    let command = with_subcommands(alloc, tape_command(alloc)?, SERVER_COMMANDS)?;
+    with_log_commands(alloc, command)
 }

@@ -3,6 +3,7 @@ use Rattle.std.specs.Prelude.{◌≢◌, Result, Ok, Err, IfOk, IfErr}
 use Rattle.std.specs.List.{AllByRecursion}
 use Rattle.std.proofs.Common.{◌≡◌, ℕ, ◌+◌, ◌-◌, ◌≤◌, Bool, true, false, List, [], ◌∷◌, ◌++◌, length, take, drop, refl, sym, ap, ◌∙◌, subst, arith, append_assoc, length-append}
 use Rattle.std.proofs.Math.Seq.{take-append_seam, drop-append_seam}
+use Rattle.std.proofs.lemmas.List.{append-nil}
 use Rattle.std.proofs.lemmas.List.Elements.{All-head, All-tail}
 use Rattle.hx_text.specs.Cuts.{Lacks}
 use Rattle.hx_journal.specs.Lines.{text_of}
@@ -114,9 +115,9 @@ record_cut r rest good mark = record { is = refl; ends = lines_end (head_line r.
 
 -- ---- records in front of a text
 
-texts_append : (rs more : List Record) → texts_of (rs ++ more) ≡ texts_of rs ++ texts_of more
-texts_append [] more = refl
-texts_append (r ∷ rs) more = ap (λ (l : List ℕ). spelled r ++ l) (texts_append rs more) ∙ sym (append_assoc (spelled r) (texts_of rs) (texts_of more))
+pub texts_push : (rs : List Record) (r : Record) → texts_of (rs ++ r ∷ []) ≡ texts_of rs ++ spelled r
+texts_push [] r = append-nil (spelled r)
+texts_push (x ∷ rs) r = ap (λ (l : List ℕ). spelled x ++ l) (texts_push rs r) ∙ sym (append_assoc (spelled x) (texts_of rs) (spelled r))
 
 of_log_append : (rs : List Record) (r : Record) → AllByRecursion IsOfLog rs → IsOfLog r → AllByRecursion IsOfLog (rs ++ r ∷ [])
 of_log_append [] r all good = (good, tt)
@@ -132,17 +133,10 @@ one_whole text rs rest piece others r h cut good is = record {
   is =
       h.is ∙ ap (λ (l : List ℕ). texts_of rs ++ l) (cut.is ∙ ap (λ (l : List ℕ). l ++ others) is)
       ∙ sym (append_assoc (texts_of rs) (spelled r) others)
-      ∙ ap (λ (l : List ℕ). l ++ others) (ap (λ (l : List ℕ). texts_of rs ++ l) (sym (one_text r)) ∙ sym (texts_append rs (r ∷ [])));
+      ∙ ap (λ (l : List ℕ). l ++ others) (sym (texts_push rs r));
   of_log = of_log_append rs r h.of_log good;
   next = λ _. cut.next;
 }
-  where
-    no_more : (l : List ℕ) → l ++ [] ≡ l
-    no_more [] = refl
-    no_more (b ∷ l) = ap (λ (k : List ℕ). b ∷ k) (no_more l)
-
-    one_text : (r : Record) → texts_of (r ∷ []) ≡ spelled r
-    one_text r = no_more (spelled r)
 
 -- what stands behind them
 pub whole_rest : (text : List ℕ) (rs : List Record) (rest : List ℕ) → AreWhole text rs rest → drop (length text - length rest) text ≡ rest
