@@ -5,14 +5,14 @@ ghost use Rattle.hx_tape_lines.specs.Text.{record_of};
 ghost use Rattle.std.specs.List.{AllByRecursion};
 ghost use Rattle.hx_journal.specs.Crashes.{Leaves};
 ghost use Rattle.hx_journal.specs.Records.{IsRecord};
-ghost use Rattle.hxdesk.specs.Known.{history_of};
+ghost use Rattle.hx_desk.specs.Known.{history_of};
 ghost use Rattle.hx_engine.specs.Journals.{unspoken, lines};
 
 use crate::spelled::Records;
 use crate::venue::Venue;
 use hx_blog::{Log, NamesEntries, Receipt, Writer};
-use hxdesk::{Desk, Entry};
 use hx_journal::{Journal, JournalError};
+use hx_desk::{Desk, Entry};
 use std::marker::{Brand, PhantomData};
 
 /// The journal of a venue, with the writer of the log of what is kept: each crash leaves the records of exactly what is
