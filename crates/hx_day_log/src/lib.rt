@@ -1,5 +1,6 @@
 //! The log of a served day as an operator meets it: who begins reads all that stands in it, takes over, and goes on from the
-//! events that it keeps. A standby reads on, and takes over once who is in office is gone. A follower writes the tape.
+//! events that it keeps. A standby reads on and plays what it reads, and takes over once who is in office is gone. A follower
+//! writes the tape.
 #![tactic(auto)]
 
 mod fault;
@@ -8,4 +9,4 @@ mod opening;
 
 pub use fault::DayLogError;
 pub use following::write_on;
-pub use opening::{News, Watch, open_log, stand_by};
+pub use opening::{News, Watch, open_and_play, open_log, stand_by, stand_by_and_play};
