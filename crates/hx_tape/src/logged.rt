@@ -1,5 +1,5 @@
 //! The log of a day in an etcd: its nodes, who is in office there, and who stands by.
-ghost use Rattle.std.specs.Prelude.{◌≡◌, true, IfOk};
+ghost use Rattle.std.specs.Prelude.{◌≡◌, [], true, IfOk};
 ghost use Rattle.hx_tape_lines.specs.Text.{record_of};
 ghost use Rattle.hx_desk.specs.Entries.{restored};
 ghost use Rattle.hx_engine.specs.Journals.{lines};
@@ -9,13 +9,13 @@ ghost use Rattle.hx_log_journal.specs.States.{kept, appended, is_open};
 use crate::failure::Failure;
 use crate::leaving::OfficeNodes;
 use crate::signs::SignWatch;
-use hx_day_log::{open_log, stand_by};
+use hx_day_log::{open_and_play, stand_by_and_play};
 use hx_doors::address_of;
-use hx_engine::Recovered;
+use hx_engine::Plays;
 use hx_etcd_log::{EtcdLog, Signs, TcpNodes};
 use hx_log_journal::{Follower, LogJournal};
 use hx_recovery::Unwatched;
-use hx_serve::{Board, Notice};
+use hx_serve::{Board, Notice, PlayedDay};
 use std::alloc::Global;
 use std::net::{Net, SocketAddr, TcpStream};
 use std::rt::Clock;
@@ -85,21 +85,24 @@ pub struct Candidate<'x> {
 /// The journal of an exchange whose day a log keeps, over TCP.
 pub type OfficeJournal<'x, R> = LogJournal<EtcdLog<OfficeNodes<'x, R>>>;
 
-/// Takes the log of a day over: the journal of the exchange, and the events that it keeps. The board is told when it
-/// stands by and when it is in office.
+/// Takes the log of a day over: the day, once the events that the log keeps are played, and the journal of the exchange. A
+/// standby plays them as they come. The board is told when it stands by and when it is in office.
 ///
-/// Errors: those of `open_log` and `stand_by`.
-pub fn take_office<'x, R: AllocGlobal + Net<Stream = TcpStream> + Clock, B: Board>(
+/// Errors: those of `open_and_play` and `stand_by_and_play`.
+pub fn take_office<'x, 'y, R: AllocGlobal + Net<Stream = TcpStream> + Clock, B: Board>(
     rt: &'x R,
     board: &B,
     nodes: &[SocketAddr],
     candidate: Candidate<'x>,
-) -> Result<Recovered<OfficeJournal<'x, R>>, Failure>
-    ensures appended { IfOk result (λ r. appended committed_of r.journal
-        ≡ lines record_of (restored r.events.items)) }
-    ensures kept { IfOk result (λ r. kept committed_of r.journal
-        ≡ lines record_of (restored r.events.items)) }
-    ensures is_open { IfOk result (λ r. is_open r.journal.fault ≡ true) }
+    day: PlayedDay<'y>,
+) -> Result<(PlayedDay<'y>, OfficeJournal<'x, R>), Failure>
+    requires new { day.events ≡ [] }
+    ensures appended { IfOk result (λ r. appended committed_of r.1
+        ≡ lines record_of (restored r.0.events)) }
+    ensures kept { IfOk result (λ r. kept committed_of r.1
+        ≡ lines record_of (restored r.0.events)) }
+    ensures is_open { IfOk result (λ r. is_open r.1.fault ≡ true) }
+    ensures of_setup { IfOk result (λ r. r.0.setup ≡ day.setup) }
 {
     let alloc = rt.alloc();
     let Candidate {
@@ -112,17 +115,17 @@ pub fn take_office<'x, R: AllocGlobal + Net<Stream = TcpStream> + Clock, B: Boar
         has_left,
     };
     let log = EtcdLog::new(alloc, office);
-    let recovered = match patience {
-        None => open_log(alloc, log, writer, &Unwatched)?,
+    let (day, journal) = match patience {
+        None => open_and_play(alloc, log, writer, day, &Unwatched)?,
         Some(patience) => {
             board.post(Notice::StandingBy);
             let mut watch = SignWatch::new(rt, signs_of(rt, nodes)?, patience);
-            stand_by(alloc, log, writer, &mut watch, &Unwatched)?
+            stand_by_and_play(alloc, log, writer, day, &mut watch, &Unwatched)?
         }
     };
-    let events = recovered.events.len() as u64;
+    let events = day.count();
     board.post(Notice::InOffice { events });
-    Ok(recovered)
+    Ok((day, journal))
 }
 
 /// Whether the log says that another writer is in office. It does not if no node tells.

@@ -13,7 +13,7 @@ use hx_members::{Seed, Setup};
 use hx_runs::{read_setup_text, setup_of};
 use hx_serve::{
     Addresses, Beginning, Board, Fittings, Hosting, JsonNotices, Meter, Metered, Notices, OpenArgs,
-    ServeArgs, ServeError, Silent, Tally, Times, today,
+    PlayedBeginning, PlayedDay, ServeArgs, ServeError, Silent, Tally, Times, today,
 };
 use hx_sessions::{DropCopy, Gate};
 use log::Log;
@@ -232,16 +232,16 @@ where
         None => Some(fittings_of(rt, matches)?),
         Some(_) => None,
     };
-    let recovered = take_office(rt, hosting.board, &nodes, candidate)?;
+    let day = PlayedDay::new(rt.alloc(), hosting.setup, hosting.args, seed)?;
+    let (day, journal) = take_office(rt, hosting.board, &nodes, candidate, day)?;
     let fittings = match early {
         Some(fittings) => fittings,
         None => fittings_of(rt, matches)?,
     };
-    plan.last
-        .fetch_max(last_time(&recovered.events), Ordering::SeqCst);
-    let beginning = Beginning {
-        seed,
-        recovered,
+    plan.last.fetch_max(day.last_time(), Ordering::SeqCst);
+    let beginning = PlayedBeginning {
+        day,
+        journal,
         ahead: matches.get_one::<u64>("ahead").unwrap_or(u64::MAX),
         fittings,
     };
