@@ -1,5 +1,5 @@
 -- Events that are played one behind the other.
-use Rattle.std.proofs.Common.{◌≡◌, List, [], ◌∷◌, ◌++◌, length, refl, ap, sym, ◌∙◌}
+use Rattle.std.proofs.Common.{◌≡◌, List, [], ◌∷◌, length, refl, ap, sym, ◌∙◌}
 use Rattle.hx_blog.specs.Ends.{LogId}
 use Rattle.hx_members.specs.Setups.{Setup}
 use Rattle.hx_rules.specs.declared.event.Event.{Event}

@@ -1,7 +1,7 @@
 use Rattle.std.proofs.Common.{◌≡◌, [], ap, ◌∙◌}
-use Rattle.hx_blog.specs.Ends.{ReceiptState, WriterState}
+use Rattle.hx_blog.specs.Ends.{WriterState}
 use Rattle.hx_desk.specs.declared.entry.Entry.{Entry}
-use Rattle.hx_desk.specs.Desks.{DeskState, start_of}
+use Rattle.hx_desk.specs.Desks.{start_of}
 use Rattle.hx_engine.proofs.Playing.{resumed_from_none}
 use Rattle.hx_engine.proofs.played.Played.new.Goals as goal
 

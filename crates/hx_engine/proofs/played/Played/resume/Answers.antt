@@ -1,5 +1,5 @@
 use Rattle.std.proofs.Common.{◌≡◌, [], ap, ◌∙◌}
-use Rattle.hx_blog.specs.Ends.{ReceiptState, WriterState}
+use Rattle.hx_blog.specs.Ends.{WriterState}
 use Rattle.hx_desk.specs.declared.entry.Entry.{Entry}
 use Rattle.hx_desk.specs.Entries.{events_of}
 use Rattle.hx_engine.proofs.Playing.{resumed_from_its_own, events_restored}
