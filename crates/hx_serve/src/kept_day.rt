@@ -61,8 +61,8 @@ fn fault_of(day: Day, kept: Result<(), ServeError>) -> Result<(), ServeError> {
     }
 }
 
-// Takes the ports of a day, and then makes the file that its history is to go to, if a path is given. Who must know of it
-// is told whether strangers may come.
+// Takes the ports of a day, then makes the file that its history goes to, if a path is given, and posts what an operator
+// must know of its setup and its addresses.
 fn open_up<T: Net<Listener = TcpListener, Stream = TcpStream> + Files, G, B: Board>(
     rt: &T,
     hosting: &Hosting<'_, G, B>,
