@@ -11,8 +11,8 @@ ghost use Rattle.hx_engine.specs.Journals.{unspoken, lines};
 use crate::spelled::Records;
 use crate::venue::Venue;
 use hx_blog::{Log, NamesEntries, Receipt, Writer};
-use hx_journal::{Journal, JournalError};
 use hx_desk::{Desk, Entry};
+use hx_journal::{Journal, JournalError};
 use std::marker::{Brand, PhantomData};
 
 /// The journal of a venue, with the writer of the log of what is kept: each crash leaves the records of exactly what is

@@ -146,7 +146,7 @@ pub fn serve_played_from<
     ensures served { IfOk result
         (λ day. IsServed hosting.now.setup.now day.history.items day.feed) }
     ensures begins { IfOk result (λ day.
-        IsPrefix (restored beginning.day.events) day.history.items) }
+        IsPrefix (restored beginning.entry.day.events) day.history.items) }
     ensures told { IfOk result (λ day. day.fault ≡ None
         → Appends (W.contents output.old) (W.contents output.new)
         (last_line (length day.history.items) day.feed)) }

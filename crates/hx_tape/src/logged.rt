@@ -102,7 +102,7 @@ pub fn take_office<'x, 'y, R: AllocGlobal + Net<Stream = TcpStream> + Clock, B: 
     ensures kept { IfOk result (λ r. kept committed_of r.1
         ≡ lines record_of (restored r.0.events)) }
     ensures is_open { IfOk result (λ r. is_open r.1.fault ≡ true) }
-    ensures of_setup { IfOk result (λ r. r.0.setup ≡ day.setup) }
+    ensures of_setup { IfOk result (λ r. r.0.setup ≡ day.entry.setup) }
 {
     let alloc = rt.alloc();
     let Candidate {
