@@ -2,22 +2,22 @@
 use crate::{AskError, Nodes};
 use hx_etcd::Answer;
 
-// Nodes that are asked in turn.
+/// Nodes that are asked in turn.
 #[derive(Drop)]
-pub(crate) struct Asker<N> {
+pub struct Asker<N> {
     nodes: N,
     // The node that is asked next.
     node: usize,
 }
 
 impl<N: Nodes> Asker<N> {
-    // No node was asked yet.
-    pub(crate) fn new(nodes: N) -> Asker<N> {
+    /// No node was asked yet.
+    pub fn new(nodes: N) -> Asker<N> {
         Asker { nodes, node: 0 }
     }
 
-    // The first answer of status 200, of the nodes from the last that gave one on, each asked once.
-    pub(crate) fn ask(&mut self, request: &[u8]) -> Result<Answer, AskError> {
+    /// The first answer of status 200, of the nodes from the last that gave one on, each asked once.
+    pub fn ask(&mut self, request: &[u8]) -> Result<Answer, AskError> {
         let mut error = AskError::Unsent;
         for _ in 0..self.nodes.count() {
             match self.nodes.ask(self.node, request) {
