@@ -97,6 +97,14 @@ pub fn signs_of<'x, R: AllocGlobal + Net<Stream = TcpStream>>(
     Ok(Signs::new(alloc, nodes))
 }
 
+/// The words of the operator there. A node has as long for one as for a record.
+pub fn words_of<'x, R: AllocGlobal + Net<Stream = TcpStream>>(
+    rt: &'x R,
+    nodes: &[SocketAddr],
+) -> Result<Signs<TcpNodes<'x, R>>, Failure> {
+    Ok(Signs::new(rt.alloc(), tcp_nodes(rt, nodes)?))
+}
+
 /// Who takes a log over, and when.
 #[derive(Clone, Copy)]
 pub struct Candidate<'x> {
