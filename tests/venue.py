@@ -1,4 +1,5 @@
 """A venue for scripts: a server with a journal, members' lines and a vendor, and what one replay of the day tells."""
+import contextlib
 import os
 import random
 import signal
@@ -243,9 +244,10 @@ class Stayer(threading.Thread):
         assert next(self.packets)[:1] == b"A", "no login"
 
     def send(self):
-        """Sends orders, whether anybody reads them or not."""
+        """Sends orders, whether anybody reads them or not, unless the line has ended."""
         for _ in range(5):
-            self.line.sendall(frame(b"U", self.orders.next()))
+            with contextlib.suppress(OSError):
+                self.line.sendall(frame(b"U", self.orders.next()))
 
     def run(self):
         for packet in self.packets:
