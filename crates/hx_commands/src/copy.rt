@@ -1,16 +1,8 @@
 //! The commands that copy the log of a day, and trim it behind its copies.
 
+use crate::log::LOG;
 use clap::builder::ValueParser;
 use hx_tape_commands::{Argument, FLAG, OPTION, Subcommand};
-
-// The nodes of the log.
-const LOG: Argument = Argument {
-    name: "log",
-    value: "ADDR:PORT,..",
-    is_required: true,
-    help: "The nodes of an etcd whose log keeps the day",
-    ..OPTION
-};
 
 /// Where the copy goes, and under which number it shows how much it has.
 pub const COPY: Subcommand = Subcommand {

@@ -1,5 +1,6 @@
 //! The command that follows the log of a day.
 
+use crate::log::LOG;
 use hx_tape_commands::{Argument, FLAG, OPTION, Subcommand};
 
 /// The nodes of the log, a copy of it, and whether to wait for more.
@@ -7,13 +8,7 @@ pub const FOLLOW: Subcommand = Subcommand {
     name: "follow",
     about: "Writes the tape of a day as its log keeps it",
     arguments: &[
-        Argument {
-            name: "log",
-            value: "ADDR:PORT,..",
-            is_required: true,
-            help: "The nodes of an etcd whose log keeps the day",
-            ..OPTION
-        },
+        LOG,
         Argument {
             name: "from",
             value: "FILE",

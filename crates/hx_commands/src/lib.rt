@@ -6,6 +6,7 @@ mod copy;
 mod follow;
 mod handover;
 mod journal;
+mod log;
 mod operate;
 mod relay;
 mod serve;

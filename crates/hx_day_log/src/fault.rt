@@ -1,5 +1,6 @@
 //! Why a day does not go on from its log.
 
+use hx_desk::DeskError;
 use hx_journal::JournalError;
 use hx_log::{KeepError, LogError};
 use hx_recovery::RecoveryError;
@@ -15,6 +16,9 @@ pub enum DayLogError {
         /// Its number among the lines that count, from 1.
         record: u64,
     },
+    /// The market refuses an event of it: the setup is not the one that the day was kept under.
+    #[error(transparent)]
+    Refused(DeskError),
     /// What stands at this number is no record of it.
     #[error("log damaged at number {number}")]
     Damaged {
@@ -70,6 +74,7 @@ impl DayLogError {
             DayLogError::NoMemory => 3,
             DayLogError::JournalFailed
             | DayLogError::Unreachable
+            | DayLogError::Refused(_)
             | DayLogError::Failed
             | DayLogError::InUse
             | DayLogError::Trimmed { .. }
@@ -121,6 +126,15 @@ impl From<KeepError> for DayLogError {
         match e {
             KeepError::Log(error) => DayLogError::from(error),
             KeepError::NotInOffice | KeepError::NoHead | KeepError::Lines(_) => DayLogError::Failed,
+        }
+    }
+}
+
+impl From<DeskError> for DayLogError {
+    fn from(e: DeskError) -> DayLogError {
+        match e {
+            DeskError::NoMemory => DayLogError::NoMemory,
+            other => DayLogError::Refused(other),
         }
     }
 }

@@ -6,7 +6,7 @@ use hx_journal_tool::ToolError;
 use hx_operator::{OperateError, ScheduleError, SocketError};
 use hx_relay::RelayError;
 use hx_runs::RunError;
-use hx_serve::ServeError;
+use hx_serve::{ServeError, fault_of_resume};
 use hx_units::NoMemory;
 use hx_watch::WatchError;
 use std::alloc::{AllocError, AllocFailed};
@@ -181,7 +181,10 @@ impl From<DayJournalError> for Failure {
 
 impl From<DayLogError> for Failure {
     fn from(e: DayLogError) -> Failure {
-        Failure::Log(e)
+        match e {
+            DayLogError::Refused(error) => Failure::Serve(fault_of_resume(error)),
+            other => Failure::Log(other),
+        }
     }
 }
 

@@ -1,29 +1,21 @@
 //! The command that serves a day.
-ghost use Rattle.std.specs.Prelude.{◌≡◌, true, IfOk};
-ghost use Rattle.hx_disk.specs.Calls.{seen_of};
-ghost use Rattle.hx_journal.specs.Files.{stored, appended};
-ghost use Rattle.hx_journal.specs.Records.{records_of};
-ghost use Rattle.hx_tape_lines.specs.Text.{record_of};
-ghost use Rattle.hx_desk.specs.Entries.{restored};
-ghost use Rattle.hx_engine.specs.Journals.{lines};
 
 use crate::addresses::addresses_of;
 use crate::failure::Failure;
 use crate::fittings::{copies_of, fittings_of};
-use crate::hosting::{host, host_kept, host_logged, host_mirrored};
+use crate::hosting::{host, host_kept};
 use crate::input::WakingInput;
-use crate::logged::{Candidate, is_deposed, nodes_of, signs_of, take_office};
-use crate::signs::Beacon;
+use crate::office::begin_logged;
+use crate::plan::{Plan, open_file};
 use clap::ArgMatches;
-use hx_day_journal::{DayFile, Syncs, Wanted, day_of, digest_of, last_time, open_journal};
-use hx_engine::Recovered;
-use hx_members::{Seed, Setup};
+use hx_day_journal::{day_of, last_time};
+use hx_members::Seed;
 use hx_runs::{read_setup_text, setup_of};
 use hx_serve::{
     Addresses, Beginning, Board, Fittings, Hosting, JsonNotices, Meter, Metered, Notices, OpenArgs,
     ServeArgs, ServeError, Silent, Tally, Times, today,
 };
-use hx_sessions::{DropCopy, Gate};
+use hx_sessions::Gate;
 use log::Log;
 use std::fs;
 use std::hash::RandomState;
@@ -31,29 +23,11 @@ use std::net::{Net, TcpListener, TcpStream};
 use std::random::RandomSource;
 use std::rt::{Clock, Files};
 use std::sync::Wait;
-use std::sync::atomic::{AtomicBool, AtomicU64, Ordering};
+use std::sync::atomic::{AtomicU64, Ordering};
 use std::thread::Threads;
-use std::time::Duration;
 
 // The most sessions of a day that is not open.
 const SESSIONS: u16 = 63;
-
-// What the command line asks of a day, as it was read.
-#[derive(Clone, Copy)]
-struct Plan<'a> {
-    setup: &'a Setup,
-    // The text of the setup, unless it is the standard one.
-    text: Option<&'a [u8]>,
-    args: &'a ServeArgs,
-    addresses: &'a Addresses,
-    open: Option<OpenArgs>,
-    // The day since 1970, and the last time that it gave.
-    day: u64,
-    last: &'a AtomicU64,
-    // What is counted, and the drop copies.
-    meter: &'a Meter,
-    copies: &'a [DropCopy],
-}
 
 // The numbers of the command line, whose ranges `clap` has looked at.
 fn args_of(matches: &ArgMatches<'_>, addresses: &Addresses) -> Option<ServeArgs> {
@@ -83,14 +57,6 @@ fn open_of(matches: &ArgMatches<'_>) -> Option<OpenArgs> {
         end: matches.get_one::<u32>("end")?,
         connections_per_address: matches.get_one::<u32>("connections-per-address")?,
     })
-}
-
-// When a journal is brought to the disk.
-fn syncs_of(matches: &ArgMatches<'_>) -> Syncs {
-    match matches.get_str("sync") {
-        Some("never") => Syncs::Never,
-        _ => Syncs::Group,
-    }
 }
 
 // The day that is asked for, or today.
@@ -142,32 +108,6 @@ where
     host(rt, path, hosting, beginning, input)
 }
 
-// Opens the file that keeps a day.
-fn open_file<'x, R: AllocGlobal + Files<File = fs::File> + Clock, B: Board>(
-    rt: &'x R,
-    matches: &ArgMatches<'_>,
-    plan: Plan<'_>,
-    board: &'x B,
-    path: &str,
-) -> Result<Recovered<DayFile<'x, B, R>>, Failure>
-    ensures appended { IfOk result (λ r.
-        records_of (appended (λ d. seen_of d.log.events) r.journal)
-        ≡ lines record_of (restored r.events.items)) }
-    ensures kept { IfOk result (λ r.
-        records_of (stored (λ d. seen_of d.log.events) r.journal)
-        ≡ lines record_of (restored r.events.items)) }
-    ensures is_open { IfOk result (λ r. r.journal.is_open ≡ true) }
-{
-    let setup = digest_of(rt.alloc(), plan.text)?;
-    let wanted = Wanted {
-        session: plan.setup.session(),
-        day: plan.day,
-        setup: &setup,
-        syncs: syncs_of(matches),
-    };
-    Ok(open_journal(rt, board, path, wanted)?)
-}
-
 // Serves a day over its journal. The journal may fail, or the day end, and then nobody waits for the operator's next line.
 fn begin_kept<
     'x,
@@ -208,92 +148,6 @@ where
     };
     let path = matches.get_str("history");
     host_kept(rt, path, hosting, beginning, input)
-}
-
-// Who takes the log of a day over, and when, as the command line asks.
-fn candidate_of<'y>(matches: &'y ArgMatches<'_>, has_left: &'y AtomicBool) -> Candidate<'y> {
-    let patience = matches.get_one::<u64>("patience");
-    Candidate {
-        writer: matches.get_one::<u64>("writer").unwrap_or(0),
-        patience: match patience {
-            Some(patience) if matches.get_flag("standby") => Some(Duration::from_millis(patience)),
-            _ => None,
-        },
-        has_left,
-        from: matches.get_str("from"),
-    }
-}
-
-// Serves a day over its log, and shows meanwhile that it is in office there. The log may fail, or the day end, and then
-// nobody waits for the operator's next line.
-fn begin_logged<
-    'x,
-    R: AllocGlobal
-        + Input
-        + Print
-        + Files<File = fs::File>
-        + Log
-        + Net<Listener = TcpListener, Stream = TcpStream>
-        + Clock
-        + RandomSource
-        + Threads
-        + Wait
-        + Sync,
-    G: Gate + Sync,
-    B: Board + Sync,
->(
-    rt: &'x R,
-    matches: &ArgMatches<'_>,
-    plan: Plan<'x>,
-    hosting: &Hosting<'_, G, B>,
-    nodes: &str,
-    seed: Seed,
-) -> Result<(), Failure>
-where
-    R::Reader: Send,
-{
-    let nodes = nodes_of(rt.alloc(), nodes)?;
-    let mirror = match matches.get_str("journal") {
-        Some(path) => Some(open_file(rt, matches, plan, hosting.board, path)?),
-        None => None,
-    };
-    let has_left = AtomicBool::new(false);
-    let candidate = candidate_of(matches, &has_left);
-    // A standby opens its sockets only once it is in office.
-    let early = match candidate.patience {
-        None => Some(fittings_of(rt, matches)?),
-        Some(_) => None,
-    };
-    let recovered = take_office(rt, hosting.board, &nodes, candidate)?;
-    let fittings = match early {
-        Some(fittings) => fittings,
-        None => fittings_of(rt, matches)?,
-    };
-    plan.last
-        .fetch_max(last_time(&recovered.events), Ordering::SeqCst);
-    let beginning = Beginning {
-        seed,
-        recovered,
-        ahead: matches.get_one::<u64>("ahead").unwrap_or(u64::MAX),
-        fittings,
-    };
-    let beacon = Beacon {
-        signs: signs_of(rt, &nodes)?,
-        writer: candidate.writer,
-        has_left: &has_left,
-    };
-    let (path, input) = (matches.get_str("history"), WakingInput::new(rt.reader()));
-    let served = match mirror {
-        Some(mirror) => host_mirrored(rt, path, hosting, beginning, mirror, input, beacon),
-        None => host_logged(rt, path, hosting, beginning, input, beacon),
-    };
-    match served {
-        Err(Failure::Serve(ServeError::Journal))
-            if has_left.load(Ordering::SeqCst) || is_deposed(rt, &nodes, candidate) => {
-            Err(Failure::Deposed)
-        }
-        other => other,
-    }
 }
 
 // The times of a day: those of one that is open, or kept, never fall.
