@@ -6,13 +6,14 @@
 mod copying;
 mod fault;
 mod following;
+mod mirrored_day;
 mod mirroring;
-mod noted_day;
 mod opening;
+mod replica;
 
 pub use copying::copy_on;
 pub use fault::DayLogError;
 pub use following::write_on;
-pub use mirroring::catch_up;
-pub use noted_day::NotedDay;
+pub use mirrored_day::MirroredDay;
 pub use opening::{News, Watch, open_and_play, open_log, stand_by, stand_by_and_play};
+pub use replica::{Alone, Replica};

@@ -1,8 +1,6 @@
-//! A mirror of a day's log: a journal that is brought up to the events of the log.
+//! What a mirror of a day's log has and lacks.
 ghost use Rattle.std.specs.Prelude.{◌≡◌, ◌≤◌, ◌++◌, true, length, take, map, IfOk, OnOk};
 ghost use Rattle.hx_tape_lines.specs.Text.{record_of};
-ghost use Rattle.hx_desk.specs.Entries.{restored};
-ghost use Rattle.hx_engine.specs.Journals.{lines};
 ghost use Rattle.hx_mirror.specs.Mirrors.{Mirrors};
 
 use crate::fault::DayLogError;
@@ -25,8 +23,8 @@ fn is_same(alloc: Global, one: &Event, other: &Event) -> Result<bool, AllocError
     Ok(text.as_slice() == other_text.as_slice())
 }
 
-// How many of the first events of two lists have the same records.
-fn count_same(alloc: Global, one: &[Event], other: &[Event]) -> Result<usize, AllocError>
+/// How many of the first events of two lists have the same records.
+pub(crate) fn count_same(alloc: Global, one: &[Event], other: &[Event]) -> Result<usize, AllocError>
     ensures of_one { IfOk result (λ n. n ≤ length one.now) }
     ensures of_other { IfOk result (λ n. n ≤ length other.now) }
     ensures same { IfOk result (λ n. map record_of (take n one.now)
@@ -59,8 +57,8 @@ fn append_records<M: Journal>(
     Ok(())
 }
 
-// Appends the records of events group by group, and syncs each.
-fn keep_records<M: Journal>(
+/// Appends the records of events group by group, and syncs each.
+pub(crate) fn keep_records<M: Journal>(
     alloc: Global,
     mirror: &mut M,
     events: &[Event],
@@ -78,30 +76,4 @@ fn keep_records<M: Journal>(
         rest = others;
     }
     Ok(())
-}
-
-/// Brings a journal that keeps the records of some events up to those of a log, which the day goes on from: it is a
-/// mirror of the log then.
-///
-/// Errors: `OtherJournal` if what it keeps is no beginning of the log's, and then nothing is appended; those of the
-/// journal.
-pub fn catch_up<M: Journal>(
-    alloc: Global,
-    mirror: &mut M,
-    has: &[Event],
-    events: &[Event],
-) -> Result<(), DayLogError>
-    requires appended { M.appended mirror.old ≡ lines record_of (restored has.now) }
-    requires kept { M.kept mirror.old ≡ M.appended mirror.old }
-    requires open { M.is_open mirror.old ≡ true }
-    ensures { OnOk result (Mirrors M.appended M.kept M.is_open mirror.new
-        (lines record_of (restored events.now))) }
-{
-    let count = count_same(alloc, has, events)?;
-    if count < has.len() {
-        return Err(DayLogError::OtherJournal {
-            record: (count as u64).saturating_add(1),
-        });
-    }
-    keep_records(alloc, mirror, &events[count..])
 }

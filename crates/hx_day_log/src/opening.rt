@@ -7,10 +7,10 @@ ghost use Rattle.hx_log_journal.specs.States.{told, kept, appended, is_open};
 ghost use Rattle.hx_day_log.specs.Events.{HasEvents};
 
 use crate::fault::DayLogError;
-use hx_engine::{Plays, Recovered, play_all};
+use crate::replica::{Alone, Replica};
+use hx_engine::Recovered;
 use hx_log::{KeepError, Log, LogError};
 use hx_log_journal::{Follower, LogJournal};
-use hx_market::Event;
 use hx_recovery::{Progress, RecoveryError, events_of};
 use std::alloc::Global;
 
@@ -60,7 +60,7 @@ fn behind(events: u64, error: RecoveryError) -> DayLogError {
 }
 
 // Reads on, and plays the events of the lines that count.
-fn read_on<L: Log, D: Plays, P: Progress>(
+fn read_on<L: Log, D: Replica, P: Progress>(
     alloc: Global,
     standby: &mut Follower<L>,
     day: &mut D,
@@ -81,7 +81,7 @@ fn read_on<L: Log, D: Plays, P: Progress>(
         Ok(more) => more,
         Err(error) => return Err(behind(day.count(), error)),
     };
-    play_all(day, &more)?;
+    day.play(alloc, &more)?;
     Ok(News::of(before, standby.count_read()))
 }
 
@@ -92,7 +92,7 @@ fn read_on<L: Log, D: Plays, P: Progress>(
 ///
 /// Errors: where a record is no event, or its event is refused, nothing is taken over; what the others leave in the log is
 /// as for `Follower::take_over`.
-pub fn open_and_play<L: Log + Drop, D: Plays + Drop, P: Progress>(
+pub fn open_and_play<L: Log + Drop, D: Replica + Drop, P: Progress>(
     alloc: Global,
     log: L,
     writer: u64,
@@ -129,7 +129,7 @@ pub fn open_and_play<L: Log + Drop, D: Plays + Drop, P: Progress>(
 ///
 /// Errors: a record that is no event, or no record; an event that is refused; no memory. While no node tells it stands by
 /// on.
-pub fn stand_by_and_play<L: Log + Drop, D: Plays + Drop, W: Watch, P: Progress>(
+pub fn stand_by_and_play<L: Log + Drop, D: Replica + Drop, W: Watch, P: Progress>(
     alloc: Global,
     log: L,
     writer: u64,
@@ -182,8 +182,14 @@ pub fn open_log<L: Log + Drop, P: Progress>(
     ensures waiting { IfOk result (λ r. r.journal.waiting ≡ []) }
     ensures is_open { IfOk result (λ r. is_open r.journal.fault ≡ true) }
 {
-    let (events, journal) = open_and_play(alloc, log, writer, Vec::new(alloc), progress)?;
-    Ok(Recovered { journal, events })
+    let list = Alone {
+        day: Vec::new(alloc),
+    };
+    let (list, journal) = open_and_play(alloc, log, writer, list, progress)?;
+    Ok(Recovered {
+        journal,
+        events: list.day,
+    })
 }
 
 /// Stands by as this writer: reads the log as records come, until the watch says that who is in office is gone, and then
@@ -204,7 +210,12 @@ pub fn stand_by<L: Log + Drop, W: Watch, P: Progress>(
     ensures waiting { IfOk result (λ r. r.journal.waiting ≡ []) }
     ensures is_open { IfOk result (λ r. is_open r.journal.fault ≡ true) }
 {
-    let day = Vec::new(alloc);
-    let (events, journal) = stand_by_and_play(alloc, log, writer, day, watch, progress)?;
-    Ok(Recovered { journal, events })
+    let list = Alone {
+        day: Vec::new(alloc),
+    };
+    let (list, journal) = stand_by_and_play(alloc, log, writer, list, watch, progress)?;
+    Ok(Recovered {
+        journal,
+        events: list.day,
+    })
 }

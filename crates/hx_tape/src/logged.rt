@@ -5,15 +5,13 @@ ghost use Rattle.hx_desk.specs.Entries.{restored};
 ghost use Rattle.hx_engine.specs.Journals.{lines};
 ghost use Rattle.hx_etcd_log.specs.Copied.{records_of};
 ghost use Rattle.hx_log_journal.specs.States.{kept, appended, is_open};
-ghost use Rattle.hx_mirror.specs.Mirrors.{Mirrors};
 
 use crate::copy_file::pages_of;
 use crate::failure::Failure;
 use crate::leaving::OfficeNodes;
 use crate::signs::SignWatch;
-use hx_day_log::{NotedDay, catch_up, open_and_play, stand_by_and_play};
+use hx_day_log::{Replica, open_and_play, stand_by_and_play};
 use hx_doors::address_of;
-use hx_engine::{Journal, Plays, Recovered};
 use hx_etcd_log::{CopiedLog, Copies, EtcdLog, Signs, TcpNodes, TextPages};
 use hx_log::LogError;
 use hx_log_journal::{Follower, LogJournal};
@@ -122,15 +120,15 @@ pub struct Candidate<'x> {
 /// The journal of an exchange whose day a log keeps, over TCP.
 pub type OfficeJournal<'x, R> = LogJournal<FileLog<OfficeNodes<'x, R>>>;
 
-/// Takes the log of a day over: the day, once the events that the log keeps are played, and the journal of the exchange. A
-/// standby plays them as they come. The board is told when it stands by and when it is in office.
+/// Takes the log of a day over: the day, once the events that the log keeps are played to it, and the journal of the
+/// exchange. A standby plays them as they come. The board is told when it stands by and when it is in office.
 ///
 /// Errors: those of `pages_of`, `open_and_play` and `stand_by_and_play`.
 pub fn take_office<
     'x,
     R: AllocGlobal + Files<File = fs::File> + Net<Stream = TcpStream> + Clock,
     B: Board,
-    D: Plays + Drop,
+    D: Replica + Drop,
 >(
     rt: &'x R,
     board: &B,
@@ -170,50 +168,6 @@ pub fn take_office<
     let events = day.count();
     board.post(Notice::InOffice { events });
     Ok((day, journal))
-}
-
-/// The same, and a journal beside the log, which keeps the records of some events, is brought up to it: it is a mirror of
-/// the log then.
-///
-/// Errors: those of `take_office` and `catch_up`.
-pub fn take_office_beside<
-    'x,
-    R: AllocGlobal + Files<File = fs::File> + Net<Stream = TcpStream> + Clock,
-    B: Board,
-    D: Plays + Drop,
-    M: Journal + Drop,
->(
-    rt: &'x R,
-    board: &B,
-    nodes: &[SocketAddr],
-    candidate: Candidate<'x>,
-    day: D,
-    beside: Recovered<M>,
-) -> Result<(D, OfficeJournal<'x, R>, M), Failure>
-    requires new { D.played day ≡ [] }
-    requires beside { M.appended beside.journal
-        ≡ lines record_of (restored beside.events.items) }
-    requires beside_kept { M.kept beside.journal ≡ M.appended beside.journal }
-    requires beside_open { M.is_open beside.journal ≡ true }
-    ensures appended { IfOk result (λ r. appended records_of r.1
-        ≡ lines record_of (restored (D.played r.0))) }
-    ensures kept { IfOk result (λ r. kept records_of r.1
-        ≡ lines record_of (restored (D.played r.0))) }
-    ensures is_open { IfOk result (λ r. is_open r.1.fault ≡ true) }
-    ensures under { IfOk result (λ r. D.under r.0 ≡ D.under day) }
-    ensures mirrors { IfOk result (λ r. Mirrors M.appended M.kept M.is_open r.2
-        (lines record_of (restored (D.played r.0)))) }
-{
-    let alloc = rt.alloc();
-    let Recovered {
-        journal: mut mirror,
-        events: has,
-    } = beside;
-    let noted = NotedDay::new(alloc, day);
-    let (noted, journal) = take_office(rt, board, nodes, candidate, noted)?;
-    let (day, events) = noted.into_both();
-    catch_up(alloc, &mut mirror, &has, &events)?;
-    Ok((day, journal, mirror))
 }
 
 /// Whether the log says that the candidate is not in office: that another one is, or that it is trimmed where he has not

@@ -5,10 +5,11 @@ use crate::failure::Failure;
 use crate::fittings::fittings_of;
 use crate::hosting::{host_logged, host_mirrored};
 use crate::input::WakingInput;
-use crate::logged::{Candidate, is_deposed, nodes_of, signs_of, take_office, take_office_beside};
+use crate::logged::{Candidate, is_deposed, nodes_of, signs_of, take_office};
 use crate::plan::{Plan, open_file};
 use crate::signs::Beacon;
 use clap::ArgMatches;
+use hx_day_log::{Alone, MirroredDay};
 use hx_engine::Journal;
 use hx_members::Seed;
 use hx_serve::{Board, Fittings, Hosting, PlayedBeginning, PlayedDay, ServeError};
@@ -143,15 +144,15 @@ where
     let day = PlayedDay::new(rt.alloc(), hosting.setup, hosting.args, seed)?;
     let served = match matches.get_str("journal") {
         None => {
-            let (day, journal) = take_office(rt, board, &nodes, candidate, day)?;
-            let beginning = beginning_of(rt, matches, plan, early, day, journal)?;
+            let (alone, journal) = take_office(rt, board, &nodes, candidate, Alone { day })?;
+            let beginning = beginning_of(rt, matches, plan, early, alone.day, journal)?;
             host_logged(rt, path, hosting, beginning, input, beacon)
         }
         Some(file) => {
             let beside = open_file(rt, matches, plan, board, file)?;
-            let (day, journal, mirror) = take_office_beside(
-                rt, board, &nodes, candidate, day, beside,
-            )?;
+            let mirrored = MirroredDay::new(day, beside);
+            let (mirrored, journal) = take_office(rt, board, &nodes, candidate, mirrored)?;
+            let (day, mirror) = mirrored.into_both()?;
             let beginning = beginning_of(rt, matches, plan, early, day, journal)?;
             host_mirrored(rt, path, hosting, beginning, mirror, input, beacon)
         }

@@ -1,11 +1,12 @@
 //! A journal over a log, and a file beside it that keeps the same.
 
 use crate::tests::{equal, holds};
-use hx_day_log::{DayLogError, catch_up, open_log};
-use hx_engine::{Journal, Recovered};
+use hx_day_log::{DayLogError, MirroredDay, open_and_play};
+use hx_engine::Journal;
 use hx_journal::{FileJournal, Head, JournalError, MemoryFile, Noted};
 use hx_log::MemoryLog;
 use hx_log_journal::LogJournal;
+use hx_market::Event;
 use hx_mirror::MirroredJournal;
 use hx_recovery::{Unwatched, recover};
 use std::alloc::Global;
@@ -31,12 +32,10 @@ fn begun<R: Abort>(
 ) -> Result<Both, DayLogError> {
     let head = Head::new(alloc, b"HX00000006", b"20260711", b"9fc2").expect(rt, "a head");
     let file = MemoryFile::new(alloc, bytes, calls).expect(rt, "a file");
-    let Recovered {
-        journal: mut mirror,
-        events: has,
-    } = recover(alloc, file, bytes, &head, &Unwatched)?;
-    let Recovered { journal, events } = open_log(alloc, log, 1, &Unwatched)?;
-    catch_up(alloc, &mut mirror, &has, &events)?;
+    let beside = recover(alloc, file, bytes, &head, &Unwatched)?;
+    let day = MirroredDay::new(Vec::<Event>::new(alloc), beside);
+    let (day, journal) = open_and_play(alloc, log, 1, day, &Unwatched)?;
+    let (_, mirror) = day.into_both()?;
     Ok(MirroredJournal::new(alloc, journal, mirror))
 }
 
@@ -94,6 +93,24 @@ fn another_journal_is_no_mirror(rt: HostRuntime) {
     holds(
         &rt,
         matches!(found, Err(DayLogError::OtherJournal { record: 1 })),
+    );
+}
+
+#[test]
+fn a_journal_of_another_day_is_no_mirror(rt: HostRuntime) {
+    let alloc = rt.alloc();
+    let (_, bytes) = day_kept(&rt, alloc);
+    let mut other = begun(&rt, alloc, MemoryLog::new(alloc), b"", MANY).expect(&rt, "a day");
+    other.append(b"1 0 51").expect(&rt, "room");
+    other.append(b"2 0 4d").expect(&rt, "room");
+    other.append(b"3 0 4d").expect(&rt, "room");
+    other.sync().expect(&rt, "both");
+    let (journal, _) = other.into_both();
+    let log = journal.into_follower().into_log();
+    let found = begun(&rt, alloc, log, &bytes, MANY);
+    holds(
+        &rt,
+        matches!(found, Err(DayLogError::OtherJournal { record: 2 })),
     );
 }
 
