@@ -22,7 +22,7 @@ drop_all zero (e ∷ events) few = absurd (omega (arith, few))
 drop_all (suc n) (e ∷ events) few = drop_all n events (omega (arith, few))
 
 -- the first of a list that has one
-first : List (List ℕ) → List ℕ
+abbrev first : List (List ℕ) → List ℕ
 first [] = []
 first (r ∷ records) = r
 
@@ -41,7 +41,7 @@ group_kept rest front back was now after start n first others all more same =
     ∙ ap (λ (l : List (List ℕ)). was ++ l) (cut n rest) ∙ all
 
 -- a list is dropped in two steps
-none_of : List Event
+abbrev none_of : List Event
 none_of = []
 
 drop_nil : (n : ℕ) → drop n none_of ≡ []
