@@ -27,6 +27,7 @@ pub struct MirroredDay<D: Plays, M: Journal> {
 }
 
 impl<D: Plays, M: Journal> Model for MirroredDay<D, M> {
+    ghost use Rattle.std.specs.Prelude.{◌≡◌, true};
     ghost use Rattle.hx_day_log.specs.Mirrored.{IsBeside};
 
     ghost Value = { D };
@@ -37,7 +38,7 @@ impl<D: Plays, M: Journal> Model for MirroredDay<D, M> {
         d.mirror d.has.items (D.played d.day) };
 }
 
-impl<D: Plays, M: Journal> MirroredDay<D, M> {
+impl<D: Plays + Drop, M: Journal + Drop> MirroredDay<D, M> {
     /// A day of which nothing is played, and a journal that keeps the records of these events.
     pub fn new(day: D, beside: Recovered<M>) -> MirroredDay<D, M>
         requires new { D.played day ≡ [] }

@@ -1,4 +1,4 @@
-use Rattle.std.proofs.Common.{◌∙◌, sym, List, ◌++◌, map, ap, ℕ}
+use Rattle.std.proofs.Common.{◌∙◌, sym, ◌++◌, map}
 use Rattle.hx_tape_lines.specs.Text.{record_of}
 use Rattle.hx_day_log.proofs.Mirrored.{group_kept}
 use Rattle.hx_day_log.proofs.mirroring.keep_records.Goals as goal
