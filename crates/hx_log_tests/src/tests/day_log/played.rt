@@ -5,7 +5,7 @@ use super::{keep_day, keep_stranger, opened};
 use crate::tests::equal;
 use hx_blog::Log;
 use hx_day_log::*;
-use hx_engine::{DeskError, Entry, Played, Plays};
+use hx_engine::{DeskError, Entry, Played};
 use hx_log::MemoryLog;
 use hx_members::{Seed, Setup};
 use hx_recovery::Unwatched;
@@ -13,10 +13,11 @@ use std::alloc::Global;
 use std::process::Abort;
 
 // The standard day, of which nothing is played yet.
-fn unplayed<R: Abort>(rt: &R, alloc: Global) -> Played {
+fn unplayed<R: Abort>(rt: &R, alloc: Global) -> Alone<Played> {
     let setup = Setup::standard(alloc).expect(rt, "memory");
     let (log, writer, _reader) = Log::<Entry>::new(alloc, 64).expect(rt, "memory");
-    Played::new(alloc, setup, (log, writer), Seed::Fixed).expect(rt, "memory")
+    let day = Played::new(alloc, setup, (log, writer), Seed::Fixed).expect(rt, "memory");
+    Alone { day }
 }
 
 #[test]
