@@ -1,4 +1,5 @@
 //! Who plays what it reads.
+ghost use Rattle.std.specs.Prelude.{◌≡◌, []};
 
 use super::standby::Patient;
 use super::{keep_day, keep_stranger, opened};
@@ -13,7 +14,9 @@ use std::alloc::Global;
 use std::process::Abort;
 
 // The standard day, of which nothing is played yet.
-fn unplayed<R: Abort>(rt: &R, alloc: Global) -> Alone<Played> {
+fn unplayed<R: Abort>(rt: &R, alloc: Global) -> Alone<Played>
+    ensures { result.day.events ≡ [] }
+{
     let setup = Setup::standard(alloc).expect(rt, "memory");
     let (log, writer, _reader) = Log::<Entry>::new(alloc, 64).expect(rt, "memory");
     let day = Played::new(alloc, setup, (log, writer), Seed::Fixed).expect(rt, "memory");
