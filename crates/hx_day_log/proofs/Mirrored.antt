@@ -1,6 +1,7 @@
 -- Records that are appended to a mirror, group by group.
 use Rattle.std.proofs.Common.{◌≡◌, ◌≤◌, ◌<◌, ◌-◌, true, ℕ, zero, suc, Bool, List, [], ◌∷◌, ◌++◌, length, take, drop, map, refl, sym, ap, ◌∙◌, append_assoc, length-drop, arith}
-use Rattle.std.proofs.lemmas.List.{append-nil}
+use Rattle.std.proofs.lemmas.List.{append-nil, map-append}
+use Rattle.std.proofs.Math.ListN.{drop_of_length-le}
 use Rattle.hx_rules.specs.declared.event.Event.{Event}
 use Rattle.hx_tape_lines.specs.Text.{record_of}
 use Rattle.hx_desk.specs.Entries.{restored}
@@ -14,12 +15,6 @@ cut : (n : ℕ) (events : List Event) → map record_of (take n events) ++ map r
 cut zero events = refl
 cut (suc n) [] = refl
 cut (suc n) (e ∷ events) = ap (λ (l : List (List ℕ)). record_of e ∷ l) (cut n events)
-
-drop_all : (n : ℕ) (events : List Event) → length events ≤ n → drop n events ≡ []
-drop_all zero [] few = refl
-drop_all (suc n) [] few = refl
-drop_all zero (e ∷ events) few = absurd (omega (arith, few))
-drop_all (suc n) (e ∷ events) few = drop_all n events (omega (arith, few))
 
 -- the first of a list that has one
 abbrev first : List (List ℕ) → List ℕ
@@ -53,10 +48,6 @@ drop_behind [] events had = refl
 drop_behind (p ∷ played) events [] = sym (drop_nil (length events))
 drop_behind (p ∷ played) events (h ∷ had) = drop_behind played events had
 
-map_both : (one other : List Event) → map record_of (one ++ other) ≡ map record_of one ++ map record_of other
-map_both [] other = refl
-map_both (e ∷ one) other = ap (λ (l : List (List ℕ)). record_of e ∷ l) (map_both one other)
-
 -- Of two lists whose first records are the same, as far as one of them goes: the one, and what the other has behind, are the
 -- other, and what the one has behind.
 spliced : (n : ℕ) (had events : List Event) → n ≤ length had → n ≤ length events → (n < length had → length events ≤ n) → map record_of (take n had) ≡ map record_of (take n events)
@@ -84,7 +75,7 @@ brought_up appended of_kept is_open mirror had played now events before n was mo
     ∙ append_assoc (map record_of played) (map record_of (drop (length played) had)) (map record_of (drop n events))
     ∙ ap (λ (l : List (List ℕ)). map record_of played ++ l) (spliced n (drop (length played) had) events in_had in_events few same)
     ∙ sym (append_assoc (map record_of played) (map record_of events) (map record_of (drop (length events) (drop (length played) had))))
-    ∙ ap (λ (l : List (List ℕ)). l ++ map record_of (drop (length events) (drop (length played) had))) (sym (map_both played events))
+    ∙ ap (λ (l : List (List ℕ)). l ++ map record_of (drop (length events) (drop (length played) had))) (sym (map-append record_of played events))
     ∙ ap (λ (l : List Event). map record_of (played ++ events) ++ map record_of l) (sym (drop_behind played events had))
     ∙ ap (λ (l : List Event). map record_of l ++ map record_of (drop (length l) had)) (sym more) in
     record { appended_is = h.appended_is ∙ all; kept_is = h.kept_is ∙ all; opened = h.opened }
@@ -94,7 +85,7 @@ pub mirrors_all : {M : Type 0} (appended of_kept : M → List (List ℕ)) (is_op
     → IsBeside appended of_kept is_open mirror had played → Mirrors appended of_kept is_open mirror (lines record_of (restored played))
 mirrors_all appended of_kept is_open mirror had played few h =
     let all : map record_of played ++ map record_of (drop (length played) had) ≡ lines record_of (restored played) =
-    ap (λ (l : List Event). map record_of played ++ map record_of l) (drop_all (length played) had few) ∙ append-nil (map record_of played) ∙ sym (lines_restored played) in
+    ap (λ (l : List Event). map record_of played ++ map record_of l) (drop_of_length-le had few) ∙ append-nil (map record_of played) ∙ sym (lines_restored played) in
     record { appended_is = h.appended_is ∙ all; kept_is = h.kept_is ∙ all; opened = h.opened }
 
 -- a journal of which nothing is played yet
