@@ -11,7 +11,6 @@
 #![tactic(auto)]
 
 mod appending;
-mod asker;
 mod asking;
 mod copied;
 mod finding;
@@ -24,6 +23,7 @@ mod signs;
 mod sockets;
 mod told;
 mod trimming;
+mod turns;
 
 pub use copied::{CopiedLog, PageError, Pages};
 pub use log::EtcdLog;

@@ -1,5 +1,5 @@
 //! The signs of life of a log's writers, in an etcd.
-use crate::asker::Asker;
+use crate::turns::ask_in_turn;
 use crate::{AskError, Nodes};
 use hx_etcd::{read_sign_answer, sign_question, sign_request};
 use std::alloc::Global;
@@ -9,7 +9,9 @@ use std::alloc::Global;
 #[derive(Drop)]
 pub struct Signs<N> {
     alloc: Global,
-    asker: Asker<N>,
+    nodes: N,
+    // The node that is asked next.
+    turn: usize,
 }
 
 impl<N: Nodes> Signs<N> {
@@ -17,14 +19,15 @@ impl<N: Nodes> Signs<N> {
     pub fn new(alloc: Global, nodes: N) -> Signs<N> {
         Signs {
             alloc,
-            asker: Asker::new(nodes),
+            nodes,
+            turn: 0,
         }
     }
 
     /// Shows this sign of a writer in place of his last one, and returns whether a node took it.
     pub fn show(&mut self, writer: u64, sign: &[u8]) -> bool {
         match sign_request(self.alloc, writer, sign) {
-            Ok(request) => self.asker.ask(&request).is_ok(),
+            Ok(request) => ask_in_turn(&mut self.nodes, &mut self.turn, &request).is_ok(),
             Err(_) => false,
         }
     }
@@ -36,7 +39,7 @@ impl<N: Nodes> Signs<N> {
         let Ok(question) = sign_question(self.alloc, writer) else {
             return Err(AskError::Unsent);
         };
-        let answer = self.asker.ask(&question)?;
+        let answer = ask_in_turn(&mut self.nodes, &mut self.turn, &question)?;
         read_sign_answer(self.alloc, &answer).map_err(|_| AskError::Lost)
     }
 }

@@ -3,7 +3,7 @@ ghost use Rattle.std.specs.Prelude.{◌≡◌, ◌<◌, ◌≤◌, ◌+◌, ℕ,
 ghost use Rattle.std.specs.List.{AllByRecursion};
 ghost use Rattle.hx_etcd_log.specs.Trims.{HasBehind, IsLeast, lesser};
 
-use crate::asker::Asker;
+use crate::turns::ask_in_turn;
 use crate::{AskError, Nodes};
 use hx_etcd::{
     AnswerError, Trimmed, compaction_request, copy_question, copy_request, range_request,
@@ -17,7 +17,9 @@ use std::alloc::Global;
 #[derive(Drop)]
 pub struct Copies<N> {
     alloc: Global,
-    asker: Asker<N>,
+    nodes: N,
+    // The node that is asked next.
+    turn: usize,
 }
 
 impl<N: Nodes> Copies<N> {
@@ -25,14 +27,15 @@ impl<N: Nodes> Copies<N> {
     pub fn new(alloc: Global, nodes: N) -> Copies<N> {
         Copies {
             alloc,
-            asker: Asker::new(nodes),
+            nodes,
+            turn: 0,
         }
     }
 
     /// Shows that a copy surely has this many records, and returns whether a node took it.
     pub fn show(&mut self, copy: u64, count: u64) -> bool {
         match copy_request(self.alloc, copy, count) {
-            Ok(request) => self.asker.ask(&request).is_ok(),
+            Ok(request) => ask_in_turn(&mut self.nodes, &mut self.turn, &request).is_ok(),
             Err(_) => false,
         }
     }
@@ -44,7 +47,7 @@ impl<N: Nodes> Copies<N> {
         let Ok(question) = copy_question(self.alloc, copy) else {
             return Err(AskError::Unsent);
         };
-        let answer = self.asker.ask(&question)?;
+        let answer = ask_in_turn(&mut self.nodes, &mut self.turn, &question)?;
         match read_sign_answer(self.alloc, &answer) {
             Ok(Some(text)) => Ok(read_number(&text)),
             Ok(None) => Ok(None),
@@ -59,7 +62,7 @@ impl<N: Nodes> Copies<N> {
         let Ok(request) = range_request(self.alloc, number, 1) else {
             return Err(AskError::Unsent);
         };
-        let answer = self.asker.ask(&request)?;
+        let answer = ask_in_turn(&mut self.nodes, &mut self.turn, &request)?;
         match read_range_answer(self.alloc, number, &answer) {
             Ok(mut found) => Ok(found.pop()),
             Err(AnswerError::NoKey { .. }) => Ok(None),
@@ -74,7 +77,7 @@ impl<N: Nodes> Copies<N> {
         let Ok(request) = trim_request(self.alloc, number) else {
             return Err(AskError::Unsent);
         };
-        let answer = self.asker.ask(&request)?;
+        let answer = ask_in_turn(&mut self.nodes, &mut self.turn, &request)?;
         read_trim_answer(self.alloc, &answer).map_err(|_| AskError::Lost)
     }
 
@@ -83,7 +86,7 @@ impl<N: Nodes> Copies<N> {
         let Ok(request) = compaction_request(self.alloc, revision) else {
             return false;
         };
-        match self.asker.ask(&request) {
+        match ask_in_turn(&mut self.nodes, &mut self.turn, &request) {
             Ok(answer) => read_compaction_answer(self.alloc, &answer).is_ok(),
             Err(_) => false,
         }
