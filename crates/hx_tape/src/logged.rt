@@ -5,13 +5,15 @@ ghost use Rattle.hx_desk.specs.Entries.{restored};
 ghost use Rattle.hx_engine.specs.Journals.{lines};
 ghost use Rattle.hx_etcd_log.specs.Copied.{records_of};
 ghost use Rattle.hx_log_journal.specs.States.{kept, appended, is_open};
+ghost use Rattle.hx_mirror.specs.Mirrors.{Mirrors};
 
 use crate::copy_file::pages_of;
 use crate::failure::Failure;
 use crate::leaving::OfficeNodes;
 use crate::signs::SignWatch;
-use hx_day_log::{Replica, open_and_play, stand_by_and_play};
+use hx_day_log::{MirroredDay, Replica, open_and_play, stand_by_and_play};
 use hx_doors::address_of;
+use hx_engine::{Journal, Plays, Recovered};
 use hx_etcd_log::{CopiedLog, Copies, EtcdLog, Signs, TcpNodes, TextPages};
 use hx_log::LogError;
 use hx_log_journal::{Follower, LogJournal};
@@ -168,6 +170,43 @@ pub fn take_office<
     let events = day.count();
     board.post(Notice::InOffice { events });
     Ok((day, journal))
+}
+
+/// The same of a day beside whose log another journal is kept: the day, that journal, and the one of the exchange.
+///
+/// Errors: those of `take_office`; `OtherJournal` if the journal beside the log has records that the log has not.
+pub fn take_mirrored<
+    'x,
+    R: AllocGlobal + Files<File = fs::File> + Net<Stream = TcpStream> + Clock,
+    B: Board,
+    D: Plays + Drop,
+    M: Journal + Drop,
+>(
+    rt: &'x R,
+    board: &B,
+    nodes: &[SocketAddr],
+    candidate: Candidate<'x>,
+    day: D,
+    beside: Recovered<M>,
+) -> Result<(D, M, OfficeJournal<'x, R>), Failure>
+    requires new { D.played day ≡ [] }
+    requires beside { M.appended beside.journal
+        ≡ lines record_of (restored beside.events.items) }
+    requires safe { (M.kept beside.journal ≡ M.appended beside.journal)
+        × (M.is_open beside.journal ≡ true) }
+    ensures mirror { IfOk result (λ r. Mirrors M.appended M.kept M.is_open r.1
+        (lines record_of (restored (D.played r.0)))) }
+    ensures appended { IfOk result (λ r. appended records_of r.2
+        ≡ lines record_of (restored (D.played r.0))) }
+    ensures kept { IfOk result (λ r. kept records_of r.2
+        ≡ lines record_of (restored (D.played r.0))) }
+    ensures is_open { IfOk result (λ r. is_open r.2.fault ≡ true) }
+    ensures under { IfOk result (λ r. D.under r.0 ≡ D.under day) }
+{
+    let mirrored = MirroredDay::new(day, beside);
+    let (mirrored, journal) = take_office(rt, board, nodes, candidate, mirrored)?;
+    let (day, mirror) = mirrored.into_both()?;
+    Ok((day, mirror, journal))
 }
 
 /// Whether the log says that the candidate is not in office: that another one is, or that it is trimmed where he has not

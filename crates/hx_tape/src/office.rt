@@ -5,11 +5,11 @@ use crate::failure::Failure;
 use crate::fittings::fittings_of;
 use crate::hosting::{host_logged, host_mirrored};
 use crate::input::WakingInput;
-use crate::logged::{Candidate, is_deposed, nodes_of, signs_of, take_office};
+use crate::logged::{Candidate, is_deposed, nodes_of, signs_of, take_mirrored, take_office};
 use crate::plan::{Plan, open_file};
 use crate::signs::Beacon;
 use clap::ArgMatches;
-use hx_day_log::{Alone, MirroredDay};
+use hx_day_log::Alone;
 use hx_engine::Journal;
 use hx_members::Seed;
 use hx_serve::{Board, Fittings, Hosting, PlayedBeginning, PlayedDay, ServeError};
@@ -67,7 +67,7 @@ fn beginning_of<
     day: PlayedDay<'a>,
     journal: J,
 ) -> Result<PlayedBeginning<'a, J>, Failure>
-    ensures day { IfOk result (λ b. b.day ≡ day) }
+    ensures day { IfOk result (λ b. b.day ≡ day.entry) }
     ensures journal { IfOk result (λ b. b.journal ≡ journal) }
 {
     let fittings = match early {
@@ -150,9 +150,7 @@ where
         }
         Some(file) => {
             let beside = open_file(rt, matches, plan, board, file)?;
-            let mirrored = MirroredDay::new(day, beside);
-            let (mirrored, journal) = take_office(rt, board, &nodes, candidate, mirrored)?;
-            let (day, mirror) = mirrored.into_both()?;
+            let (day, mirror, journal) = take_mirrored(rt, board, &nodes, candidate, day, beside)?;
             let beginning = beginning_of(rt, matches, plan, early, day, journal)?;
             host_mirrored(rt, path, hosting, beginning, mirror, input, beacon)
         }
