@@ -108,7 +108,7 @@ pub fn words_of<'x, R: AllocGlobal + Net<Stream = TcpStream>>(
 
 /// Who takes a log over, and when.
 #[derive(Clone, Copy)]
-pub struct Candidate<'x> {
+pub struct Candidate<'x, 'm> {
     /// The number of this process, which no other has or had.
     pub writer: u64,
     /// How long who is in office may be gone before he is followed; none to take over at once.
@@ -116,7 +116,7 @@ pub struct Candidate<'x> {
     /// Whether he has left office.
     pub has_left: &'x AtomicBool,
     /// The file of a copy with which the log is begun, if there is one.
-    pub from: Option<&'x str>,
+    pub from: Option<&'m str>,
 }
 
 /// The journal of an exchange whose day a log keeps, over TCP.
@@ -135,7 +135,7 @@ pub fn take_office<
     rt: &'x R,
     board: &B,
     nodes: &[SocketAddr],
-    candidate: Candidate<'x>,
+    candidate: Candidate<'x, '_>,
     day: D,
 ) -> Result<(D, OfficeJournal<'x, R>), Failure>
     requires new { D.played day ≡ [] }
@@ -185,7 +185,7 @@ pub fn take_mirrored<
     rt: &'x R,
     board: &B,
     nodes: &[SocketAddr],
-    candidate: Candidate<'x>,
+    candidate: Candidate<'x, '_>,
     day: D,
     beside: Recovered<M>,
 ) -> Result<(D, M, OfficeJournal<'x, R>), Failure>
@@ -214,7 +214,7 @@ pub fn take_mirrored<
 pub fn is_deposed<R: AllocGlobal + Files<File = fs::File> + Net<Stream = TcpStream>>(
     rt: &R,
     nodes: &[SocketAddr],
-    candidate: Candidate<'_>,
+    candidate: Candidate<'_, '_>,
 ) -> bool {
     let writer = candidate.writer;
     let log = match copied_log_of(rt, nodes, candidate.from) {

@@ -25,7 +25,7 @@ use std::thread::Threads;
 use std::time::Duration;
 
 // Who takes the log of a day over, and when, as the command line asks.
-fn candidate_of<'y>(matches: &'y ArgMatches<'_>, has_left: &'y AtomicBool) -> Candidate<'y> {
+fn candidate_of<'m, 'y>(matches: &ArgMatches<'m>, has_left: &'y AtomicBool) -> Candidate<'y, 'm> {
     let patience = matches.get_one::<u64>("patience");
     Candidate {
         writer: matches.get_one::<u64>("writer").unwrap_or(0),
@@ -44,7 +44,11 @@ fn early_fittings<
         + Files<File = fs::File>
         + Net<Listener = TcpListener, Stream = TcpStream>
         + RandomSource,
->(rt: &R, matches: &ArgMatches<'_>, candidate: Candidate<'_>) -> Result<Option<Fittings>, Failure> {
+>(
+    rt: &R,
+    matches: &ArgMatches<'_>,
+    candidate: Candidate<'_, '_>,
+) -> Result<Option<Fittings>, Failure> {
     match candidate.patience {
         None => Ok(Some(fittings_of(rt, matches)?)),
         Some(_) => Ok(None),
@@ -87,7 +91,7 @@ fn beginning_of<
 fn reason_of<R: AllocGlobal + Files<File = fs::File> + Net<Stream = TcpStream>>(
     rt: &R,
     nodes: &[SocketAddr],
-    candidate: Candidate<'_>,
+    candidate: Candidate<'_, '_>,
     served: Result<(), Failure>,
 ) -> Result<(), Failure> {
     match served {
@@ -121,6 +125,7 @@ pub(crate) fn begin_logged<
     matches: &ArgMatches<'_>,
     plan: Plan<'x>,
     hosting: &Hosting<'_, G, B>,
+    board: &'x B,
     nodes: &str,
     seed: Seed,
 ) -> Result<(), Failure>
@@ -136,11 +141,7 @@ where
         writer: candidate.writer,
         has_left: &has_left,
     };
-    let (path, input, board) = (
-        matches.get_str("history"),
-        WakingInput::new(rt.reader()),
-        hosting.board,
-    );
+    let (path, input) = (matches.get_str("history"), WakingInput::new(rt.reader()));
     let day = PlayedDay::new(rt.alloc(), hosting.setup, hosting.args, seed)?;
     let served = match matches.get_str("journal") {
         None => {

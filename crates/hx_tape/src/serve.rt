@@ -239,7 +239,7 @@ where
         copies: plan.copies,
     };
     match matches.get_str("log") {
-        Some(nodes) => begin_logged(rt, matches, plan, &hosting, nodes, seed),
+        Some(nodes) => begin_logged(rt, matches, plan, &hosting, board, nodes, seed),
         None => begin_here(rt, matches, plan, &hosting, board, seed),
     }
 }
