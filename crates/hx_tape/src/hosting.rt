@@ -223,7 +223,7 @@ pub(crate) fn host_logged<
 }
 
 // The same, and a mirror beside the log keeps what the log does.
-pub(crate) fn host_mirrored<
+fn host_mirrored<
     R: AllocGlobal
         + Print
         + Files
@@ -271,4 +271,44 @@ pub(crate) fn host_mirrored<
         fittings,
     };
     host_shown(rt, path, hosting, beginning, input, beacon)
+}
+
+// The same, where the mirror is a journal in a file.
+pub(crate) fn host_filed<
+    R: AllocGlobal
+        + Print
+        + Files
+        + Log
+        + Net<Listener = TcpListener, Stream = TcpStream>
+        + Clock
+        + Threads
+        + Wait
+        + Sync,
+    G: Gate + Sync,
+    B: Board + Sync,
+    P: Pages + Drop + Send,
+    N: Nodes + Drop + Send,
+    F: RawFile + Drop + Send,
+    S: Nodes + Drop + Send,
+    I: Read + Send + Drop,
+>(
+    rt: &R,
+    path: Option<&str>,
+    hosting: &Hosting<'_, G, B>,
+    beginning: PlayedBeginning<'_, LogJournal<CopiedLog<P, N>>>,
+    mirror: FileJournal<Noted<F>>,
+    input: I,
+    beacon: Beacon<'_, S>,
+) -> Result<(), Failure>
+    requires of_setup { beginning.day.setup ≡ hosting.now.setup.now }
+    requires journal { logged told_of beginning.journal
+        ≡ lines record_of (restored beginning.day.events) }
+    requires kept { kept told_of beginning.journal
+        ≡ lines record_of (restored beginning.day.events) }
+    requires is_open { is_open beginning.journal.fault ≡ true }
+    requires mirror { Mirrors (λ j. records_of (appended (λ d. seen_of d.log.events) j))
+        (λ j. records_of (stored (λ d. seen_of d.log.events) j)) (λ j. j.is_open) mirror
+        (lines record_of (restored beginning.day.events)) }
+{
+    host_mirrored(rt, path, hosting, beginning, mirror, input, beacon)
 }

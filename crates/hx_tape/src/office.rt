@@ -3,7 +3,7 @@ ghost use Rattle.std.specs.Prelude.{◌≡◌, IfOk};
 
 use crate::failure::Failure;
 use crate::fittings::fittings_of;
-use crate::hosting::{host_logged, host_mirrored};
+use crate::hosting::{host_filed, host_logged};
 use crate::input::WakingInput;
 use crate::logged::{Candidate, is_deposed, nodes_of, signs_of, take_mirrored, take_office};
 use crate::plan::{Plan, open_file};
@@ -153,7 +153,7 @@ where
             let beside = open_file(rt, matches, plan, board, file)?;
             let (day, mirror, journal) = take_mirrored(rt, board, &nodes, candidate, day, beside)?;
             let beginning = beginning_of(rt, matches, plan, early, day, journal)?;
-            host_mirrored(rt, path, hosting, beginning, mirror, input, beacon)
+            host_filed(rt, path, hosting, beginning, mirror, input, beacon)
         }
     };
     reason_of(rt, &nodes, candidate, served)
