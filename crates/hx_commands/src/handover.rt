@@ -1,5 +1,6 @@
 //! The command that asks a standby to take over.
 
+use crate::log::LOG;
 use clap::builder::ValueParser;
 use hx_tape_commands::{Argument, OPTION, Subcommand};
 
@@ -8,13 +9,7 @@ pub const HANDOVER: Subcommand = Subcommand {
     name: "handover",
     about: "Has a standby take over at once from the server that is in office",
     arguments: &[
-        Argument {
-            name: "log",
-            value: "ADDR:PORT,..",
-            is_required: true,
-            help: "The nodes of an etcd whose log keeps the day",
-            ..OPTION
-        },
+        LOG,
         Argument {
             name: "writer",
             value: "N",

@@ -2,9 +2,11 @@
 #![tactic(auto)]
 
 mod commands;
+mod copy;
 mod follow;
 mod handover;
 mod journal;
+mod log;
 mod operate;
 mod relay;
 mod serve;

@@ -38,6 +38,7 @@ pub const SERVE: Subcommand = Subcommand {
         WRITER,
         STANDBY,
         PATIENCE,
+        FROM,
     ],
     choice: None,
 };
@@ -268,8 +269,7 @@ const LOG: Argument = Argument {
     name: "log",
     value: "ADDR:PORT,..",
     with: Some("writer"),
-    without: Some("journal"),
-    help: "The nodes of an etcd whose log keeps the day, in place of --journal",
+    help: "The nodes of an etcd whose log keeps the day; with --journal the file keeps it too",
     ..OPTION
 };
 
@@ -295,5 +295,13 @@ const PATIENCE: Argument = Argument {
     takes: ValueParser::Unsigned(100, 3_600_000),
     usual: Some("1200"),
     help: "With --standby, for how many milliseconds nothing comes from who is in office",
+    ..OPTION
+};
+
+const FROM: Argument = Argument {
+    name: "from",
+    value: "FILE",
+    with: Some("log"),
+    help: "With --log, a copy of the log, with which it is begun",
     ..OPTION
 };

@@ -14,7 +14,7 @@ use hx_engine::Recovered;
 use hx_journal::{FileJournal, Head, HostFile, Noted};
 use hx_market::Event;
 use hx_recovery::{Progress, recover};
-use hx_serve::{Board, Notice};
+use hx_serve::{Board, Notice, time_of};
 use std::fs;
 use std::rt::Files;
 use std::time::Clock;
@@ -77,17 +77,6 @@ pub fn open_journal<'a, B: Board, T: Files<File = fs::File> + AllocGlobal + Cloc
     let (file, bytes) = HostFile::open(rt, path)?;
     let file = PatientFile::new(file, bytes.len(), wanted.syncs, board, rt);
     Ok(recover(alloc, file, &bytes, &head, &Telling { board })?)
-}
-
-// When an event happened, in nanoseconds since midnight.
-fn time_of(event: &Event) -> u64 {
-    match event {
-        Event::Message { time, .. }
-        | Event::Tick { time }
-        | Event::Hours { time, .. }
-        | Event::Halt { time, .. }
-        | Event::Break { time, .. } => *time,
-    }
 }
 
 /// The last of the times of events, in nanoseconds since midnight: a day that goes on from them gives no time below it.

@@ -1,5 +1,5 @@
 //! The tape of a day as its log keeps it.
-ghost use Rattle.std.specs.Prelude.{◌≡◌, ◌≤◌, length, IfOk, OnOk};
+ghost use Rattle.std.specs.Prelude.{◌≡◌, ◌≢◌, ◌≤◌, length, IfOk, OnOk};
 ghost use Rattle.hx_log_journal.specs.States.{told, count_read};
 ghost use Rattle.hx_day_log.specs.Events.{IsWritten};
 
@@ -10,8 +10,8 @@ use hx_log_journal::Follower;
 use std::alloc::Global;
 use std::io::Write;
 
-/// Reads on, writes the lines that count of what is new, and flushes the writer. There is no news only if all that stood
-/// there was read before.
+/// Reads on, writes the lines that count of what is new, and flushes the writer. There is news only if more is
+/// read than before, and none only if all that stood there was.
 ///
 /// Errors: those of the log but that no node told, which is news; `Write`, after which some of the lines may be written.
 pub fn write_on<L: Log, W: Write>(
@@ -19,8 +19,11 @@ pub fn write_on<L: Log, W: Write>(
     follower: &mut Follower<L>,
     writer: &mut W,
 ) -> Result<News, DayLogError>
-    ensures written { OnOk result (IsWritten (told L.committed follower.old) (told L.committed follower.new)
+    ensures written { OnOk result (IsWritten
+        (told L.committed follower.old) (told L.committed follower.new)
         (W.contents writer.old) (W.contents writer.new)) }
+    ensures some { IfOk result (λ news. news ≡ News.Some
+        → count_read follower.old.writer.reading ≢ count_read follower.new.writer.reading) }
     ensures none { IfOk result (λ news. news ≡ News.None
         → length (L.committed follower.old.log) ≤ count_read follower.old.writer.reading) }
 {

@@ -5,16 +5,14 @@ ghost use Rattle.hx_tape_lines.specs.Text.{record_of};
 ghost use Rattle.std.specs.List.{AllByRecursion};
 ghost use Rattle.hx_journal.specs.Crashes.{Leaves};
 ghost use Rattle.hx_journal.specs.Records.{IsRecord};
-ghost use Rattle.hx_desk.specs.Entries.{restored};
 ghost use Rattle.hx_desk.specs.Known.{history_of};
 ghost use Rattle.hx_engine.specs.Journals.{unspoken, lines};
 
 use crate::spelled::Records;
 use crate::venue::Venue;
 use hx_blog::{Log, NamesEntries, Receipt, Writer};
-use hx_desk::Entry;
+use hx_desk::{Desk, Entry};
 use hx_journal::{Journal, JournalError};
-use hx_market::Event;
 use std::marker::{Brand, PhantomData};
 
 /// The journal of a venue, with the writer of the log of what is kept: each crash leaves the records of exactly what is
@@ -32,19 +30,19 @@ pub struct Keeper<V: Venue, J: Journal> {
     pub ghost opened: { J.is_open journal ≡ true },
 }
 
-/// Writes down the entries that were kept before, which have no messages in this log.
+/// Writes down the entries of the desk, which were kept before and have no messages in this log.
 pub(crate) fn write_before<N: NamesEntries<Entry>>(
     writer: &mut Writer<Entry>,
     log: &Log<Entry>,
-    events: &[Event],
+    desk: &Desk,
 )
     requires log { writer.old.log ≡ log.now }
     requires empty { (writer.old.published ≡ []) × (writer.old.staged ≡ []) }
-    requires entries { N.entries ≡ unspoken (restored events.now) }
+    requires entries { N.entries ≡ unspoken desk.now.history }
     requires left { N.left ≡ [] }
     ensures { writer.new ≡ record {
       log = writer.old.log;
-      published = unspoken (restored events.now);
+      published = unspoken desk.now.history;
       staged = [];
     } }
 {
@@ -70,21 +68,21 @@ fn write_down<J: Journal>(journal: &mut J, records: &Records) -> Result<(), Jour
 }
 
 impl<V: Venue, J: Journal + Drop> Keeper<V, J> {
-    /// The keeper of a journal that keeps the records of these events, and of no others.
+    /// The keeper of a journal that keeps the records of the desk's entries, and of no others.
     pub(crate) fn open(
         log: &Log<Entry>,
         writer: Writer<Entry>,
         journal: J,
-        events: &[Event],
+        desk: &Desk,
     ) -> Keeper<V, J>
         requires log { log.now ≡ V.kept }
         requires writer { writer ≡ record { log = V.kept; published = []; staged = [] } }
-        requires journal { J.appended journal ≡ lines record_of (restored events.now) }
+        requires journal { J.appended journal ≡ lines record_of desk.now.history }
         requires safe { (J.kept journal ≡ J.appended journal) × (J.is_open journal ≡ true) }
-        ensures { result.writer.published ≡ unspoken (restored events.now) }
+        ensures { result.writer.published ≡ unspoken desk.now.history }
     {
         let mut writer = writer;
-        write_before::<Brand>(&mut writer, log, events);
+        write_before::<Brand>(&mut writer, log, desk);
         Keeper {
             journal,
             writer,

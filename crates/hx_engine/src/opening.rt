@@ -11,10 +11,11 @@ use crate::keeper::{Keeper, write_before};
 use crate::locked::Held;
 use crate::pass::{Pass, make_passes};
 use crate::pass_count::PassCount;
+use crate::played::Played;
 use crate::venue::Venue;
 use hx_bells::{Bell, Bells};
 use hx_blog::{Log, Writer};
-use hx_desk::{Desk, DeskError, Entry};
+use hx_desk::{DeskError, Entry};
 use hx_journal::Journal;
 use hx_market::Event;
 use hx_members::{Seed, Setup};
@@ -129,25 +130,59 @@ impl<V: Venue, J: Journal + Drop> Exchange<V, J> {
         ensures { IfOk result (λ made. made.1.items ≡ new_passes passes) }
     {
         let Logs {
-            feed: (log, mut writer),
-            admitted: (admitted, mut register),
-            kept: (kept, pen),
+            feed,
+            admitted,
+            kept,
         } = logs;
         let Recovered { journal, events } = recovered;
+        let played = Played::resume(alloc, setup, feed, seed, &events)?;
+        let made = Exchange::open(alloc, played, admitted, kept, journal, blank, passes)?;
+        Ok(made)
+    }
+
+    /// An exchange that goes on from events that are played and that its journal keeps, over new logs of what is admitted
+    /// and of what is kept: it plays none of them again, and its passes, 1 to 1,024, sent none of them. What it was given
+    /// is gone after `NoMemory`.
+    pub fn open(
+        alloc: Global,
+        played: Played,
+        admitted: (Log<Entry>, Writer<Entry>),
+        kept: (Log<Entry>, Writer<Entry>),
+        journal: J,
+        blank: Blank,
+        passes: u16,
+    ) -> Result<(Exchange<V, J>, Vec<Pass<V>>), NoMemory>
+        requires feed { played.log ≡ V.log }
+        requires admitted { IsNewLog V.admitted admitted }
+        requires kept { IsNewLog V.kept kept }
+        requires of_setup { played.setup ≡ V.setup }
+        requires before { played.events ≡ V.before }
+        requires journal { J.appended journal ≡ lines record_of (restored V.before) }
+        requires safe { (J.kept journal ≡ J.appended journal) × (J.is_open journal ≡ true) }
+        requires blank { (blank.name ≡ V.name) × (blank.parts ≡ V.parts) }
+        requires passes { (1 ≤ passes) × (passes ≤ most_passes) × (passes ≡ V.parts) }
+        ensures { IfOk result (λ made. made.1.items ≡ new_passes passes) }
+    {
+        let Played {
+            log,
+            desk,
+            mut knows,
+        } = played;
+        let (admitted, mut register) = admitted;
+        let (kept, pen) = kept;
         let (book, mut spare) = blank.open::<V>();
         let made = make_passes(
             alloc,
             &log,
             &admitted,
-            &mut writer,
+            &mut knows,
             &mut register,
             &mut spare,
             passes,
         )?;
         let bells = Bells::new(alloc, passes).map_err(|_| NoMemory)?;
-        let desk = Desk::resume(alloc, setup, writer, seed, &log, &events)?;
-        write_before::<Brand>(&mut register, &admitted, &events);
-        let mut keeper = Keeper::open(&kept, pen, journal, &events);
+        write_before::<Brand>(&mut register, &admitted, &desk);
+        let mut keeper = Keeper::open(&kept, pen, journal, &desk);
         let receipt = keeper.receipt(&kept);
         let exchange = Exchange {
             log,

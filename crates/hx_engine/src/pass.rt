@@ -84,25 +84,25 @@ impl<V: Venue> Pass<V> {
     }
 }
 
-/// The passes of a new exchange, each with one part of the ledger.
+/// The passes of a new exchange, each with one part of the ledger. Each knows what the receipt does: nothing.
 pub(crate) fn make_passes<V: Venue>(
     alloc: Global,
     log: &Log<Entry>,
     admitted: &Log<Entry>,
-    writer: &mut Writer<Entry>,
+    blank: &mut Receipt<Entry>,
     register: &mut Writer<Entry>,
     spare: &mut Share<V>,
     count: u16,
 ) -> Result<Vec<Pass<V>>, NoMemory>
     requires log { log.now ≡ V.log }
     requires admitted { admitted.now ≡ V.admitted }
-    requires writer { writer.old ≡ record { log = V.log; published = []; staged = [] } }
+    requires blank { blank.old ≡ record { log = V.log; known = [] } }
     requires register { register.old
         ≡ record { log = V.admitted; published = []; staged = [] } }
     requires spare { (spare.old.parts ≡ count) × (spare.old.amount ≡ 0) }
     requires passes { (count ≡ V.parts) × (count ≤ most_passes) }
     ensures passes { IfOk result (λ passes. passes.items ≡ new_passes count) }
-    ensures writer { writer.new ≡ writer.old }
+    ensures blank { blank.new ≡ blank.old }
     ensures register { register.new ≡ register.old }
     ensures spare { OnOk result ((spare.new.parts ≡ 0) × (spare.new.amount ≡ 0)) }
 {
@@ -110,7 +110,7 @@ pub(crate) fn make_passes<V: Venue>(
     for before in 0..count {
         let number = before + 1;
         let share = spare.split_off(1, 0);
-        let knows = writer.receipt(log);
+        let knows = blank.again(log);
         let entered = register.receipt(admitted);
         passes.push(Pass {
             number,

@@ -12,10 +12,10 @@ use Rattle.hx_terms.specs.Lines.{IsOfLog}
 use Rattle.hx_terms.specs.Texts.{spelled, IsTextFault}
 use Rattle.hx_etcd.specs.Keys.{key_of}
 use Rattle.hx_etcd.specs.declared.append.Appended.{Appended}
-use Rattle.hx_etcd.specs.declared.append.Appended.TheVariants.{Stands, Taken}
+use Rattle.hx_etcd.specs.declared.append.Appended.TheVariants.{Stands, Taken, NoneBefore}
 use Rattle.hx_etcd.specs.declared.told.Answer.{Answer}
 use Rattle.hx_etcd.specs.declared.told.Field.{Field}
-use Rattle.hx_etcd.specs.declared.told.Field.TheVariants.{Header, Pairs, Key, Value}
+use Rattle.hx_etcd.specs.declared.told.Field.TheVariants.{Header, Pairs, Key, Value, Revision}
 use Rattle.hx_etcd.specs.declared.told.AnswerError.{AnswerError}
 use Rattle.hx_etcd.specs.declared.told.AnswerError.TheVariants.{Status, NoJson, NoField, NotBase64, NoKey, NoRecord, OtherNumber, NoMemory}
 
@@ -49,6 +49,7 @@ name_of Header = codes "header"
 name_of Pairs = codes "kvs"
 name_of Key = codes "key"
 name_of Value = codes "value"
+name_of Revision = codes "revision"
 
 abbrev pub flag_in : (name : List ℕ) → Json → Option Bool
 flag_in name j = option_and_then as_bool (get name j)
@@ -110,12 +111,15 @@ IsKeyFault number pair NoMemory = Unit {0}
 
 -- ---- the answer to an append
 
--- the first pair that the first request of a transaction found
+-- what the first request of a transaction found
+abbrev pub first_range : Json → Option Json
+first_range j =
+    option_and_then (get (codes "response_range")) (option_and_then (at 0)
+    (get (codes "responses") j))
+
+-- the first pair of that
 abbrev pub first_found : Json → Option Json
-first_found j =
-    option_and_then (at 0) (option_and_then (get (codes "kvs"))
-    (option_and_then (get (codes "response_range")) (option_and_then (at 0)
-    (get (codes "responses") j))))
+first_found j = option_and_then (at 0) (option_and_then (get (codes "kvs")) (first_range j))
 
 -- the transaction's condition did not hold, and this pair was found
 pub record Found (j pair : Json) : Type 0 where
@@ -129,20 +133,30 @@ pub record HasText (number : ℕ) (j : Json) (text : List ℕ) : Type 0 where
   pub key : HasKey number pair
   pub value : IsBytesIn Value pair text
 
--- what the value of an answer says of the record of this number
+-- the transaction's condition did not hold, and no pair was found
+pub record FoundNone (j : Json) : Type 0 where
+  pub not_made : is_told (codes "succeeded") j ≡ false
+  pub range : Json
+  pub first : first_range j ≡ Some range
+  pub none : get (codes "kvs") range ≡ None
+
+-- What the value of an answer says of the record of this number. Where its key has none and it is not
+-- made, the one before it is not there.
 abbrev pub Says : (number : ℕ) → Json → Appended → Type 0
 Says number j Stands = is_told (codes "succeeded") j ≡ true
 Says number j (Taken text) = HasText number j text.items
+Says number j NoneBefore = FoundNone j
 
 -- of a pair that was found, the key is wrong, or behind it the value
 abbrev pub IsFoundFault : (number : ℕ) → (pair : Json) → AnswerError → Type 0
 IsFoundFault number pair e =
     IsKeyFault number pair e ⊎ (HasKey number pair × IsBytesFault Value pair e)
 
--- nothing was found, and the record is not made
+-- the record is not made, and it is not said what was found
 pub record SaysNothing (j : Json) : Type 0 where
   pub not_made : is_told (codes "succeeded") j ≡ false
   pub none : first_found j ≡ None
+  pub some : ¬ FoundNone j
 
 -- why the value of an answer says nothing of it
 abbrev pub IsSayingFault : (number : ℕ) → Json → AnswerError → Type 0

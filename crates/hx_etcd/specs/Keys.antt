@@ -15,6 +15,14 @@ key_of n = codes "hx/" ++ (noughts 12 n ++ decimal n)
 abbrev pub keys_end : List ℕ
 keys_end = codes "hx0"
 
+-- the key that stands once the log was trimmed
+abbrev pub trim_key : List ℕ
+trim_key = codes "hz"
+
+-- the key under which a copy of the log shows how much it has: `hc/` and its number
+abbrev pub copy_key : (copy : ℕ) → List ℕ
+copy_key copy = codes "hc/" ++ decimal copy
+
 -- the key under which a writer shows that he is there: `hy/` and his number
 abbrev pub sign_key : (writer : ℕ) → List ℕ
 sign_key writer = codes "hy/" ++ decimal writer

@@ -4,6 +4,7 @@ pub mod Documents
 pub mod Requests
 pub mod Answers
 pub mod Signs
+pub mod Trims
 pub mod Responses
 pub mod Pieces
 pub mod Connections

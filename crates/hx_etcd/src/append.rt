@@ -1,7 +1,7 @@
 //! What the answer to an append says.
 ghost use Rattle.std.specs.Prelude.{◌≡◌, IfOk, IfErr, OnOk, option_map};
 ghost use Rattle.json.specs.Value.{value_view};
-ghost use Rattle.hx_etcd.specs.Answers.{first_found, Says, IsSayingFault, HasKey, IsKeyFault, IsAppended, IsAppendFault};
+ghost use Rattle.hx_etcd.specs.Answers.{first_range, Says, IsSayingFault, HasKey, IsKeyFault, IsAppended, IsAppendFault};
 
 use crate::keys::key;
 use crate::told::{Answer, AnswerError, Field, bytes_in, is_told, read_document};
@@ -15,6 +15,9 @@ pub enum Appended {
     Stands,
     /// Its key was taken: there stands this text.
     Taken(Vec<u8>),
+    /// It is not made, and its key has none: the record before it is not there, or in front of the first one the log was
+    /// trimmed.
+    NoneBefore,
 }
 
 /// What the answer to an append says, of the record of this number.
@@ -41,23 +44,24 @@ fn read_appended(alloc: Global, number: u64, document: &Value<'_>) -> Result<App
     if is_told(document, "succeeded") {
         return Ok(Appended::Stands);
     }
-    let Some(pair) = first_found(document) else {
+    let Some(range) = first_range(document) else {
+        return Err(AnswerError::NoField(Field::Pairs));
+    };
+    let Some(pairs) = range.get("kvs") else {
+        return Ok(Appended::NoneBefore);
+    };
+    let Some(pair) = pairs.at(0) else {
         return Err(AnswerError::NoField(Field::Pairs));
     };
     check_key(alloc, number, pair)?;
     Ok(Appended::Taken(bytes_in(alloc, pair, Field::Value)?))
 }
 
-// The first pair that was found by the first request of a transaction.
-fn first_found<'v, 'a>(document: &'v Value<'a>) -> Option<&'v Value<'a>>
-    ensures { option_map (λ v. value_view v.now) result ≡ first_found (value_view document.now) }
+// What was found by the first request of a transaction.
+fn first_range<'v, 'a>(document: &'v Value<'a>) -> Option<&'v Value<'a>>
+    ensures { option_map (λ v. value_view v.now) result ≡ first_range (value_view document.now) }
 {
-    document
-        .get("responses")?
-        .at(0)?
-        .get("response_range")?
-        .get("kvs")?
-        .at(0)
+    document.get("responses")?.at(0)?.get("response_range")
 }
 
 // Whether a pair has the key of this number.

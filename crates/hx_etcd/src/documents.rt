@@ -3,7 +3,7 @@ ghost use Rattle.std.specs.Prelude.{◌≡◌, IfOk};
 ghost use Rattle.std.specs.String.{string_bytes};
 ghost use Rattle.json.specs.Print.{print};
 ghost use Rattle.json.specs.Tree.{json_tokens};
-ghost use Rattle.hx_etcd.specs.Documents.{base64_of, transaction_of, question_of, putting_of, finding_of, append_text, range_text, sign_text, sign_question_text};
+ghost use Rattle.hx_etcd.specs.Documents.{base64_of, transaction_of, before_key, before_said, question_of, putting_of, finding_of, append_text, range_text, sign_text, sign_question_text};
 ghost use Rattle.hx_etcd.specs.Keys.{key_of, keys_end, sign_key};
 
 use crate::keys::{key, sign_key};
@@ -18,26 +18,40 @@ use std::alloc::Global;
 // The first key behind those of records: "0" is the byte behind "/".
 const KEYS_END: &[u8; 3] = b"hx0";
 
+// The key that stands once the log was trimmed.
+pub(crate) const TRIM_KEY: &[u8; 2] = b"hz";
+
 // Bytes as JSON has them.
 #[tactic(auto, unfolding(crate::specs::Documents::base64_of))]
-fn encoded(alloc: Global, bytes: &[u8]) -> Result<String, NoMemory>
+pub(crate) fn encoded(alloc: Global, bytes: &[u8]) -> Result<String, NoMemory>
     ensures { IfOk result (λ text. string_bytes text ≡ base64_of bytes.now) }
 {
     Ok(STANDARD.encode(alloc, bytes)?)
 }
 
 // The key of a number as JSON has it.
-fn encoded_key(alloc: Global, number: u64) -> Result<String, NoMemory>
+pub(crate) fn encoded_key(alloc: Global, number: u64) -> Result<String, NoMemory>
     ensures { IfOk result (λ text. string_bytes text ≡ base64_of (key_of number)) }
 {
     let key = key(alloc, number)?;
     encoded(alloc, &key)
 }
 
-// The transaction that puts a value where its key is not there, and else reads the key.
-fn transaction<'a>(alloc: Global, key: &'a str, value: &'a str) -> Result<Vec<u8>, NoMemory>
-    ensures { IfOk result (λ text.
-        text.items ≡ print (json_tokens (transaction_of key.now value.now))) }
+// What a compare says of a key: that it is not there, or that it is.
+const ABSENT: &str = "EQUAL";
+
+const PRESENT: &str = "GREATER";
+
+// The transaction that puts a value where its key is not there and this holds of another one, and else reads the key.
+fn transaction<'a>(
+    alloc: Global,
+    key: &'a str,
+    value: &'a str,
+    said: &'a str,
+    other: &'a str,
+) -> Result<Vec<u8>, NoMemory>
+    ensures { IfOk result (λ text. text.items
+        ≡ print (json_tokens (transaction_of key.now value.now said.now other.now))) }
 {
     text_of(
         alloc,
@@ -52,6 +66,16 @@ fn transaction<'a>(alloc: Global, key: &'a str, value: &'a str) -> Result<Vec<u8
             Text("VERSION"),
             Key("result"),
             Text("EQUAL"),
+            Key("version"),
+            Text("0"),
+            EndObject,
+            Object,
+            Key("key"),
+            Text(other),
+            Key("target"),
+            Text("VERSION"),
+            Key("result"),
+            Text(said),
             Key("version"),
             Text("0"),
             EndObject,
@@ -108,14 +132,40 @@ fn question<'a>(
     )
 }
 
-// The transaction that makes a record where its key is not there, and else tells what is there.
+// The key of which something holds where a record of this number is the next one.
+fn encoded_before(alloc: Global, number: u64) -> Result<String, NoMemory>
+    ensures { IfOk result (λ text. string_bytes text ≡ base64_of (before_key number)) }
+{
+    if number > 1 {
+        encoded_key(alloc, number - 1)
+    } else {
+        encoded(alloc, TRIM_KEY)
+    }
+}
+
+// What holds of that key.
+fn said_before(number: u64) -> &'static str
+    ensures { result.now ≡ before_said number }
+{
+    if number > 1 { PRESENT } else { ABSENT }
+}
+
+// The transaction that makes a record where it is the next one and its key is not there, and else tells what is there.
 pub(crate) fn append_body(alloc: Global, appended: &LogRecord) -> Result<Vec<u8>, NoMemory>
     ensures { IfOk result (λ body. body.items ≡ append_text appended.now) }
 {
-    let key = encoded_key(alloc, appended.head().number)?;
+    let number = appended.head().number;
+    let key = encoded_key(alloc, number)?;
     let spelled = appended.spelled(alloc)?;
     let value = encoded(alloc, &spelled)?;
-    transaction(alloc, key.as_str(), value.as_str())
+    let before = encoded_before(alloc, number)?;
+    transaction(
+        alloc,
+        key.as_str(),
+        value.as_str(),
+        said_before(number),
+        before.as_str(),
+    )
 }
 
 // The question for the records from a number on, at most this many.
@@ -129,7 +179,7 @@ pub(crate) fn range_body(alloc: Global, from: u64, most: u64) -> Result<Vec<u8>,
 }
 
 // The text that puts a value under a key.
-fn putting<'a>(alloc: Global, key: &'a str, value: &'a str) -> Result<Vec<u8>, NoMemory>
+pub(crate) fn putting<'a>(alloc: Global, key: &'a str, value: &'a str) -> Result<Vec<u8>, NoMemory>
     ensures { IfOk result (λ text.
         text.items ≡ print (json_tokens (putting_of key.now value.now))) }
 {
@@ -147,7 +197,7 @@ fn putting<'a>(alloc: Global, key: &'a str, value: &'a str) -> Result<Vec<u8>, N
 }
 
 // The question for what stands under a key.
-fn finding<'a>(alloc: Global, key: &'a str) -> Result<Vec<u8>, NoMemory>
+pub(crate) fn finding<'a>(alloc: Global, key: &'a str) -> Result<Vec<u8>, NoMemory>
     ensures { IfOk result (λ text.
         text.items ≡ print (json_tokens (finding_of key.now))) }
 {

@@ -1,6 +1,6 @@
 //! The keys of records.
 ghost use Rattle.std.specs.Prelude.{◌≡◌, IfOk};
-ghost use Rattle.hx_etcd.specs.Keys.{key_of, sign_key};
+ghost use Rattle.hx_etcd.specs.Keys.{key_of, copy_key, sign_key};
 
 use hx_units::NoMemory;
 use itoa::Buffer;
@@ -21,6 +21,17 @@ pub fn key(alloc: Global, number: u64) -> Result<Vec<u8>, NoMemory>
     key.extend_from_slice(b"hx/")?;
     key.extend_from_slice(&NOUGHTS[..missing])?;
     key.extend_from_slice(digits)?;
+    Ok(key)
+}
+
+// The key under which a copy of the log shows how much it has: `hc/` and its number, as `hc/1`.
+pub(crate) fn copy_key(alloc: Global, copy: u64) -> Result<Vec<u8>, NoMemory>
+    ensures { IfOk result (λ key. key.items ≡ copy_key copy) }
+{
+    let mut buffer = Buffer::new();
+    let mut key = Vec::new(alloc);
+    key.extend_from_slice(b"hc/")?;
+    key.extend_from_slice(buffer.format(copy).as_bytes())?;
     Ok(key)
 }
 

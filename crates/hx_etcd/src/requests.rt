@@ -28,7 +28,8 @@ pub(crate) fn request(alloc: Global, path: &[u8], body: &[u8]) -> Result<Vec<u8>
     Ok(text)
 }
 
-/// The request that appends a record: it is made only where its key has none, and else the answer tells what is there.
+/// The request that appends a record: it is made only where its key has none and the record before it stands, or for the
+/// first one where nothing was trimmed; else the answer tells what its key has.
 /// `read_append_answer` reads the answer.
 pub fn append_request(alloc: Global, appended: &LogRecord) -> Result<Vec<u8>, NoMemory>
     ensures { IfOk result (λ text.

@@ -30,6 +30,8 @@ pub enum Field {
     Key,
     /// `value` of a pair.
     Value,
+    /// `revision` of a header.
+    Revision,
 }
 
 /// Why an answer tells nothing.
@@ -90,6 +92,7 @@ impl Field {
             Field::Pairs => "kvs",
             Field::Key => "key",
             Field::Value => "value",
+            Field::Revision => "revision",
         }
     }
 }
@@ -134,7 +137,7 @@ fn flag_in(value: &Value<'_>, name: &str) -> Option<bool>
 }
 
 // The member of this name, where it is a text.
-fn text_in<'a>(value: &Value<'a>, name: &str) -> Option<&'a str>
+pub(crate) fn text_in<'a>(value: &Value<'a>, name: &str) -> Option<&'a str>
     ensures { option_map (λ s. s.now) result ≡ text_in name.now (value_view value.now) }
 {
     match value.get(name) {

@@ -5,11 +5,11 @@ use Rattle.json.specs.Json.{Json}
 use Rattle.hx_terms.specs.Records.{Record}
 use Rattle.hx_log.specs.Logs.{AreNumbered}
 use Rattle.hx_log.specs.declared.error.LogError.{LogError}
-use Rattle.hx_log.specs.declared.error.LogError.TheVariants.{Taken, Gap, Unknown, Unreachable, NoRecord, NoMemory}
+use Rattle.hx_log.specs.declared.error.LogError.TheVariants.{Taken, Gap, Unknown, Unreachable, NoRecord, Trimmed, BadCopy, NoMemory}
 use Rattle.hx_etcd.specs.declared.told.Answer.{Answer}
 use Rattle.hx_etcd.specs.Answers.{AreRecords}
 use Rattle.hx_etcd_log.specs.declared.reading.Found.{Found}
-use Rattle.hx_etcd_log.specs.declared.reading.Found.TheVariants.{Page, Bad}
+use Rattle.hx_etcd_log.specs.declared.reading.Found.TheVariants.{Page, Gone, Bad}
 use Rattle.hx_etcd_log.specs.declared.log.EtcdLog.{EtcdLog}
 use Rattle.hx_etcd_log.specs.Telling.{Telling}
 use Rattle.hx_etcd_log.specs.Asks.{Ask, OneSince, Tells}
@@ -32,6 +32,7 @@ each_err (Err e) f h = f e h
 
 abbrev pub records_in : Found → List Record
 records_in (Page page) = page.items
+records_in Gone = []
 records_in (Bad number) = []
 
 are_numbered : (from : ℕ) (pairs : List Json) (rs : List Record) → AreRecords from pairs rs → AreNumbered from rs
@@ -44,6 +45,7 @@ are_numbered from (p ∷ ps) (r ∷ rs) h =
 
 numbered_in : (from : ℕ) (answer : Answer) (found : Found) → IsFoundIn from answer found → AreNumbered from (records_in found)
 numbered_in from answer (Page page) h = are_numbered from _ page.items h.2.records
+numbered_in from answer Gone h = tt
 numbered_in from answer (Bad number) h = tt
 
 pub numbered_found : (from : ℕ) (found : Found) (request : List ℕ) (b c : List Ask) → OneSince (Tells request (λ answer. IsFoundIn from answer found)) b c → AreNumbered from (records_in found)
@@ -69,4 +71,6 @@ find_fault old new r text (NoRecord number) next told h =
     let there : OneSince (Tells (appending r) (HasKeyText number text)) (asks_of old) (asks_of new) =
     subst (λ (n : ℕ). OneSince (Tells (appending r) (HasKeyText n text)) (asks_of old) (asks_of new)) (sym h.0) told in
     (h.0, (next, record { known = h.1; asks = tells_also _ _ _ (λ answer has. record { text = text; has = has; none = h.2 }) there }))
+find_fault old new r text (Trimmed number) next told h = absurd h
+find_fault old new r text (BadCopy number) next told h = absurd h
 find_fault old new r text NoMemory next told h = absurd h

@@ -4,6 +4,7 @@ use denote.RattleType.{RattleType}
 use denote.Struct.Declared as declared
 use denote.Param.Send.{IsSend, sendable, view_send, struct_send, recorded_send}
 use Rattle.std.proofs.Crossing.{crosses}
+use Rattle.hx_etcd_log.specs.contracts.copied.CopiedLog as copied_log
 use Rattle.hx_etcd_log.specs.contracts.log.EtcdLog as etcd_log
 use Rattle.hx_etcd_log.specs.contracts.noted.Noted as noted
 use Rattle.hx_etcd_log.specs.contracts.told.Told as told
@@ -19,8 +20,16 @@ pub told_send : IsSend told.the_row
 told_send = view_send _ _ _ _ _ inside_send
 
 module _ (T : RattleType) (sends : IsSend T) where
+  field_send : IsSend (etcd_log.the_field T).row
+  field_send =
+      struct_send (declared.shape (etcd_log.the_type T))
+      (search (sendable, crosses), (sends, (noted_send, (told_send, (search (sendable, crosses), tt)))))
+
   pub etcd_log_send : IsSend (etcd_log.the_row T)
-  etcd_log_send =
-      recorded_send _ _ _ (etcd_log.the_type T).to_one
-      (struct_send (declared.shape (etcd_log.the_type T))
-      (search (sendable, crosses), (sends, (noted_send, (told_send, (search (sendable, crosses), tt))))))
+  etcd_log_send = recorded_send _ _ _ (etcd_log.the_type T).to_one field_send
+
+module _ (P N : RattleType) (copy : IsSend P) (sends : IsSend N) where
+  pub copied_log_send : IsSend (copied_log.the_row P N)
+  copied_log_send =
+      recorded_send _ _ _ (copied_log.the_type P N).to_one
+      (struct_send (declared.shape (copied_log.the_type P N)) (copy, (field_send N sends, tt)))

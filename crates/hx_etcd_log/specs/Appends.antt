@@ -5,8 +5,8 @@ use Rattle.hx_terms.specs.Lines.{IsOfLog}
 use Rattle.hx_terms.specs.Records.{Record}
 use Rattle.hx_terms.specs.Texts.{spelled}
 use Rattle.hx_log.specs.declared.error.LogError.{LogError}
-use Rattle.hx_log.specs.declared.error.LogError.TheVariants.{Taken, Gap, Unknown, Unreachable, NoRecord, NoMemory}
-use Rattle.hx_etcd.specs.declared.append.Appended.TheVariants.{Stands}
+use Rattle.hx_log.specs.declared.error.LogError.TheVariants.{Taken, Gap, Unknown, Unreachable, NoRecord, Trimmed, BadCopy, NoMemory}
+use Rattle.hx_etcd.specs.declared.append.Appended.TheVariants.{Stands, NoneBefore}
 use Rattle.hx_etcd.specs.declared.told.Answer.{Answer}
 use Rattle.hx_etcd.specs.Answers.{HasDocument, HasText, IsAppended}
 use Rattle.hx_etcd.specs.Documents.{append_text}
@@ -32,6 +32,10 @@ HasKeyText number text answer = (j : Json) × HasDocument answer j × HasText nu
 abbrev pub SaysItStands : Record → Answer → Type 0
 SaysItStands r answer = IsMade r answer ⊎ HasKeyText r.head.number (spelled r) answer
 
+-- an answer says that the record is not made, since the one before it is not there
+abbrev pub SaysNoneBefore : Record → Answer → Type 0
+SaysNoneBefore r answer = IsAppended r.head.number answer NoneBefore
+
 -- a text is none of a record of this number
 abbrev pub HasNoRecord : (number : ℕ) → (text : List ℕ) → Type 0
 HasNoRecord number text = (r : Record) → IsOfLog r → text ≡ spelled r → r.head.number ≢ number
@@ -52,6 +56,8 @@ IsFindFault old new r text Unknown = new ≡ old
 IsFindFault old new r text Unreachable = ⊥
 IsFindFault old new r text (NoRecord number) =
     (number ≡ r.head.number) × (new ≡ old) × HasNoRecord number text
+IsFindFault old new r text (Trimmed number) = ⊥
+IsFindFault old new r text (BadCopy number) = ⊥
 IsFindFault old new r text NoMemory = ⊥
 
 -- ---- outcomes
@@ -80,7 +86,8 @@ IsInVain old new r P =
     (r.head.number ≡ length (committed_of old) + 1) × IsUntold old new P
 
 -- Why a record is not appended. Its number is taken: one of those that are known has it, or another
--- record is found there. There is a gap: it is behind the next one. Else nodes were asked in vain.
+-- record is found there. There is a gap: it is behind the next one. Else nodes were asked in vain: the
+-- log was trimmed, where one says that the record before it is not there.
 abbrev pub IsAppendFault : {N : Type 0} → (old new : EtcdLog N) → Record → LogError → Type 0
 IsAppendFault old new r Taken =
     ((r.head.number ≤ length (committed_of old)) × IsUnasked old new) ⊎ IsAnotherThere old new r
@@ -91,4 +98,7 @@ IsAppendFault old new r Unreachable = IsInVain old new r (EachSince IsUnsent)
 IsAppendFault old new r (NoRecord number) =
     (number ≡ r.head.number)
     × IsInVain old new r (OneSince (Tells (appending r) (SaysNoRecord number)))
+IsAppendFault old new r (Trimmed number) =
+    (number ≡ r.head.number) × IsInVain old new r (OneSince (Tells (appending r) (SaysNoneBefore r)))
+IsAppendFault old new r (BadCopy number) = ⊥
 IsAppendFault old new r NoMemory = IsUnasked old new

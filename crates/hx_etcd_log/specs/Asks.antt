@@ -2,7 +2,7 @@
 use Rattle.std.specs.Prelude.{◌≡◌, ◌≢◌, Bool, true, ℕ, zero, suc, List, ◌∷◌, ◌++◌, map, slice_index, Result, Ok, Err}
 use Rattle.std.specs.List.{AllByRecursion}
 use Rattle.hx_log.specs.declared.error.LogError.{LogError}
-use Rattle.hx_log.specs.declared.error.LogError.TheVariants.{Taken, Gap, Unknown, Unreachable, NoRecord, NoMemory}
+use Rattle.hx_log.specs.declared.error.LogError.TheVariants.{Taken, Gap, Unknown, Unreachable, NoRecord, Trimmed, BadCopy, NoMemory}
 use Rattle.hx_etcd.specs.declared.told.Answer.{Answer}
 use Rattle.hx_etcd_log.specs.declared.nodes.AskError.{AskError}
 use Rattle.hx_etcd_log.specs.declared.nodes.AskError.TheVariants as fault
@@ -91,4 +91,6 @@ IsNotTold before after Gap = ⊥
 IsNotTold before after Unknown = OneSince MayBeTaken before after
 IsNotTold before after Unreachable = EachSince IsUnsent before after
 IsNotTold before after (NoRecord number) = ⊥
+IsNotTold before after (Trimmed number) = ⊥
+IsNotTold before after (BadCopy number) = ⊥
 IsNotTold before after NoMemory = after ≡ before

@@ -5,3 +5,5 @@ pub mod Asks
 pub mod EtcdLogs
 pub mod Appends
 pub mod Reads
+pub mod Copied
+pub mod Trims

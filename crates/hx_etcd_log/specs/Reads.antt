@@ -1,9 +1,9 @@
 -- What becomes of a read of a log in an etcd.
-use Rattle.std.specs.Prelude.{◌≡◌, ◌⊎◌, ℕ, ◌+◌, ◌<◌, ◌≤◌, List, ◌++◌, length, codes}
+use Rattle.std.specs.Prelude.{◌≡◌, ◌≢◌, ◌⊎◌, ℕ, ◌+◌, ◌<◌, ◌≤◌, List, ◌++◌, length, codes}
 use Rattle.hx_terms.specs.declared.text.TextError.{TextError}
 use Rattle.hx_terms.specs.Records.{Record}
 use Rattle.hx_log.specs.declared.error.LogError.{LogError}
-use Rattle.hx_log.specs.declared.error.LogError.TheVariants.{Taken, Gap, Unknown, Unreachable, NoRecord, NoMemory}
+use Rattle.hx_log.specs.declared.error.LogError.TheVariants.{Taken, Gap, Unknown, Unreachable, NoRecord, Trimmed, BadCopy, NoMemory}
 use Rattle.hx_etcd.specs.declared.told.Answer.{Answer}
 use Rattle.hx_etcd.specs.declared.told.AnswerError.{AnswerError}
 use Rattle.hx_etcd.specs.declared.told.AnswerError.TheVariants as bad
@@ -11,7 +11,7 @@ use Rattle.hx_etcd.specs.Answers.{IsRange, IsRangeFault}
 use Rattle.hx_etcd.specs.Documents.{range_text}
 use Rattle.hx_etcd.specs.Requests.{request_text}
 use Rattle.hx_etcd_log.specs.declared.reading.Found.{Found}
-use Rattle.hx_etcd_log.specs.declared.reading.Found.TheVariants.{Page, Bad}
+use Rattle.hx_etcd_log.specs.declared.reading.Found.TheVariants.{Page, Gone, Bad}
 use Rattle.hx_etcd_log.specs.Telling.{Telling}
 use Rattle.hx_etcd_log.specs.Asks.{EachSince, OneSince, IsUnsent, MayBeTaken, Tells}
 use Rattle.hx_etcd_log.specs.declared.log.EtcdLog.{EtcdLog}
@@ -32,7 +32,13 @@ IsCopyFault t from Gap = ⊥
 IsCopyFault t from Unknown = ⊥
 IsCopyFault t from Unreachable = from + t.kept ≤ length t.records
 IsCopyFault t from (NoRecord number) = ⊥
+IsCopyFault t from (Trimmed number) = ⊥
+IsCopyFault t from (BadCopy number) = ⊥
 IsCopyFault t from NoMemory = Unit {0}
+
+-- an answer says that the record of this number is not there, and later ones are: the log was trimmed
+abbrev pub SaysItIsGone : (from : ℕ) → Answer → Type 0
+SaysItIsGone from answer = IsRangeFault from answer (bad.NoKey from)
 
 -- a pair of an answer says that what stands at this number is no record of it
 abbrev pub IsNoRecordAt : (number : ℕ) → AnswerError → Type 0
@@ -40,15 +46,23 @@ IsNoRecordAt number e =
     (e ≡ bad.NoKey number) ⊎ ((e ≡ bad.OtherNumber number)
     ⊎ ((error : TextError) × (e ≡ bad.NoRecord number error)))
 
+-- what is found where an answer has this fault
+abbrev pub IsFaultFound : (from : ℕ) → AnswerError → Found → Type 0
+IsFaultFound from e (Page page) = ⊥
+IsFaultFound from e Gone = e ≡ bad.NoKey from
+IsFaultFound from e (Bad number) = IsNoRecordAt number e × (e ≢ bad.NoKey from)
+
 -- an answer contradicts at this number what is known of the log, or what a record is
 pub record Contradicts (from number : ℕ) (answer : Answer) : Type 0 where
   pub error : AnswerError
   pub at : IsNoRecordAt number error
+  pub there : error ≢ bad.NoKey from
   pub fault : IsRangeFault from answer error
 
 -- what an answer says of the records from a number on
 abbrev pub IsFoundIn : (from : ℕ) → Answer → Found → Type 0
 IsFoundIn from answer (Page page) = IsRange from answer page.items
+IsFoundIn from answer Gone = SaysItIsGone from answer
 IsFoundIn from answer (Bad number) = Contradicts from number answer
 
 -- ---- outcomes
@@ -78,6 +92,10 @@ IsFetchFault old new Unreachable = IsUntold old new (EachSince IsUnsent)
 IsFetchFault old new (NoRecord number) =
     let next = length (committed_of old) + 1 in
     IsUntold old new (OneSince (Tells (asking_from next) (Contradicts next number)))
+IsFetchFault old new (Trimmed number) =
+    let next = length (committed_of old) + 1 in
+    (number ≡ next) × IsUntold old new (OneSince (Tells (asking_from next) (SaysItIsGone next)))
+IsFetchFault old new (BadCopy number) = ⊥
 IsFetchFault old new NoMemory = IsUnasked old new
 
 -- Why a read gives no records: its number is in front of those that are kept; or the next records do

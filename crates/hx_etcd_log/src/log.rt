@@ -59,7 +59,8 @@ impl<N: Nodes> Log for EtcdLog<N> {
     /// answered first, twice each at most, until one tells what stands there. Each ask makes the record where nothing
     /// stands yet, and so finds it where the answer to an earlier one was lost.
     ///
-    /// Errors: `Unreachable` where no byte was sent to any node, `Unknown` where no node told.
+    /// Errors: `Unreachable` where no byte was sent to any node, `Unknown` where no node told, `Trimmed` where the record
+    /// before it is not there.
     fn append(&mut self, next: &LogRecord) -> Result<(), LogError>
         ensures grows { IsPrefix (committed_of self.old) (committed_of self.new) }
         ensures stands { OnOk result (Stands (committed_of self.new) next.now) }
@@ -86,13 +87,14 @@ impl<N: Nodes> Log for EtcdLog<N> {
                 Ok(())
             }
             Appended::Taken(text) => self.told.find(self.alloc, next, &text),
+            Appended::NoneBefore => Err(LogError::Trimmed { number }),
         }
     }
 
     /// Records from a number on: of those that are kept; where none of them has it, asks the nodes for the next ones.
     ///
     /// Errors: `Unreachable` of a number in front of those that are kept, too; `NoRecord` where an answer contradicts
-    /// what is known.
+    /// what is known; `Trimmed` where the next record is not there, and later ones are.
     fn read(&mut self, alloc: Global, from: u64) -> Result<Vec<LogRecord>, LogError>
         requires { 0 < from }
 

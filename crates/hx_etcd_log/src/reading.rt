@@ -2,7 +2,7 @@
 ghost use Rattle.std.specs.Prelude.{◌≡◌, ◌+◌, length, IfOk, IfErr, IfSome, OnOk};
 ghost use Rattle.hx_etcd_log.specs.Asks.{OneSince, Tells, IsMissed, IsNotTold};
 ghost use Rattle.hx_etcd_log.specs.EtcdLogs.{asks_of};
-ghost use Rattle.hx_etcd_log.specs.Reads.{asking_from, IsNoRecordAt, IsFoundIn, IsFetched, IsFetchFault};
+ghost use Rattle.hx_etcd_log.specs.Reads.{asking_from, IsFaultFound, IsFoundIn, IsFetched, IsFetchFault};
 
 use crate::asking::{error_of, lost_after};
 use crate::{AskError, EtcdLog, Nodes};
@@ -19,6 +19,8 @@ const MOST_RECORDS: u64 = 100;
 pub(crate) enum Found {
     // Some of them, or none where none stands there.
     Page(Vec<LogRecord>),
+    // The first of them is not there, and later ones are.
+    Gone,
     // What stands at this number is no record of it.
     Bad(u64),
 }
@@ -35,6 +37,7 @@ impl<N: Nodes> EtcdLog<N> {
                 self.told.add_page(page);
                 Ok(())
             }
+            Found::Gone => Err(LogError::Trimmed { number: from }),
             Found::Bad(number) => Err(LogError::NoRecord { number }),
         }
     }
@@ -88,18 +91,19 @@ fn read_found(alloc: Global, from: u64, answer: &Answer) -> Option<Found>
 {
     match read_range_answer(alloc, from, answer) {
         Ok(page) => Some(Found::Page(page)),
-        Err(error) => Some(Found::Bad(bad_number(&error)?)),
+        Err(error) => fault_found(from, &error),
     }
 }
 
-// The number at which an answer has something else than its record.
-fn bad_number(error: &AnswerError) -> Option<u64>
-    ensures { IfSome result (λ number. IsNoRecordAt number error.now) }
+// What an answer that is wrong says of the records from a number on.
+fn fault_found(from: u64, error: &AnswerError) -> Option<Found>
+    ensures { IfSome result (IsFaultFound from error.now) }
 {
     match *error {
+        AnswerError::NoKey { number } if number == from => Some(Found::Gone),
         AnswerError::NoKey { number }
         | AnswerError::OtherNumber { number }
-        | AnswerError::NoRecord { number, .. } => Some(number),
+        | AnswerError::NoRecord { number, .. } => Some(Found::Bad(number)),
         _ => None,
     }
 }

@@ -9,6 +9,7 @@ use std::fmt::Debug;
 use std::process::Abort;
 
 mod appends;
+mod copied;
 mod reads;
 mod sockets;
 

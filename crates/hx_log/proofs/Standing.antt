@@ -268,6 +268,8 @@ is_refused before behind number refusal.Gap taken gap = gap refl
 is_refused before behind number refusal.Unknown taken gap = tt
 is_refused before behind number refusal.Unreachable taken gap = tt
 is_refused before behind number (refusal.NoRecord other) taken gap = tt
+is_refused before behind number (refusal.Trimmed other) taken gap = tt
+is_refused before behind number (refusal.BadCopy other) taken gap = tt
 is_refused before behind number refusal.NoMemory taken gap = tt
 
 pub keep_fault : (before behind : List Record) (w : LogWriter) (text : List ℕ) (error : KeepError) → w.reading.writer ≡ w.writer → IsAppendFault before behind w.reading.number error → IsKeepFault before behind w text error

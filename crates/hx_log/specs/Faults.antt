@@ -17,6 +17,8 @@ IsRefused before behind number refusal.Gap = length before + 1 < number
 IsRefused before behind number refusal.Unknown = Unit {0}
 IsRefused before behind number refusal.Unreachable = Unit {0}
 IsRefused before behind number (refusal.NoRecord other) = Unit {0}
+IsRefused before behind number (refusal.Trimmed other) = Unit {0}
+IsRefused before behind number (refusal.BadCopy other) = Unit {0}
 IsRefused before behind number refusal.NoMemory = Unit {0}
 
 -- the only error of an append

@@ -2,7 +2,7 @@
 use Rattle.std.specs.Prelude.{◌≡◌, ℕ, ◌+◌, ◌<◌, ◌≤◌, List, length}
 use Rattle.hx_terms.specs.Records.{Record}
 use Rattle.hx_log.specs.declared.error.LogError.{LogError}
-use Rattle.hx_log.specs.declared.error.LogError.TheVariants.{Taken, Gap, Unknown, Unreachable, NoRecord, NoMemory}
+use Rattle.hx_log.specs.declared.error.LogError.TheVariants.{Taken, Gap, Unknown, Unreachable, NoRecord, Trimmed, BadCopy, NoMemory}
 
 -- why it does not append a record of this number
 abbrev pub IsNoAppend : (log : List Record) → (number : ℕ) → LogError → Type 0
@@ -11,4 +11,6 @@ IsNoAppend log number Gap = length log + 1 < number
 IsNoAppend log number Unknown = ⊥
 IsNoAppend log number Unreachable = ⊥
 IsNoAppend log number (NoRecord other) = ⊥
+IsNoAppend log number (Trimmed other) = ⊥
+IsNoAppend log number (BadCopy other) = ⊥
 IsNoAppend log number NoMemory = number ≡ length log + 1

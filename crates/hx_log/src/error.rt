@@ -22,6 +22,16 @@ pub enum LogError {
         /// The number.
         number: u64,
     },
+    /// A record of this number stood there, and only copies of the log have it still. Nothing is appended or read.
+    Trimmed {
+        /// The number.
+        number: u64,
+    },
+    /// The copy that a reader begins with can't be read, or has something else where the record of this number is due.
+    BadCopy {
+        /// The number.
+        number: u64,
+    },
     /// A growth was refused. The record does not stand there.
     NoMemory,
 }

@@ -1,9 +1,11 @@
 //! Tests of a log that several append to, in memory and in an etcd, and of a journal and a day over it.
 
+mod copies;
 mod day_log;
 mod etcd;
 mod log;
 mod log_journal;
+mod mirrors;
 mod terms;
 
 use std::fmt::Debug;

@@ -1,5 +1,4 @@
 pub mod ChainLaws
-pub mod RowLaws
 pub mod TokenLaws
 pub mod PushLaws
 pub mod UpdateLaws
@@ -12,6 +11,5 @@ pub mod SetupLines
 pub mod BadLines
 pub mod TextLaws
 pub mod Packing
-pub mod Walks
 pub mod Indexes
 pub mod Cells

@@ -1,7 +1,7 @@
 pub mod Chains
 pub mod Rows
 pub mod Series
-pub mod Slots
+pub mod Places
 pub mod Tokens
 pub mod Packed
 pub mod Seeds

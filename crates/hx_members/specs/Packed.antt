@@ -1,5 +1,6 @@
 -- A name in two words.
-use Rattle.std.specs.Prelude.{◌≡◌, ℕ, ◌+◌, ◌*◌, ◌/◌, ◌%◌, ◌^◌, ◌<◌, ◌++◌, [], ◌∷◌, slice_index}
+use Rattle.std.specs.Prelude.{◌≡◌, ℕ, ◌+◌, ◌*◌, ◌/◌, ◌%◌, ◌^◌, ◌<◌, ◌++◌, List, [], ◌∷◌, slice_index}
+use Rattle.std.specs.Hash as fed
 use Rattle.std.specs.Int.{w16, w32, w64, to_le_bytes, from_le_bytes}
 use Rattle.std.proofs.Common.{ap, ◌∙◌}
 use Rattle.std.proofs.lemmas.Nat.{pow_pos, shr_split, mod_below, from_le_bytes-to_le_bytes_2, from_le_bytes-to_le_bytes_4, from_le_bytes-to_le_bytes_8}
@@ -19,6 +20,10 @@ high_of name =
     let t = name.token.0 in
     from_le_bytes w64 (slice_index t 6 ∷ slice_index t 7 ∷ slice_index t 8 ∷ slice_index t 9
     ∷ slice_index t 10 ∷ slice_index t 11 ∷ slice_index t 12 ∷ slice_index t 13 ∷ [])
+
+-- what is hashed of a name: its two words at once, the high one above the low one
+abbrev pub hashed_of : Name → List (List ℕ)
+hashed_of name = fed.u128 (high_of name * 2 ^ 64 + low_of name)
 
 -- the name of two words
 abbrev pub name_of_words : (low high : ℕ) → Name

@@ -13,7 +13,6 @@ mod rows;
 mod seed;
 mod series;
 mod setup;
-mod slots;
 mod stock;
 mod symbol;
 mod tokens;

@@ -1,9 +1,14 @@
 //! Names in two words.
 ghost use Rattle.std.specs.Prelude.{◌≡◌};
+ghost use Rattle.std.specs.Cmp.{partial_equiv_from_equiv};
+ghost use Rattle.std.specs.Cmp.Rules.{comparing, hashing};
+ghost use Rattle.std.proofs.Common.{rules};
 ghost use Rattle.hx_members.specs.Rows.{name_of, is_name};
+ghost use Rattle.hx_members.specs.Packed.{hashed_of};
 
 use crate::name::Name;
 use hx_units::{MemberNo, Token};
+use std::hash::{Hash, Hasher};
 use std::marker::Model;
 
 /// A name in two words, so that two names are compared in two steps: in the low one the token's fifth and sixth letter,
@@ -35,10 +40,31 @@ impl Model for PackedName {
     } };
 }
 
-// What is added to the words, so that few names make one 0; by the first a sum is multiplied besides.
-const LOW_ADDED: u64 = 0x9e37_79b9_7f4a_7c15;
+impl PartialEq for PackedName {
+    ghost eq = { is_name };
 
-const HIGH_ADDED: u64 = 0xd1b5_4a32_d192_ed03;
+    ghost laws = { partial_equiv_from_equiv (Prim.search (comparing, rules)) };
+
+    #[inline(always)]
+    fn eq(&self, other: &PackedName) -> bool {
+        self.low == other.low && self.high == other.high
+    }
+}
+
+impl Eq for PackedName {
+    ghost laws = { Prim.search (comparing, rules) };
+}
+
+impl Hash for PackedName {
+    ghost hash_input = { hashed_of };
+
+    ghost respects_eq = { Prim.search (hashing, rules) };
+
+    #[inline(always)]
+    fn hash<H: Hasher>(&self, state: &mut H) {
+        state.write_u128(u128::from(self.high) * (1 << 64) + u128::from(self.low));
+    }
+}
 
 // Where digits stand in a word of letters, and then numbers of two digits, and of four.
 const DIGITS: u64 = 0x0f0f_0f0f_0f0f_0f0f;
@@ -48,7 +74,6 @@ const TWOS: u64 = 0x00ff_00ff_00ff_00ff;
 const FOURS: u64 = 0x0000_ffff_0000_ffff;
 
 impl PackedName {
-    ghost use Rattle.hx_members.specs.Seeds.{fixed_hash};
     ghost use Rattle.hx_members.specs.Series.{number_of};
 
     /// A member's token in two words. Its letters are read four, two and eight at once.
@@ -65,20 +90,6 @@ impl PackedName {
             low: front * 0x1_0000 + u64::from(next),
             high: last,
         }
-    }
-
-    /// The hash under the fixed seed.
-    #[inline(always)]
-    pub(crate) fn fixed_hash(self) -> u32
-        ensures { result ≡ fixed_hash self }
-    {
-        let left = u128::from(self.low.wrapping_add(LOW_ADDED));
-        let right = u128::from(self.high.wrapping_add(HIGH_ADDED));
-        let product = left * right;
-        let lower = (product % 0x1_0000_0000_0000_0000) as u64;
-        let upper = (product / 0x1_0000_0000_0000_0000) as u64;
-        let mixed = lower.wrapping_add(upper).wrapping_mul(LOW_ADDED);
-        (mixed / 0x1_0000_0000) as u32
     }
 
     /// The number of its member.
@@ -102,14 +113,6 @@ impl PackedName {
             .wrapping_mul(10_000)
             .wrapping_add(fours / 0x1_0000_0000)
             % 0x1_0000_0000
-    }
-
-    /// Whether two names are the same.
-    #[inline(always)]
-    pub(crate) fn is(self, other: PackedName) -> bool
-        ensures { result ≡ is_name self other }
-    {
-        self.low == other.low && self.high == other.high
     }
 
     /// The name in its usual form.

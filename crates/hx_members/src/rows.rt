@@ -1,18 +1,18 @@
 //! The rows of the used tokens, in order of use.
-ghost use Rattle.std.specs.Prelude.{◌≡◌, ◌+◌, ◌%◌, ◌<◌, ◌≤◌, ◌^◌, ◌++◌, [], ◌∷◌, length, Some, None, true, IsSome, IfSome, IfNone, IfOk, OnOk, OnErr, slice_get};
+ghost use Rattle.std.specs.Prelude.{◌≡◌, ◌+◌, ◌<◌, ◌^◌, ◌++◌, [], ◌∷◌, length, Some, None, false, if◌then◌else◌, IsSome, IfSome, OnOk, OnErr, slice_get};
 ghost use Rattle.std.specs.Option.{option_map, option_copied};
+ghost use Rattle.indexmap.specs.IndexMap.{get, spare};
 ghost use Rattle.hx_members.specs.declared.name.Name.{Name};
-ghost use Rattle.hx_members.specs.declared.series.AllSeries.{AllSeries as SeriesValue};
-ghost use Rattle.hx_members.specs.Chains.{entered_at, IsChainAt};
-ghost use Rattle.hx_members.specs.Rows.{Row, AreDistinct, tokens_of, row_place, row_state, noted_rows, settled_rows};
-ghost use Rattle.hx_members.specs.Slots.{HavePlaces, IsLedToNone, IsSpot, is_at, is_word_of};
+ghost use Rattle.hx_members.specs.Chains.{is_used, entered_at, IsChainAt};
+ghost use Rattle.hx_members.specs.Rows.{Row, is_name, AreDistinct, tokens_of, row_place, row_state, noted_rows, settled_rows};
+ghost use Rattle.hx_members.specs.Places.{is_at};
 
 use crate::name::{ChainFacts, Name, TokenState};
 use crate::packed::PackedName;
 use crate::seed::Seed;
 use crate::series::AllSeries;
-use crate::slots::{Slots, word_of};
 use hx_units::{Known, NoMemory, Token, reserve_ahead};
+use indexmap::IndexMap;
 use std::alloc::Global;
 use std::marker::Model;
 
@@ -87,14 +87,14 @@ impl UsedToken {
     }
 }
 
-/// The most rows that there may be, so that one more than a place fits into half a word.
-const MOST: usize = 0xffff_ffff;
+/// The most rows that cells may lead to: one more than a place fits into a cell. All rows behind these are strays.
+const MOST_CELLED: usize = 0xffff_ffff;
 
-/// How the next row will be found: by the cell of its name, or by a slot, with the word for that slot.
+/// How the next row will be found: by the cell of its name, or among the strays.
 #[derive(Clone, Copy)]
 pub(crate) enum Spot {
     InSeries,
-    InSlots { at: usize, word: u64 },
+    InStrays,
 }
 
 /// The place of the next row: its name, and how it is found.
@@ -105,33 +105,30 @@ pub(crate) struct Reserved {
 }
 
 /// The rows, and the name for which a place is reserved. A row is found by the cell of its name in the series, from the
-/// name's number. Where there is no such cell, or the row of another name is in it, it is found by the slots, from the hash
-/// of the name.
+/// name's number. Where there is no such cell, or the row of another name is in it, the row is a stray: its place is found
+/// from the hash of its name.
 #[derive(Drop)]
 pub(crate) struct Rows {
     rows: Vec<(PackedName, UsedToken)>,
     series: AllSeries,
-    slots: Slots,
-    // How many rows are found by the slots.
-    slotted: usize,
+    strays: IndexMap<PackedName, usize, Seed>,
     place: Option<Reserved>,
-    seed: Seed,
     alloc: Global,
 }
 
 impl Model for Rows {
     ghost use Rattle.hx_members.specs.Rows.{RowList};
-    ghost use Rattle.hx_members.specs.Slots.{IsIndex, IsSpot};
-    ghost use Rattle.std.specs.Prelude.{◌<◌, ◌≤◌, vec_len, vec_capacity, IfSome};
+    ghost use Rattle.hx_members.specs.Places.{IsIndex, IsSpot};
+    ghost use Rattle.std.specs.Prelude.{◌<◌, vec_len, vec_capacity, IfSome};
     ghost use Rattle.std.specs.Option.{option_map};
 
     ghost Value = { RowList };
 
     ghost view = { λ r. record { rows = r.rows.items; place = option_map (λ p. p.name) r.place } };
 
-    ghost invariant = { λ r. IsIndex r.seed r.series r.slots r.rows.items
-        × IfSome r.place (λ p. IsSpot r.seed r.series r.slots (vec_len r.rows) p.name p.spot
-        × (vec_len r.rows < vec_capacity r.rows)) × (r.slotted ≤ vec_len r.rows) };
+    ghost invariant = { λ r. IsIndex r.series r.strays r.rows.items
+        × IfSome r.place (λ p. IsSpot r.series r.strays (vec_len r.rows) p.name p.spot
+        × (vec_len r.rows < vec_capacity r.rows)) };
 }
 
 // Whether the row at a place has the name.
@@ -140,86 +137,27 @@ fn is_at(rows: &[(PackedName, UsedToken)], place: usize, name: PackedName) -> bo
     ensures { result ≡ is_at rows.now name place }
 {
     match rows.get(place) {
-        Some((other, _)) => name.is(*other),
+        Some((other, _)) => name == *other,
         None => false,
     }
 }
 
-// Whether a word is that of a hash, and the row at its place has the name.
-#[inline(always)]
-fn is_word_of(rows: &[(PackedName, UsedToken)], word: u64, hash: u32, name: PackedName) -> bool
-    requires { 0 < word % 2 ^ 32 }
-    ensures { result ≡ is_word_of rows.now hash name word }
-{
-    word / 0x1_0000_0000 == u64::from(hash)
-        && is_at(rows, (word % 0x1_0000_0000) as usize - 1, name)
-}
-
-// Whether one row more that is found by the slots would use more than two of three, and there may be more of them.
-#[inline(always)]
-fn is_full(slotted: usize, slots: usize) -> bool
-    requires slotted { slotted < 2 ^ 32 }
-    requires slots { slots ≤ 2 ^ 32 }
-{
-    slots < Slots::MOST && (slotted + 1) * 3 > slots * 2
-}
-
-// The place of a row of this name behind so many rows, where its walk comes to a free slot and the place fits.
-#[inline(always)]
-fn place_for(
-    slots: &Slots,
-    seed: &Seed,
-    name: PackedName,
-    rows: usize,
-) -> Result<Reserved, NoMemory>
-    ensures name { IfOk result (λ place. place.name ≡ name) }
-
-    // A slot does whatever the series are.
-    ensures spot { (series : SeriesValue) → IfOk result (λ place.
-        IsSpot seed.now series slots.now rows name place.spot) }
-{
-    if rows >= MOST {
-        return Err(NoMemory);
-    }
-    let hash = seed.hash(name);
-    match slots.free(hash) {
-        Some(at) => Ok(Reserved {
-            name,
-            spot: Spot::InSlots {
-                at,
-                word: word_of(hash, rows as u32),
-            },
-        }),
-        None => Err(NoMemory),
-    }
-}
-
-// The place of a row of this name to which the slots lead.
+// The place of the stray of this name.
 #[inline(never)]
-fn led_place(
-    rows: &[(PackedName, UsedToken)],
-    slots: &Slots,
-    seed: &Seed,
-    name: PackedName,
-) -> Option<usize>
-    requires few { length rows.now < 2 ^ 32 }
-    requires places { HavePlaces slots.now }
-    ensures some { IfSome result (λ place. is_at rows.now name place ≡ true) }
-    ensures none { IfNone result (IsLedToNone seed.now slots.now rows.now name) }
+fn stray_place(strays: &IndexMap<PackedName, usize, Seed>, name: PackedName) -> Option<usize>
+    ensures { result ≡ get is_name strays.now name }
 {
-    let hash = seed.hash(name);
-    let mut at = slots.home(hash);
-    for steps in 0..slots.len() {
-        let word = slots.word(at);
-        if word == 0 {
-            return None;
-        }
-        if is_word_of(rows, word, hash, name) {
-            return Some((word % 0x1_0000_0000) as usize - 1);
-        }
-        at = slots.behind(at);
-    }
-    None
+    strays.get(&name).copied()
+}
+
+// Adds a stray, for which there is room.
+#[inline(never)]
+fn add_stray(strays: &mut IndexMap<PackedName, usize, Seed>, name: PackedName, place: usize)
+    requires { 0 < spare strays.old }
+    ensures { (q : Name) → get is_name strays.new q
+        ≡ if is_name name q then Some place else get is_name strays.old q }
+{
+    strays.insert(name, place).unwrap();
 }
 
 // Sets the key at a place.
@@ -253,10 +191,8 @@ impl Rows {
         Rows {
             rows: Vec::new(alloc),
             series: AllSeries::new(alloc),
-            slots: Slots::new(alloc),
-            slotted: 0,
+            strays: IndexMap::with_hasher(alloc, seed),
             place: None,
-            seed,
             alloc,
         }
     }
@@ -276,13 +212,13 @@ impl Rows {
         ensures ok { OnOk result (self.new.place ≡ Some name) }
         ensures err { OnErr result (self.new.place ≡ self.old.place) }
     {
+        if self.rows.len() >= MOST_CELLED {
+            return self.reserve_stray(name);
+        }
         if !self.series.reserve(self.alloc, name)? {
-            return self.reserve_slot(name);
+            return self.reserve_stray(name);
         }
         reserve_ahead(&mut self.rows, 1)?;
-        if self.rows.len() >= MOST {
-            return Err(NoMemory);
-        }
         self.place = Some(Reserved {
             name,
             spot: Spot::InSeries,
@@ -290,31 +226,28 @@ impl Rows {
         Ok(())
     }
 
-    // Makes room for one more row, of a name without a free cell: it will be found by a slot.
+    // Makes room for one more row, of a name without a free cell: it will be a stray.
     #[inline(never)]
-    fn reserve_slot(&mut self, name: PackedName) -> Result<(), NoMemory>
+    fn reserve_stray(&mut self, name: PackedName) -> Result<(), NoMemory>
         ensures rows { self.new.rows ≡ self.old.rows }
         ensures ok { OnOk result (self.new.place ≡ Some name) }
         ensures err { OnErr result (self.new.place ≡ self.old.place) }
     {
         reserve_ahead(&mut self.rows, 1)?;
-        let rows = self.rows.len();
-        if is_full(self.slotted, self.slots.len()) {
-            let slots = self.slots.grown(self.alloc)?;
-            let place = place_for(&slots, &self.seed, name, rows)?;
-            self.slots = slots;
-            self.place = Some(place);
-            return Ok(());
-        }
-        let place = place_for(&self.slots, &self.seed, name, rows)?;
-        self.place = Some(place);
+        self.strays.reserve(1)?;
+        self.place = Some(Reserved {
+            name,
+            spot: Spot::InStrays,
+        });
         Ok(())
     }
 
-    /// Adds the row for which a place is reserved.
+    /// Adds the row for which a place is reserved. No row has its name.
     #[inline(always)]
     pub(crate) fn push(&mut self, used: UsedToken)
         requires place { IsSome self.old.place }
+        requires unused { IfSome self.old.place (λ name.
+            is_used (tokens_of self.old.rows) name.member name.token ≡ false) }
         ensures rows { (name : Name) → self.old.place ≡ Some name
             → self.new.rows ≡ self.old.rows ++ (name, used) ∷ [] }
         ensures place { self.new.place ≡ None }
@@ -323,16 +256,13 @@ impl Rows {
             let Reserved { name, spot } = place;
             match spot {
                 Spot::InSeries => self.series.set(name, self.rows.len() as u32 + 1),
-                Spot::InSlots { at, word } => {
-                    self.slots.set(at, word);
-                    self.slotted += 1;
-                }
+                Spot::InStrays => add_stray(&mut self.strays, name, self.rows.len()),
             }
             self.rows.push_reserved((name, used));
         }
     }
 
-    /// The place of a name. Its cell is looked at first: where that leads to the name's row, and where there are no slots,
+    /// The place of a name. Its cell is looked at first: where that leads to the name's row, and where there are no strays,
     /// nothing is hashed. A cell that leads to the row of another name is passed over.
     #[inline(always)]
     pub(crate) fn place(&self, name: PackedName) -> Option<usize>
@@ -343,10 +273,10 @@ impl Rows {
         if is_at(&self.rows, at, name) {
             return Some(at);
         }
-        if self.slots.len() == 0 {
+        if self.strays.is_empty() {
             return None;
         }
-        led_place(&self.rows, &self.slots, &self.seed, name)
+        stray_place(&self.strays, name)
     }
 
     /// The place of a name. The last row is looked at first.

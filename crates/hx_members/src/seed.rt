@@ -1,11 +1,7 @@
 //! How names are hashed.
-ghost use Rattle.std.specs.Prelude.{◌≡◌, ◌%◌, ◌^◌};
-ghost use Rattle.std.specs.Hash.DefaultHasher as sip;
-ghost use Rattle.std.specs.RandomState.{initial_hasher};
-ghost use Rattle.hx_members.specs.Seeds.{hash_of, bytes_of_name};
+ghost use Rattle.hx_members.specs.Seeds.{hasher_of, written, finished};
 
-use crate::packed::PackedName;
-use std::hash::{BuildHasher, Hasher, RandomState};
+use std::hash::{BuildHasher, DefaultHasher, FoldHasher, Hasher, RandomState};
 
 /// What the table of used tokens hashes with. Members choose their tokens: under the fixed seed, which anybody can
 /// read here, whoever computes tokens that fall on one another slows everybody down. No answer depends on the seed.
@@ -17,45 +13,47 @@ pub enum Seed {
     Drawn(RandomState),
 }
 
-impl Seed {
-    /// The hash of a name.
+/// The hash of a name, as far as it is computed.
+#[derive(Clone, Copy)]
+pub enum NameHasher {
+    /// Under the fixed seed.
+    Folding(FoldHasher),
+    /// Under keys.
+    Keyed(DefaultHasher),
+}
+
+impl Hasher for NameHasher {
+    ghost write = { written };
+
+    ghost finish = { finished };
+
     #[inline(always)]
-    pub(crate) fn hash(&self, name: PackedName) -> u32
-        ensures { result ≡ hash_of self.now name }
-    {
+    fn finish(&self) -> u64 {
         match self {
-            Seed::Fixed => name.fixed_hash(),
-            Seed::Drawn(keys) => drawn_hash(keys, name),
+            NameHasher::Folding(hasher) => hasher.finish(),
+            NameHasher::Keyed(hasher) => hasher.finish(),
+        }
+    }
+
+    #[inline(always)]
+    fn write(&mut self, bytes: &[u8]) {
+        match self {
+            NameHasher::Folding(hasher) => hasher.write(bytes),
+            NameHasher::Keyed(hasher) => hasher.write(bytes),
         }
     }
 }
 
-// The hash of a name under keys.
-fn drawn_hash(keys: &RandomState, name: PackedName) -> u32
-    ensures { result
-        ≡ sip.finish (sip.write (initial_hasher keys.now) (bytes_of_name name)) % 2 ^ 32 }
-{
-    let name = name.name();
-    let member = name.member.get();
-    let t = &name.token.0;
-    let mut hasher = keys.build_hasher();
-    hasher.write(&[
-        (member % 256) as u8,
-        (member / 256) as u8,
-        t[0],
-        t[1],
-        t[2],
-        t[3],
-        t[4],
-        t[5],
-        t[6],
-        t[7],
-        t[8],
-        t[9],
-        t[10],
-        t[11],
-        t[12],
-        t[13],
-    ]);
-    (hasher.finish() % 0x1_0000_0000) as u32
+impl BuildHasher for Seed {
+    type Hasher = NameHasher;
+
+    ghost build_hasher = { hasher_of };
+
+    #[inline(always)]
+    fn build_hasher(&self) -> NameHasher {
+        match self {
+            Seed::Fixed => NameHasher::Folding(FoldHasher::default()),
+            Seed::Drawn(keys) => NameHasher::Keyed(keys.build_hasher()),
+        }
+    }
 }

@@ -183,7 +183,7 @@ pub fn is_same_name(member: MemberNo, token: &Token, other: MemberNo, other_toke
     ensures { result
         ≡ is_name (name_of member token.now) (name_of other other_token.now) }
 {
-    PackedName::of(member, token).is(PackedName::of(other, other_token))
+    PackedName::of(member, token) == PackedName::of(other, other_token)
 }
 
 /// Where a member's token is probably found, for `glance` and `likely_keys`: the member's number in the upper half, and in

@@ -79,10 +79,6 @@ events_begun (text ∷ left) (x ∷ before) (e ∷ history) back p read =
     let rest = events_begun left before history back.1 (p.0, cc (p.1)) read.1 in
     (rest.0, cc (first, rest.1))
 
-pub events_restored : (before : List Event) → events_of (restored before) ≡ before
-events_restored [] = refl
-events_restored (x ∷ before) = ap (λ (xs : List Event). x ∷ xs) (events_restored before)
-
 -- the events of a beginning are a beginning of the events
 pub events_prefix : (shorter longer : List Entry) → IsPrefix shorter longer → IsPrefix (events_of shorter) (events_of longer)
 events_prefix shorter longer p =

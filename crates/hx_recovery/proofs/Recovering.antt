@@ -16,7 +16,8 @@ use Rattle.hx_desk.specs.Known.{history_of, known_replies}
 use Rattle.hx_engine.specs.Journals.{lines, unspoken}
 use Rattle.hx_engine.proofs.Places.{history_of_ledger}
 use Rattle.hx_recovery.specs.Recovery.{AreReadBack, GoesOnFrom, ToldAgainAtOnce, ToldIsToldAgain, AtAnyMoment, VouchedIsCovered, LeftIsOfTheHistory, QuietStaysQuiet, NothingAcross}
-use Rattle.hx_recovery.proofs.Records.{events_begin, events_begun, events_restored, events_prefix}
+use Rattle.hx_engine.proofs.Playing.{events_restored}
+use Rattle.hx_recovery.proofs.Records.{events_begin, events_begun, events_prefix}
 use Rattle.hx_recovery.proofs.Telling.{told_again, ledger_whole, no_trace}
 
 -- what was known is a beginning of what is gone on from

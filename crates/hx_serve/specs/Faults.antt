@@ -2,6 +2,7 @@
 use Rattle.std.specs.Prelude.{ℕ, Bool, true, false, Option, Some, None}
 use Rattle.hx_engine.specs.declared.answers.SubmitError.{SubmitError}
 use Rattle.hx_engine.specs.declared.answers.SubmitError.TheVariants.{Refused, Stopped}
+use Rattle.hx_desk.specs.declared.fault.DeskError.{DeskError}
 use Rattle.hx_desk.specs.declared.fault.DeskError.TheVariants as refused
 use Rattle.hx_tape_lines.specs.declared.fault.Kind.TheVariants as kind
 use Rattle.hx_serve.specs.declared.fault.ServeError.{ServeError}
@@ -15,6 +16,15 @@ line_fault n (Refused (refused.Full free needed)) = failure.Full
 line_fault n (Refused (refused.Limit member)) = failure.Line n kind.Limit
 line_fault n (Refused refused.NoMember) = failure.Line n kind.Member
 line_fault n (Refused refused.BadTime) = failure.Line n kind.Time
+
+-- the fault of a day of which an event that was kept is refused: the setup is not the one that it was kept
+-- under
+abbrev pub resume_fault : DeskError → ServeError
+resume_fault refused.NoMemory = failure.NoMemory
+resume_fault (refused.Full free needed) = failure.Full
+resume_fault (refused.Limit member) = failure.Journal
+resume_fault refused.NoMember = failure.Journal
+resume_fault refused.BadTime = failure.Journal
 
 -- The fault of a day: that of the network, else want of memory, else that of the operator's input, else that of the
 -- output.

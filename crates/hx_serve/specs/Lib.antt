@@ -2,4 +2,5 @@ pub mod Days
 pub mod Faults
 pub mod LastLine
 pub mod Operator
+pub mod Played
 pub mod Publishing

@@ -4,6 +4,7 @@ ghost use Rattle.hx_journal.specs.Unkept.{appended_in, kept_in};
 
 use crate::fault::ServeError;
 use crate::fittings::Fittings;
+use crate::played_day::PlayedDay;
 use hx_engine::{Entry, Journal, Recovered};
 use hx_journal::Unkept;
 use hx_members::Seed;
@@ -41,6 +42,19 @@ impl Beginning<Unkept> {
             fittings: Fittings::none(),
         }
     }
+}
+
+/// What a day begins with whose events are played.
+#[derive(Drop)]
+pub struct PlayedBeginning<'a, J: Journal> {
+    /// The day so far.
+    pub day: PlayedDay<'a>,
+    /// The journal, which keeps the records of the events that are played, and no others.
+    pub journal: J,
+    /// How many events may wait for the journal, at least one: where more would, nobody's next one is recorded.
+    pub ahead: u64,
+    /// What an open day has besides its doors.
+    pub fittings: Fittings,
 }
 
 /// What a day leaves.

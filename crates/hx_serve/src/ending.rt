@@ -1,10 +1,11 @@
 //! How a day ends.
 ghost use Rattle.std.specs.Prelude.{◌≡◌, IfOk, OnOk};
 ghost use Rattle.std.specs.Io.KnownBytes.{Appends};
-ghost use Rattle.hx_serve.specs.Faults.{fault_of_day};
+ghost use Rattle.hx_serve.specs.Faults.{fault_of_day, resume_fault};
 ghost use Rattle.hx_serve.specs.LastLine.{last_line};
 
 use crate::fault::ServeError;
+use hx_engine::DeskError;
 use itoa::Buffer;
 use std::alloc::{AllocError, Global};
 use std::io::Write;
@@ -27,6 +28,17 @@ pub fn fault_of_day(
     match operated {
         Some(fault) => Some(fault),
         None => written,
+    }
+}
+
+/// The fault of a day of which an event that was kept is not recorded again.
+pub fn fault_of_resume(error: DeskError) -> ServeError
+    ensures { result ≡ resume_fault error }
+{
+    match error {
+        DeskError::NoMemory => ServeError::NoMemory,
+        DeskError::Full { .. } => ServeError::Full,
+        DeskError::BadTime | DeskError::Limit { .. } | DeskError::NoMember => ServeError::Journal,
     }
 }
 

@@ -4,11 +4,11 @@ ghost use Rattle.hx_tape_lines.specs.Text.{record_of};
 ghost use Rattle.hx_desk.specs.Entries.{restored};
 ghost use Rattle.hx_engine.specs.Journals.{lines};
 
-use crate::beginning::{Beginning, Day};
-use crate::day::serve_from;
+use crate::beginning::{Beginning, Day, PlayedBeginning};
+use crate::day::{serve_from, serve_played_from};
 use crate::fault::ServeError;
 use crate::history::write_history;
-use hx_doors::Doors;
+use hx_doors::{Doors, Sockets};
 use hx_engine::Journal;
 use hx_floor::{Board, Hosting, Notice};
 use hx_sessions::Gate;
@@ -61,6 +61,45 @@ fn fault_of(day: Day, kept: Result<(), ServeError>) -> Result<(), ServeError> {
     }
 }
 
+// Takes the ports of a day, then makes the file that its history goes to, if a path is given, and posts what an operator
+// must know of its setup and its addresses.
+fn open_up<T: Net<Listener = TcpListener, Stream = TcpStream> + Files, G, B: Board>(
+    rt: &T,
+    hosting: &Hosting<'_, G, B>,
+    history: Option<&str>,
+) -> Result<(Doors<Sockets>, Option<T::File>), ServeError> {
+    let doors = Doors::open(rt, hosting.addresses)?;
+    let file = match history {
+        Some(path) => Some(new_history(rt, path)?),
+        None => None,
+    };
+    if hosting.is_standard {
+        hosting.board.post(Notice::StandardSetup);
+    }
+    if hosting.open.is_some() && !hosting.addresses.are_loopback() {
+        hosting.board.post(Notice::OpenToOthers);
+    }
+    Ok((doors, file))
+}
+
+// Closes what a day leaves open, and writes its history to the file, if there is one.
+fn close_up<T: Files, W: Write + Drop>(
+    rt: &T,
+    alloc: Global,
+    day: Day,
+    file: Option<W>,
+) -> Result<(), ServeError> {
+    let mut day = day;
+    if let Some(socket) = day.socket.take() {
+        socket.close(rt);
+    }
+    let kept = match file {
+        Some(file) => keep_history(alloc, &day, file),
+        None => Ok(()),
+    };
+    fault_of(day, kept)
+}
+
 /// Serves a day over sockets, from what its journal keeps on, and writes its history as a tape to a new
 /// file, if a path is given. The ports are taken before the file is made: a day that cannot begin leaves no file, and
 /// touches none. The last line goes to the output before the history is written.
@@ -91,24 +130,41 @@ pub fn serve_kept<
     requires safe { (J.kept beginning.recovered.journal ≡ J.appended beginning.recovered.journal)
         × (J.is_open beginning.recovered.journal ≡ true) }
 {
-    let doors = Doors::open(rt, hosting.addresses)?;
-    let file = match history {
-        Some(path) => Some(new_history(rt, path)?),
-        None => None,
-    };
-    if hosting.is_standard {
-        hosting.board.post(Notice::StandardSetup);
-    }
-    if hosting.open.is_some() && !hosting.addresses.are_loopback() {
-        hosting.board.post(Notice::OpenToOthers);
-    }
-    let mut day = serve_from(rt, alloc, hosting, doors, beginning, input, output)?;
-    if let Some(socket) = day.socket.take() {
-        socket.close(rt);
-    }
-    let kept = match file {
-        Some(file) => keep_history(alloc, &day, file),
-        None => Ok(()),
-    };
-    fault_of(day, kept)
+    let (doors, file) = open_up(rt, hosting, history)?;
+    let day = serve_from(rt, alloc, hosting, doors, beginning, input, output)?;
+    close_up(rt, alloc, day, file)
+}
+
+/// The same, on from the events that are played of the day, of which none is played again.
+pub fn serve_played<
+    T: Net<Listener = TcpListener, Stream = TcpStream>
+        + Files
+        + Threads
+        + Wait
+        + Clock
+        + Logs
+        + Sync,
+    J: Journal + Drop + Send,
+    G: Gate + Sync,
+    B: Board + Sync,
+    R: Read + Send + Drop,
+    W: Write,
+>(
+    rt: &T,
+    alloc: Global,
+    hosting: &Hosting<'_, G, B>,
+    beginning: PlayedBeginning<'_, J>,
+    input: R,
+    output: &mut W,
+    history: Option<&str>,
+) -> Result<(), ServeError>
+    requires of_setup { beginning.day.setup ≡ hosting.now.setup.now }
+    requires journal { J.appended beginning.journal
+        ≡ lines record_of (restored beginning.day.events) }
+    requires safe { (J.kept beginning.journal ≡ J.appended beginning.journal)
+        × (J.is_open beginning.journal ≡ true) }
+{
+    let (doors, file) = open_up(rt, hosting, history)?;
+    let day = serve_played_from(rt, alloc, hosting, doors, beginning, input, output)?;
+    close_up(rt, alloc, day, file)
 }

@@ -6,7 +6,7 @@ use hx_journal_tool::ToolError;
 use hx_operator::{OperateError, ScheduleError, SocketError};
 use hx_relay::RelayError;
 use hx_runs::RunError;
-use hx_serve::ServeError;
+use hx_serve::{ServeError, fault_of_resume};
 use hx_units::NoMemory;
 use hx_watch::WatchError;
 use std::alloc::{AllocError, AllocFailed};
@@ -62,6 +62,24 @@ pub enum Failure {
     /// A feed that is relayed fell silent before its end, or some of it is missing.
     #[error("the end was not heard")]
     NoEnd,
+    /// A copy of a log can't be read or written.
+    #[error("copy failed: {path}")]
+    CopyFile {
+        /// Its file.
+        path: String,
+    },
+    /// Another process keeps the copy.
+    #[error("copy in use")]
+    CopyInUse,
+    /// A file is no copy of this log, or the log is trimmed behind it.
+    #[error("{path} is no copy of this log, or the log is trimmed behind it")]
+    OtherLog {
+        /// Its name.
+        path: String,
+    },
+    /// A word that is no number of a copy.
+    #[error("error: --copies takes numbers from 1 on, with commas between")]
+    NoCopies,
     /// Another server has taken over.
     #[error("deposed")]
     Deposed,
@@ -96,6 +114,7 @@ impl Failure {
             | Failure::ManyFeeds
             | Failure::ManySessions
             | Failure::NoCopy { .. }
+            | Failure::NoCopies
             | Failure::NoDay => 2,
             Failure::Day(error) => error.status(),
             Failure::Log(error) => error.status(),
@@ -104,7 +123,8 @@ impl Failure {
                 1
             }
             Failure::Serve(ServeError::NoMemory) | Failure::Watch(WatchError::NoMemory) => 3,
-            Failure::HistoryIsThere { .. } => 4,
+            Failure::OtherLog { .. } => 1,
+            Failure::HistoryIsThere { .. } | Failure::CopyFile { .. } | Failure::CopyInUse => 4,
             Failure::Serve(
                 ServeError::Read
                 | ServeError::Write
@@ -161,7 +181,10 @@ impl From<DayJournalError> for Failure {
 
 impl From<DayLogError> for Failure {
     fn from(e: DayLogError) -> Failure {
-        Failure::Log(e)
+        match e {
+            DayLogError::Refused(error) => Failure::Serve(fault_of_resume(error)),
+            other => Failure::Log(other),
+        }
     }
 }
 

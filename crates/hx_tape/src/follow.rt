@@ -1,14 +1,14 @@
 //! The command that follows the log of a day.
 
 use crate::failure::Failure;
-use crate::logged::{log_of, nodes_of};
+use crate::logged::{copied_log_of, nodes_of};
 use clap::ArgMatches;
 use hx_day_log::{DayLogError, News, write_on};
 use hx_log_journal::Follower;
 use std::net::{Net, TcpStream};
-use std::rt::Clock;
+use std::rt::{Clock, Files};
 use std::time::Duration;
-use std::{io, thread};
+use std::{fs, io, thread};
 
 // The log is read this often, in milliseconds.
 const READ_AGAIN: u64 = 20;
@@ -19,14 +19,14 @@ const MOST_READS: u64 = 1_000_000_000_000;
 // A follower writes nothing to the log.
 const NO_WRITER: u64 = 0;
 
-/// Writes the tape of a day as its log keeps it; once, or on and on.
-pub fn follow_log<R: AllocGlobal + Print + Net<Stream = TcpStream> + Clock>(
-    rt: &R,
-    matches: &ArgMatches<'_>,
-) -> Result<(), Failure> {
+/// Writes the tape of a day as its log keeps it, begun with a copy if there is one; once, or on and on.
+pub fn follow_log<
+    R: AllocGlobal + Print + Files<File = fs::File> + Net<Stream = TcpStream> + Clock,
+>(rt: &R, matches: &ArgMatches<'_>) -> Result<(), Failure> {
     let alloc = rt.alloc();
     let nodes = nodes_of(alloc, matches.get_str("log").unwrap_or(""))?;
-    let mut follower = Follower::new(log_of(rt, &nodes)?, NO_WRITER);
+    let log = copied_log_of(rt, &nodes, matches.get_str("from"))?;
+    let mut follower = Follower::new(log, NO_WRITER);
     let mut output = io::writer(rt);
     let is_once = matches.get_flag("once");
     for _ in 0..MOST_READS {

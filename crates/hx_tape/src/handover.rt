@@ -2,7 +2,7 @@
 
 use crate::failure::Failure;
 use crate::leaving::OPERATOR;
-use crate::logged::{nodes_of, signs_of};
+use crate::logged::{nodes_of, words_of};
 use clap::ArgMatches;
 use hx_day_log::DayLogError;
 use std::net::{Net, TcpStream};
@@ -19,7 +19,7 @@ pub fn hand_over<R: AllocGlobal + Net<Stream = TcpStream>>(
     let nodes = nodes_of(alloc, matches.get_str("log").unwrap_or(""))?;
     let writer = matches.get_one::<u64>("writer").unwrap_or(0);
     let word = format!(in alloc; "{writer}")?;
-    if signs_of(rt, &nodes)?.show(OPERATOR, word.as_bytes()) {
+    if words_of(rt, &nodes)?.show(OPERATOR, word.as_bytes()) {
         Ok(())
     } else {
         Err(Failure::Log(DayLogError::Unreachable))

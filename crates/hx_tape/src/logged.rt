@@ -1,24 +1,28 @@
 //! The log of a day in an etcd: its nodes, who is in office there, and who stands by.
-ghost use Rattle.std.specs.Prelude.{◌≡◌, true, IfOk};
+ghost use Rattle.std.specs.Prelude.{◌≡◌, [], true, IfOk};
 ghost use Rattle.hx_tape_lines.specs.Text.{record_of};
 ghost use Rattle.hx_desk.specs.Entries.{restored};
 ghost use Rattle.hx_engine.specs.Journals.{lines};
-ghost use Rattle.hx_etcd_log.specs.EtcdLogs.{committed_of};
+ghost use Rattle.hx_etcd_log.specs.Copied.{records_of};
 ghost use Rattle.hx_log_journal.specs.States.{kept, appended, is_open};
+ghost use Rattle.hx_mirror.specs.Mirrors.{Mirrors};
 
+use crate::copy_file::pages_of;
 use crate::failure::Failure;
 use crate::leaving::OfficeNodes;
 use crate::signs::SignWatch;
-use hx_day_log::{open_log, stand_by};
+use hx_day_log::{MirroredDay, Replica, open_and_play, stand_by_and_play};
 use hx_doors::address_of;
-use hx_engine::Recovered;
-use hx_etcd_log::{EtcdLog, Signs, TcpNodes};
+use hx_engine::{Journal, Plays, Recovered};
+use hx_etcd_log::{CopiedLog, Copies, EtcdLog, Signs, TcpNodes, TextPages};
+use hx_log::LogError;
 use hx_log_journal::{Follower, LogJournal};
 use hx_recovery::Unwatched;
 use hx_serve::{Board, Notice};
 use std::alloc::Global;
+use std::fs;
 use std::net::{Net, SocketAddr, TcpStream};
-use std::rt::Clock;
+use std::rt::{Clock, Files};
 use std::sync::atomic::AtomicBool;
 use std::time::Duration;
 
@@ -61,6 +65,29 @@ pub fn log_of<'x, R: AllocGlobal + Net<Stream = TcpStream>>(
     Ok(EtcdLog::new(rt.alloc(), tcp_nodes(rt, nodes)?))
 }
 
+/// A log in the etcd of these nodes that is begun with the copy in a file, if one is named.
+pub type FileLog<N> = CopiedLog<Option<TextPages<fs::File>>, N>;
+
+/// The log of these nodes, begun with the copy in a file, if one is named. Nothing is read yet.
+///
+/// Errors: those of `pages_of`.
+pub fn copied_log_of<'x, R: AllocGlobal + Files<File = fs::File> + Net<Stream = TcpStream>>(
+    rt: &'x R,
+    nodes: &[SocketAddr],
+    from: Option<&str>,
+) -> Result<FileLog<TcpNodes<'x, R>>, Failure> {
+    let pages = pages_of(rt, nodes, from)?;
+    Ok(CopiedLog::new(rt.alloc(), pages, tcp_nodes(rt, nodes)?))
+}
+
+/// The copies of the log of these nodes.
+pub fn copies_of<'x, R: AllocGlobal + Net<Stream = TcpStream>>(
+    rt: &'x R,
+    nodes: &[SocketAddr],
+) -> Result<Copies<TcpNodes<'x, R>>, Failure> {
+    Ok(Copies::new(rt.alloc(), tcp_nodes(rt, nodes)?))
+}
+
 /// The signs of life of who is in office there.
 pub fn signs_of<'x, R: AllocGlobal + Net<Stream = TcpStream>>(
     rt: &'x R,
@@ -71,74 +98,137 @@ pub fn signs_of<'x, R: AllocGlobal + Net<Stream = TcpStream>>(
     Ok(Signs::new(alloc, nodes))
 }
 
+/// The words of the operator there. A node has as long for one as for a record.
+pub fn words_of<'x, R: AllocGlobal + Net<Stream = TcpStream>>(
+    rt: &'x R,
+    nodes: &[SocketAddr],
+) -> Result<Signs<TcpNodes<'x, R>>, Failure> {
+    Ok(Signs::new(rt.alloc(), tcp_nodes(rt, nodes)?))
+}
+
 /// Who takes a log over, and when.
 #[derive(Clone, Copy)]
-pub struct Candidate<'x> {
+pub struct Candidate<'x, 'm> {
     /// The number of this process, which no other has or had.
     pub writer: u64,
     /// How long who is in office may be gone before he is followed; none to take over at once.
     pub patience: Option<Duration>,
     /// Whether he has left office.
     pub has_left: &'x AtomicBool,
+    /// The file of a copy with which the log is begun, if there is one.
+    pub from: Option<&'m str>,
 }
 
 /// The journal of an exchange whose day a log keeps, over TCP.
-pub type OfficeJournal<'x, R> = LogJournal<EtcdLog<OfficeNodes<'x, R>>>;
+pub type OfficeJournal<'x, R> = LogJournal<FileLog<OfficeNodes<'x, R>>>;
 
-/// Takes the log of a day over: the journal of the exchange, and the events that it keeps. The board is told when it
-/// stands by and when it is in office.
+/// Takes the log of a day over: the day, once the events that the log keeps are played to it, and the journal of the
+/// exchange. A standby plays them as they come. The board is told when it stands by and when it is in office.
 ///
-/// Errors: those of `open_log` and `stand_by`.
-pub fn take_office<'x, R: AllocGlobal + Net<Stream = TcpStream> + Clock, B: Board>(
+/// Errors: those of `pages_of`, `open_and_play` and `stand_by_and_play`.
+pub fn take_office<
+    'x,
+    R: AllocGlobal + Files<File = fs::File> + Net<Stream = TcpStream> + Clock,
+    B: Board,
+    D: Replica + Drop,
+>(
     rt: &'x R,
     board: &B,
     nodes: &[SocketAddr],
-    candidate: Candidate<'x>,
-) -> Result<Recovered<OfficeJournal<'x, R>>, Failure>
-    ensures appended { IfOk result (λ r. appended committed_of r.journal
-        ≡ lines record_of (restored r.events.items)) }
-    ensures kept { IfOk result (λ r. kept committed_of r.journal
-        ≡ lines record_of (restored r.events.items)) }
-    ensures is_open { IfOk result (λ r. is_open r.journal.fault ≡ true) }
+    candidate: Candidate<'x, '_>,
+    day: D,
+) -> Result<(D, OfficeJournal<'x, R>), Failure>
+    requires new { D.played day ≡ [] }
+    ensures appended { IfOk result (λ r. appended records_of r.1
+        ≡ lines record_of (restored (D.played r.0))) }
+    ensures kept { IfOk result (λ r. kept records_of r.1
+        ≡ lines record_of (restored (D.played r.0))) }
+    ensures is_open { IfOk result (λ r. is_open r.1.fault ≡ true) }
+    ensures under { IfOk result (λ r. D.under r.0 ≡ D.under day) }
 {
     let alloc = rt.alloc();
     let Candidate {
         writer,
         patience,
         has_left,
+        from,
     } = candidate;
+    let pages = pages_of(rt, nodes, from)?;
     let office = OfficeNodes {
         nodes: tcp_nodes(rt, nodes)?,
         has_left,
     };
-    let log = EtcdLog::new(alloc, office);
-    let recovered = match patience {
-        None => open_log(alloc, log, writer, &Unwatched)?,
+    let log = CopiedLog::new(alloc, pages, office);
+    let (day, journal) = match patience {
+        None => open_and_play(alloc, log, writer, day, &Unwatched)?,
         Some(patience) => {
             board.post(Notice::StandingBy);
             let mut watch = SignWatch::new(rt, signs_of(rt, nodes)?, patience);
-            stand_by(alloc, log, writer, &mut watch, &Unwatched)?
+            stand_by_and_play(alloc, log, writer, day, &mut watch, &Unwatched)?
         }
     };
-    let events = recovered.events.len() as u64;
+    let events = day.count();
     board.post(Notice::InOffice { events });
-    Ok(recovered)
+    Ok((day, journal))
 }
 
-/// Whether the log says that another writer is in office. It does not if no node tells.
-pub fn is_deposed<R: AllocGlobal + Net<Stream = TcpStream>>(
+/// The same of a day beside whose log another journal is kept: the day, that journal, and the one of the exchange.
+///
+/// Errors: those of `take_office`; `OtherJournal` if the journal beside the log has records that the log has not.
+pub fn take_mirrored<
+    'x,
+    R: AllocGlobal + Files<File = fs::File> + Net<Stream = TcpStream> + Clock,
+    B: Board,
+    D: Plays + Drop,
+    M: Journal + Drop,
+>(
+    rt: &'x R,
+    board: &B,
+    nodes: &[SocketAddr],
+    candidate: Candidate<'x, '_>,
+    day: D,
+    beside: Recovered<M>,
+) -> Result<(D, M, OfficeJournal<'x, R>), Failure>
+    requires new { D.played day ≡ [] }
+    requires beside { M.appended beside.journal
+        ≡ lines record_of (restored beside.events.items) }
+    requires safe { (M.kept beside.journal ≡ M.appended beside.journal)
+        × (M.is_open beside.journal ≡ true) }
+    ensures mirror { IfOk result (λ r. Mirrors M.appended M.kept M.is_open r.1
+        (lines record_of (restored (D.played r.0)))) }
+    ensures appended { IfOk result (λ r. appended records_of r.2
+        ≡ lines record_of (restored (D.played r.0))) }
+    ensures kept { IfOk result (λ r. kept records_of r.2
+        ≡ lines record_of (restored (D.played r.0))) }
+    ensures is_open { IfOk result (λ r. is_open r.2.fault ≡ true) }
+    ensures under { IfOk result (λ r. D.under r.0 ≡ D.under day) }
+{
+    let mirrored = MirroredDay::new(day, beside);
+    let (mirrored, journal) = take_office(rt, board, nodes, candidate, mirrored)?;
+    let (day, mirror) = mirrored.into_both()?;
+    Ok((day, mirror, journal))
+}
+
+/// Whether the log says that the candidate is not in office: that another one is, or that it is trimmed where he has not
+/// read it. It does not if no node tells.
+pub fn is_deposed<R: AllocGlobal + Files<File = fs::File> + Net<Stream = TcpStream>>(
     rt: &R,
     nodes: &[SocketAddr],
-    writer: u64,
+    candidate: Candidate<'_, '_>,
 ) -> bool {
-    let Ok(log) = log_of(rt, nodes) else {
-        return false;
+    let writer = candidate.writer;
+    let log = match copied_log_of(rt, nodes, candidate.from) {
+        Ok(log) => log,
+        Err(Failure::OtherLog { .. }) => return true,
+        Err(_) => return false,
     };
     let mut reader = Follower::new(log, writer);
     for _ in 0..MOST_READS {
         let before = reader.count_read();
-        if reader.read_on(rt.alloc()).is_err() {
-            return false;
+        match reader.read_on(rt.alloc()) {
+            Ok(_) => {}
+            Err(LogError::Trimmed { .. }) => return true,
+            Err(_) => return false,
         }
         if reader.count_read() == before {
             break;

@@ -3,6 +3,8 @@
 #![tactic(auto)]
 
 mod addresses;
+mod copy;
+mod copy_file;
 mod failure;
 mod fittings;
 mod follow;
@@ -12,13 +14,17 @@ mod input;
 mod journal;
 mod leaving;
 mod logged;
+mod office;
 mod operate;
+mod plan;
 mod relay;
 mod serve;
 mod signs;
+mod trim;
 mod watch;
 
 use clap::ArgMatches;
+use copy::copy_log;
 use failure::Failure;
 use follow::follow_log;
 use handover::hand_over;
@@ -36,6 +42,7 @@ use std::random::RandomSource;
 use std::rt::{Clock, Env, Files};
 use std::sync::Wait;
 use std::thread::Threads;
+use trim::trim_log;
 use watch::watch_feed;
 
 fn answer<
@@ -87,6 +94,8 @@ where
         Some(("journal", matches)) => journal_file(rt, matches),
         Some(("follow", matches)) => follow_log(rt, matches),
         Some(("handover", matches)) => hand_over(rt, matches),
+        Some(("copy", matches)) => copy_log(rt, matches),
+        Some(("trim", matches)) => trim_log(rt, matches),
         Some(("relay", matches)) => relay_day(rt, matches),
         _ => Ok(run_command(rt, matches)?),
     }

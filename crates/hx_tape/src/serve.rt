@@ -3,19 +3,19 @@
 use crate::addresses::addresses_of;
 use crate::failure::Failure;
 use crate::fittings::{copies_of, fittings_of};
-use crate::hosting::{host, host_kept, host_logged};
+use crate::hosting::{host, host_kept};
 use crate::input::WakingInput;
-use crate::logged::{Candidate, is_deposed, nodes_of, signs_of, take_office};
-use crate::signs::Beacon;
+use crate::office::begin_logged;
+use crate::plan::{Plan, open_file};
 use clap::ArgMatches;
-use hx_day_journal::{Syncs, Wanted, day_of, digest_of, last_time, open_journal};
-use hx_members::{Seed, Setup};
+use hx_day_journal::{day_of, last_time};
+use hx_members::Seed;
 use hx_runs::{read_setup_text, setup_of};
 use hx_serve::{
     Addresses, Beginning, Board, Fittings, Hosting, JsonNotices, Meter, Metered, Notices, OpenArgs,
     ServeArgs, ServeError, Silent, Tally, Times, today,
 };
-use hx_sessions::{DropCopy, Gate};
+use hx_sessions::Gate;
 use log::Log;
 use std::fs;
 use std::hash::RandomState;
@@ -23,29 +23,11 @@ use std::net::{Net, TcpListener, TcpStream};
 use std::random::RandomSource;
 use std::rt::{Clock, Files};
 use std::sync::Wait;
-use std::sync::atomic::{AtomicBool, AtomicU64, Ordering};
+use std::sync::atomic::{AtomicU64, Ordering};
 use std::thread::Threads;
-use std::time::Duration;
 
 // The most sessions of a day that is not open.
 const SESSIONS: u16 = 63;
-
-// What the command line asks of a day, as it was read.
-#[derive(Clone, Copy)]
-struct Plan<'a> {
-    setup: &'a Setup,
-    // The text of the setup, unless it is the standard one.
-    text: Option<&'a [u8]>,
-    args: &'a ServeArgs,
-    addresses: &'a Addresses,
-    open: Option<OpenArgs>,
-    // The day since 1970, and the last time that it gave.
-    day: u64,
-    last: &'a AtomicU64,
-    // What is counted, and the drop copies.
-    meter: &'a Meter,
-    copies: &'a [DropCopy],
-}
 
 // The numbers of the command line, whose ranges `clap` has looked at.
 fn args_of(matches: &ArgMatches<'_>, addresses: &Addresses) -> Option<ServeArgs> {
@@ -75,14 +57,6 @@ fn open_of(matches: &ArgMatches<'_>) -> Option<OpenArgs> {
         end: matches.get_one::<u32>("end")?,
         connections_per_address: matches.get_one::<u32>("connections-per-address")?,
     })
-}
-
-// When a journal is brought to the disk.
-fn syncs_of(matches: &ArgMatches<'_>) -> Syncs {
-    match matches.get_str("sync") {
-        Some("never") => Syncs::Never,
-        _ => Syncs::Group,
-    }
 }
 
 // The day that is asked for, or today.
@@ -162,14 +136,7 @@ where
     R::Reader: Send,
 {
     let Start { seed, fittings } = start;
-    let setup = digest_of(rt.alloc(), plan.text)?;
-    let wanted = Wanted {
-        session: plan.setup.session(),
-        day: plan.day,
-        setup: &setup,
-        syncs: syncs_of(matches),
-    };
-    let recovered = open_journal(rt, board, path, wanted)?;
+    let recovered = open_file(rt, matches, plan, board, path)?;
     plan.last
         .fetch_max(last_time(&recovered.events), Ordering::SeqCst);
     let input = WakingInput::new(rt.reader());
@@ -181,83 +148,6 @@ where
     };
     let path = matches.get_str("history");
     host_kept(rt, path, hosting, beginning, input)
-}
-
-// Who takes the log of a day over, and when, as the command line asks.
-fn candidate_of<'y>(matches: &ArgMatches<'_>, has_left: &'y AtomicBool) -> Candidate<'y> {
-    let patience = matches.get_one::<u64>("patience");
-    Candidate {
-        writer: matches.get_one::<u64>("writer").unwrap_or(0),
-        patience: match patience {
-            Some(patience) if matches.get_flag("standby") => Some(Duration::from_millis(patience)),
-            _ => None,
-        },
-        has_left,
-    }
-}
-
-// Serves a day over its log, and shows meanwhile that it is in office there. The log may fail, or the day end, and then
-// nobody waits for the operator's next line.
-fn begin_logged<
-    'x,
-    R: AllocGlobal
-        + Input
-        + Print
-        + Files<File = fs::File>
-        + Log
-        + Net<Listener = TcpListener, Stream = TcpStream>
-        + Clock
-        + RandomSource
-        + Threads
-        + Wait
-        + Sync,
-    G: Gate + Sync,
-    B: Board + Sync,
->(
-    rt: &'x R,
-    matches: &ArgMatches<'_>,
-    plan: Plan<'x>,
-    hosting: &Hosting<'_, G, B>,
-    nodes: &str,
-    seed: Seed,
-) -> Result<(), Failure>
-where
-    R::Reader: Send,
-{
-    let nodes = nodes_of(rt.alloc(), nodes)?;
-    let has_left = AtomicBool::new(false);
-    let candidate = candidate_of(matches, &has_left);
-    // A standby opens its sockets only once it is in office.
-    let early = match candidate.patience {
-        None => Some(fittings_of(rt, matches)?),
-        Some(_) => None,
-    };
-    let recovered = take_office(rt, hosting.board, &nodes, candidate)?;
-    let fittings = match early {
-        Some(fittings) => fittings,
-        None => fittings_of(rt, matches)?,
-    };
-    plan.last
-        .fetch_max(last_time(&recovered.events), Ordering::SeqCst);
-    let beginning = Beginning {
-        seed,
-        recovered,
-        ahead: matches.get_one::<u64>("ahead").unwrap_or(u64::MAX),
-        fittings,
-    };
-    let beacon = Beacon {
-        signs: signs_of(rt, &nodes)?,
-        writer: candidate.writer,
-        has_left: &has_left,
-    };
-    let (path, input) = (matches.get_str("history"), WakingInput::new(rt.reader()));
-    match host_logged(rt, path, hosting, beginning, input, beacon) {
-        Err(Failure::Serve(ServeError::Journal))
-            if has_left.load(Ordering::SeqCst) || is_deposed(rt, &nodes, candidate.writer) => {
-            Err(Failure::Deposed)
-        }
-        other => other,
-    }
 }
 
 // The times of a day: those of one that is open, or kept, never fall.
@@ -349,7 +239,7 @@ where
         copies: plan.copies,
     };
     match matches.get_str("log") {
-        Some(nodes) => begin_logged(rt, matches, plan, &hosting, nodes, seed),
+        Some(nodes) => begin_logged(rt, matches, plan, &hosting, board, nodes, seed),
         None => begin_here(rt, matches, plan, &hosting, board, seed),
     }
 }

@@ -1,3 +1,4 @@
 pub mod Standing
 pub mod Fronts
 pub mod Spelling
+pub mod Copies

@@ -96,7 +96,7 @@ good_head head other good p q r s = subst IsHead (sym (same_fields other head p 
 
 -- ---- lines
 
-line_lacks : (line : List ℕ) → IsLine line → Lacks 10 line
+pub line_lacks : (line : List ℕ) → IsLine line → Lacks 10 line
 line_lacks [] is = All-nil (λ b. b ≢ 10)
 line_lacks (b ∷ line) is = All-cons (λ b. b ≢ 10) b line is.0.1 (line_lacks line is.1)
 
@@ -189,7 +189,7 @@ bad_lines error text r h good is = by_error error (subst (λ (l : List ℕ). IsR
     by_error (Line number) bad = no_bad_line r.lines number good.lines bad.1
     by_error Unended bad = no_unended r.lines good.lines bad.1
 
-fault_is_none : (error : TextError) (text : List ℕ) (r : Record) → IsTextFault text error → IsOfLog r → text ≡ spelled r → error ≡ fault.NoMemory
+pub fault_is_none : (error : TextError) (text : List ℕ) (r : Record) → IsTextFault text error → IsOfLog r → text ≡ spelled r → error ≡ fault.NoMemory
 fault_is_none fault.NoLine text r h good is = absurd (none_split 10 (head_line r.head) (text_of r.lines) (subst (Lacks 10) is h))
 fault_is_none fault.Head text r h good is =
     absurd (h.none r.head good.head (first_line text h.line (head_line r.head) h.behind (text_of r.lines) h.is is h.ends (head_lacks r.head good.head)).front)

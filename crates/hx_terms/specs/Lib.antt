@@ -4,3 +4,4 @@ pub mod Inside
 pub mod Terms
 pub mod Laws
 pub mod Texts
+pub mod Copies

@@ -6,6 +6,7 @@
 //! come.
 #![tactic(auto)]
 
+mod copy;
 mod head;
 pub mod laws;
 mod lines;
@@ -13,6 +14,7 @@ mod reading;
 mod record;
 mod text;
 
+pub use copy::{RecordsError, WholeRecords, read_records};
 pub use head::Head;
 pub use reading::{Reading, Verdict};
 pub use record::{LogRecord, RecordError};

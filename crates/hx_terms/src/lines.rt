@@ -43,7 +43,7 @@ fn is_line(line: &[u8]) -> bool
 }
 
 // Whether a line begins as one of the log's own.
-fn is_mark(line: &[u8]) -> bool
+pub(crate) fn is_mark(line: &[u8]) -> bool
     ensures { result ≡ is_mark line.now }
 {
     match line.first() {

@@ -10,6 +10,9 @@ const THEIRS: &str = r#"{"responses":[{"response_range":{"kvs":[
 const SECOND: &str = r#"{"responses":[{"response_range":{"kvs":[
     {"key":"aHgvMDAwMDAwMDAwMDAx","value":"IzIgMSA3IDEK"}]}}]}"#;
 
+// The record is not made, and its key has none.
+const GONE: &str = r#"{"responses":[{"response_range":{"header":{}}}]}"#;
+
 // What becomes of the asks; what the append of `#1 1 7 1` gives; which nodes were asked.
 const APPENDS: &[(&[Turn], Result<(), LogError>, &[usize])] = &[
     (&[Turn::Says(MADE)], Ok(()), &[0]),
@@ -36,6 +39,17 @@ const APPENDS: &[(&[Turn], Result<(), LogError>, &[usize])] = &[
     // All are gone, before or after one that may have made it.
     (&[], Err(LogError::Unreachable), &[0, 1, 2, 0, 1, 2]),
     (&[Turn::Loses], Err(LogError::Unknown), &[0, 1, 2, 0, 1, 2]),
+    // The log is trimmed, before the append or while its answer is lost.
+    (
+        &[Turn::Says(GONE)],
+        Err(LogError::Trimmed { number: 1 }),
+        &[0],
+    ),
+    (
+        &[Turn::Loses, Turn::Says(GONE)],
+        Err(LogError::Trimmed { number: 1 }),
+        &[0, 1],
+    ),
     // What stands there is no first record.
     (
         &[Turn::Says(SECOND)],

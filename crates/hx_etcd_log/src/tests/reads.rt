@@ -11,6 +11,17 @@ const SECOND: &str = r#"{"header":{},"kvs":[
 
 const NONE: &str = r#"{"header":{}}"#;
 
+// Under the first key stands the second record; behind the first record stands the fourth.
+const OTHER: &str = r#"{"header":{},"kvs":[
+    {"key":"aHgvMDAwMDAwMDAwMDAx","value":"IzIgMSA3IDEK"}]}"#;
+
+const GAP: &str = r#"{"header":{},"kvs":[
+    {"key":"aHgvMDAwMDAwMDAwMDAx","value":"IzEgMSA3IDEK"},
+    {"key":"aHgvMDAwMDAwMDAwMDA0","value":"IzQgMSA3IDEK"}]}"#;
+
+const FOURTH: &str = r#"{"header":{},"kvs":[
+    {"key":"aHgvMDAwMDAwMDAwMDA0","value":"IzQgMSA3IDEK"}]}"#;
+
 // Under the key of the first record stands `#1 1 8 1`.
 const THEIRS: &str = r#"{"responses":[{"response_range":{"kvs":[
     {"key":"aHgvMDAwMDAwMDAwMDAx","value":"IzEgMSA4IDEK"}]}}]}"#;
@@ -24,9 +35,15 @@ const READS: &[(&[Turn], Result<usize, LogError>, usize)] = &[
     (&[Turn::Gone, Turn::Loses], Err(LogError::Unknown), 6),
     (
         &[Turn::Says(SECOND)],
+        Err(LogError::Trimmed { number: 1 }),
+        1,
+    ),
+    (
+        &[Turn::Says(OTHER)],
         Err(LogError::NoRecord { number: 1 }),
         1,
     ),
+    (&[Turn::Says(GAP)], Err(LogError::NoRecord { number: 2 }), 1),
 ];
 
 #[test]
@@ -43,7 +60,7 @@ fn records_are_read_from_any_node(rt: HostRuntime) {
 #[test]
 fn what_is_known_does_not_change(rt: HostRuntime) {
     let alloc = rt.alloc();
-    let turns = &[Turn::Says(BOTH), Turn::Says(BOTH), Turn::Says(NONE)];
+    let turns = &[Turn::Says(BOTH), Turn::Says(FOURTH), Turn::Says(NONE)];
     let mut log = new_log(alloc, turns);
     equal(
         &rt,
@@ -61,9 +78,9 @@ fn what_is_known_does_not_change(rt: HostRuntime) {
     );
     equal(&rt, log.nodes.asked.len(), 1);
 
-    // The third is asked for, and the first told.
+    // The third is asked for, and the fourth told.
     let bad = log.read(alloc, 3).map(|found| found.len());
-    equal(&rt, bad, Err(LogError::NoRecord { number: 3 }));
+    equal(&rt, bad, Err(LogError::Trimmed { number: 3 }));
     equal(
         &rt,
         log.read(alloc, 3)

@@ -119,7 +119,7 @@ fn other_tokens_are_found_under_a_drawn_seed(rt: HostRuntime) -> Result<(), Fail
     expect_filled(&rt, &mut tokens, Form::InFront)
 }
 
-// How many tokens of a member lead to their keys without a walk.
+// How many tokens of a member lead to their keys by their cells alone.
 fn count_likely<R: Abort>(rt: &R, tokens: &Tokens, member: MemberNo) -> u32 {
     let mut found: u32 = 0;
     for number in 0..COUNT {

@@ -10,6 +10,7 @@ use hx_recovery::Unwatched;
 use std::alloc::Global;
 use std::process::Abort;
 
+mod played;
 mod rivals;
 mod standby;
 
@@ -30,6 +31,14 @@ fn opened<R: Abort>(
 fn keep_day<R: Abort>(rt: &R, mut journal: LogJournal<MemoryLog>) -> MemoryLog {
     journal.append(b"1 0 51").expect(rt, "room");
     journal.append(b"2 1 4f48").expect(rt, "room");
+    journal.sync().expect(rt, "a log");
+    journal.into_follower().into_log()
+}
+
+// The log, with a line kept of a member whom no setup has.
+fn keep_stranger<R: Abort>(rt: &R, mut journal: LogJournal<MemoryLog>) -> MemoryLog {
+    journal.append(b"1 0 51").expect(rt, "room");
+    journal.append(b"2 4095 4f48").expect(rt, "room");
     journal.sync().expect(rt, "a log");
     journal.into_follower().into_log()
 }

@@ -5,6 +5,7 @@ mod calls;
 mod ranges;
 mod signs;
 mod texts;
+mod trims;
 
 use hx_etcd::{Answer, read_append_answer};
 use std::alloc::Global;

@@ -3,10 +3,11 @@
 use super::boards::Counting;
 use super::days::{Place, standard};
 use super::{equal, holds};
+use hx_journal::Unkept;
 use hx_members::Seed;
 use hx_serve::{
-    Beginning, Day, Doors, Hosting, Meter, OpenArgs, ServeArgs, ServeError, Silent, Tally, Times,
-    serve_day, serve_kept, today, write_history,
+    Day, Doors, Fittings, Hosting, Meter, OpenArgs, PlayedBeginning, PlayedDay, ServeArgs,
+    ServeError, Silent, Tally, Times, serve_day, serve_played, today, write_history,
 };
 use log::Log;
 use std::alloc::Global;
@@ -74,8 +75,13 @@ fn serve_hours<
         copies: &[],
     };
     let path = Some(path);
-    let beginning = Beginning::unkept(alloc, Seed::Fixed);
-    serve_kept(rt, alloc, &hosting, beginning, HOURS, output, path)
+    let beginning = PlayedBeginning {
+        day: PlayedDay::new(alloc, &setup, args, Seed::Fixed)?,
+        journal: Unkept::new(),
+        ahead: u64::MAX,
+        fittings: Fittings::none(),
+    };
+    serve_played(rt, alloc, &hosting, beginning, HOURS, output, path)
 }
 
 // What is in a file, which is there no more then.

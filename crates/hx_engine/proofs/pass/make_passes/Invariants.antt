@@ -4,7 +4,7 @@ use Rattle.hx_engine.proofs.pass.make_passes.Given as goal
 
 abbrev pub invariant-loop-before : goal.invariant-loop-before
 invariant-loop-before g l = record {
-  writer : l.writer ≡ l.fn.writer;
+  blank : l.blank ≡ l.fn.blank;
   register : l.register ≡ l.fn.register;
   parts : l.spare.parts + l.before ≡ l.count;
   amount : l.spare.amount ≡ 0;

@@ -15,7 +15,7 @@ use std::io::Write;
 
 // A watch that has patience for this many looks without news, and counts what it was told.
 #[derive(Drop)]
-struct Patient {
+pub(super) struct Patient {
     looks: u64,
     left: u64,
     news: u64,
@@ -25,7 +25,7 @@ struct Patient {
 }
 
 impl Patient {
-    fn new(looks: u64) -> Patient {
+    pub(super) fn new(looks: u64) -> Patient {
         Patient {
             looks,
             left: looks,

@@ -7,9 +7,10 @@ pub const APPEND_HEAD: &str = "POST /v3/kv/txn HTTP/1.1\r\nHost: etcd\r\n\
 pub const RANGE_HEAD: &str = "POST /v3/kv/range HTTP/1.1\r\nHost: etcd\r\n\
     Content-Type: application/json\r\nContent-Length: ";
 
-// The record `#1 1 7 1` is appended.
+// The record `#1 1 7 1` is appended, unless something was trimmed: the mark of that is hz.
 pub const APPEND_1: &str = "\
     {\"compare\":[{\"key\":\"aHgvMDAwMDAwMDAwMDAx\",\"target\":\"VERSION\",\"result\":\"EQUAL\",\
+    \"version\":\"0\"},{\"key\":\"aHo=\",\"target\":\"VERSION\",\"result\":\"EQUAL\",\
     \"version\":\"0\"}],\"success\":[{\"requestPut\":{\"key\":\"aHgvMDAwMDAwMDAwMDAx\",\
     \"value\":\"IzEgMSA3IDEK\"}}],\"failure\":[{\"requestRange\":{\
     \"key\":\"aHgvMDAwMDAwMDAwMDAx\"}}]}";
@@ -17,14 +18,16 @@ pub const APPEND_1: &str = "\
 // So is `#1 1 8 1`, of another writer.
 pub const RIVAL_1: &str = "\
     {\"compare\":[{\"key\":\"aHgvMDAwMDAwMDAwMDAx\",\"target\":\"VERSION\",\"result\":\"EQUAL\",\
+    \"version\":\"0\"},{\"key\":\"aHo=\",\"target\":\"VERSION\",\"result\":\"EQUAL\",\
     \"version\":\"0\"}],\"success\":[{\"requestPut\":{\"key\":\"aHgvMDAwMDAwMDAwMDAx\",\
     \"value\":\"IzEgMSA4IDEK\"}}],\"failure\":[{\"requestRange\":{\
     \"key\":\"aHgvMDAwMDAwMDAwMDAx\"}}]}";
 
-// So is `#2 1 7 1` with the lines `one` and `two`.
+// So is `#2 1 7 1` with the lines `one` and `two`, where the first one stands.
 pub const APPEND_2: &str = "\
     {\"compare\":[{\"key\":\"aHgvMDAwMDAwMDAwMDAy\",\"target\":\"VERSION\",\"result\":\"EQUAL\",\
-    \"version\":\"0\"}],\"success\":[{\"requestPut\":{\"key\":\"aHgvMDAwMDAwMDAwMDAy\",\
+    \"version\":\"0\"},{\"key\":\"aHgvMDAwMDAwMDAwMDAx\",\"target\":\"VERSION\",\
+    \"result\":\"GREATER\",\"version\":\"0\"}],\"success\":[{\"requestPut\":{\"key\":\"aHgvMDAwMDAwMDAwMDAy\",\
     \"value\":\"IzIgMSA3IDEKb25lCnR3bwo=\"}}],\"failure\":[{\"requestRange\":{\
     \"key\":\"aHgvMDAwMDAwMDAwMDAy\"}}]}";
 
@@ -95,6 +98,68 @@ pub const SEEN_7: &str = "\
 pub const NO_SIGN: &str = "\
     {\"header\":{\"cluster_id\":\"6001611773266757492\",\"member_id\":\"13049071153751544597\",\
     \"revision\":\"4\",\"raft_term\":\"2\"}}";
+
+// The copy 5 shows under the key hc/5 that it has two records, and that is asked for.
+pub const COPY_5: &str = r#"{"key":"aGMvNQ==","value":"Mg=="}"#;
+
+pub const ASK_COPY_5: &str = r#"{"key":"aGMvNQ=="}"#;
+
+// It is shown, and told.
+pub const COPY_SHOWN: &str = "\
+    {\"header\":{\"cluster_id\":\"6001611773266757492\",\"member_id\":\"13049071153751544597\",\
+    \"revision\":\"5\",\"raft_term\":\"2\"}}";
+
+pub const COPY_SEEN: &str = "\
+    {\"header\":{\"cluster_id\":\"6001611773266757492\",\"member_id\":\"13049071153751544597\",\
+    \"revision\":\"5\",\"raft_term\":\"2\"},\"kvs\":[{\"key\":\"aGMvNQ==\",\
+    \"create_revision\":\"5\",\"mod_revision\":\"5\",\"version\":\"1\",\"value\":\"Mg==\"}],\
+    \"count\":\"1\"}";
+
+// The log is trimmed in front of the second record; in front of the ninth, which is not there.
+pub const TRIM_2: &str = "\
+    {\"compare\":[{\"key\":\"aHgvMDAwMDAwMDAwMDAy\",\"target\":\"VERSION\",\
+    \"result\":\"GREATER\",\"version\":\"0\"}],\"success\":[{\"requestDeleteRange\":{\
+    \"key\":\"aHgvMDAwMDAwMDAwMDAx\",\"range_end\":\"aHgvMDAwMDAwMDAwMDAy\"}},{\"requestPut\":{\
+    \"key\":\"aHo=\",\"value\":\"Mg==\"}}]}";
+
+pub const TRIM_9: &str = "\
+    {\"compare\":[{\"key\":\"aHgvMDAwMDAwMDAwMDA5\",\"target\":\"VERSION\",\
+    \"result\":\"GREATER\",\"version\":\"0\"}],\"success\":[{\"requestDeleteRange\":{\
+    \"key\":\"aHgvMDAwMDAwMDAwMDAx\",\"range_end\":\"aHgvMDAwMDAwMDAwMDA5\"}},{\"requestPut\":{\
+    \"key\":\"aHo=\",\"value\":\"OQ==\"}}]}";
+
+// The first record is deleted, and the mark put; nothing is.
+pub const TRIMMED_2: &str = "\
+    {\"header\":{\"cluster_id\":\"6001611773266757492\",\"member_id\":\"13049071153751544597\",\
+    \"revision\":\"6\",\"raft_term\":\"2\"},\"succeeded\":true,\"responses\":[{\
+    \"response_delete_range\":{\"header\":{\"revision\":\"6\"},\"deleted\":\"1\"}},{\
+    \"response_put\":{\"header\":{\"revision\":\"6\"}}}]}";
+
+pub const NOT_TRIMMED: &str = "\
+    {\"header\":{\"cluster_id\":\"6001611773266757492\",\"member_id\":\"13049071153751544597\",\
+    \"revision\":\"6\",\"raft_term\":\"2\"}}";
+
+// The append of the first record finds none, and is not made; the question for the first ten finds the second.
+pub const GONE_1: &str = "\
+    {\"header\":{\"cluster_id\":\"6001611773266757492\",\"member_id\":\"13049071153751544597\",\
+    \"revision\":\"6\",\"raft_term\":\"2\"},\"responses\":[{\"response_range\":{\"header\":{\
+    \"revision\":\"6\"}}}]}";
+
+pub const FROM_2: &str = "\
+    {\"header\":{\"cluster_id\":\"6001611773266757492\",\"member_id\":\"13049071153751544597\",\
+    \"revision\":\"6\",\"raft_term\":\"2\"},\"kvs\":[{\"key\":\"aHgvMDAwMDAwMDAwMDAy\",\
+    \"create_revision\":\"3\",\"mod_revision\":\"3\",\"version\":\"1\",\
+    \"value\":\"IzIgMSA3IDEKb25lCnR3bwo=\"}],\"count\":\"1\"}";
+
+// What is older than the trim is given up.
+pub const COMPACT_HEAD: &str = "POST /v3/kv/compaction HTTP/1.1\r\nHost: etcd\r\n\
+    Content-Type: application/json\r\nContent-Length: ";
+
+pub const COMPACT_6: &str = r#"{"revision":"6"}"#;
+
+pub const COMPACTED: &str = "\
+    {\"header\":{\"cluster_id\":\"6001611773266757492\",\"member_id\":\"13049071153751544597\",\
+    \"revision\":\"6\",\"raft_term\":\"2\"}}";
 
 // What stands in front of a body that has a length, up to that length.
 pub const ANSWER_HEAD: &str = "HTTP/1.1 200 OK\r\n\

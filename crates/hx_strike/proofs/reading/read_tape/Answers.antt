@@ -1,5 +1,5 @@
-use Rattle.std.proofs.Common.{[], sym, subst, ◌∙◌, arith}
-use Rattle.std.specs.Io.KnownBytes.{Consumes}
+use Rattle.std.proofs.Common.{◌≡◌, [], sym, subst, ◌∙◌, arith}
+use Rattle.std.specs.Io.KnownBytes.{Consumes, IsAtEnd}
 use Rattle.std.proofs.KnownBytes.{Consumes-kept, Consumes-trans}
 use Rattle.std.proofs.lemmas.List.{append-nil}
 use Rattle.std.proofs.lemmas.Result.{err_from_is_err_and, IfOk-weaker, IfErr-weaker}
@@ -70,3 +70,19 @@ loop-preserved g c =
             within = l.invariant.within;
           })
     ]
+
+pub returns-in-Ok-eq0-clause-setup : goal.returns-in-Ok-eq0-clause-setup
+returns-in-Ok-eq0-clause-setup g c =
+    IfOk-weaker c.whole.result _ (λ t. t.auditor.setup ≡ c.args.setup.now) (λ y p. rw p.0 c.loop.invariant.setup) c.whole.ensures.ok
+
+pub returns-in-Ok-eq0-clause-whose : goal.returns-in-Ok-eq0-clause-whose
+returns-in-Ok-eq0-clause-whose g c =
+    IfOk-weaker c.whole.result _ (λ t. t.auditor.whose ≡ c.args.whose) (λ y p. rw p.0 c.loop.invariant.whose) c.whole.ensures.ok
+
+pub returns-in-Ok-eq0-clause-at_end : goal.returns-in-Ok-eq0-clause-at_end
+returns-in-Ok-eq0-clause-at_end g c =
+    let l = c.loop in
+    let s = g.R.Read.remaining l.reader in
+    let s' = g.R.Read.remaining c.read.new.self in
+    let end = at_end_after s s' c.in-Ok-eq0.field-0 c.read.new.buf c.in-Ok-eq0.field-0-test (omega arith) c.in-Ok-eq0.ensures.bytes in
+    IfOk-weaker c.whole.result _ (λ t. IsAtEnd s') (λ y p. end.1) c.whole.ensures.ok

@@ -2,7 +2,6 @@ use Rattle.std.proofs.Common.{◌∙◌, ap, sym}
 use Rattle.hx_blog.specs.Feed.{Entries}
 use Rattle.hx_blog.specs.Ends.{WriterState}
 use Rattle.hx_desk.specs.declared.entry.Entry.{Entry}
-use Rattle.hx_desk.specs.Entries.{restored}
 use Rattle.hx_desk.specs.Known.{history_of}
 use Rattle.hx_engine.specs.Journals.{unspoken, lines}
 use Rattle.hx_engine.proofs.HeldLaws.{told_of_unspoken}
@@ -11,12 +10,12 @@ use Rattle.hx_tape_lines.specs.Text.{record_of}
 
 pub invariant_of-result-clause-silent : goal.invariant_of-result-clause-silent
 invariant_of-result-clause-silent g c =
-    let events = c.args.events.now in
+    let history = c.args.desk.now.history in
     let p = ap (λ (w : WriterState Entry). w.published) c.write_before.ensures in
-    p ∙ ap unspoken (sym (told_of_unspoken (restored events))) ∙ ap (λ (k : Entries Entry). unspoken (history_of k)) (sym p)
+    p ∙ ap unspoken (sym (told_of_unspoken history)) ∙ ap (λ (k : Entries Entry). unspoken (history_of k)) (sym p)
 
 pub invariant_of-result-clause-recorded : goal.invariant_of-result-clause-recorded
 invariant_of-result-clause-recorded g c =
-    let events = c.args.events.now in
+    let history = c.args.desk.now.history in
     let p = ap (λ (w : WriterState Entry). w.published) c.write_before.ensures in
-    c.requires.journal ∙ ap (lines record_of) (sym (told_of_unspoken (restored events)) ∙ ap history_of (sym p))
+    c.requires.journal ∙ ap (lines record_of) (sym (told_of_unspoken history) ∙ ap history_of (sym p))

@@ -1,8 +1,7 @@
 use Rattle.std.proofs.Common.{[]}
-use Rattle.hx_desk.specs.Entries.{restored}
 use Rattle.hx_engine.specs.Journals.{unspoken}
 use Rattle.hx_engine.proofs.keeper.Keeper.open.Given as goal
 
 -- the entries that were kept before
 abbrev pub ghosts-write_before : goal.ghosts-write_before
-ghosts-write_before g a = record { entries = unspoken (restored a.events.now); left = [] }
+ghosts-write_before g a = record { entries = unspoken a.desk.now.history; left = [] }

@@ -6,7 +6,7 @@ use Rattle.hx_etcd_log.specs.declared.reading.Found.{Found}
 use Rattle.hx_etcd_log.specs.Telling.{Telling}
 use Rattle.hx_etcd_log.specs.Asks.{OneSince, Tells}
 use Rattle.hx_etcd_log.specs.EtcdLogs.{asks_of}
-use Rattle.hx_etcd_log.specs.Reads.{asking_from, IsFoundIn, Contradicts}
+use Rattle.hx_etcd_log.specs.Reads.{asking_from, SaysItIsGone, IsFoundIn, Contradicts}
 use Rattle.hx_etcd_log.proofs.Outcomes.{records_in, numbered_found}
 use Rattle.hx_etcd_log.proofs.log.EtcdLog.fetch.Goals as goal
 
@@ -39,3 +39,15 @@ returns-in-Bad-clause-err g c =
       asks = subst (λ (n : ℕ). OneSince (Tells (asking_from n) (Contradicts n c.in-Bad.number)) (asks_of c.args.self.now) (asks_of c.ask_for_records.new.self)) from
           (subst (λ (f : Found). OneSince (Tells (asking_from asked) (λ answer. IsFoundIn asked answer f)) (asks_of c.args.self.now) (asks_of c.ask_for_records.new.self)) c.in-Bad.is c.in_ok-page.ensures.ok);
     }
+
+pub returns-in-Gone-clause-err : goal.returns-in-Gone-clause-err
+returns-in-Gone-clause-err g c =
+    let asked = c.len-from.result + 1 in
+    let from : asked ≡ length c.args.self.now.told.records + 1 = ap (λ (n : ℕ). n + 1) c.len-from.ensures.len in (
+      from,
+      record {
+        known = c.in_ok-page.ensures.known;
+        asks = subst (λ (n : ℕ). OneSince (Tells (asking_from n) (SaysItIsGone n)) (asks_of c.args.self.now) (asks_of c.ask_for_records.new.self)) from
+            (subst (λ (f : Found). OneSince (Tells (asking_from asked) (λ answer. IsFoundIn asked answer f)) (asks_of c.args.self.now) (asks_of c.ask_for_records.new.self)) c.in-Gone.is c.in_ok-page.ensures.ok);
+      },
+    )

@@ -8,7 +8,7 @@ use Rattle.hx_etcd.specs.Answers.{IsAppended}
 use Rattle.hx_etcd_log.specs.Telling.{Telling}
 use Rattle.hx_etcd_log.specs.Asks.{OneSince, Tells}
 use Rattle.hx_etcd_log.specs.EtcdLogs.{asks_of}
-use Rattle.hx_etcd_log.specs.Appends.{appending, IsMade, HasKeyText, IsFindFault}
+use Rattle.hx_etcd_log.specs.Appends.{appending, IsMade, SaysNoneBefore, HasKeyText, IsFindFault}
 use Rattle.hx_etcd_log.proofs.Since.{tells_also}
 use Rattle.hx_etcd_log.proofs.Outcomes.{both_ok, each_err, find_fault}
 use Rattle.hx_etcd_log.proofs.log.EtcdLogLog.append.Goals as goal
@@ -56,3 +56,17 @@ returns-in-Taken-clause-fault g c =
     (λ (e : LogError) (h : IsFindFault c.ask_to_append.new.self.told c.find.new.self r text e).
     find_fault c.args.self.now _ r text e next has (subst (λ (t : Telling). IsFindFault t c.find.new.self r text e) c.in_ok-ask_to_append.ensures.known h))
     c.find.ensures.fault
+
+pub returns-in-NoneBefore-clause-fault : goal.returns-in-NoneBefore-clause-fault
+returns-in-NoneBefore-clause-fault g c =
+    let r = c.args.next.now in
+    let none : OneSince (Tells (appending r) (SaysNoneBefore r)) (asks_of c.args.self.now) (asks_of c.ask_to_append.new.self) =
+    subst (λ (s : Appended). OneSince (Tells (appending r) (λ answer. IsAppended r.head.number answer s)) (asks_of c.args.self.now) (asks_of c.ask_to_append.new.self))
+    c.in-NoneBefore.is c.in_ok-ask_to_append.ensures.ok in
+    let number : c.head-number.result.number ≡ r.head.number = ap (λ (h : Head). h.number) c.head-number.ensures.head in (
+      number,
+      (
+        omega (arith, number, c.if-number-due.false, c.if-number-due-2.false, c.len-due.ensures.len),
+        record { known = c.in_ok-ask_to_append.ensures.known; asks = none },
+      ),
+    )

@@ -1,6 +1,6 @@
 use Rattle.std.proofs.Common.{sym, ap, ◌∙◌}
 use Rattle.hx_members.specs.Rows.{RowList}
-use Rattle.hx_members.specs.Slots.{is_at}
+use Rattle.hx_members.specs.Places.{is_at}
 use Rattle.hx_members.proofs.Indexes.{row_place-is_at}
 use Rattle.hx_members.proofs.rows.Rows.last_or_place.Goals as goal
 

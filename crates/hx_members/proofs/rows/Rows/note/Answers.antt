@@ -1,6 +1,6 @@
 use Rattle.std.proofs.Common.{◌≡◌, ◌++◌, length, take, drop, List, rules, ap, sym, ◌∙◌, subst}
 use Rattle.hx_members.specs.Rows.{Row, noted_rows}
-use Rattle.hx_members.specs.Slots.{IsIndex}
+use Rattle.hx_members.specs.Places.{IsIndex}
 use Rattle.hx_members.proofs.Indexes.{took, IsIndex-noted}
 use Rattle.hx_members.proofs.rows.Rows.note.Goals as goal
 
@@ -10,4 +10,4 @@ invariant_of-self c =
     let rows : List Row = c.note_at.new.rows in
     let new : take i.rows.len (rows ++ drop (length rows) i.rows.items) ≡ rows = took i.rows.len rows i.rows.items (search rules) in
     let is = new ∙ c.note_at.ensures ∙ ap (λ l. noted_rows c.args.chain c.args.shares c.args.displayed l) c.deref_mut.ensures.value in
-    (subst (λ l. IsIndex i.seed i.series i.slots l) (sym is) (IsIndex-noted i.seed i.series i.slots i.rows.items c.args.chain c.args.shares c.args.displayed c.self.invariant.0), c.self.invariant.1, c.self.invariant.2)
+    (subst (λ l. IsIndex i.series i.strays l) (sym is) (IsIndex-noted i.series i.strays i.rows.items c.args.chain c.args.shares c.args.displayed c.self.invariant.0), c.self.invariant.1)

@@ -1,8 +1,0 @@
-use Rattle.std.proofs.Common.{[]}
-use Rattle.hx_desk.specs.Entries.{restored}
-use Rattle.hx_engine.specs.Journals.{unspoken}
-use Rattle.hx_engine.proofs.exchange.Exchange.resume.Given as goal
-
--- the entries that were kept before
-abbrev pub ghosts-write_before : goal.ghosts-write_before
-ghosts-write_before g a = record { entries = unspoken (restored a.events.now); left = [] }

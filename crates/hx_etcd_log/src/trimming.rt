@@ -1,0 +1,136 @@
+//! What the copies of a log show in an etcd, and how the log is trimmed.
+ghost use Rattle.std.specs.Prelude.{◌≡◌, ◌<◌, ◌≤◌, ◌+◌, ℕ, [], IfSome, IfNone};
+ghost use Rattle.std.specs.List.{AllByRecursion};
+ghost use Rattle.hx_etcd_log.specs.Trims.{HasBehind, IsLeast, lesser};
+
+use crate::turns::ask_in_turn;
+use crate::{AskError, Nodes};
+use hx_etcd::{
+    AnswerError, Trimmed, compaction_request, copy_question, copy_request, range_request,
+    read_compaction_answer, read_range_answer, read_sign_answer, read_trim_answer, trim_request,
+};
+use hx_terms::LogRecord;
+use hx_text::read_number;
+use std::alloc::Global;
+
+/// The copies of a log, as they show in an etcd of these nodes how much they have, and the trimming of the log.
+#[derive(Drop)]
+pub struct Copies<N> {
+    alloc: Global,
+    nodes: N,
+    // The node that is asked next.
+    turn: usize,
+}
+
+impl<N: Nodes> Copies<N> {
+    /// No node was asked yet.
+    pub fn new(alloc: Global, nodes: N) -> Copies<N> {
+        Copies {
+            alloc,
+            nodes,
+            turn: 0,
+        }
+    }
+
+    /// Shows that a copy surely has this many records, and returns whether a node took it.
+    pub fn show(&mut self, copy: u64, count: u64) -> bool {
+        match copy_request(self.alloc, copy, count) {
+            Ok(request) => ask_in_turn(&mut self.nodes, &mut self.turn, &request).is_ok(),
+            Err(_) => false,
+        }
+    }
+
+    /// How many records a copy has shown last; none if it has shown none.
+    ///
+    /// Errors: no node gave an answer that tells it.
+    pub fn seen(&mut self, copy: u64) -> Result<Option<u64>, AskError> {
+        let Ok(question) = copy_question(self.alloc, copy) else {
+            return Err(AskError::Unsent);
+        };
+        let answer = ask_in_turn(&mut self.nodes, &mut self.turn, &question)?;
+        match read_sign_answer(self.alloc, &answer) {
+            Ok(Some(text)) => Ok(read_number(&text)),
+            Ok(None) => Ok(None),
+            Err(_) => Err(AskError::Lost),
+        }
+    }
+
+    /// The record of this number, where it stands; none where it does not.
+    ///
+    /// Errors: no node gave an answer that tells it.
+    pub fn stands(&mut self, number: u64) -> Result<Option<LogRecord>, AskError> {
+        let Ok(request) = range_request(self.alloc, number, 1) else {
+            return Err(AskError::Unsent);
+        };
+        let answer = ask_in_turn(&mut self.nodes, &mut self.turn, &request)?;
+        match read_range_answer(self.alloc, number, &answer) {
+            Ok(mut found) => Ok(found.pop()),
+            Err(AnswerError::NoKey { .. }) => Ok(None),
+            Err(_) => Err(AskError::Lost),
+        }
+    }
+
+    /// Deletes the records in front of the one of this number, where that stands. The answer says what became of it.
+    ///
+    /// Errors: no node gave an answer that tells it. They may be deleted.
+    pub fn trim(&mut self, number: u64) -> Result<Trimmed, AskError> {
+        let Ok(request) = trim_request(self.alloc, number) else {
+            return Err(AskError::Unsent);
+        };
+        let answer = ask_in_turn(&mut self.nodes, &mut self.turn, &request)?;
+        read_trim_answer(self.alloc, &answer).map_err(|_| AskError::Lost)
+    }
+
+    /// Frees what was deleted before a revision, and returns whether a node has done so.
+    pub fn compact(&mut self, revision: u64) -> bool {
+        let Ok(request) = compaction_request(self.alloc, revision) else {
+            return false;
+        };
+        match ask_in_turn(&mut self.nodes, &mut self.turn, &request) {
+            Ok(answer) => read_compaction_answer(self.alloc, &answer).is_ok(),
+            Err(_) => false,
+        }
+    }
+}
+
+/// The record in front of which a log may be trimmed, where its copies have these many records: the last one that each
+/// of them has, with this many behind it that are to stay. None where a copy has shown nothing, or too few.
+pub fn trim_place(counts: &[Option<u64>], stay: u64) -> Option<u64>
+    ensures some { IfSome result (λ n. (1 < n) × AllByRecursion (HasBehind n stay) counts.now) }
+    ensures last { IfSome result (λ n. (m : ℕ) → AllByRecursion (HasBehind m stay) counts.now → m ≤ n) }
+    ensures none { IfNone result ((n : ℕ) → 1 < n → AllByRecursion (HasBehind n stay) counts.now
+        → counts.now ≡ []) }
+{
+    let least = least_of(counts)?;
+    if least <= stay {
+        return None;
+    }
+    let place = least - stay;
+    if place > 1 { Some(place) } else { None }
+}
+
+// The least of what copies have shown; none where one of them has shown nothing, or there is none.
+fn least_of(counts: &[Option<u64>]) -> Option<u64>
+    ensures some { IfSome result (IsLeast counts.now) }
+    ensures none { IfNone result ((n stay : ℕ) → AllByRecursion (HasBehind n stay) counts.now
+        → counts.now ≡ []) }
+{
+    let mut least = None;
+    for count in counts {
+        let Some(count) = *count else {
+            return None;
+        };
+        least = lesser(least, count);
+    }
+    least
+}
+
+// The lesser of two numbers, of which the first may not be there.
+fn lesser(one: Option<u64>, other: u64) -> Option<u64>
+    ensures { result ≡ lesser one other }
+{
+    match one {
+        Some(one) => Some(one.min(other)),
+        None => Some(other),
+    }
+}

@@ -1,0 +1,268 @@
+//! Who attends to a day, and how it is concluded.
+ghost use Rattle.std.specs.Prelude.{◌≡◌, length, None, IfOk};
+ghost use mathlib.Core.List.{IsPrefix};
+ghost use Rattle.std.specs.Io.KnownBytes.{Appends};
+ghost use Rattle.hx_desk.specs.Entries.{restored};
+ghost use Rattle.hx_serve.specs.Days.{IsServed};
+ghost use Rattle.hx_serve.specs.LastLine.{last_line};
+
+use crate::beginning::Day;
+use crate::ending::{fault_of_day, write_last_line};
+use crate::fault::ServeError;
+use crate::fittings::Fittings;
+use crate::open_day::{Desk, Page, Staff, work_open};
+use crate::parts::{dismiss, hire};
+use crate::places::{Hall, make_places};
+use crate::publishing::Publishing;
+use crate::watching::Viewer;
+use crate::workers::{Writers, work};
+use hx_blog::{Log, Reader};
+use hx_doors::{Datagrams, Doors, Lobby, take};
+use hx_engine::{Entry, Exchange, FinishError, Finished, Journal, Pass, Venue};
+use hx_floor::{Board, Bulletin, DayClock, Floor, Hosting, Seats};
+use hx_operator::OperatorSocket;
+use hx_sessions::Gate;
+use log::Log as Logger;
+use std::alloc::Global;
+use std::io::{Read, Write};
+use std::sync::Wait;
+use std::thread::Threads;
+use std::time::Clock;
+
+// Of an open day's log this many slots more than half are kept for the codes of the hours, besides two for each stock.
+const KEPT: u64 = 8;
+
+/// What is left when all workers have ended.
+#[derive(Drop)]
+pub struct Outcome<V: Venue> {
+    passes: Vec<Pass<V>>,
+    network: bool,
+    memory: bool,
+    operated: Option<ServeError>,
+    socket: Option<OperatorSocket>,
+}
+
+/// By what the sessions and the operator submit, and by what the publisher and the sessions read.
+#[derive(Drop)]
+pub struct Crew<V: Venue> {
+    /// The operator's pass.
+    pub own: Pass<V>,
+    /// Those of the sessions, and one more: in an open day that of the operator's socket and of the clock.
+    pub passes: Vec<Pass<V>>,
+    /// A reader of the feed.
+    pub reader: Reader<Entry>,
+    /// What an open day has besides its doors.
+    pub fittings: Fittings,
+    /// What the operator has made of the day so far.
+    pub bulletin: Bulletin,
+    pub ghost belongs: { reader.log ≡ V.log },
+}
+
+// The publisher learns what every pass knows.
+fn learn_all<'a, V: Venue>(
+    publishing: &mut Publishing<'a, V>,
+    log: &Log<Entry>,
+    passes: &mut Vec<Pass<V>>,
+)
+    requires { log.now ≡ V.log }
+{
+    for pass in passes.iter_mut() {
+        publishing.learn(pass.receipt(log));
+    }
+}
+
+// A day of this many connections, from the first one on, up to the packet that ends the feed.
+fn attend<
+    V: Venue + Send + Sync,
+    J: Journal + Drop + Send,
+    G: Gate + Sync,
+    B: Board + Sync,
+    D: Datagrams + Sync + Drop,
+    T: Threads + Wait + Clock + Logger + Sync,
+    R: Read + Drop,
+>(
+    rt: &T,
+    alloc: Global,
+    exchange: &Exchange<V, J>,
+    hosting: &Hosting<'_, G, B>,
+    doors: Doors<D>,
+    crew: Crew<V>,
+    input: R,
+) -> Result<Outcome<V>, ServeError> {
+    let Crew {
+        own: pass,
+        mut passes,
+        mut reader,
+        ..
+    } = crew;
+    let Doors { listener, socket } = doors;
+    let log = exchange.feed_log();
+    let connections = take(alloc, &listener, hosting.args.sessions)?;
+    drop(listener);
+    let parts = hire(
+        rt,
+        alloc,
+        hosting.times,
+        log,
+        connections,
+        &mut passes,
+        &mut reader,
+    )?;
+    let now = DayClock::of_clock(rt).time_of_day();
+    let other = reader.split(log);
+    let session = *hosting.setup.session();
+    let publishing = Publishing::new(session, hosting, log, reader, other, now);
+    let writers = Writers { parts, pass, input };
+    let (mut publishing, ((own, operated), served)) = work(
+        rt, alloc, exchange, hosting, &socket, publishing, writers,
+    );
+    let begun = dismiss(rt, hosting.setup, served, &mut passes);
+    let _ = passes.push(own);
+    learn_all(&mut publishing, log, &mut passes);
+    let sent = exchange.failure(rt).is_some() || publishing.finish(rt, &socket);
+    Ok(Outcome {
+        passes,
+        network: !sent,
+        memory: !begun,
+        operated,
+        socket: None,
+    })
+}
+
+/// An open day, up to the last packet that tells the end of the feed. Half of the log and some slots are kept for the codes
+/// of the hours and for ticks: what they tell is the codes themselves, the stocks, and the end of orders that were added
+/// with a message each. A day that is not open is one of as many connections as it has sessions.
+pub fn attend_open<
+    V: Venue + Send + Sync,
+    J: Journal + Drop + Send,
+    G: Gate + Sync,
+    B: Board + Sync,
+    D: Datagrams + Sync + Drop,
+    T: Threads + Wait + Clock + Logger + Sync,
+    R: Read + Send + Drop,
+>(
+    rt: &T,
+    alloc: Global,
+    exchange: &Exchange<V, J>,
+    hosting: &Hosting<'_, G, B>,
+    doors: Doors<D>,
+    crew: Crew<V>,
+    input: R,
+) -> Result<Outcome<V>, ServeError> {
+    let Some(open) = hosting.open else {
+        return attend(rt, alloc, exchange, hosting, doors, crew, input);
+    };
+    let Crew {
+        own: pass,
+        mut passes,
+        mut reader,
+        fittings,
+        bulletin,
+    } = crew;
+    let Fittings { duties, metrics } = fittings;
+    let Some(other) = passes.pop() else {
+        return Err(ServeError::NoMemory);
+    };
+    let Doors {
+        listener,
+        socket: datagrams,
+    } = doors;
+    let log = exchange.feed_log();
+    let stocks = hosting.setup.stocks().len() as u64;
+    exchange.keep(
+        rt,
+        (hosting.args.capacity / 2)
+            .saturating_add(KEPT)
+            .saturating_add(stocks),
+    );
+    let count = passes.len();
+    let places = make_places(alloc, log, passes, &mut reader)?;
+    let now = DayClock::of_clock(rt).time_of_day();
+    let second = reader.split(log);
+    let viewer = Viewer::new(reader.split(log));
+    let session = *hosting.setup.session();
+    let publishing = Publishing::new(session, hosting, log, reader, second, now);
+    let seats = Seats::new(alloc, count)?;
+    let lobby = Lobby::new(alloc);
+    let floor = Floor {
+        setup: hosting.setup,
+        seats: &seats,
+        bulletin: &bulletin,
+        meter: hosting.meter,
+        board: hosting.board,
+        capacity: hosting.args.capacity,
+        turns: hosting.args.turns,
+        stays_open: duties.socket.is_some() || duties.schedule.is_some(),
+    };
+    let hall = Hall {
+        hosting,
+        floor: &floor,
+        lobby: &lobby,
+    };
+    let staff = Staff {
+        places,
+        listener,
+        desk: Desk {
+            pass,
+            input,
+            other,
+            duties,
+        },
+        page: Page { metrics, viewer },
+        open,
+    };
+    let (mut publishing, (mut passes, ((other, socket), (own, operated)))) = work_open(
+        rt, alloc, exchange, &hall, &datagrams, publishing, staff,
+    );
+    let _ = passes.push(own);
+    let _ = passes.push(other);
+    learn_all(&mut publishing, log, &mut passes);
+    let stopped = exchange.failure(rt).is_some();
+    let sent = stopped || publishing.finish(rt, &datagrams);
+    if !stopped {
+        let bell = exchange.feed_bell();
+        publishing.linger(rt, &datagrams, hosting.board, bell, open.end);
+    }
+    Ok(Outcome {
+        passes,
+        network: !sent,
+        memory: false,
+        operated,
+        socket,
+    })
+}
+
+/// Ends the exchange, and writes the last line.
+pub fn conclude<V: Venue, J: Journal + Drop, W: Write>(
+    alloc: Global,
+    exchange: Exchange<V, J>,
+    outcome: Outcome<V>,
+    output: &mut W,
+) -> Result<Day, ServeError>
+    ensures served { IfOk result (λ day. IsServed V.setup day.history.items day.feed) }
+    ensures begins { IfOk result (λ day. IsPrefix (restored V.before) day.history.items) }
+    ensures told { IfOk result (λ day. day.fault ≡ None
+        → Appends (W.contents output.old) (W.contents output.new)
+        (last_line (length day.history.items) day.feed)) }
+{
+    let Outcome {
+        passes,
+        network,
+        memory,
+        operated,
+        socket,
+    } = outcome;
+    let finished = match exchange.finish(passes) {
+        Ok(finished) => finished,
+        Err(FinishError::Stopped { .. }) => return Err(ServeError::Journal),
+        Err(FinishError::Missing { .. }) => return Err(ServeError::NoMemory),
+    };
+    let Finished { history, feed, .. } = finished;
+    let written = write_last_line(alloc, output, history.len() as u64, feed).err();
+    Ok(Day {
+        history,
+        feed,
+        fault: fault_of_day(network, memory, operated, written),
+        socket,
+    })
+}

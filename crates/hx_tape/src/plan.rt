@@ -1,0 +1,70 @@
+//! What the command line asks of a day, and the file that keeps one.
+ghost use Rattle.std.specs.Prelude.{◌≡◌, true, IfOk};
+ghost use Rattle.hx_disk.specs.Calls.{seen_of};
+ghost use Rattle.hx_journal.specs.Files.{stored, appended};
+ghost use Rattle.hx_journal.specs.Records.{records_of};
+ghost use Rattle.hx_tape_lines.specs.Text.{record_of};
+ghost use Rattle.hx_desk.specs.Entries.{restored};
+ghost use Rattle.hx_engine.specs.Journals.{lines};
+
+use crate::failure::Failure;
+use clap::ArgMatches;
+use hx_day_journal::{DayFile, Syncs, Wanted, digest_of, open_journal};
+use hx_engine::Recovered;
+use hx_members::Setup;
+use hx_serve::{Addresses, Board, Meter, OpenArgs, ServeArgs};
+use hx_sessions::DropCopy;
+use std::fs;
+use std::rt::{Clock, Files};
+use std::sync::atomic::AtomicU64;
+
+// What the command line asks of a day, as it was read.
+#[derive(Clone, Copy)]
+pub(crate) struct Plan<'a> {
+    pub(crate) setup: &'a Setup,
+    // The text of the setup, unless it is the standard one.
+    pub(crate) text: Option<&'a [u8]>,
+    pub(crate) args: &'a ServeArgs,
+    pub(crate) addresses: &'a Addresses,
+    pub(crate) open: Option<OpenArgs>,
+    // The day since 1970, and the last time that it gave.
+    pub(crate) day: u64,
+    pub(crate) last: &'a AtomicU64,
+    // What is counted, and the drop copies.
+    pub(crate) meter: &'a Meter,
+    pub(crate) copies: &'a [DropCopy],
+}
+
+// When a journal is brought to the disk.
+fn syncs_of(matches: &ArgMatches<'_>) -> Syncs {
+    match matches.get_str("sync") {
+        Some("never") => Syncs::Never,
+        _ => Syncs::Group,
+    }
+}
+
+// Opens the file that keeps a day.
+pub(crate) fn open_file<'x, R: AllocGlobal + Files<File = fs::File> + Clock, B: Board>(
+    rt: &'x R,
+    matches: &ArgMatches<'_>,
+    plan: Plan<'_>,
+    board: &'x B,
+    path: &str,
+) -> Result<Recovered<DayFile<'x, B, R>>, Failure>
+    ensures appended { IfOk result (λ r.
+        records_of (appended (λ d. seen_of d.log.events) r.journal)
+        ≡ lines record_of (restored r.events.items)) }
+    ensures kept { IfOk result (λ r.
+        records_of (stored (λ d. seen_of d.log.events) r.journal)
+        ≡ lines record_of (restored r.events.items)) }
+    ensures is_open { IfOk result (λ r. r.journal.is_open ≡ true) }
+{
+    let setup = digest_of(rt.alloc(), plan.text)?;
+    let wanted = Wanted {
+        session: plan.setup.session(),
+        day: plan.day,
+        setup: &setup,
+        syncs: syncs_of(matches),
+    };
+    Ok(open_journal(rt, board, path, wanted)?)
+}
