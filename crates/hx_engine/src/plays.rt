@@ -9,7 +9,7 @@ use hx_desk::DeskError;
 use hx_market::Event;
 use hx_units::NoMemory;
 
-/// What the events of a day are played on, one behind the other, as its journal or its log keeps them.
+/// What the events of a day are played on, in turn, as its journal or its log keeps them.
 pub trait Plays {
     /// The events that were played.
     ghost played: { Self → List Event };
@@ -30,7 +30,7 @@ pub trait Plays {
         ensures { result ≡ length (played self.now) };
 }
 
-/// A list of events: to play one is to add it, and none is refused but for want of memory.
+/// A list of events: to play one is to add it, and none is refused unless out of memory.
 impl Plays for Vec<Event> {
     ghost played = { λ events. events.items };
 
