@@ -23,7 +23,7 @@ use hx_desk::Entry;
 use hx_journal::{Journal, JournalError};
 use hx_units::NoMemory;
 use std::alloc::Global;
-use std::sync::atomic::AtomicBool;
+use std::sync::atomic::{AtomicBool, AtomicU64};
 use std::sync::{Condvar, Mutex, Wait};
 
 /// A desk behind a lock, with the log that everybody may read, and a journal: nothing is told before the journal keeps
@@ -42,6 +42,8 @@ pub struct Exchange<V: Venue, J: Journal> {
     pub(crate) feed_bell: Bell,
     // Whether the publisher has news for which its bell has not been rung.
     pub(crate) is_feed_due: AtomicBool,
+    // How many threads have events to record under the lock, whether they wait for it or have it.
+    pub(crate) entering: AtomicU64,
     pub(crate) passes: PassCount<V>,
     // How many events may be admitted and not yet told.
     pub(crate) ahead: u64,
@@ -118,6 +120,7 @@ impl<V: Venue, J: Journal + Drop> Exchange<V, J> {
             bells: _,
             feed_bell: _,
             is_feed_due: _,
+            entering: _,
             passes: _,
             ahead: _,
             alloc: _,
@@ -161,6 +164,7 @@ impl<V: Venue, J: Journal + Drop> Exchange<V, J> {
             bells: _,
             feed_bell: _,
             is_feed_due: _,
+            entering: _,
             passes: _,
             ahead: _,
             alloc: _,

@@ -22,7 +22,7 @@ use hx_members::{Seed, Setup};
 use hx_units::NoMemory;
 use std::alloc::Global;
 use std::marker::Brand;
-use std::sync::atomic::AtomicBool;
+use std::sync::atomic::{AtomicBool, AtomicU64};
 use std::sync::ledger::Blank;
 use std::sync::{Condvar, Mutex};
 
@@ -193,6 +193,7 @@ impl<V: Venue, J: Journal + Drop> Exchange<V, J> {
             bells,
             feed_bell: Bell::new(),
             is_feed_due: AtomicBool::new(false),
+            entering: AtomicU64::new(0),
             passes: PassCount::of(passes),
             ahead: u64::MAX,
             alloc,

@@ -188,6 +188,12 @@ impl<V: Venue, J: Journal + Drop> Exchange<V, J> {
         }
     }
 
+    /// Whether some thread has events to record just now. It is a guess: nothing rests on it but how much a session takes
+    /// at once.
+    pub fn is_busy(&self) -> bool {
+        self.entering.load(Ordering::SeqCst) != 0
+    }
+
     /// The bell of a pass's session.
     pub fn bell(&self, pass: &Pass<V>) -> &Bell {
         self.bells.bell(pass.number)

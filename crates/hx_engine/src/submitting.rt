@@ -266,11 +266,13 @@ impl<V: Venue, J: Journal + Drop> Exchange<V, J> {
         ensures told { IfSome result.told (λ r. (r.log ≡ V.log)
             × Settles V.setup result.last.place entered.new.known knows.old.known r.known) }
     {
+        self.entering.fetch_add(1, Ordering::SeqCst);
         let mut lock = self.recorded.wait_while(rt, self.desk.lock(rt), |held| {
             held.ahead_len() >= self.ahead && held.failed.is_none()
         });
         let held = &mut *lock;
         if held.failed.is_some() {
+            self.entering.fetch_sub(1, Ordering::SeqCst);
             return Entered::none(held.refuse(&events[0], true));
         }
         let known = knows.again(&self.log);
@@ -284,6 +286,7 @@ impl<V: Venue, J: Journal + Drop> Exchange<V, J> {
         made.told = held.tell_at_once(log, admitted, kept, knows, entered, made.last.place);
         let news = held.news_since(seen);
         drop(lock);
+        self.entering.fetch_sub(1, Ordering::SeqCst);
         self.wake(made.told.is_some(), news);
         made
     }

@@ -1,5 +1,5 @@
 //! The direction of a session that takes messages in.
-ghost use Rattle.std.specs.Prelude.{ℕ, List, ◌≡◌, ◌⊎◌, ◌+◌, ◌++◌, [], ◌∷◌, OnOk, OnErr, Some, IsSome, false};
+ghost use Rattle.std.specs.Prelude.{ℕ, List, ◌≡◌, ◌⊎◌, ◌<◌, ◌+◌, ◌++◌, [], ◌∷◌, OnOk, OnErr, Some, IsSome, false, length};
 ghost use Rattle.hx_session_core.specs.declared.intake.Intake.TheVariants as intakes;
 ghost use Rattle.hx_rules.specs.declared.event.Event.TheVariants.{Message};
 ghost use Rattle.hx_sessions.specs.Asked.{CarriesOn, Submits, SendsOn, SendsSome};
@@ -20,9 +20,13 @@ use std::io::{Error, ErrorKind, Read};
 use std::sync::Wait;
 use std::time::Duration;
 
-// The most bytes of the stream that are taken at once, some forty messages: their replies go out before the next ones are
-// read, so that a client who sends much and the exchange work at the same time.
-const PIECE: usize = 2048;
+// The most bytes of the stream that are taken at once, some eighty messages: one submit of all of them waits for the lock
+// once.
+const PIECE: usize = 4096;
+
+// The same where nobody else is at the lock: their replies go out before the next ones are read, so that a client who sends
+// much and the exchange work at the same time.
+const SHORT_PIECE: usize = 2048;
 
 /// Who is logged in: the exchange that his messages go to, who is called round each of them, whose replies he gets, and
 /// whether he may send messages. A drop copy may not.
@@ -259,6 +263,38 @@ pub fn is_passing(error: &Error) -> bool {
     )
 }
 
+// Takes a piece of the stream in, as much as has come and the buffer has room for: the packets that are whole with it are
+// acted on.
+fn read_piece<V: Venue, J: Journal + Drop, R: Read, C: Clock, G: Gate, T: Wait>(
+    rt: &T,
+    alloc: Global,
+    trader: &Trader<'_, V, J, G>,
+    inbox: &mut Inbox<V, R, C>,
+    framer: &mut Framer,
+    buffer: &mut [u8],
+) -> Result<(), Stop>
+    requires framer { IsSome framer.old }
+    requires room { 0 < length buffer.old }
+    ensures pass { CarriesOn trader.now.may_send inbox.old.sender.pass inbox.new.sender.pass }
+    ensures more { TakesMore trader.now.member
+        (R.remaining inbox.old.input) (R.remaining inbox.new.input) framer.old framer.new
+        inbox.old.sender.pass.sent inbox.new.sender.pass.sent result }
+{
+    match inbox.input.read(buffer) {
+        Ok(0) => Err(Stop::Ended(Ended::ReaderEnd)),
+        Ok(count) => {
+            let piece = &buffer[..count];
+            take(rt, alloc, trader, &mut inbox.sender, framer, piece)
+        }
+        Err(error) => {
+            if !is_passing(&error) {
+                return Err(Stop::Faulted(Fault::Read));
+            }
+            Ok(())
+        }
+    }
+}
+
 /// Sleeps until there is something to do, for so long at most, and takes a piece of the stream in where one has come:
 /// the packets that are whole with it are acted on.
 pub fn receive<V: Venue, J: Journal + Drop, R: Read + Source, C: Clock, G: Gate, T: Wait>(
@@ -282,18 +318,9 @@ pub fn receive<V: Venue, J: Journal + Drop, R: Read + Source, C: Clock, G: Gate,
         }
         return Ok(());
     }
-    let mut buffer = [0; PIECE];
-    match inbox.input.read(&mut buffer) {
-        Ok(0) => Err(Stop::Ended(Ended::ReaderEnd)),
-        Ok(count) => {
-            let piece = &buffer[..count];
-            take(rt, alloc, trader, &mut inbox.sender, framer, piece)
-        }
-        Err(error) => {
-            if !is_passing(&error) {
-                return Err(Stop::Faulted(Fault::Read));
-            }
-            Ok(())
-        }
+    if trader.exchange.is_busy() {
+        read_piece(rt, alloc, trader, inbox, framer, &mut [0; PIECE])
+    } else {
+        read_piece(rt, alloc, trader, inbox, framer, &mut [0; SHORT_PIECE])
     }
 }

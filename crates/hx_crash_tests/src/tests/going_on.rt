@@ -120,6 +120,8 @@ pub fn go_on<V: Venue, J: Journal + Drop, R: Wait + Abort>(
         equal(rt, tick, Err(SubmitError::Stopped));
         holds(rt, hear(rt, alloc, &exchange, &mut reader) == told);
     }
+    // (nobody is left at the lock)
+    holds(rt, !exchange.is_busy());
     passes.push(pass).expect(rt, "a place");
     expect_end(rt, exchange, passes, answered, stopped);
     Course {
