@@ -3,7 +3,8 @@
 use super::client::{Client, End, Want, alone};
 use super::equal;
 use super::packets::{
-    ACCEPTED, ALPHA, HIDDEN, LOGOUT, SHOWN, copy_of, first_private, put, put_accepted, put_order,
+    ACCEPTED, ALPHA, HIDDEN, LOGOUT, SHOWN, copy_of, first_private, one_reply, put, put_accepted,
+    put_order,
 };
 use super::stage::{Day, play};
 use hx_testing::memory::{Input, Output};
@@ -65,6 +66,31 @@ fn messages_of_one_read_are_one_submit(rt: HostRuntime) {
         };
         play(&rt, alloc, day);
     }
+}
+
+// Nobody else is at the lock, so 2,048 bytes come at once: 39 orders of 52 bytes each. The token of all but the first is
+// used.
+#[test]
+fn a_session_alone_takes_little_at_once(rt: HostRuntime) {
+    let alloc = rt.alloc();
+    let mut bytes = copy_of(&rt, alloc, ALPHA);
+    for _ in 0..100 {
+        put_order(&rt, &mut bytes, &SHOWN);
+    }
+    put(&rt, &mut bytes, LOGOUT);
+    let replies = one_reply(&rt, alloc, &SHOWN, *b"FMA1", 1);
+    let count = AtomicU64::new(0);
+    let client = Client {
+        input: Input::new(&bytes),
+        output: Output::new(alloc, &count),
+        want: Want::new(End::Logout, 100, &replies),
+    };
+    let day = Day {
+        submits: Some(100),
+        at_once: Some(39),
+        ..Day::of_one(&rt, alloc, client)
+    };
+    play(&rt, alloc, day);
 }
 
 #[test]
