@@ -105,13 +105,16 @@ class Day:
                 member.log_in()
 
     def kept_by(self, sync):
-        """The words of what keeps the day: a journal, which is brought to the disk so, or the log of an etcd."""
+        """The words of what keeps the day: a journal, which is brought to the disk so, or the log of an etcd, or both."""
         self.etcd = None
-        if sync == "log":
+        words = []
+        if sync in ("log", "both"):
             self.etcd = Etcd(self.folder.name)
             self.etcd.start_all()
-            return ["--log", self.etcd.words(), "--writer", "1"]
-        return ["--journal", os.path.join(self.folder.name, "day"), "--sync", sync] if sync else []
+            words = ["--log", self.etcd.words(), "--writer", "1"]
+        if sync and sync != "log":
+            words += ["--journal", os.path.join(self.folder.name, "day"), "--sync", "group" if sync == "both" else sync]
+        return words
 
     def processor_seconds(self):
         """What the server has used, and what of it the kernel, for the server."""
