@@ -3,7 +3,9 @@ import os, re
 
 # What the prover says of a function that it did not prove, and why: what it calls is not proved, or it is not itself.
 UNPROVED = re.compile(r'^fn (\S+): (?:no proof|not proved)(.*)$', re.M)
-BY_ANOTHER = re.compile(r'it calls .*\b(is|are) not proved$')
+BY_ANOTHER = re.compile(r'it (calls|passes) .*\b(is|are) not proved$|it waits for the proof of ')
+# The answers of a function, by the words of its path, that it or one that calls it stands on.
+ANSWERS = re.compile(r'it stands on `Rattle\.(\w+)\.proofs\.(.+)\.Answers\.[^.`]+`, which antt refuses$')
 
 
 class Body:
@@ -89,17 +91,25 @@ def groups_of(bodies, crate):
     return [group for group, _ in groups if len(group) > 1], alone
 
 
-def is_open(why):
+def is_by_another(name, reason):
+    """Whether a function is not proved for this reason because another is not."""
+    answers = ANSWERS.match(reason)
+    if answers:
+        return [answers[1], *answers[2].split('.')] != name.split('::')
+    return BY_ANOTHER.match(reason) is not None
+
+
+def is_open(name, why):
     """Whether a function is not proved itself, by what the prover says behind its name."""
-    reasons = [it for it in why.removeprefix(':').strip().split('; ') if it]
-    return not reasons or not all(BY_ANOTHER.match(it) for it in reasons)
+    reasons = [it for it in why.removeprefix(':').strip().removeprefix(';').strip().split('; ') if it]
+    return not reasons or not all(is_by_another(name, it) for it in reasons)
 
 
 def unproved(said):
     """The functions that a check did not prove themselves, as the prover names them; none if it came to no end."""
     if not re.search(r'^holes=\d+$', said, re.M):
         return set()
-    return {tuple(name.split('::')) for name, why in UNPROVED.findall(said) if is_open(why)}
+    return {tuple(name.split('::')) for name, why in UNPROVED.findall(said) if is_open(name, why)}
 
 
 def names_one(path, function):

@@ -106,6 +106,17 @@ pub struct Client<'a> {
     pub want: Want<'a>,
 }
 
+impl<'a> Client<'a> {
+    /// He sends these bytes and ends; his output tells in `count` how many it has taken.
+    pub fn of(alloc: Global, bytes: &'a [u8], count: &'a AtomicU64, want: Want<'a>) -> Self {
+        Client {
+            input: Input::new(bytes),
+            output: Output::new(alloc, count),
+            want,
+        }
+    }
+}
+
 /// He is the only one, at a new exchange of the standard setup.
 pub fn alone<R: Threads + Wait + Clock + Abort + Sync>(
     rt: &R,

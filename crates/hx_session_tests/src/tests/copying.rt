@@ -4,7 +4,6 @@ use super::client::{Client, End, Want};
 use super::packets::{ACCEPTED, BRAVO, HIDDEN, LOGOUT, SHOWN, copy_of, one_order, one_reply, put};
 use super::stage::{Day, play};
 use hx_sessions::DropCopy;
-use hx_testing::memory::{Input, Output};
 use hx_units::MemberNo;
 use std::alloc::Global;
 use std::process::Abort;
@@ -25,11 +24,7 @@ fn a_copy_gets_the_replies_to_another_member(rt: HostRuntime) {
     put(&rt, &mut bytes, LOGOUT);
     let replies = one_reply(&rt, alloc, &SHOWN, *b"FMA1", 1);
     let count = AtomicU64::new(0);
-    let client = Client {
-        input: Input::new(&bytes),
-        output: Output::new(alloc, &count),
-        want: Want::new(End::Logout, 0, &replies),
-    };
+    let client = Client::of(alloc, &bytes, &count, Want::new(End::Logout, 0, &replies));
     let mut day = Day::of_one(&rt, alloc, client);
     day.before.push(SHOWN).expect(&rt, "a place");
     day.copies = copy(&rt, alloc);
@@ -43,11 +38,7 @@ fn a_message_of_a_copy_goes_nowhere(rt: HostRuntime) {
     let alloc = rt.alloc();
     let bytes = one_order(&rt, alloc, BRAVO, &HIDDEN);
     let count = AtomicU64::new(0);
-    let client = Client {
-        input: Input::new(&bytes),
-        output: Output::new(alloc, &count),
-        want: Want::new(End::Framing, 0, ACCEPTED),
-    };
+    let client = Client::of(alloc, &bytes, &count, Want::new(End::Framing, 0, ACCEPTED));
     let mut day = Day::of_one(&rt, alloc, client);
     day.copies = copy(&rt, alloc);
     day.submits = Some(0);

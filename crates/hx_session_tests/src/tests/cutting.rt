@@ -80,11 +80,7 @@ fn a_session_alone_takes_little_at_once(rt: HostRuntime) {
     put(&rt, &mut bytes, LOGOUT);
     let replies = one_reply(&rt, alloc, &SHOWN, *b"FMA1", 1);
     let count = AtomicU64::new(0);
-    let client = Client {
-        input: Input::new(&bytes),
-        output: Output::new(alloc, &count),
-        want: Want::new(End::Logout, 100, &replies),
-    };
+    let client = Client::of(alloc, &bytes, &count, Want::new(End::Logout, 100, &replies));
     let day = Day {
         submits: Some(100),
         at_once: Some(39),

@@ -147,11 +147,7 @@ fn numbers_that_are_asked_for(rt: HostRuntime) {
         if second {
             put_accepted(&rt, &mut output, &HIDDEN, *b"FMA1", first_private(1));
         }
-        let client = Client {
-            input: Input::new(&input),
-            output: Output::new(alloc, &count),
-            want: Want::new(End::Logout, 0, &output),
-        };
+        let client = Client::of(alloc, &input, &count, Want::new(End::Logout, 0, &output));
         let day = Day {
             before: vec![in alloc; SHOWN, HIDDEN].expect(&rt, "orders"),
             ..Day::of_one(&rt, alloc, client)

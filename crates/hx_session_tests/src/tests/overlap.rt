@@ -4,7 +4,7 @@ use super::client::{Client, End, Want};
 use super::packets::{ALPHA, BRAVO, HIDDEN, SHOWN, first_private, one_order, one_reply};
 use super::stage::{Day, play};
 use hx_sessions::Gate;
-use hx_testing::memory::{Input, Output, wait_for};
+use hx_testing::memory::wait_for;
 use hx_units::MemberNo;
 use std::sync::atomic::{AtomicU64, Ordering};
 
@@ -124,16 +124,13 @@ fn sessions_overlap(rt: HostRuntime) {
     let to_second = one_reply(&rt, alloc, &HIDDEN, *b"FMB2", first_private(2));
     let count = AtomicU64::new(0);
     let clients = vec![in alloc;
-        Client {
-            input: Input::new(&first),
-            output: Output::new(alloc, &count),
-            want: Want::new(End::Logout, 1, &to_first),
-        },
-        Client {
-            input: Input::new(&second),
-            output: Output::new(alloc, &count),
-            want: Want::new(End::Logout, 1, &to_second),
-        },
+        Client::of(alloc, &first, &count, Want::new(End::Logout, 1, &to_first)),
+        Client::of(
+            alloc,
+            &second,
+            &count,
+            Want::new(End::Logout, 1, &to_second)
+        ),
     ]
     .expect(&rt, "clients");
     let day = Day {

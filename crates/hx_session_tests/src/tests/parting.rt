@@ -30,11 +30,12 @@ fn a_session_that_fails(rt: HostRuntime) {
                 ..Want::new(End::Read, 1, &to_first)
             },
         },
-        Client {
-            input: Input::new(&second),
-            output: Output::new(alloc, &count),
-            want: Want::new(End::Logout, 1, &to_second),
-        },
+        Client::of(
+            alloc,
+            &second,
+            &count,
+            Want::new(End::Logout, 1, &to_second)
+        ),
     ]
     .expect(&rt, "clients");
     let day = Day {

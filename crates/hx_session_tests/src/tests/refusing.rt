@@ -48,11 +48,7 @@ fn the_gate_is_called_round_each_submit(rt: HostRuntime) {
     let alloc = rt.alloc();
     let (bytes, replies) = (two_orders(&rt, alloc), two_replies(&rt, alloc));
     let count = AtomicU64::new(0);
-    let client = Client {
-        input: Input::new(&bytes),
-        output: Output::new(alloc, &count),
-        want: Want::new(End::Logout, 2, &replies),
-    };
+    let client = Client::of(alloc, &bytes, &count, Want::new(End::Logout, 2, &replies));
     let day = Day {
         submits: Some(2),
         ..Day::of_one(&rt, alloc, client)

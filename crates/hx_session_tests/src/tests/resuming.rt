@@ -27,16 +27,8 @@ fn a_later_session_gets_the_same_bytes(rt: HostRuntime) {
     let again = nothing_more(&rt, alloc);
     let replies = one_reply(&rt, alloc, &SHOWN, *b"FMA1", 1);
     let count = AtomicU64::new(0);
-    let first = Client {
-        input: Input::new(&order),
-        output: Output::new(alloc, &count),
-        want: Want::new(End::Logout, 1, &replies),
-    };
-    let second = Client {
-        input: Input::new(&again),
-        output: Output::new(alloc, &count),
-        want: Want::new(End::Logout, 1, &replies),
-    };
+    let first = Client::of(alloc, &order, &count, Want::new(End::Logout, 1, &replies));
+    let second = Client::of(alloc, &again, &count, Want::new(End::Logout, 1, &replies));
     let mut day = Day::of_one(&rt, alloc, first);
     day.later.push(second).expect(&rt, "a place");
     day.left = Some((1, 1));
