@@ -11,7 +11,7 @@ use crate::watching::{Viewer, Watch};
 use hx_doors::{Datagrams, DayEnd, DoorRules, keep_door};
 use hx_engine::{Exchange, Journal, Pass, Venue};
 use hx_floor::{Board, DayClock, DoorNotices, Floor, OpenArgs, Times};
-use hx_metrics::serve_metrics;
+use hx_metrics::{Watched, serve_metrics};
 use hx_operator::OperatorSocket;
 use hx_sessions::Gate;
 use std::alloc::Global;
@@ -189,6 +189,50 @@ fn trade<
     closed
 }
 
+// The page of figures: where it is, what it shows, and whether those who trade have ended.
+struct Shown<'a, W> {
+    metrics: Metrics,
+    watch: &'a W,
+    over: &'a AtomicBool,
+}
+
+// The page of figures, and those who trade.
+fn trade_shown<
+    'x,
+    V: Venue + Send + Sync,
+    J: Journal + Drop + Send,
+    G: Gate + Sync,
+    B: Board + Sync,
+    R: Read + Send + Drop,
+    T: Threads + Wait + Clock + Sync,
+    W: Watched + Sync,
+>(
+    rt: &'x T,
+    alloc: Global,
+    exchange: &'x Exchange<V, J>,
+    hall: &'x Hall<'x, G, B>,
+    open: OpenArgs,
+    writers: (TcpListener, Places<V>, Desk<V, R>),
+    shown: Shown<'_, W>,
+) -> Closed<V> {
+    let Shown {
+        metrics,
+        watch,
+        over,
+    } = shown;
+    let Metrics { listener, keys } = metrics;
+    let (_, closed) = join(
+        rt,
+        move || serve_metrics(rt, alloc, listener, watch, keys),
+        move || {
+            let closed = trade(rt, alloc, exchange, hall, open, writers);
+            over.store(true, Ordering::SeqCst);
+            closed
+        },
+    );
+    closed
+}
+
 // The page of figures, where there is one, and those who trade.
 fn trade_watched<
     'x,
@@ -214,29 +258,24 @@ fn trade_watched<
     } = staff;
     let writers = (listener, places, desk);
     let Page { metrics, viewer } = page;
-    let Some(Metrics { listener, keys }) = metrics else {
+    let Some(metrics) = metrics else {
         return trade(rt, alloc, exchange, hall, open, writers);
     };
     let over = AtomicBool::new(false);
-    let flag = &over;
     let watch = Watch {
         rt,
         exchange,
         floor: hall.floor,
         tally: hall.hosting.tally,
         viewer: Mutex::new(viewer),
-        over: flag,
+        over: &over,
     };
-    let (_, closed) = join(
-        rt,
-        move || serve_metrics(rt, alloc, listener, &watch, keys),
-        move || {
-            let closed = trade(rt, alloc, exchange, hall, open, writers);
-            flag.store(true, Ordering::SeqCst);
-            closed
-        },
-    );
-    closed
+    let shown = Shown {
+        metrics,
+        watch: &watch,
+        over: &over,
+    };
+    trade_shown(rt, alloc, exchange, hall, open, writers, shown)
 }
 
 /// Publishes while the operator and the sessions last, and until all that they sent is published.

@@ -1,7 +1,7 @@
 use mir.Syntax.{of_param}
 use Rattle.std.proofs.Common.{true}
 use denote.Param.Send.{Quiet-if}
-use Rattle.hx_serve.proofs.open_day.fn.trade_watched.join+arg3.Goals as goal
+use Rattle.hx_serve.proofs.open_day.fn.trade_shown.join+arg3.Goals as goal
 
 -- what the call sends is what the closure was sent with
 pub trade-closed-requires-send-V : goal.trade-closed-requires-send-V
