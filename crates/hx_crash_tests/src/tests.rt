@@ -1,6 +1,7 @@
 //! Days over a journal that fails, is slow or is full, and days that go on from what one keeps.
 
 mod at_once;
+mod busy;
 mod crash_points;
 mod failing;
 mod going_on;
