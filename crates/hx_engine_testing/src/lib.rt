@@ -1,5 +1,6 @@
-//! What tests of an exchange share: what a new one stands on, and a journal in memory.
+//! What tests of an exchange share: what a new one stands on, and journals in memory.
 #![tactic(auto)]
 
 pub mod ground;
 pub mod memory;
+pub mod witnessed;

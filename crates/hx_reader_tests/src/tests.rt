@@ -4,6 +4,7 @@ mod again;
 mod days;
 mod generated;
 mod network;
+mod relays;
 mod screens;
 
 use std::fmt::Debug;

@@ -11,6 +11,3 @@ mod sockets;
 pub use fault::RelayError;
 pub use relay::Relay;
 pub use relaying::{RelayArgs, relay_feed};
-
-#[cfg(test)]
-mod tests;

@@ -11,13 +11,11 @@ mod report;
 mod rest;
 mod rows;
 mod striking;
-#[cfg(test)]
-mod tests;
 mod texts;
 
 pub use check::{Check, check_all, check_member};
 pub use day::Day;
-pub use looks::Look;
+pub use looks::{Look, Sieve};
 pub use report::{Progress, Report, audit};
 pub use rows::{Row, Tally};
-pub use texts::{Comparison, TextSum};
+pub use texts::{Comparison, TextSum, compare};

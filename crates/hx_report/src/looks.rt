@@ -21,7 +21,7 @@ pub enum Look {
 
 /// The lines that he gets: those that begin so, or those that do not. Contracts see which.
 #[derive(Drop)]
-pub(crate) struct Sieve {
+pub struct Sieve {
     beginning: Vec<u8>,
     keeps: bool,
 }
@@ -53,8 +53,8 @@ fn begins(line: &[u8], beginning: &[u8]) -> bool
 }
 
 impl Sieve {
-    /// The lines that someone gets.
-    pub(crate) fn of(alloc: Global, look: Look) -> Result<Sieve, AllocError>
+    /// The lines that someone gets; an error where memory is wanting.
+    pub fn of(alloc: Global, look: Look) -> Result<Sieve, AllocError>
         ensures { IfOk result (λ s. s ≡ pick_of look) }
     {
         Ok(match look {

@@ -1,6 +1,8 @@
 //! What a report says of worked days.
 ghost use Rattle.std.specs.Prelude.{◌≡◌};
 
+mod texts;
+
 use hx_replay::{Kind, TapeError};
 use hx_report::{Day, Progress, Report, Tally, audit};
 use hx_report_pages::{Document, write_html, write_json, write_plain};

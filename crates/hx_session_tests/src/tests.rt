@@ -10,6 +10,7 @@ mod logins;
 mod overlap;
 mod packets;
 mod parting;
+mod reading;
 mod refusing;
 mod resuming;
 mod sleeping;

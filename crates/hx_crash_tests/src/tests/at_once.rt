@@ -5,9 +5,9 @@ ghost use Rattle.hx_rules.specs.declared.event.Event.{Event};
 
 use super::{equal, holds};
 use hx_blog::Reader;
-use hx_engine::{Entry, Exchange, Journal, JournalError, Pass, Venue};
+use hx_engine::{Entry, Exchange, Pass, Venue};
 use hx_engine_testing::ground::{Ground, ground_of};
-use hx_engine_testing::memory::Memory;
+use hx_engine_testing::witnessed::{Witness, Witnessed};
 use hx_members::Setup;
 use hx_testing::sending::{BUY, Order, enter};
 use hx_units::MemberNo;
@@ -23,52 +23,20 @@ use std::thread::Threads;
 // How many orders each member sends.
 const EACH: u8 = 20;
 
-// A journal in memory that says how many records are synced.
+// Who says how many records are synced.
 #[derive(Drop)]
-struct Watched<'a> {
-    memory: Memory,
+struct Counter<'a> {
     synced: &'a AtomicU64,
 }
 
-impl Journal for Watched<'_> {
-    ghost use Rattle.std.specs.Prelude.{◌≡◌, ℕ, List, true, take};
-    ghost use Rattle.hx_journal.specs.Crashes.{IsBetween};
-    ghost use Rattle.hx_engine.specs.Journals.{record_texts};
-
-    ghost appended = { λ j. record_texts j.memory.records.items };
-
-    ghost kept = { λ j. take j.memory.synced (record_texts j.memory.records.items) };
-
-    ghost is_open = { λ j. true };
-
-    ghost faults = { λ j. 0 };
-
-    ghost moment = { λ j. 0 };
-
-    ghost left_since = { λ j t c. IsBetween
-        (take j.memory.synced (record_texts j.memory.records.items)) c
-        (record_texts j.memory.records.items) };
-
-    fn append(&mut self, bytes: &[u8]) -> Result<(), JournalError> {
-        self.memory.append(bytes)
-    }
-
-    fn sync(&mut self) -> Result<(), JournalError> {
-        let answer = self.memory.sync();
-        self.synced
-            .store(self.memory.synced as u64, Ordering::SeqCst);
-        answer
-    }
-
-    fn is_quick(&self) -> bool {
-        false
-    }
-
-    fn stands(&self) {
-        let _ = &self.synced;
-        self.memory.stands();
+impl Witness for Counter<'_> {
+    fn synced(&self, count: usize) {
+        self.synced.store(count as u64, Ordering::SeqCst);
     }
 }
+
+// A journal of which is known how many records are synced.
+type Counted<'a> = Witnessed<Counter<'a>>;
 
 // A member with his pass and his reader, and how many records are synced.
 #[derive(Drop)]
@@ -91,7 +59,7 @@ fn order_of(member: u16, number: u8) -> Order {
 
 impl<V: Venue> Sender<'_, V> {
     // How many replies the two members have.
-    fn replies<R: Wait + Abort>(&mut self, rt: &R, exchange: &Exchange<V, Watched>) -> u64 {
+    fn replies<R: Wait + Abort>(&mut self, rt: &R, exchange: &Exchange<V, Counted>) -> u64 {
         let first = self.replies_to(rt, exchange, 1);
         let second = self.replies_to(rt, exchange, 2);
         first.checked_add(second).expect(rt, "a sum")
@@ -100,7 +68,7 @@ impl<V: Venue> Sender<'_, V> {
     fn replies_to<R: Wait + Abort>(
         &mut self,
         rt: &R,
-        exchange: &Exchange<V, Watched>,
+        exchange: &Exchange<V, Counted>,
         member: u16,
     ) -> u64 {
         let member = MemberNo::of(member).expect(rt, "a member");
@@ -108,7 +76,7 @@ impl<V: Venue> Sender<'_, V> {
     }
 
     // Sends his orders: none is answered, and no reply told to anybody, before its record is synced.
-    fn session<R: Wait + Abort>(&mut self, rt: &R, alloc: Global, exchange: &Exchange<V, Watched>) {
+    fn session<R: Wait + Abort>(&mut self, rt: &R, alloc: Global, exchange: &Exchange<V, Counted>) {
         for number in 0..EACH {
             let event = enter(alloc, &order_of(self.member, number)).expect(rt, "an order");
             let done = exchange
@@ -150,11 +118,8 @@ fn two_senders<V: Venue + Send + Sync, R: Threads + Wait + Abort + Sync>(
         blank,
         reader,
     } = ground;
-    let journal = Watched {
-        memory: Memory::new(alloc, 1000),
-        synced,
-    };
-    let (exchange, mut passes) = Exchange::<V, Watched>::new(
+    let journal = Witnessed::new(alloc, 1000, false, Counter { synced });
+    let (exchange, mut passes) = Exchange::<V, Counted>::new(
         alloc, setup, logs, journal, blank, 2,
     ).expect(rt, "an exchange");
     let exchange = exchange.at_most_ahead(bounds.ahead);
@@ -187,7 +152,7 @@ fn two_senders<V: Venue + Send + Sync, R: Threads + Wait + Abort + Sync>(
 // The exchange ends with this number of entries, all of them synced, by as many syncs or fewer, and at least this many.
 fn expect_kept<V: Venue, R: Abort>(
     rt: &R,
-    exchange: Exchange<V, Watched>,
+    exchange: Exchange<V, Counted>,
     passes: Vec<Pass<V>>,
     count: u64,
     least: u64,

@@ -4,9 +4,9 @@ ghost use Rattle.std.specs.Prelude.{◌≡◌, []};
 ghost use Rattle.hx_engine.specs.Opening.{IsNewLog};
 
 use super::{equal, holds};
-use hx_engine::{Exchange, Journal, JournalError, Venue};
+use hx_engine::{Exchange, Venue};
 use hx_engine_testing::ground::{Ground, ground_of};
-use hx_engine_testing::memory::Memory;
+use hx_engine_testing::witnessed::{Witness, Witnessed};
 use hx_members::Setup;
 use hx_testing::memory::wait_for;
 use hx_testing::sending::{BUY, enter};
@@ -19,50 +19,18 @@ use std::test::*;
 use std::thread;
 use std::thread::Threads;
 
-// A journal in memory that touches no disk, so that it is written under the lock: it says when, and goes on once that was
-// seen.
+// Who says that a record is about to be appended, and waits until that was seen. The journal is quick, so that meanwhile
+// the lock is held.
 #[derive(Drop)]
 struct Seen<'a> {
-    memory: Memory,
     is_written: &'a AtomicU64,
     is_seen: &'a AtomicU64,
 }
 
-impl Journal for Seen<'_> {
-    ghost use Rattle.std.specs.Prelude.{◌≡◌, ℕ, List, true, take};
-    ghost use Rattle.hx_journal.specs.Crashes.{IsBetween};
-    ghost use Rattle.hx_engine.specs.Journals.{record_texts};
-
-    ghost appended = { λ j. record_texts j.memory.records.items };
-
-    ghost kept = { λ j. take j.memory.synced (record_texts j.memory.records.items) };
-
-    ghost is_open = { λ j. true };
-
-    ghost faults = { λ j. 0 };
-
-    ghost moment = { λ j. 0 };
-
-    ghost left_since = { λ j t c. IsBetween
-        (take j.memory.synced (record_texts j.memory.records.items)) c
-        (record_texts j.memory.records.items) };
-
-    fn append(&mut self, bytes: &[u8]) -> Result<(), JournalError> {
+impl Witness for Seen<'_> {
+    fn appends(&self) {
         self.is_written.store(1, Ordering::SeqCst);
         let _ = wait_for(self.is_seen, 1);
-        self.memory.append(bytes)
-    }
-
-    fn sync(&mut self) -> Result<(), JournalError> {
-        self.memory.sync()
-    }
-
-    fn is_quick(&self) -> bool {
-        true
-    }
-
-    fn stands(&self) {
-        self.memory.stands();
     }
 }
 
@@ -87,12 +55,12 @@ fn look_at_one_who_writes<V: Venue + Send + Sync, R: Threads + Wait + Abort + Sy
         blank,
         reader: _,
     } = ground;
-    let journal = Seen {
-        memory: Memory::new(alloc, 0),
+    let witness = Seen {
         is_written,
         is_seen,
     };
-    let (exchange, mut passes) = Exchange::<V, Seen>::new(
+    let journal = Witnessed::new(alloc, 0, true, witness);
+    let (exchange, mut passes) = Exchange::<V, Witnessed<Seen>>::new(
         alloc, setup, logs, journal, blank, 1,
     ).expect(rt, "an exchange");
     let mut pass = passes.pop().expect(rt, "a pass");

@@ -33,6 +33,13 @@ pub struct Still<'a> {
     rest: Option<&'a Rest>,
 }
 
+impl Still<'_> {
+    /// Nobody sleeps.
+    pub fn new() -> Self {
+        Still { rest: None }
+    }
+}
+
 impl Clock for Still<'_> {
     fn now(&mut self) -> u64 {
         match self.rest {

@@ -1,7 +1,6 @@
 //! Texts that are compared.
 
-use crate::looks::{Look, Sieve};
-use crate::texts::compare;
+use hx_report::{Look, Sieve, compare};
 use hx_units::MemberNo;
 use std::process::Abort;
 use std::test::Fail;

@@ -1,18 +1,13 @@
 //! What a relay keeps when packets are lost, and how it answers.
 
-use crate::Relay;
+use crate::tests::equal;
 use arrayvec::ArrayVec;
 use hx_mold::{Request, cut, encode_request};
+use hx_relay::Relay;
 use std::alloc::Global;
-use std::fmt::Debug;
 use std::process::Abort;
 
 const SESSION: [u8; 10] = *b"HX00000001";
-
-// Both are the same, or the test ends.
-fn equal<R: Abort, T: PartialEq + Debug + Drop>(rt: &R, found: T, wanted: T) {
-    assert_eq!(rt; found, wanted);
-}
 
 // A message of one letter.
 fn message(letter: u8) -> ArrayVec<u8, 44> {
