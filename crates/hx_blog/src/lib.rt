@@ -15,8 +15,6 @@ mod receipt;
 mod rule;
 mod seats;
 mod stores;
-#[cfg(test)]
-mod tests;
 mod view;
 mod words;
 mod writer;

@@ -32,6 +32,3 @@ pub use pages::TextPages;
 pub use signs::Signs;
 pub use sockets::TcpNodes;
 pub use trimming::{Copies, trim_place};
-
-#[cfg(test)]
-mod tests;

@@ -3,6 +3,7 @@
 mod copies;
 mod day_log;
 mod etcd;
+mod etcd_log;
 mod log;
 mod log_journal;
 mod mirrors;

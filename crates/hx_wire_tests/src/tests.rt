@@ -1,6 +1,7 @@
 //! Fields, messages, packets, frames and sessions.
 ghost use Rattle.std.specs.Prelude.{◌≡◌};
 
+mod blog;
 mod itch;
 mod mold;
 mod ouch;

@@ -1,5 +1,6 @@
-use super::*;
-use hx_log::LogWriter;
+use super::{Asked, MADE, Turn, new_log};
+use crate::tests::{equal, holds};
+use hx_log::{Log, LogError, LogWriter};
 
 // The records `#1 1 7 1` and `#2 1 7 1` are told; or the second one for the first; or none.
 const BOTH: &str = r#"{"header":{},"kvs":[
@@ -26,13 +27,13 @@ const FOURTH: &str = r#"{"header":{},"kvs":[
 const THEIRS: &str = r#"{"responses":[{"response_range":{"kvs":[
     {"key":"aHgvMDAwMDAwMDAwMDAx","value":"IzEgMSA4IDEK"}]}}]}"#;
 
-// What becomes of the asks; how many records the first read gives; how many nodes were asked.
-const READS: &[(&[Turn], Result<usize, LogError>, usize)] = &[
+// What becomes of the asks; how many records the first read gives; which nodes were asked.
+const READS: &[(&[Turn], Result<usize, LogError>, u64)] = &[
     (&[Turn::Says(BOTH)], Ok(2), 1),
     (&[Turn::Says(NONE)], Ok(0), 1),
-    (&[Turn::Loses, Turn::Gone, Turn::Says(BOTH)], Ok(2), 3),
-    (&[], Err(LogError::Unreachable), 6),
-    (&[Turn::Gone, Turn::Loses], Err(LogError::Unknown), 6),
+    (&[Turn::Loses, Turn::Gone, Turn::Says(BOTH)], Ok(2), 123),
+    (&[], Err(LogError::Unreachable), 123_123),
+    (&[Turn::Gone, Turn::Loses], Err(LogError::Unknown), 123_123),
     (
         &[Turn::Says(SECOND)],
         Err(LogError::Trimmed { number: 1 }),
@@ -49,11 +50,12 @@ const READS: &[(&[Turn], Result<usize, LogError>, usize)] = &[
 #[test]
 fn records_are_read_from_any_node(rt: HostRuntime) {
     let alloc = rt.alloc();
-    for (turns, result, asks) in READS {
-        let mut log = new_log(alloc, turns);
+    for (turns, result, asked) in READS {
+        let nodes = Asked::new();
+        let mut log = new_log(alloc, turns, &nodes);
         let count = log.read(alloc, 1).map(|found| found.len());
         equal(&rt, count, *result);
-        equal(&rt, log.nodes.asked.len(), *asks);
+        equal(&rt, nodes.nodes(), *asked);
     }
 }
 
@@ -61,7 +63,8 @@ fn records_are_read_from_any_node(rt: HostRuntime) {
 fn what_is_known_does_not_change(rt: HostRuntime) {
     let alloc = rt.alloc();
     let turns = &[Turn::Says(BOTH), Turn::Says(FOURTH), Turn::Says(NONE)];
-    let mut log = new_log(alloc, turns);
+    let asked = Asked::new();
+    let mut log = new_log(alloc, turns, &asked);
     equal(
         &rt,
         log.read(alloc, 1)
@@ -76,7 +79,7 @@ fn what_is_known_does_not_change(rt: HostRuntime) {
             .len(),
         1,
     );
-    equal(&rt, log.nodes.asked.len(), 1);
+    equal(&rt, asked.nodes(), 1);
 
     // The third is asked for, and the fourth told.
     let bad = log.read(alloc, 3).map(|found| found.len());
@@ -97,7 +100,8 @@ fn what_is_known_does_not_change(rt: HostRuntime) {
 fn a_writer_goes_on_behind_another(rt: HostRuntime) {
     let alloc = rt.alloc();
     let turns = &[Turn::Loses, Turn::Says(THEIRS), Turn::Says(MADE)];
-    let mut log = new_log(alloc, turns);
+    let asked = Asked::new();
+    let mut log = new_log(alloc, turns, &asked);
     let mut writer = LogWriter::new(7);
     holds(&rt, writer.take_over(alloc, &mut log).is_err());
 
@@ -110,7 +114,7 @@ fn a_writer_goes_on_behind_another(rt: HostRuntime) {
             .len(),
         0,
     );
-    equal(&rt, log.nodes.asked.len(), 2);
+    equal(&rt, asked.nodes(), 12);
     holds(&rt, writer.take_over(alloc, &mut log).is_ok());
     holds(&rt, writer.is_in_office());
     equal(&rt, log.len(), 2);

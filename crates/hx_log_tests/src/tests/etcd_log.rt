@@ -1,17 +1,16 @@
 //! A log in an etcd whose nodes answer, or do not.
 
-use super::*;
-use hx_etcd::Answer;
-use hx_log::{Log, LogError};
-use hx_terms::{Head, LogRecord};
-use std::alloc::Global;
-use std::fmt::Debug;
-use std::process::Abort;
-
 mod appends;
 mod copied;
 mod reads;
 mod sockets;
+
+use hx_etcd::Answer;
+use hx_etcd_log::{AskError, EtcdLog, Nodes};
+use hx_terms::{Head, LogRecord};
+use std::alloc::Global;
+use std::process::Abort;
+use std::sync::atomic::{AtomicU64, Ordering};
 
 // What becomes of an ask.
 #[derive(Clone, Copy)]
@@ -26,21 +25,46 @@ enum Turn {
     Loses,
 }
 
-// Three nodes whose turns are these. Behind them all nodes are gone.
+// Which nodes were asked, in order: a digit each, 1 for the first node.
 #[derive(Drop)]
-struct Script {
-    alloc: Global,
-    turns: &'static [Turn],
-    // Which nodes were asked, in order.
-    asked: Vec<usize>,
+struct Asked {
+    nodes: AtomicU64,
 }
 
-impl Script {
-    fn of(alloc: Global, turns: &'static [Turn]) -> Script {
+impl Asked {
+    fn new() -> Asked {
+        Asked {
+            nodes: AtomicU64::new(0),
+        }
+    }
+
+    fn nodes(&self) -> u64 {
+        self.nodes.load(Ordering::SeqCst)
+    }
+
+    fn note(&self, node: usize) {
+        let digit = (node as u64).saturating_add(1);
+        let nodes = self.nodes().saturating_mul(10).saturating_add(digit);
+        self.nodes.store(nodes, Ordering::SeqCst);
+    }
+}
+
+// Three nodes whose turns are these. Behind them all nodes are gone.
+#[derive(Drop)]
+struct Script<'a> {
+    alloc: Global,
+    turns: &'static [Turn],
+    next: usize,
+    asked: &'a Asked,
+}
+
+impl<'a> Script<'a> {
+    fn of(alloc: Global, turns: &'static [Turn], asked: &'a Asked) -> Script<'a> {
         Script {
             alloc,
             turns,
-            asked: Vec::new(alloc),
+            next: 0,
+            asked,
         }
     }
 
@@ -52,16 +76,15 @@ impl Script {
     }
 }
 
-impl Nodes for Script {
+impl Nodes for Script<'_> {
     fn count(&self) -> usize {
         3
     }
 
     fn ask(&mut self, node: usize, _request: &[u8]) -> Result<Answer, AskError> {
-        let turn = self.turns.get(self.asked.len());
-        if self.asked.push(node).is_err() {
-            return Err(AskError::Lost);
-        }
+        let turn = self.turns.get(self.next);
+        self.next = self.next.saturating_add(1);
+        self.asked.note(node);
         match turn {
             Some(Turn::Says(text)) => self.answer(200, text),
             Some(Turn::Refuses) => self.answer(503, "{}"),
@@ -71,8 +94,8 @@ impl Nodes for Script {
     }
 }
 
-fn new_log(alloc: Global, turns: &'static [Turn]) -> EtcdLog<Script> {
-    EtcdLog::new(alloc, Script::of(alloc, turns))
+fn new_log<'a>(alloc: Global, turns: &'static [Turn], asked: &'a Asked) -> EtcdLog<Script<'a>> {
+    EtcdLog::new(alloc, Script::of(alloc, turns, asked))
 }
 
 // The record `#NUMBER 1 WRITER 1`, without lines.
@@ -88,13 +111,3 @@ fn record(rt: &impl Abort, alloc: Global, number: u64, writer: u64) -> LogRecord
 
 // An append is made.
 const MADE: &str = r#"{"succeeded":true}"#;
-
-// Both are the same, or the test ends.
-fn equal<R: Abort, T: PartialEq + Debug + Drop>(rt: &R, found: T, wanted: T) {
-    assert_eq!(rt; found, wanted);
-}
-
-// It is so, or the test ends.
-fn holds<R: Abort>(rt: &R, is_so: bool) {
-    assert!(rt; is_so);
-}

@@ -1,6 +1,11 @@
-use super::*;
+use super::{Asked, MADE, Script, Turn, record};
+use crate::tests::equal;
+use hx_etcd_log::{CopiedLog, PageError, Pages, TextPages, trim_place};
+use hx_log::{Log, LogError};
+use std::alloc::Global;
 use std::io;
 use std::io::Read;
+use std::process::Abort;
 
 // The text of a copy, which comes in pieces of so many bytes; where it is cut now, no more comes for now.
 #[derive(Drop)]
@@ -87,45 +92,53 @@ fn what_is_no_copy_is_refused(rt: HostRuntime) {
 const THIRD: &str = r#"{"header":{},"kvs":[
     {"key":"aHgvMDAwMDAwMDAwMDAz","value":"IzMgMSA3IDEK"}]}"#;
 
-fn begun(
+fn begun<'a>(
     alloc: Global,
     text: &'static [u8],
     turns: &'static [Turn],
-) -> CopiedLog<TextPages<Cut>, Script> {
+    asked: &'a Asked,
+) -> CopiedLog<TextPages<Cut>, Script<'a>> {
     let pages = TextPages::new(alloc, Cut::of(text, 100));
-    CopiedLog::new(alloc, pages, Script::of(alloc, turns))
+    CopiedLog::new(alloc, pages, Script::of(alloc, turns, asked))
 }
 
 #[test]
 fn a_copy_is_read_before_nodes_are_asked(rt: HostRuntime) {
     let alloc = rt.alloc();
-    let mut log = begun(alloc, COPY, &[Turn::Says(THIRD), Turn::Says(MADE)]);
+    let asked = Asked::new();
+    let mut log = begun(alloc, COPY, &[Turn::Says(THIRD), Turn::Says(MADE)], &asked);
     let first = log.read(alloc, 1).map(|found| found.len());
     equal(&rt, first, Ok(2));
-    equal(&rt, log.log.nodes.asked.len(), 0);
+    equal(&rt, asked.nodes(), 0);
     let third = log.read(alloc, 3).map(|found| found.len());
     equal(&rt, third, Ok(1));
-    equal(&rt, log.log.nodes.asked.len(), 1);
+    equal(&rt, asked.nodes(), 1);
     equal(&rt, log.append(&record(&rt, alloc, 4, 7)), Ok(()));
-    equal(&rt, log.log.len(), 4);
+    // Four are known: of other numbers than the fifth nothing is asked.
+    let fourth = log.append(&record(&rt, alloc, 4, 7));
+    equal(&rt, fourth, Err(LogError::Taken));
+    let sixth = log.append(&record(&rt, alloc, 6, 7));
+    equal(&rt, sixth, Err(LogError::Gap));
+    equal(&rt, asked.nodes(), 11);
 }
 
 #[test]
 fn a_copy_that_leaves_out_a_record_is_refused(rt: HostRuntime) {
     let alloc = rt.alloc();
     let text = b"#1 1 7 1\n#3 1 7 1\n#4 1 7 1\n";
-    let mut log = begun(alloc, text, &[]);
+    let asked = Asked::new();
+    let mut log = begun(alloc, text, &[], &asked);
     let bad = log.read(alloc, 1).map(|found| found.len());
     equal(&rt, bad, Err(LogError::BadCopy { number: 2 }));
-    equal(&rt, log.log.len(), 0);
-    equal(&rt, log.log.nodes.asked.len(), 0);
+    equal(&rt, asked.nodes(), 0);
 }
 
 #[test]
 fn where_no_copy_is_named_nodes_are_asked(rt: HostRuntime) {
     let alloc = rt.alloc();
     let none: Option<TextPages<Cut>> = None;
-    let mut log = CopiedLog::new(alloc, none, Script::of(alloc, &[Turn::Says(THIRD)]));
+    let asked = Asked::new();
+    let mut log = CopiedLog::new(alloc, none, Script::of(alloc, &[Turn::Says(THIRD)], &asked));
     let gone = log.read(alloc, 1).map(|found| found.len());
     equal(&rt, gone, Err(LogError::Trimmed { number: 1 }));
 }

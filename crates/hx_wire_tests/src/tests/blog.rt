@@ -1,10 +1,9 @@
-//! What no clause says: the words of a message, each call where memory is ample, and a writer's thread beside
-//! two readers' threads.
+//! A log of messages: each call where memory is ample, and a writer's thread beside two readers' threads.
 ghost use Rattle.std.specs.Prelude.{◌≡◌};
 
-use crate::{Full, Log, Reader, Writer};
+use super::{equal, holds};
 use arrayvec::ArrayVec;
-use std::fmt::Debug;
+use hx_blog::{Full, Log, Reader, Writer};
 use std::process::Abort;
 use std::thread;
 use std::thread::Threads;
@@ -34,20 +33,6 @@ fn one_message_is_published(rt: HostRuntime) {
     equal(&rt, first.as_slice(), DELETED.as_slice());
     holds(&rt, early.at(&log, 0).is_none());
     holds(&rt, early.at(&log, 2).is_none());
-    let words = [
-        1,
-        0x1344_0001_0000_0000,
-        0x0000_03e8_0000_0000,
-        0x0000_0001_0000_0000,
-        0,
-        0,
-        0,
-        0,
-    ];
-    count(&rt, log.table.word_count(), 61);
-    for (i, &word) in words.iter().enumerate() {
-        equal(&rt, log.table.shared.peek(i), word);
-    }
 }
 
 #[test]
@@ -168,21 +153,4 @@ fn write_and_follow<R: Threads + Abort + Sync>(
 fn two_readers_follow_the_writer(rt: HostRuntime) {
     let (log, writer, reader) = Log::<u64>::new(rt.alloc(), 1000).expect(&rt, "a log");
     write_and_follow(&rt, &log, writer, reader);
-}
-
-/// Both are the same, or the test ends.
-pub fn equal<R: Abort, T: PartialEq + Debug + Drop>(rt: &R, found: T, wanted: T) {
-    assert_eq!(rt; found, wanted);
-}
-
-/// It is so, or the test ends.
-pub fn holds<R: Abort>(rt: &R, is_so: bool) {
-    assert!(rt; is_so);
-}
-
-/// There are this many, or the test ends.
-pub fn count<R: Abort>(rt: &R, found: usize, wanted: usize)
-    ensures { found ≡ wanted }
-{
-    assert_eq!(rt; found, wanted);
 }

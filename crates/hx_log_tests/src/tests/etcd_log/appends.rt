@@ -1,4 +1,6 @@
-use super::*;
+use super::{Asked, MADE, Turn, new_log, record};
+use crate::tests::equal;
+use hx_log::{Log, LogError};
 
 // Under the key of the first record stands `#1 1 7 1`; or `#1 1 8 1`; or `#2 1 7 1`.
 const OURS: &str = r#"{"responses":[{"response_range":{"kvs":[
@@ -14,18 +16,14 @@ const SECOND: &str = r#"{"responses":[{"response_range":{"kvs":[
 const GONE: &str = r#"{"responses":[{"response_range":{"header":{}}}]}"#;
 
 // What becomes of the asks; what the append of `#1 1 7 1` gives; which nodes were asked.
-const APPENDS: &[(&[Turn], Result<(), LogError>, &[usize])] = &[
-    (&[Turn::Says(MADE)], Ok(()), &[0]),
+const APPENDS: &[(&[Turn], Result<(), LogError>, u64)] = &[
+    (&[Turn::Says(MADE)], Ok(()), 1),
     // The answer is lost: the record was made, or not, or another one came first.
-    (&[Turn::Loses, Turn::Says(OURS)], Ok(()), &[0, 1]),
-    (&[Turn::Loses, Turn::Says(MADE)], Ok(()), &[0, 1]),
-    (
-        &[Turn::Loses, Turn::Says(THEIRS)],
-        Err(LogError::Taken),
-        &[0, 1],
-    ),
+    (&[Turn::Loses, Turn::Says(OURS)], Ok(()), 12),
+    (&[Turn::Loses, Turn::Says(MADE)], Ok(()), 12),
+    (&[Turn::Loses, Turn::Says(THEIRS)], Err(LogError::Taken), 12),
     // A node is gone; another one has no leader, and a third tells nothing.
-    (&[Turn::Gone, Turn::Says(MADE)], Ok(()), &[0, 1]),
+    (&[Turn::Gone, Turn::Says(MADE)], Ok(()), 12),
     (
         &[
             Turn::Gone,
@@ -34,27 +32,23 @@ const APPENDS: &[(&[Turn], Result<(), LogError>, &[usize])] = &[
             Turn::Says(OURS),
         ],
         Ok(()),
-        &[0, 1, 2, 0],
+        1231,
     ),
     // All are gone, before or after one that may have made it.
-    (&[], Err(LogError::Unreachable), &[0, 1, 2, 0, 1, 2]),
-    (&[Turn::Loses], Err(LogError::Unknown), &[0, 1, 2, 0, 1, 2]),
+    (&[], Err(LogError::Unreachable), 123_123),
+    (&[Turn::Loses], Err(LogError::Unknown), 123_123),
     // The log is trimmed, before the append or while its answer is lost.
-    (
-        &[Turn::Says(GONE)],
-        Err(LogError::Trimmed { number: 1 }),
-        &[0],
-    ),
+    (&[Turn::Says(GONE)], Err(LogError::Trimmed { number: 1 }), 1),
     (
         &[Turn::Loses, Turn::Says(GONE)],
         Err(LogError::Trimmed { number: 1 }),
-        &[0, 1],
+        12,
     ),
     // What stands there is no first record.
     (
         &[Turn::Says(SECOND)],
         Err(LogError::NoRecord { number: 1 }),
-        &[0],
+        1,
     ),
 ];
 
@@ -63,9 +57,10 @@ fn a_lost_answer_is_asked_for_again(rt: HostRuntime) {
     let alloc = rt.alloc();
     let first = record(&rt, alloc, 1, 7);
     for (turns, result, asked) in APPENDS {
-        let mut log = new_log(alloc, turns);
+        let nodes = Asked::new();
+        let mut log = new_log(alloc, turns, &nodes);
         equal(&rt, log.append(&first), *result);
-        equal(&rt, log.nodes.asked.as_slice(), *asked);
+        equal(&rt, nodes.nodes(), *asked);
     }
 }
 
@@ -73,10 +68,11 @@ fn a_lost_answer_is_asked_for_again(rt: HostRuntime) {
 fn the_node_that_answered_is_asked_first(rt: HostRuntime) {
     let alloc = rt.alloc();
     let turns = &[Turn::Gone, Turn::Says(MADE), Turn::Says(MADE)];
-    let mut log = new_log(alloc, turns);
+    let asked = Asked::new();
+    let mut log = new_log(alloc, turns, &asked);
     equal(&rt, log.append(&record(&rt, alloc, 1, 7)), Ok(()));
     equal(&rt, log.append(&record(&rt, alloc, 2, 7)), Ok(()));
-    equal(&rt, log.nodes.asked.as_slice(), [0, 1, 1].as_slice());
+    equal(&rt, asked.nodes(), 122);
     equal(&rt, log.len(), 2);
 
     // Of other numbers nothing is asked.
@@ -90,5 +86,5 @@ fn the_node_that_answered_is_asked_first(rt: HostRuntime) {
         log.append(&record(&rt, alloc, 4, 7)),
         Err(LogError::Gap),
     );
-    equal(&rt, log.nodes.asked.len(), 3);
+    equal(&rt, asked.nodes(), 122);
 }

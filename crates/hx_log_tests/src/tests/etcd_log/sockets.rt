@@ -1,7 +1,12 @@
-use super::*;
+use super::record;
+use crate::tests::equal;
+use hx_etcd_log::{EtcdLog, TcpNodes};
+use hx_log::Log;
+use std::alloc::Global;
 use std::io;
 use std::io::{Read, Write};
 use std::net::{Ipv4Addr, Net, SocketAddr, TcpListener, TcpStream};
+use std::process::Abort;
 use std::thread::join;
 use std::time::Duration;
 
