@@ -5,8 +5,6 @@ mod bell;
 mod bells;
 mod listeners;
 mod source;
-#[cfg(test)]
-mod tests;
 
 pub use bell::Bell;
 pub use bells::Bells;

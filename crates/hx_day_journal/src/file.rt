@@ -48,7 +48,7 @@ impl<'a, F: RawFile + Drop, B: Board, T: Clock> PatientFile<'a, F, B, T> {
     }
 
     // Cuts off what a write left that found no room, and waits a while.
-    pub(crate) fn wait_for_room(&mut self, first: bool) -> Result<(), DeviceError> {
+    fn wait_for_room(&mut self, first: bool) -> Result<(), DeviceError> {
         if first {
             self.board.post(Notice::JournalWaits);
         }

@@ -12,6 +12,3 @@ pub use digest::digest_of;
 pub use fault::DayJournalError;
 pub use file::{PatientFile, Syncs};
 pub use opening::{DayFile, Wanted, last_time, open_journal};
-
-#[cfg(test)]
-mod tests;

@@ -1,5 +1,6 @@
 //! Worked rows and busy days, given to a desk and to an exchange.
 
+mod bells;
 mod busy_day;
 mod desks;
 mod exchanges;

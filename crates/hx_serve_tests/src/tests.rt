@@ -9,6 +9,7 @@ mod faults;
 mod floors;
 mod gates;
 mod histories;
+mod journal_files;
 mod lines;
 mod notices;
 mod open_days;

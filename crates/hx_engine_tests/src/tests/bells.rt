@@ -1,7 +1,7 @@
 //! What no clause says of bells: who is woken, and who sleeps on.
 
-use super::listeners::Listeners;
-use super::*;
+use super::{equal, holds, member_of};
+use hx_bells::{Bell, Bells};
 use hx_units::MemberNo;
 use std::alloc::Global;
 use std::process::Abort;
@@ -20,15 +20,6 @@ fn long() -> Duration {
 
 fn short() -> Duration {
     Duration::from_millis(SHORT)
-}
-
-// It is so, or the test ends.
-fn holds<R: Abort>(rt: &R, is_so: bool) {
-    assert!(rt; is_so);
-}
-
-fn member<R: Abort>(rt: &R, number: u16) -> MemberNo {
-    MemberNo::of(number).expect(rt, "a member")
 }
 
 fn bells_for<R: Abort>(rt: &R, alloc: Global, seats: u16) -> Bells {
@@ -103,12 +94,12 @@ fn rings<R: Wait + Clock + Abort>(rt: &R, bells: &Bells, who: &[MemberNo], wante
         has_rung(rt, bells.bell(2)),
         has_rung(rt, bells.bell(3)),
     ];
-    assert_eq!(rt; rung, wanted);
+    equal(rt, rung, wanted);
 }
 
 #[test]
 fn only_who_listens_is_woken(rt: HostRuntime) {
-    let (first, second) = (member(&rt, 1), member(&rt, 4095));
+    let (first, second) = (member_of(&rt, 1), member_of(&rt, 4095));
     let bells = bells_for(&rt, rt.alloc(), 3);
     rings(&rt, &bells, &[first], [false, false, false]);
     bells.listen(&rt, 1, first);
@@ -135,9 +126,9 @@ fn seats_that_are_none(rt: HostRuntime) {
     bells.ring_all();
     holds(&rt, !has_rung(&rt, bells.bell(0)));
     holds(&rt, !has_rung(&rt, bells.bell(3)));
-    let first = member(&rt, 1);
+    let first = member_of(&rt, 1);
     bells.listen(&rt, 9, first);
     bells.ring(&rt, &[first]);
     bells.leave(&rt, 9, first);
-    holds(&rt, Listeners::new(rt.alloc(), 0).is_ok());
+    holds(&rt, Bells::new(rt.alloc(), 0).is_ok());
 }

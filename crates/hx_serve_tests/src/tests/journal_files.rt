@@ -1,22 +1,12 @@
 //! A journal's file that waits for room, the words of its first line, and its faults.
 
-use crate::{PatientFile, Syncs, date_of, day_of, digest_of};
+use super::{equal, holds};
+use hx_day_journal::{PatientFile, Syncs, date_of, day_of, digest_of};
 use hx_journal::{DeviceError, RawFile};
 use hx_serve::{Board, Notice};
 use std::alloc::Global;
-use std::fmt::Debug;
 use std::process::Abort;
 use std::sync::atomic::{AtomicU64, Ordering};
-
-// Both are the same, or the test ends.
-fn equal<R: Abort, T: PartialEq + Debug + Drop>(rt: &R, found: T, wanted: T) {
-    assert_eq!(rt; found, wanted);
-}
-
-// It is so, or the test ends.
-fn holds<R: Abort>(rt: &R, is_so: bool) {
-    assert!(rt; is_so);
-}
 
 // A file in memory on a small disk, on which there is more room after some writes that found none.
 #[derive(Drop)]
@@ -25,6 +15,8 @@ struct SmallDisk {
     room: usize,
     // This many writes find no room.
     refused: u32,
+    // How many bytes it had before it was last cut, and how many then.
+    cut: (usize, usize),
     syncs: u32,
 }
 
@@ -34,6 +26,7 @@ impl SmallDisk {
             bytes: Vec::new(rt.alloc()),
             room,
             refused,
+            cut: (0, 0),
             syncs: 0,
         }
     }
@@ -53,6 +46,7 @@ impl RawFile for SmallDisk {
     }
 
     fn cut(&mut self, len: usize) -> Result<(), DeviceError> {
+        self.cut = (self.bytes.len(), len);
         self.bytes.truncate(len);
         Ok(())
     }
@@ -89,6 +83,7 @@ impl Board for Heard {
     }
 }
 
+// What a write left that found no room is cut off again.
 #[test]
 fn a_full_disk_is_waited_for(rt: HostRuntime) {
     let heard = Heard::new();
@@ -97,18 +92,9 @@ fn a_full_disk_is_waited_for(rt: HostRuntime) {
     holds(&rt, file.write_at(0, b"abcd").is_ok());
     holds(&rt, file.write_at(4, b"efgh").is_ok());
     equal(&rt, file.file().bytes.as_slice(), b"abcdefgh".as_slice());
+    equal(&rt, file.file().cut, (5, 4));
     equal(&rt, heard.waits.load(Ordering::SeqCst), 1);
     equal(&rt, heard.goes_on.load(Ordering::SeqCst), 1);
-}
-
-#[test]
-fn what_a_full_disk_took_is_cut_off_again(rt: HostRuntime) {
-    let heard = Heard::new();
-    let disk = SmallDisk::new(&rt, 5, 1);
-    let mut file = PatientFile::new(disk, 0, Syncs::Group, &heard, &rt);
-    holds(&rt, file.write_at(0, b"abcd").is_ok());
-    holds(&rt, file.wait_for_room(true).is_ok());
-    equal(&rt, file.file().bytes.as_slice(), b"abcd".as_slice());
 }
 
 #[test]
