@@ -147,13 +147,26 @@ impl Guests {
         })
     }
 
+    // Lets the first go.
+    fn drop_first(&mut self) {
+        if let Some(guest) = self.guests.first_mut() {
+            guest.stage = Stage::IsGone;
+        }
+        self.let_go();
+    }
+
+    // Those go who have ended.
+    fn let_go(&mut self) {
+        self.guests.retain(|guest| guest.stage != Stage::IsGone);
+    }
+
     // Takes one in. Where too many are there, the one that came first goes.
     fn enter(&mut self, stream: TcpStream, now: Instant) {
         if stream.set_nonblocking(true).is_err() {
             return;
         }
         if self.guests.len() >= ROOM {
-            self.guests.remove(0);
+            self.drop_first();
         }
         let _ = self.guests.push(Guest {
             stream,
@@ -178,6 +191,6 @@ impl Guests {
         for guest in self.guests.iter_mut() {
             guest.attend(self.alloc, watched, now);
         }
-        self.guests.retain(|guest| guest.stage != Stage::IsGone);
+        self.let_go();
     }
 }

@@ -3,7 +3,7 @@ ghost use Rattle.std.specs.Prelude.{◌≡◌, ◌++◌, ◌∷◌, [], IsTrue, 
 ghost use Rattle.http_header.specs.FieldValue.{is_visible_text};
 ghost use Rattle.http_server.specs.Response.{IsBlank, IsResponse, fields_of};
 ghost use Rattle.json.specs.Print.{print};
-ghost use Rattle.hx_page.specs.Answers.{closed, discreet, safe, Gives, Refuses, GivesChart, GoesOver, Answers, book_text, joined, sheet_tokens, trades_tokens, chart_path, charted};
+ghost use Rattle.hx_page.specs.Answers.{closed, discreet, safe, upgrade, Gives, Refuses, GivesChart, GoesOver, Answers, book_text, joined, sheet_tokens, trades_tokens, chart_path, charted};
 ghost use Rattle.hx_board.specs.Texts.{Adds, array_member};
 
 use crate::asked::Asked;
@@ -74,6 +74,15 @@ fn protect(response: &mut Response) -> Result<(), AllocError>
 {
     close(response)?;
     hush(response)
+}
+
+// Adds that a WebSocket is spoken here.
+fn offer(response: &mut Response) -> Result<(), AllocError>
+    ensures { OnOk result (IsResponse response.old.status (fields_of response.old ++ upgrade)
+        response.old.body.items response.new) }
+{
+    add(response, header::UPGRADE, "websocket")?;
+    add(response, header::CONNECTION, "upgrade")
 }
 
 fn give(response: &mut Response, media: &'static str, body: &[u8]) -> Result<(), AllocError>
@@ -217,16 +226,14 @@ impl<'a> Page<'a> {
     {
         let Some(key) = accepted(headers) else {
             response.status = StatusCode::UPGRADE_REQUIRED;
-            add(response, header::UPGRADE, "websocket")?;
-            add(response, header::CONNECTION, "upgrade")?;
+            offer(response)?;
             return protect(response);
         };
+        response.status = StatusCode::SWITCHING_PROTOCOLS;
+        offer(response)?;
         let Ok(key) = HeaderValue::from_bytes(self.alloc, &key) else {
             return Err(AllocError);
         };
-        response.status = StatusCode::SWITCHING_PROTOCOLS;
-        add(response, header::UPGRADE, "websocket")?;
-        add(response, header::CONNECTION, "upgrade")?;
         response.add_header(header::SEC_WEBSOCKET_ACCEPT, key)
     }
 

@@ -7,10 +7,10 @@ use http1::Limits;
 use hx_board::Board;
 use std::alloc::{AllocError, Global};
 use std::hash::RandomState;
+use std::io;
 use std::io::{ErrorKind, Read};
 use std::net::{Shutdown, TcpListener, TcpStream};
 use std::time::{Clock, Duration, Instant};
-use std::{io, mem};
 
 // This many who ask are there at most. One more, and the one that came first goes.
 const ASKERS: usize = 64;
@@ -45,26 +45,28 @@ const CONFIG: Config = Config {
     read_size: 4096,
 };
 
-// What a connection is.
-#[derive(Drop)]
-enum Line {
-    // One who asks.
-    Asks(Connection),
-    // One who is told of changes.
-    Watches(Browser),
-    // One who has got his last answer, and was told that nothing more comes.
+// What becomes of a guest.
+#[derive(Clone, Copy, PartialEq, Eq)]
+enum Stage {
+    // He may ask.
+    Asks,
+    // He is told of changes.
+    Watches,
+    // He has got his last answer, and was told that nothing more comes.
     Leaves,
-    // One who goes.
+    // He goes.
     IsGone,
 }
 
-// One who reads.
+// One who reads: he asks by the connection, until he is told of changes as a browser.
 #[derive(Drop)]
 struct Guest {
     stream: TcpStream,
-    line: Line,
+    connection: Option<Connection>,
+    browser: Option<Browser>,
     // When he came, or when his last request was answered.
     since: Instant,
+    stage: Stage,
 }
 
 // Whether something was moved; not where that would wait.
@@ -110,88 +112,101 @@ fn converse(
     Ok(())
 }
 
-// What becomes of a connection that was answered.
-fn after(alloc: Global, stream: &mut TcpStream, connection: Connection, now: Instant) -> Line {
+// What becomes of one whose connection was answered.
+fn after(stream: &mut TcpStream, connection: &Connection) -> Stage {
     if connection.state() == State::Upgraded {
-        let (input, output) = connection.into_buffers();
-        return Line::Watches(Browser::new(alloc, input, output, now));
+        return Stage::Watches;
     }
     if !connection.is_done() {
-        return Line::Asks(connection);
+        return Stage::Asks;
     }
     match stream.shutdown(Shutdown::Write) {
-        Ok(()) => Line::Leaves,
-        Err(_) => Line::IsGone,
+        Ok(()) => Stage::Leaves,
+        Err(_) => Stage::IsGone,
     }
 }
 
 // Throws away what still comes: to close a line with unread bytes would take from the other side
 // what it has not read.
-fn leave(stream: &mut TcpStream) -> Line {
+fn leave(stream: &mut TcpStream) -> Stage {
     let mut thrown = [0; THROWN];
     match stream.read(&mut thrown) {
-        Ok(0) => Line::IsGone,
+        Ok(0) => Stage::IsGone,
         read => match has_moved(read) {
-            Ok(_) => Line::Leaves,
-            Err(_) => Line::IsGone,
+            Ok(_) => Stage::Leaves,
+            Err(_) => Stage::IsGone,
         },
     }
 }
 
 impl Guest {
     fn is_browser(&self) -> bool {
-        matches!(self.line, Line::Watches(_))
+        self.stage == Stage::Watches
     }
 
     fn is_gone(&self) -> bool {
-        matches!(self.line, Line::IsGone)
+        self.stage == Stage::IsGone
+    }
+
+    // Reads, answers and writes for one who asks: what becomes of him.
+    fn reply(&mut self, page: &mut Page<'_>) -> Stage {
+        let Some(connection) = &mut self.connection else {
+            return Stage::IsGone;
+        };
+        match converse(&mut self.stream, connection, page) {
+            Ok(()) => after(&mut self.stream, connection),
+            Err(_) => Stage::IsGone,
+        }
+    }
+
+    // From now on he is told of changes.
+    fn go_over(&mut self, alloc: Global, now: Instant) {
+        if let Some(connection) = self.connection.take() {
+            let (input, output) = connection.into_buffers();
+            self.browser = Some(Browser::new(alloc, input, output, now));
+        }
     }
 
     // Answers one who asks.
     fn answer(&mut self, alloc: Global, board: &Board, now: Instant) {
         let mut page = Page::new(alloc, board);
-        let line = mem::replace(&mut self.line, Line::IsGone);
-        self.line = match line {
-            Line::Asks(mut connection) => {
-                match converse(&mut self.stream, &mut connection, &mut page) {
-                    Ok(()) => after(alloc, &mut self.stream, connection, now),
-                    Err(_) => Line::IsGone,
-                }
-            }
-            Line::Leaves => leave(&mut self.stream),
+        self.stage = match self.stage {
+            Stage::Asks => self.reply(&mut page),
+            Stage::Leaves => leave(&mut self.stream),
             other => other,
         };
         if page.is_read {
             self.since = now;
         }
-        let patience = Duration::from_secs(PATIENCE);
-        if !self.is_browser() && now.saturating_duration_since(self.since) >= patience {
-            self.line = Line::IsGone;
+        if self.is_browser() {
+            self.go_over(alloc, now);
+        } else if now.saturating_duration_since(self.since) >= Duration::from_secs(PATIENCE) {
+            self.stage = Stage::IsGone;
         }
     }
 
     // Tells one who watches.
     fn tell(&mut self, board: &Board, now: Instant) {
-        if let Line::Watches(browser) = &mut self.line {
+        if let Some(browser) = &mut self.browser {
             if !browser.attend(&mut self.stream, board, now) {
-                self.line = Line::IsGone;
+                self.stage = Stage::IsGone;
             }
         }
     }
 
     // Tells one who watches that nothing more comes.
     fn end(&mut self, board: &Board) {
-        if let Line::Watches(browser) = &mut self.line {
+        if let Some(browser) = &mut self.browser {
             browser.end(board);
         }
     }
 
     // Whether he is owed something.
     fn is_owed(&self) -> bool {
-        match &self.line {
-            Line::Watches(browser) => !browser.is_told(),
-            Line::Asks(connection) => connection.wants_write(),
-            Line::Leaves | Line::IsGone => false,
+        match (self.stage, &self.connection, &self.browser) {
+            (Stage::Asks, Some(connection), _) => connection.wants_write(),
+            (Stage::Watches, _, Some(browser)) => !browser.is_told(),
+            _ => false,
         }
     }
 }
@@ -230,12 +245,13 @@ impl Guests {
 
     // Lets the first go who asks.
     fn drop_first(&mut self) {
-        for place in 0..self.guests.len() {
-            if !self.guests[place].is_browser() {
-                self.guests.remove(place);
-                return;
+        for guest in self.guests.iter_mut() {
+            if !guest.is_browser() {
+                guest.stage = Stage::IsGone;
+                break;
             }
         }
+        self.guests.retain(|guest| !guest.is_gone());
     }
 
     // Takes one in. Where too many are there, the one that came first goes.
@@ -248,8 +264,10 @@ impl Guests {
         }
         let _ = self.guests.push(Guest {
             stream,
-            line: Line::Asks(Connection::new(self.alloc, self.keys, CONFIG)),
+            connection: Some(Connection::new(self.alloc, self.keys, CONFIG)),
+            browser: None,
             since: now,
+            stage: Stage::Asks,
         });
     }
 

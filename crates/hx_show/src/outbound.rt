@@ -1,6 +1,7 @@
 //! Replies to a member, in words (OUCH 4.2, Outbound Messages).
 ghost use Rattle.std.specs.Prelude.{◌≡◌, ◌++◌, OnOk};
 ghost use Rattle.hx_show.specs.Outbound.{system_event_parts, accepted_parts, replaced_parts, canceled_parts, executed_parts, rejected_parts, broken_trade_parts, outbound_message, outbound_time};
+ghost use Rattle.hx_ouch.specs.declared.outbound.Outbound.TheVariants as variant;
 
 use crate::label::Label;
 use crate::part::{Part, put_message};
@@ -101,14 +102,28 @@ fn broken_trade_parts(m: BrokenTrade) -> [Part; 3]
     ]
 }
 
+fn put_accepted(out: &mut Vec<u8>, m: &Accepted) -> Result<(), AllocError>
+    ensures { OnOk result
+        (out.new.items ≡ out.old.items ++ outbound_message (variant.Accepted m.now)) }
+{
+    put_message(out, "Accepted", &accepted_parts(*m))
+}
+
+fn put_replaced(out: &mut Vec<u8>, m: &Replaced) -> Result<(), AllocError>
+    ensures { OnOk result
+        (out.new.items ≡ out.old.items ++ outbound_message (variant.Replaced m.now)) }
+{
+    put_message(out, "Replaced", &replaced_parts(*m))
+}
+
 /// Appends a reply, by its name in the standard.
 pub fn put_outbound(out: &mut Vec<u8>, message: &Outbound) -> Result<(), AllocError>
     ensures { OnOk result (out.new.items ≡ out.old.items ++ outbound_message message.now) }
 {
     match message {
         Outbound::SystemEvent(m) => put_message(out, "System Event", &system_event_parts(*m)),
-        Outbound::Accepted(m) => put_message(out, "Accepted", &accepted_parts(*m)),
-        Outbound::Replaced(m) => put_message(out, "Replaced", &replaced_parts(*m)),
+        Outbound::Accepted(m) => put_accepted(out, m),
+        Outbound::Replaced(m) => put_replaced(out, m),
         Outbound::Canceled(m) => put_message(out, "Canceled", &canceled_parts(*m)),
         Outbound::Executed(m) => put_message(out, "Executed", &executed_parts(*m)),
         Outbound::Rejected(m) => put_message(out, "Rejected", &rejected_parts(*m)),
