@@ -173,6 +173,61 @@ impl Watching {
         self.screen.reader.is_whole()
             || now.saturating_duration_since(self.heard) >= Duration::from_secs(SILENCE)
     }
+
+    // Tells what has come, and asks for what is missing. Returns whether nothing more is to come.
+    fn turn<R: Clock, W: Write, O: Onlooker>(
+        &mut self,
+        rt: &R,
+        args: &WatchArgs,
+        socket: &UdpSocket,
+        writer: &mut W,
+        onlooker: &mut O,
+    ) -> Result<bool, WatchError> {
+        self.show(writer, onlooker, args.stock)?;
+        let time = now(rt)?;
+        let is_over = self.is_over(time);
+        onlooker.hear(&self.screen, self.progress(is_over), time)?;
+        if !is_over {
+            self.ask(socket, args.requests, time)?;
+        }
+        Ok(is_over)
+    }
+
+    // Takes the next datagram in, where one comes in time.
+    fn hear<R: Clock>(
+        &mut self,
+        rt: &R,
+        socket: &UdpSocket,
+        buffer: &mut [u8],
+    ) -> Result<(), WatchError> {
+        let Some(count) = next_datagram(socket, buffer)? else {
+            return Ok(());
+        };
+        if let Some(datagram) = buffer.get(..count) {
+            self.screen.receive(datagram);
+        }
+        self.heard = now(rt)?;
+        Ok(())
+    }
+
+    // Turn by turn, until nothing more is to come; then the last line. Datagrams come by this socket into this buffer.
+    fn follow<R: Clock, W: Write, O: Onlooker>(
+        &mut self,
+        rt: &R,
+        args: &WatchArgs,
+        line: (&UdpSocket, &mut [u8]),
+        writer: &mut W,
+        onlooker: &mut O,
+    ) -> Result<(), WatchError> {
+        let (socket, buffer) = line;
+        for _ in 0..u64::MAX {
+            if self.turn(rt, args, socket, writer, onlooker)? {
+                break;
+            }
+            self.hear(rt, socket, buffer)?;
+        }
+        write_end(writer, self)
+    }
 }
 
 // The last line: how many messages were handed out, how many of all were asked for, and whether any
@@ -256,23 +311,7 @@ fn watch_before<R: AllocGlobal + Net + Clock, W: Write, O: Onlooker>(
     };
     let mut buffer = vec![in alloc; 0u8; DATAGRAM]?;
     let mut watching = first_heard(rt, alloc, &socket, &mut buffer)?;
-    for _ in 0..u64::MAX {
-        watching.show(writer, onlooker, args.stock)?;
-        let time = now(rt)?;
-        let is_over = watching.is_over(time);
-        onlooker.hear(&watching.screen, watching.progress(is_over), time)?;
-        if is_over {
-            break;
-        }
-        watching.ask(&socket, args.requests, time)?;
-        if let Some(count) = next_datagram(&socket, &mut buffer)? {
-            if let Some(datagram) = buffer.get(..count) {
-                watching.screen.receive(datagram);
-            }
-            watching.heard = now(rt)?;
-        }
-    }
-    write_end(writer, &watching)
+    watching.follow(rt, args, (&socket, &mut buffer), writer, onlooker)
 }
 
 /// Watches a feed until its session has ended and nothing is missing, or until it has been silent
