@@ -70,6 +70,23 @@ fn record_all(desk: &mut Desk, log: &Log<Entry>, events: &[Event]) -> Result<(),
     Ok(())
 }
 
+// Reports at what rate a desk records events.
+fn report_desk<R: Print + Eprint + Clock>(
+    rt: &R,
+    desk: &mut Desk,
+    log: &Log<Entry>,
+    events: &[Event],
+) -> Result<(), Failure>
+    requires log { desk.old.log ≡ log.now }
+    requires told { desk.old.sealed ≡ desk.old.told }
+{
+    let begun = Instant::now(rt)?;
+    record_all(desk, log, events)?;
+    report(rt, begun, "a desk alone", events.len() as u64, "events")?;
+    println!(rt; "feed {}", desk.feed_count())?;
+    Ok(())
+}
+
 /// A desk alone: the market, the log, the history and the replies.
 pub fn desk_rate<R: Print + Eprint + Clock>(
     rt: &R,
@@ -78,9 +95,5 @@ pub fn desk_rate<R: Print + Eprint + Clock>(
 ) -> Result<(), Failure> {
     let (log, writer, _reader) = Log::<Entry>::new(alloc, CAPACITY)?;
     let mut desk = Desk::new(alloc, day_setup(alloc)?, writer)?;
-    let begun = Instant::now(rt)?;
-    record_all(&mut desk, &log, events)?;
-    report(rt, begun, "a desk alone", events.len() as u64, "events")?;
-    println!(rt; "feed {}", desk.feed_count())?;
-    Ok(())
+    report_desk(rt, &mut desk, &log, events)
 }

@@ -126,6 +126,31 @@ impl Relaying {
     fn is_over(&self, now: Instant) -> bool {
         now.saturating_duration_since(self.heard) >= Duration::from_secs(SILENCE)
     }
+
+    // Relays until the feed has been silent for too long. Returns whether the session has ended and nothing is missing.
+    fn go_on<R: Clock>(
+        &mut self,
+        rt: &R,
+        lines: &Lines,
+        buffer: &mut [u8],
+        args: &RelayArgs<'_>,
+    ) -> Result<bool, RelayError> {
+        for _ in 0..u64::MAX {
+            let time = now(rt)?;
+            if self.is_over(time) {
+                break;
+            }
+            self.ask(lines, args, time);
+            lines.answer(&mut self.relay, buffer)?;
+            if let Some(count) = lines.hear(buffer)?
+                && let Some(datagram) = buffer.get(..count)
+                && self.take(lines, datagram, args)?
+            {
+                self.heard = now(rt)?;
+            }
+        }
+        Ok(self.relay.is_whole())
+    }
 }
 
 /// Relays a feed: sends its packets on as they come, asks for what it misses, and answers requests for messages, until the
@@ -143,19 +168,5 @@ pub fn relay_feed<R: AllocGlobal + Net + Clock>(
     };
     let mut buffer = vec![in alloc; 0u8; DATAGRAM]?;
     let mut relaying = Relaying::begin(rt, alloc, &lines, &mut buffer, args)?;
-    for _ in 0..u64::MAX {
-        let time = now(rt)?;
-        if relaying.is_over(time) {
-            break;
-        }
-        relaying.ask(&lines, args, time);
-        lines.answer(&mut relaying.relay, &mut buffer)?;
-        if let Some(count) = lines.hear(&mut buffer)?
-            && let Some(datagram) = buffer.get(..count)
-            && relaying.take(&lines, datagram, args)?
-        {
-            relaying.heard = now(rt)?;
-        }
-    }
-    Ok(relaying.relay.is_whole())
+    relaying.go_on(rt, &lines, &mut buffer, args)
 }

@@ -232,6 +232,21 @@ pub fn attend_open<
     })
 }
 
+// Ends the exchange: its history, and how many messages its feed has.
+fn end<V: Venue, J: Journal + Drop>(
+    exchange: Exchange<V, J>,
+    passes: Vec<Pass<V>>,
+) -> Result<(Vec<Entry>, u64), ServeError>
+    ensures served { IfOk result (λ end. IsServed V.setup end.0.items end.1) }
+    ensures begins { IfOk result (λ end. IsPrefix (restored V.before) end.0.items) }
+{
+    match exchange.finish(passes) {
+        Ok(Finished { history, feed, .. }) => Ok((history, feed)),
+        Err(FinishError::Stopped { .. }) => Err(ServeError::Journal),
+        Err(FinishError::Missing { .. }) => Err(ServeError::NoMemory),
+    }
+}
+
 /// Ends the exchange, and writes the last line.
 pub fn conclude<V: Venue, J: Journal + Drop, W: Write>(
     alloc: Global,
@@ -252,12 +267,7 @@ pub fn conclude<V: Venue, J: Journal + Drop, W: Write>(
         operated,
         socket,
     } = outcome;
-    let finished = match exchange.finish(passes) {
-        Ok(finished) => finished,
-        Err(FinishError::Stopped { .. }) => return Err(ServeError::Journal),
-        Err(FinishError::Missing { .. }) => return Err(ServeError::NoMemory),
-    };
-    let Finished { history, feed, .. } = finished;
+    let (history, feed) = end(exchange, passes)?;
     let written = write_last_line(alloc, output, history.len() as u64, feed).err();
     Ok(Day {
         history,

@@ -39,25 +39,34 @@ struct Founding<'a, J: Journal> {
     beginning: PlayedBeginning<'a, J>,
 }
 
-// A day over an exchange of its own.
-fn run<
-    V: Venue + Send + Sync,
-    J: Journal + Drop + Send,
-    G: Gate + Sync,
-    B: Board + Sync,
-    D: Datagrams + Sync + Drop,
-    T: Threads + Wait + Clock + Logger + Sync,
-    R: Read + Send + Drop,
-    W: Write,
->(
-    rt: &T,
+// The logs and the ledger of a new exchange, for a day with this number of sessions.
+fn found<'a, J: Journal + Drop>(
+    alloc: Global,
+    beginning: PlayedBeginning<'a, J>,
+    sessions: u16,
+) -> Result<Founding<'a, J>, ServeError>
+    ensures beginning { IfOk result (λ founding. founding.beginning ≡ beginning) }
+    ensures admitted { IfOk result (λ founding.
+        IsNewLog founding.admitted.0 founding.admitted) }
+    ensures kept { IfOk result (λ founding. IsNewLog founding.kept.0 founding.kept) }
+    ensures parts { IfOk result (λ founding. sessions + 2 ≡ founding.blank.parts) }
+{
+    let (admitted, register, _) = Log::<Entry>::new(alloc, 1)?;
+    let (kept, keeper, _) = Log::<Entry>::new(alloc, 1)?;
+    Ok(Founding {
+        admitted: (admitted, register),
+        kept: (kept, keeper),
+        blank: Blank::new(u64::from(sessions) + 2),
+        beginning,
+    })
+}
+
+// The exchange, and by what those submit and read who attend to it. Where the day goes on, that is said.
+fn open<V: Venue, J: Journal + Drop, G: Gate, B: Board>(
     alloc: Global,
     hosting: &Hosting<'_, G, B>,
-    doors: Doors<D>,
     founding: Founding<'_, J>,
-    input: R,
-    output: &mut W,
-) -> Result<Day, ServeError>
+) -> Result<(Exchange<V, J>, Crew<V>), ServeError>
     requires feed { founding.beginning.day.log ≡ V.log }
     requires admitted { IsNewLog V.admitted founding.admitted }
     requires kept { IsNewLog V.kept founding.kept }
@@ -69,11 +78,6 @@ fn run<
         × (J.is_open founding.beginning.journal ≡ true) }
     requires blank { (founding.blank.name ≡ V.name) × (founding.blank.parts ≡ V.parts) }
     requires passes { hosting.now.args.now.sessions + 2 ≡ V.parts }
-    ensures served { IfOk result (λ day. IsServed V.setup day.history.items day.feed) }
-    ensures begins { IfOk result (λ day. IsPrefix (restored V.before) day.history.items) }
-    ensures told { IfOk result (λ day. day.fault ≡ None
-        → Appends (W.contents output.old) (W.contents output.new)
-        (last_line (length day.history.items) day.feed)) }
 {
     let Founding {
         admitted,
@@ -113,6 +117,46 @@ fn run<
         fittings,
         bulletin,
     };
+    Ok((exchange, crew))
+}
+
+// A day over an exchange of its own.
+fn run<
+    V: Venue + Send + Sync,
+    J: Journal + Drop + Send,
+    G: Gate + Sync,
+    B: Board + Sync,
+    D: Datagrams + Sync + Drop,
+    T: Threads + Wait + Clock + Logger + Sync,
+    R: Read + Send + Drop,
+    W: Write,
+>(
+    rt: &T,
+    alloc: Global,
+    hosting: &Hosting<'_, G, B>,
+    doors: Doors<D>,
+    founding: Founding<'_, J>,
+    input: R,
+    output: &mut W,
+) -> Result<Day, ServeError>
+    requires feed { founding.beginning.day.log ≡ V.log }
+    requires admitted { IsNewLog V.admitted founding.admitted }
+    requires kept { IsNewLog V.kept founding.kept }
+    requires of_setup { founding.beginning.day.setup ≡ V.setup }
+    requires before { founding.beginning.day.events ≡ V.before }
+    requires journal { J.appended founding.beginning.journal
+        ≡ lines record_of (restored V.before) }
+    requires safe { (J.kept founding.beginning.journal ≡ J.appended founding.beginning.journal)
+        × (J.is_open founding.beginning.journal ≡ true) }
+    requires blank { (founding.blank.name ≡ V.name) × (founding.blank.parts ≡ V.parts) }
+    requires passes { hosting.now.args.now.sessions + 2 ≡ V.parts }
+    ensures served { IfOk result (λ day. IsServed V.setup day.history.items day.feed) }
+    ensures begins { IfOk result (λ day. IsPrefix (restored V.before) day.history.items) }
+    ensures told { IfOk result (λ day. day.fault ≡ None
+        → Appends (W.contents output.old) (W.contents output.new)
+        (last_line (length day.history.items) day.feed)) }
+{
+    let (exchange, crew) = open(alloc, hosting, founding)?;
     let outcome = attend_open(rt, alloc, &exchange, hosting, doors, crew, input)?;
     conclude(alloc, exchange, outcome, output)
 }
@@ -151,16 +195,39 @@ pub fn serve_played_from<
         → Appends (W.contents output.old) (W.contents output.new)
         (last_line (length day.history.items) day.feed)) }
 {
-    let (admitted, register, _) = Log::<Entry>::new(alloc, 1)?;
-    let (kept, keeper, _) = Log::<Entry>::new(alloc, 1)?;
-    let blank = Blank::new(u64::from(hosting.args.sessions) + 2);
-    let founding = Founding {
-        admitted: (admitted, register),
-        kept: (kept, keeper),
-        blank,
-        beginning,
-    };
+    let founding = found(alloc, beginning, hosting.args.sessions)?;
     run::<Brand, J, G, B, D, T, R, W>(rt, alloc, hosting, doors, founding, input, output)
+}
+
+// What a day begins with, its events played.
+fn play_beginning<'a, J: Journal + Drop>(
+    alloc: Global,
+    setup: &'a Setup,
+    args: &ServeArgs,
+    beginning: Beginning<J>,
+) -> Result<PlayedBeginning<'a, J>, ServeError>
+    ensures setup { IfOk result (λ played. played.day.setup ≡ setup.now) }
+    ensures events { IfOk result (λ played.
+        played.day.events ≡ beginning.recovered.events.items) }
+    ensures journal { IfOk result (λ played. played.journal ≡ beginning.recovered.journal) }
+{
+    let Beginning {
+        seed,
+        recovered,
+        ahead,
+        fittings,
+    } = beginning;
+    let Recovered { journal, events } = recovered;
+    let mut day = PlayedDay::new(alloc, setup, args, seed)?;
+    if let Err(error) = play_all(&mut day, &events) {
+        return Err(fault_of_resume(error));
+    }
+    Ok(PlayedBeginning {
+        day,
+        journal,
+        ahead,
+        fittings,
+    })
 }
 
 /// Serves a day through these doors, from what its journal keeps of it on, and returns what it leaves; or why its sessions
@@ -195,24 +262,7 @@ pub fn serve_from<
         → Appends (W.contents output.old) (W.contents output.new)
         (last_line (length day.history.items) day.feed)) }
 {
-    let Beginning {
-        seed,
-        recovered,
-        ahead,
-        fittings,
-    } = beginning;
-    let Recovered { journal, events } = recovered;
-    let mut day = PlayedDay::new(alloc, hosting.setup, hosting.args, seed)?;
-    if let Err(error) = play_all(&mut day, &events) {
-        return Err(fault_of_resume(error));
-    }
-    drop(events);
-    let beginning = PlayedBeginning {
-        day,
-        journal,
-        ahead,
-        fittings,
-    };
+    let beginning = play_beginning(alloc, hosting.setup, hosting.args, beginning)?;
     serve_played_from(rt, alloc, hosting, doors, beginning, input, output)
 }
 

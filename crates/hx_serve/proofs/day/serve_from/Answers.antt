@@ -1,4 +1,4 @@
-use Rattle.std.proofs.Common.{List, ◌++◌, IfOk, ap, subst, ◌∙◌}
+use Rattle.std.proofs.Common.{List, IfOk, subst}
 use mathlib.Core.List.{IsPrefix}
 use Rattle.hx_rules.specs.declared.event.Event.{Event}
 use Rattle.hx_desk.specs.Entries.{restored}
@@ -8,5 +8,4 @@ use Rattle.hx_serve.proofs.day.serve_from.Goals as goal
 pub returns-clause-begins : goal.returns-clause-begins
 returns-clause-begins g c =
     subst (λ (events : List Event). IfOk c.serve_played_from.result (λ day. IsPrefix (restored events) day.history.items))
-    (c.in_default.ensures.played ∙ ap (λ (l : List Event). l ++ c.deref.result.now) c.in_ok-day.ensures.events ∙ c.deref.ensures.value)
-    c.serve_played_from.ensures.begins
+    c.in_ok-beginning.ensures.events c.serve_played_from.ensures.begins

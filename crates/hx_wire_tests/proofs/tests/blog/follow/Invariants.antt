@@ -1,5 +1,5 @@
 use Rattle.std.proofs.Common.{◌≡◌}
-use Rattle.hx_blog.proofs.tests.follow.Given as goal
+use Rattle.hx_wire_tests.proofs.tests.blog.follow.Given as goal
 
 abbrev pub invariant-loop : goal.invariant-loop
 invariant-loop l = l.reader.log ≡ l.log

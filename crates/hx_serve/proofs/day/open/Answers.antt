@@ -1,6 +1,6 @@
 use Rattle.std.proofs.Common.{ap, ◌∙◌}
 use Rattle.hx_engine.specs.Played.{PlayedState}
-use Rattle.hx_serve.proofs.day.run.Goals as goal
+use Rattle.hx_serve.proofs.day.open.Goals as goal
 
 -- the reader of the day reads the log that its events were played over
 pub invariant_of-crew : goal.invariant_of-crew

@@ -1,5 +1,5 @@
 use Rattle.std.proofs.Common.{◌≡◌}
-use Rattle.hx_blog.proofs.tests.write.Given as goal
+use Rattle.hx_wire_tests.proofs.tests.blog.write.Given as goal
 
 abbrev pub invariant-loop-event : goal.invariant-loop-event
 invariant-loop-event l = l.writer.log ≡ l.log
