@@ -45,7 +45,7 @@ fn found<'a, J: Journal + Drop>(
     beginning: PlayedBeginning<'a, J>,
     sessions: u16,
 ) -> Result<Founding<'a, J>, ServeError>
-    ensures beginning { IfOk result (λ founding. founding.beginning ≡ beginning) }
+    ensures beginning { IfOk result (λ founding. founding.beginning ≡ beginning.entry) }
     ensures admitted { IfOk result (λ founding.
         IsNewLog founding.admitted.0 founding.admitted) }
     ensures kept { IfOk result (λ founding. IsNewLog founding.kept.0 founding.kept) }
@@ -156,7 +156,7 @@ fn run<
         → Appends (W.contents output.old) (W.contents output.new)
         (last_line (length day.history.items) day.feed)) }
 {
-    let (exchange, crew) = open(alloc, hosting, founding)?;
+    let (exchange, crew) = open::<V, J, G, B>(alloc, hosting, founding)?;
     let outcome = attend_open(rt, alloc, &exchange, hosting, doors, crew, input)?;
     conclude(alloc, exchange, outcome, output)
 }
