@@ -10,7 +10,7 @@ use crate::beginning::Day;
 use crate::ending::{fault_of_day, write_last_line};
 use crate::fault::ServeError;
 use crate::fittings::Fittings;
-use crate::open_day::{Desk, Page, Staff, work_open};
+use crate::open_day::{Closed, Desk, Page, Staff, work_open};
 use crate::parts::{dismiss, hire};
 use crate::places::{Hall, make_places};
 use crate::publishing::Publishing;
@@ -19,12 +19,13 @@ use crate::workers::{Writers, work};
 use hx_blog::{Log, Reader};
 use hx_doors::{Datagrams, Doors, Lobby, take};
 use hx_engine::{Entry, Exchange, FinishError, Finished, Journal, Pass, Venue};
-use hx_floor::{Board, Bulletin, DayClock, Floor, Hosting, Seats};
+use hx_floor::{Board, Bulletin, DayClock, Floor, Hosting, OpenArgs, Seats};
 use hx_operator::OperatorSocket;
 use hx_sessions::Gate;
 use log::Log as Logger;
 use std::alloc::Global;
 use std::io::{Read, Write};
+use std::net::TcpListener;
 use std::sync::Wait;
 use std::thread::Threads;
 use std::time::Clock;
@@ -129,6 +130,108 @@ fn attend<
     })
 }
 
+// Who attends to an open day, and by what readers its feed is published.
+#[derive(Drop)]
+struct Opening<V: Venue, R> {
+    staff: Staff<V, R>,
+    seats: Seats,
+    // What the operator has made of the day so far.
+    bulletin: Bulletin,
+    first: Reader<Entry>,
+    second: Reader<Entry>,
+    ghost belong: { (first.log ≡ V.log) × (second.log ≡ V.log) },
+}
+
+// The places, the operator's desk and the page of an open day, of its crew.
+fn open_up<V: Venue, R: Drop>(
+    alloc: Global,
+    log: &Log<Entry>,
+    listener: TcpListener,
+    crew: Crew<V>,
+    input: R,
+    open: OpenArgs,
+) -> Result<Opening<V, R>, ServeError>
+    requires { log.now ≡ V.log }
+{
+    let Crew {
+        own: pass,
+        mut passes,
+        mut reader,
+        fittings,
+        bulletin,
+    } = crew;
+    let Fittings { duties, metrics } = fittings;
+    let Some(other) = passes.pop() else {
+        return Err(ServeError::NoMemory);
+    };
+    let seats = Seats::new(alloc, passes.len())?;
+    let places = make_places(alloc, log, passes, &mut reader)?;
+    let second = reader.split(log);
+    let viewer = Viewer::new(reader.split(log));
+    let desk = Desk {
+        pass,
+        input,
+        other,
+        duties,
+    };
+    Ok(Opening {
+        staff: Staff {
+            places,
+            listener,
+            desk,
+            page: Page { metrics, viewer },
+            open,
+        },
+        seats,
+        bulletin,
+        first: reader,
+        second,
+    })
+}
+
+// What an open day leaves, once the end of its feed is told.
+fn settle<'a, V: Venue, J: Journal + Drop, B: Board, D: Datagrams, T: Wait + Clock>(
+    rt: &T,
+    exchange: &Exchange<V, J>,
+    board: &B,
+    datagrams: &D,
+    publishing: &mut Publishing<'a, V>,
+    closed: Closed<V>,
+    end: u32,
+) -> Outcome<V> {
+    let (mut passes, ((other, socket), (own, operated))) = closed;
+    let _ = passes.push(own);
+    let _ = passes.push(other);
+    learn_all(publishing, exchange.feed_log(), &mut passes);
+    let stopped = exchange.failure(rt).is_some();
+    let sent = stopped || publishing.finish(rt, datagrams);
+    if !stopped {
+        publishing.linger(rt, datagrams, board, exchange.feed_bell(), end);
+    }
+    Outcome {
+        passes,
+        network: !sent,
+        memory: false,
+        operated,
+        socket,
+    }
+}
+
+// Half of the log and some slots are kept for the codes of the hours and for ticks.
+fn keep_room<V: Venue, J: Journal + Drop, G, B, T: Wait>(
+    rt: &T,
+    exchange: &Exchange<V, J>,
+    hosting: &Hosting<'_, G, B>,
+) {
+    let stocks = hosting.setup.stocks().len() as u64;
+    exchange.keep(
+        rt,
+        (hosting.args.capacity / 2)
+            .saturating_add(KEPT)
+            .saturating_add(stocks),
+    );
+}
+
 /// An open day, up to the last packet that tells the end of the feed. Half of the log and some slots are kept for the codes
 /// of the hours and for ticks: what they tell is the codes themselves, the stocks, and the end of orders that were added
 /// with a message each. A day that is not open is one of as many connections as it has sessions.
@@ -152,38 +255,22 @@ pub fn attend_open<
     let Some(open) = hosting.open else {
         return attend(rt, alloc, exchange, hosting, doors, crew, input);
     };
-    let Crew {
-        own: pass,
-        mut passes,
-        mut reader,
-        fittings,
-        bulletin,
-    } = crew;
-    let Fittings { duties, metrics } = fittings;
-    let Some(other) = passes.pop() else {
-        return Err(ServeError::NoMemory);
-    };
-    let Doors {
-        listener,
-        socket: datagrams,
-    } = doors;
+    let Doors { listener, socket } = doors;
+    keep_room(rt, exchange, hosting);
     let log = exchange.feed_log();
-    let stocks = hosting.setup.stocks().len() as u64;
-    exchange.keep(
-        rt,
-        (hosting.args.capacity / 2)
-            .saturating_add(KEPT)
-            .saturating_add(stocks),
+    let Opening {
+        staff,
+        seats,
+        bulletin,
+        first,
+        second,
+    } = open_up(alloc, log, listener, crew, input, open)?;
+    let (session, now) = (
+        *hosting.setup.session(),
+        DayClock::of_clock(rt).time_of_day(),
     );
-    let count = passes.len();
-    let places = make_places(alloc, log, passes, &mut reader)?;
-    let now = DayClock::of_clock(rt).time_of_day();
-    let second = reader.split(log);
-    let viewer = Viewer::new(reader.split(log));
-    let session = *hosting.setup.session();
-    let publishing = Publishing::new(session, hosting, log, reader, second, now);
-    let seats = Seats::new(alloc, count)?;
-    let lobby = Lobby::new(alloc);
+    let publishing = Publishing::new(session, hosting, log, first, second, now);
+    let duties = &staff.desk.duties;
     let floor = Floor {
         setup: hosting.setup,
         seats: &seats,
@@ -197,39 +284,20 @@ pub fn attend_open<
     let hall = Hall {
         hosting,
         floor: &floor,
-        lobby: &lobby,
+        lobby: &Lobby::new(alloc),
     };
-    let staff = Staff {
-        places,
-        listener,
-        desk: Desk {
-            pass,
-            input,
-            other,
-            duties,
-        },
-        page: Page { metrics, viewer },
-        open,
-    };
-    let (mut publishing, (mut passes, ((other, socket), (own, operated)))) = work_open(
-        rt, alloc, exchange, &hall, &datagrams, publishing, staff,
+    let (mut publishing, closed) = work_open(
+        rt, alloc, exchange, &hall, &socket, publishing, staff,
     );
-    let _ = passes.push(own);
-    let _ = passes.push(other);
-    learn_all(&mut publishing, log, &mut passes);
-    let stopped = exchange.failure(rt).is_some();
-    let sent = stopped || publishing.finish(rt, &datagrams);
-    if !stopped {
-        let bell = exchange.feed_bell();
-        publishing.linger(rt, &datagrams, hosting.board, bell, open.end);
-    }
-    Ok(Outcome {
-        passes,
-        network: !sent,
-        memory: false,
-        operated,
-        socket,
-    })
+    Ok(settle(
+        rt,
+        exchange,
+        hosting.board,
+        &socket,
+        &mut publishing,
+        closed,
+        open.end,
+    ))
 }
 
 // Ends the exchange: its history, and how many messages its feed has.

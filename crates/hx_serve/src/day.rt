@@ -39,26 +39,22 @@ struct Founding<'a, J: Journal> {
     beginning: PlayedBeginning<'a, J>,
 }
 
-// The logs and the ledger of a new exchange, for a day with this number of sessions.
-fn found<'a, J: Journal + Drop>(
-    alloc: Global,
-    beginning: PlayedBeginning<'a, J>,
-    sessions: u16,
-) -> Result<Founding<'a, J>, ServeError>
-    ensures beginning { IfOk result (λ founding. founding.beginning ≡ beginning.entry) }
-    ensures admitted { IfOk result (λ founding.
-        IsNewLog founding.admitted.0 founding.admitted) }
-    ensures kept { IfOk result (λ founding. IsNewLog founding.kept.0 founding.kept) }
-    ensures parts { IfOk result (λ founding. sessions + 2 ≡ founding.blank.parts) }
+// The logs of what is admitted and of what is kept of a new exchange, and its ledger, for this number of sessions.
+type Ends = (
+    (Log<Entry>, Writer<Entry>),
+    (Log<Entry>, Writer<Entry>),
+    Blank,
+);
+
+fn new_ends(alloc: Global, sessions: u16) -> Result<Ends, ServeError>
+    ensures admitted { IfOk result (λ ends. IsNewLog ends.0.0 ends.0) }
+    ensures kept { IfOk result (λ ends. IsNewLog ends.1.0 ends.1) }
+    ensures parts { IfOk result (λ ends. sessions + 2 ≡ ends.2.parts) }
 {
     let (admitted, register, _) = Log::<Entry>::new(alloc, 1)?;
     let (kept, keeper, _) = Log::<Entry>::new(alloc, 1)?;
-    Ok(Founding {
-        admitted: (admitted, register),
-        kept: (kept, keeper),
-        blank: Blank::new(u64::from(sessions) + 2),
-        beginning,
-    })
+    let blank = Blank::new(u64::from(sessions) + 2);
+    Ok(((admitted, register), (kept, keeper), blank))
 }
 
 // The exchange, and by what those submit and read who attend to it. Where the day goes on, that is said.
@@ -195,7 +191,13 @@ pub fn serve_played_from<
         → Appends (W.contents output.old) (W.contents output.new)
         (last_line (length day.history.items) day.feed)) }
 {
-    let founding = found(alloc, beginning, hosting.args.sessions)?;
+    let (admitted, kept, blank) = new_ends(alloc, hosting.args.sessions)?;
+    let founding = Founding {
+        admitted,
+        kept,
+        blank,
+        beginning,
+    };
     run::<Brand, J, G, B, D, T, R, W>(rt, alloc, hosting, doors, founding, input, output)
 }
 

@@ -4,5 +4,5 @@ use Rattle.hx_serve.proofs.day.play_beginning.Goals as goal
 
 -- the events that were played are those of the journal
 pub returns-clause-events : goal.returns-clause-events
-returns-clause-events c =
+returns-clause-events g c =
     c.in_default.ensures.played ∙ ap (λ (l : List Event). l ++ c.deref.result.now) c.in_ok-day.ensures.events ∙ c.deref.ensures.value
