@@ -10,7 +10,7 @@ pub trait Witness {
     /// A record is about to be appended.
     fn appends(&self) {}
 
-    /// So many records are synced from now on.
+    /// This number of records is synced from now on.
     fn synced(&self, _count: usize) {}
 }
 
@@ -24,8 +24,8 @@ pub struct Witnessed<W> {
 }
 
 impl<W> Witnessed<W> {
-    /// A journal with no records, whose sync takes so long, and which is written under an exchange's lock where it is
-    /// quick.
+    /// A journal with no records, whose sync lets other threads run `pause` times before it ends. If it is quick, it is
+    /// written under an exchange's lock.
     pub fn new(alloc: Global, pause: u32, is_quick: bool, witness: W) -> Witnessed<W>
         ensures empty { result.memory.records.items ≡ [] }
         ensures synced { result.memory.synced ≡ 0 }

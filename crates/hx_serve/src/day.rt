@@ -39,13 +39,14 @@ struct Founding<'a, J: Journal> {
     beginning: PlayedBeginning<'a, J>,
 }
 
-// The logs of what is admitted and of what is kept of a new exchange, and its ledger, for this number of sessions.
+// The logs of what is admitted and of what is kept of a new exchange, and its ledger.
 type Ends = (
     (Log<Entry>, Writer<Entry>),
     (Log<Entry>, Writer<Entry>),
     Blank,
 );
 
+// Those of a new exchange for this number of sessions.
 fn new_ends(alloc: Global, sessions: u16) -> Result<Ends, ServeError>
     ensures admitted { IfOk result (λ ends. IsNewLog ends.0.0 ends.0) }
     ensures kept { IfOk result (λ ends. IsNewLog ends.1.0 ends.1) }
