@@ -13,24 +13,31 @@ use hx_units::{Firm, Symbol};
 pub fn read(bytes: &[u8]) -> Option<Feed>
     ensures { result ≡ feed_message_of bytes.now }
 {
-    let kind = *bytes.first()?;
-    match (kind, bytes.len()) {
-        (kinds::SYSTEM_EVENT, 12) => Some(Feed::SystemEvent(read_system_event(bytes))),
-        (kinds::STOCK_DIRECTORY, 39) => Some(Feed::StockDirectory(read_stock_directory(bytes))),
-        (kinds::ADD_ORDER, 36) => Some(Feed::AddOrder(read_add_order(bytes))),
-        (kinds::ADD_ORDER_WITH_ATTRIBUTION, 40) => Some(Feed::AddOrderWithAttribution(
-            read_add_order_with_attribution(bytes),
-        )),
-        (kinds::ORDER_EXECUTED, 31) => Some(Feed::OrderExecuted(read_order_executed(bytes))),
-        (kinds::ORDER_CANCEL, 23) => Some(Feed::OrderCancel(read_order_cancel(bytes))),
-        (kinds::ORDER_DELETE, 19) => Some(Feed::OrderDelete(read_order_delete(bytes))),
-        (kinds::ORDER_REPLACE, 35) => Some(Feed::OrderReplace(read_order_replace(bytes))),
-        (kinds::TRADE, 44) => Some(Feed::Trade(read_trade(bytes))),
-        (kinds::STOCK_TRADING_ACTION, 25) => Some(Feed::StockTradingAction(
-            read_stock_trading_action(bytes),
-        )),
-        (kinds::BROKEN_TRADE, 19) => Some(Feed::BrokenTrade(read_broken_trade(bytes))),
-        _ => None,
+    let (kind, size) = (*bytes.first()?, bytes.len());
+    if size == 12 && kind == kinds::SYSTEM_EVENT {
+        Some(Feed::SystemEvent(read_system_event(bytes)))
+    } else if size == 39 && kind == kinds::STOCK_DIRECTORY {
+        Some(Feed::StockDirectory(read_stock_directory(bytes)))
+    } else if size == 36 && kind == kinds::ADD_ORDER {
+        Some(Feed::AddOrder(read_add_order(bytes)))
+    } else if size == 40 && kind == kinds::ADD_ORDER_WITH_ATTRIBUTION {
+        Some(Feed::AddOrderWithAttribution(read_add_order_with_attribution(bytes)))
+    } else if size == 31 && kind == kinds::ORDER_EXECUTED {
+        Some(Feed::OrderExecuted(read_order_executed(bytes)))
+    } else if size == 23 && kind == kinds::ORDER_CANCEL {
+        Some(Feed::OrderCancel(read_order_cancel(bytes)))
+    } else if size == 19 && kind == kinds::ORDER_DELETE {
+        Some(Feed::OrderDelete(read_order_delete(bytes)))
+    } else if size == 35 && kind == kinds::ORDER_REPLACE {
+        Some(Feed::OrderReplace(read_order_replace(bytes)))
+    } else if size == 44 && kind == kinds::TRADE {
+        Some(Feed::Trade(read_trade(bytes)))
+    } else if size == 25 && kind == kinds::STOCK_TRADING_ACTION {
+        Some(Feed::StockTradingAction(read_stock_trading_action(bytes)))
+    } else if size == 19 && kind == kinds::BROKEN_TRADE {
+        Some(Feed::BrokenTrade(read_broken_trade(bytes)))
+    } else {
+        None
     }
 }
 

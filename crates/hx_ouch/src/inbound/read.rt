@@ -10,12 +10,15 @@ use hx_units::{Firm, Symbol, Token};
 pub fn read(bytes: &[u8]) -> Option<Inbound>
     ensures { result ≡ inbound_of bytes.now }
 {
-    let kind = *bytes.first()?;
-    match (kind, bytes.len()) {
-        (kinds::ENTER_ORDER, 49) => Some(Inbound::Enter(read_enter(bytes))),
-        (kinds::REPLACE_ORDER, 47) => Some(Inbound::Replace(read_replace(bytes))),
-        (kinds::CANCEL_ORDER, 19) => Some(Inbound::Cancel(read_cancel(bytes))),
-        _ => None,
+    let (kind, size) = (*bytes.first()?, bytes.len());
+    if size == 49 && kind == kinds::ENTER_ORDER {
+        Some(Inbound::Enter(read_enter(bytes)))
+    } else if size == 47 && kind == kinds::REPLACE_ORDER {
+        Some(Inbound::Replace(read_replace(bytes)))
+    } else if size == 19 && kind == kinds::CANCEL_ORDER {
+        Some(Inbound::Cancel(read_cancel(bytes)))
+    } else {
+        None
     }
 }
 

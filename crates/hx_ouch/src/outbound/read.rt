@@ -12,16 +12,23 @@ use hx_units::{Firm, Symbol, Token};
 pub fn read(bytes: &[u8]) -> Option<Outbound>
     ensures { result ≡ outbound_of bytes.now }
 {
-    let kind = *bytes.first()?;
-    match (kind, bytes.len()) {
-        (kinds::SYSTEM_EVENT, 10) => Some(Outbound::SystemEvent(read_system_event(bytes))),
-        (kinds::ACCEPTED, 66) => Some(Outbound::Accepted(read_accepted(bytes))),
-        (kinds::REPLACED, 80) => Some(Outbound::Replaced(read_replaced(bytes))),
-        (kinds::CANCELED, 28) => Some(Outbound::Canceled(read_canceled(bytes))),
-        (kinds::EXECUTED, 40) => Some(Outbound::Executed(read_executed(bytes))),
-        (kinds::REJECTED, 24) => Some(Outbound::Rejected(read_rejected(bytes))),
-        (kinds::BROKEN_TRADE, 32) => Some(Outbound::BrokenTrade(read_broken_trade(bytes))),
-        _ => None,
+    let (kind, size) = (*bytes.first()?, bytes.len());
+    if size == 10 && kind == kinds::SYSTEM_EVENT {
+        Some(Outbound::SystemEvent(read_system_event(bytes)))
+    } else if size == 66 && kind == kinds::ACCEPTED {
+        Some(Outbound::Accepted(read_accepted(bytes)))
+    } else if size == 80 && kind == kinds::REPLACED {
+        Some(Outbound::Replaced(read_replaced(bytes)))
+    } else if size == 28 && kind == kinds::CANCELED {
+        Some(Outbound::Canceled(read_canceled(bytes)))
+    } else if size == 40 && kind == kinds::EXECUTED {
+        Some(Outbound::Executed(read_executed(bytes)))
+    } else if size == 24 && kind == kinds::REJECTED {
+        Some(Outbound::Rejected(read_rejected(bytes)))
+    } else if size == 32 && kind == kinds::BROKEN_TRADE {
+        Some(Outbound::BrokenTrade(read_broken_trade(bytes)))
+    } else {
+        None
     }
 }
 
