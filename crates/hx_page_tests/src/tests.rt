@@ -1,5 +1,6 @@
 //! Tests of the pages: the screen of a vendor, its page, and the page of figures.
 
+mod answered;
 mod board;
 mod metrics;
 mod page;

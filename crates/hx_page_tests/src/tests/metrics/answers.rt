@@ -1,11 +1,10 @@
 //! What the page answers, over memory.
 
 use super::venue::Model;
+use crate::tests::answered::answered;
 use crate::tests::{equal, holds};
-use http_server::{Config, Connection, Reason, Refusal, State};
-use http1::ReadError;
+use http_server::{Reason, State};
 use hx_metrics::{Health, Page};
-use std::hash::RandomState;
 use std::process::Abort;
 use std::random::RandomSource;
 
@@ -13,34 +12,6 @@ const METRICS: &str = "# HELP hx_events_total Events that are recorded.
 # TYPE hx_events_total counter
 hx_events_total 3
 ";
-
-// The state, and all that is answered, where the input comes in pieces of `step` bytes.
-fn answers<R: AllocGlobal + RandomSource + Abort>(
-    rt: &R,
-    venue: &Model,
-    input: &[u8],
-    step: usize,
-) -> (State, Vec<u8>) {
-    let alloc = rt.alloc();
-    let mut page = Page::new(alloc, venue);
-    let mut connection = Connection::new(
-        alloc,
-        RandomState::new(rt).expect(rt, "random keys"),
-        Config::default(),
-    );
-    let mut output = Vec::new(alloc);
-    for piece in input.chunks(step.max(1)) {
-        let mut piece = piece;
-        connection
-            .read_from(&mut piece)
-            .expect(rt, "bytes that are taken");
-        connection.advance(&mut page);
-        connection
-            .write_to(&mut output)
-            .expect(rt, "bytes that are written");
-    }
-    (connection.state(), output)
-}
 
 // One request gets this answer, however it is cut, and the connection stays open.
 fn is_answered<R: AllocGlobal + RandomSource + Abort>(
@@ -50,7 +21,8 @@ fn is_answered<R: AllocGlobal + RandomSource + Abort>(
     answer: &[u8],
 ) {
     for step in [1, 7, 1000] {
-        let (state, output) = answers(rt, &Model::new(health), request, step);
+        let venue = Model::new(health);
+        let (state, output) = answered(rt, &mut Page::new(rt.alloc(), &venue), request, step);
         equal(rt, state, State::Open);
         equal(rt, output.as_slice(), answer);
     }
@@ -143,7 +115,8 @@ fn requests_that_come_at_once_are_answered_in_order(rt: HostRuntime) {
         content-type: text/plain; charset=utf-8\r\ncontent-length: 3\r\n\
         connection: close\r\n\r\nok\n";
     for step in [1, 10, 1000] {
-        let (state, sent) = answers(&rt, &Model::new(Health::Ready), input, step);
+        let venue = Model::new(Health::Ready);
+        let (state, sent) = answered(&rt, &mut Page::new(rt.alloc(), &venue), input, step);
         equal(&rt, state, State::Closing(Reason::Asked));
         equal(&rt, sent.as_slice(), output.as_slice());
     }
@@ -152,26 +125,12 @@ fn requests_that_come_at_once_are_answered_in_order(rt: HostRuntime) {
 // What is no request is refused, and nobody is asked of the venue.
 #[test]
 fn garbage_is_refused(rt: HostRuntime) {
-    let alloc = rt.alloc();
     let venue = Model::new(Health::Ready);
-    let mut page = Page::new(alloc, &venue);
-    let mut connection = Connection::new(
-        alloc,
-        RandomState::new(&rt).expect(&rt, "random keys"),
-        Config::default(),
-    );
-    let mut garbage = b"\0\x01\x02 what?\r\n\r\n".as_slice();
-    connection
-        .read_from(&mut garbage)
-        .expect(&rt, "bytes that are taken");
-    connection.advance(&mut page);
-    let mut output = Vec::new(alloc);
-    connection
-        .write_to(&mut output)
-        .expect(&rt, "bytes that are written");
+    let mut page = Page::new(rt.alloc(), &venue);
+    let (state, output) = answered(&rt, &mut page, b"\0\x01\x02 what?\r\n\r\n", 1000);
     holds(
         &rt,
         output.starts_with(b"HTTP/1.1 400 Bad Request\r\nconnection: close\r\n"),
     );
-    holds(&rt, connection.is_done() && !page.is_read);
+    holds(&rt, state != State::Open && !page.is_read);
 }

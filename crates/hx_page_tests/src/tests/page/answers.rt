@@ -1,11 +1,11 @@
 //! What each request gets, over memory.
 
 use super::news::news_of;
+use crate::tests::answered::answered;
 use crate::tests::{equal, holds};
-use http_server::{Config, Connection, State};
+use http_server::State;
 use hx_board::Board;
 use hx_page::Page;
-use std::hash::RandomState;
 use std::process::Abort;
 use std::random::RandomSource;
 
@@ -14,35 +14,17 @@ const SAFE: &str = "content-security-policy: default-src 'none'; script-src 'sel
     frame-ancestors 'none'\r\nx-frame-options: DENY\r\nx-content-type-options: nosniff\r\n\
     referrer-policy: no-referrer\r\ncache-control: no-store\r\n";
 
-// The state, and all that is answered, where the input comes in pieces of `step` bytes.
+// The state, and all that the page of a vendor who has heard of one stock answers.
 fn answers<R: AllocGlobal + RandomSource + Abort>(
     rt: &R,
     input: &[u8],
     step: usize,
 ) -> (State, Vec<u8>) {
-    let alloc = rt.alloc();
-    let mut board = Board::new(alloc);
+    let mut board = Board::new(rt.alloc());
     board
         .take(news_of(rt, r#"{"stock":"ABCD"}"#, 7))
         .expect(rt, "memory");
-    let mut page = Page::new(alloc, &board);
-    let mut connection = Connection::new(
-        alloc,
-        RandomState::new(rt).expect(rt, "random keys"),
-        Config::default(),
-    );
-    let mut output = Vec::new(alloc);
-    for piece in input.chunks(step.max(1)) {
-        let mut piece = piece;
-        connection
-            .read_from(&mut piece)
-            .expect(rt, "bytes that are taken");
-        connection.advance(&mut page);
-        connection
-            .write_to(&mut output)
-            .expect(rt, "bytes that are written");
-    }
-    (connection.state(), output)
+    answered(rt, &mut Page::new(rt.alloc(), &board), input, step)
 }
 
 // A request gets this answer, however it is cut.
