@@ -1,10 +1,12 @@
-//! Days over a journal that fails, is slow or is full, and days that go on from what one keeps.
+//! The journal of a day in a file, days over one that fails, is slow or is full, and days that go on from what one keeps.
 
 mod at_once;
 mod busy;
 mod crash_points;
 mod failing;
 mod going_on;
+mod journal;
+mod journal_tool;
 mod resuming;
 mod shared_file;
 mod told;

@@ -1,10 +1,11 @@
-//! Worked tapes: what is told of each, what is struck, and how it is shown.
+//! Worked tapes: what is told of each, what is struck, how it is shown, and what a report says of it.
 
 mod all_members;
 mod feed_book;
 mod generated;
 mod halts;
 mod replaying;
+mod reports;
 mod showing;
 mod striking;
 

@@ -1,4 +1,4 @@
-//! Fields, messages, packets, frames and sessions.
+//! Fields, messages, packets, frames and sessions, and readers of the feed.
 ghost use Rattle.std.specs.Prelude.{◌≡◌};
 
 mod blog;
@@ -6,6 +6,7 @@ mod itch;
 mod mold;
 mod ouch;
 mod packets;
+mod reader;
 mod retransmit;
 mod sessions;
 mod soup;

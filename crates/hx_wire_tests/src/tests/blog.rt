@@ -37,7 +37,7 @@ fn one_message_is_published(rt: HostRuntime) {
 
 #[test]
 fn a_log_gets_full(rt: HostRuntime) {
-    let (log, mut writer, mut reader) = Log::<u64>::new(rt.alloc(), 2).expect(&rt, "a log");
+    let (log, mut writer, _) = Log::<u64>::new(rt.alloc(), 2).expect(&rt, "a log");
     equal(&rt, writer.free(&log), 2);
     holds(&rt, writer.stage(&log, &message(&[1; 44])).is_ok());
     writer.publish(&log, &0);
@@ -50,6 +50,24 @@ fn a_log_gets_full(rt: HostRuntime) {
     equal(&rt, text.as_str(), "no slot is free");
     writer.publish(&log, &2);
     equal(&rt, writer.count(), 2);
+}
+
+// A log of two messages, the longest and an empty one, with no slot free, and a reader who has read none.
+fn full_log<R: AllocGlobal + Abort>(rt: &R) -> (Log<u64>, Writer<u64>, Reader<u64>)
+    ensures writer { result.1.log ≡ result.0 }
+    ensures reader { result.2.log ≡ result.0 }
+{
+    let (log, mut writer, reader) = Log::<u64>::new(rt.alloc(), 2).expect(rt, "a log");
+    holds(rt, writer.stage(&log, &message(&[1; 44])).is_ok());
+    writer.publish(&log, &0);
+    holds(rt, writer.stage(&log, &message(b"")).is_ok());
+    writer.publish(&log, &1);
+    (log, writer, reader)
+}
+
+#[test]
+fn receipts_go_round_a_full_log(rt: HostRuntime) {
+    let (log, mut writer, mut reader) = full_log(&rt);
     let mut old = reader.receipt(&log);
     let mut receipt = writer.receipt(&log);
     old.learn(&log, receipt.again(&log));
@@ -57,6 +75,11 @@ fn a_log_gets_full(rt: HostRuntime) {
     writer.confirm(&log, old);
     reader.learn(&log, receipt);
     holds(&rt, reader.at(&log, 1).is_none());
+}
+
+#[test]
+fn a_full_log_is_read(rt: HostRuntime) {
+    let (log, mut writer, mut reader) = full_log(&rt);
     reader.catch_up(&log, &mut writer);
     let longest = reader.next(&log).expect(&rt, "a message");
     equal(&rt, longest.as_slice(), [1; 44].as_slice());

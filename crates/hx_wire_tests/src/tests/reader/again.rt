@@ -4,7 +4,7 @@
 ghost use Rattle.std.specs.Prelude.{◌<◌, ◌^◌};
 ghost use Rattle.hx_itch.specs.Message.{feed_time};
 
-use super::{equal, holds};
+use crate::tests::{equal, holds};
 use hx_itch::{AddOrder, Feed, encode};
 use hx_mold::cut;
 use hx_reader::{ApplyError, Screen, ScreenError};

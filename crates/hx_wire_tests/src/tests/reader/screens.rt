@@ -1,7 +1,7 @@
 //! A screen that follows a feed of datagrams, and asks for what it missed.
 
 use super::network::Network;
-use super::{equal, holds};
+use crate::tests::{equal, holds};
 use arrayvec::ArrayVec;
 use hx_itch::decode;
 use hx_mold::{answer, cut, end_of_session};

@@ -1,9 +1,9 @@
 //! A generated feed of 20,000 messages, of which one packet in five is lost.
 ghost use Rattle.std.specs.Prelude.{◌<◌};
 
-use super::equal;
 use super::network::Network;
 use super::screens::{Message, Sent, expect_all};
+use crate::tests::equal;
 use hx_itch::{AddOrder, Feed, OrderCancel, OrderDelete, OrderExecuted, OrderReplace, encode};
 use hx_units::Symbol;
 use std::test::*;

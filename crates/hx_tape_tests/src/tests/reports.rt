@@ -3,13 +3,13 @@ ghost use Rattle.std.specs.Prelude.{◌≡◌};
 
 mod texts;
 
+use crate::tests::{equal, holds};
 use hx_replay::{Kind, TapeError};
 use hx_report::{Day, Progress, Report, Tally, audit};
 use hx_report_pages::{Document, write_html, write_json, write_plain};
 use hx_testing::setups::standard;
 use hx_testing::{Day as Worked, worked};
 use std::alloc::Global;
-use std::fmt::Debug;
 use std::process::Abort;
 use std::test::Fail;
 use std::thread::Threads;
@@ -239,18 +239,8 @@ fn pages(rt: HostRuntime) -> Result<(), Fail> {
     Ok(())
 }
 
-/// Both are the same, or the test ends.
-pub fn equal<R: Abort, T: PartialEq + Debug + Drop>(rt: &R, found: T, wanted: T) {
-    assert_eq!(rt; found, wanted);
-}
-
-/// It is so, or the test ends.
-pub fn holds<R: Abort>(rt: &R, is_so: bool) {
-    assert!(rt; is_so);
-}
-
-/// There are this many, or the test ends.
-pub fn count<R: Abort>(rt: &R, found: usize, wanted: usize)
+// There are this many, or the test ends.
+fn count<R: Abort>(rt: &R, found: usize, wanted: usize)
     ensures { found ≡ wanted }
 {
     assert_eq!(rt; found, wanted);
