@@ -1,4 +1,4 @@
-//! What is large.
+//! What is large, and what is refused.
 
 mod ahead;
 mod chains;
@@ -7,6 +7,7 @@ mod desk;
 mod ending;
 mod framing;
 mod packets;
+mod refusals;
 mod replaying;
 mod script;
 mod striking;

@@ -2,7 +2,7 @@
 //!
 //! Here it has all the memory that it needs. `tests/refusals` refuses each growth of this test in turn.
 
-use super::equal;
+use crate::tests::equal;
 use hx_soup::{Framer, FramerError, SoupPacket};
 use std::alloc::Global;
 

@@ -1,7 +1,11 @@
-//! Tests of a day's doors: addresses and logins, and the operator's words and socket.
+//! A day's doors and its operator, the screen of a vendor, its page, and the page of figures.
 
+mod answered;
+mod board;
 mod doors;
+mod metrics;
 mod operator;
+mod page;
 
 use std::fmt::Debug;
 use std::process::Abort;

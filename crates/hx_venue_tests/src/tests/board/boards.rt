@@ -75,26 +75,39 @@ pub fn news_of<R: AllocGlobal + Abort>(rt: &R, text: &'static str, from: u64, co
     news
 }
 
-// A message is applied to the book, and seen.
-fn see(rt: &impl Abort, recorder: &mut Recorder, book: &mut FeedBook, message: &Feed) {
-    recorder.look(message, book);
-    book.apply(message).expect(rt, "memory");
-    recorder.note(message, book).expect(rt, "memory");
+// What the threads of a screen share: the book and what is new of it, where it is left, and the board that takes it.
+#[derive(Drop)]
+struct Room {
+    book: FeedBook,
+    recorder: Recorder,
+    post: Post,
+    board: Board,
 }
 
-// What is new is told at a time, and taken.
-fn pass_on<R: Wait + Clock + Abort>(
-    rt: &R,
-    recorder: &mut Recorder,
-    post: &Post,
-    book: &FeedBook,
-    board: &mut Board,
-    now: Instant,
-) {
-    recorder
-        .tell(rt, post, STATUS, book, now)
-        .expect(rt, "memory");
-    board.take(post.take(rt)).expect(rt, "memory");
+impl Room {
+    fn new(alloc: Global) -> Room {
+        Room {
+            book: FeedBook::new(alloc),
+            recorder: Recorder::new(alloc),
+            post: Post::new(alloc),
+            board: Board::new(alloc),
+        }
+    }
+
+    // A message is applied to the book, and seen.
+    fn see(&mut self, rt: &impl Abort, message: &Feed) {
+        self.recorder.look(message, &self.book);
+        self.book.apply(message).expect(rt, "memory");
+        self.recorder.note(message, &self.book).expect(rt, "memory");
+    }
+
+    // What is new is told at a time, and taken.
+    fn pass_on<R: Wait + Clock + Abort>(&mut self, rt: &R, now: Instant) {
+        self.recorder
+            .tell(rt, &self.post, STATUS, &self.book, now)
+            .expect(rt, "memory");
+        self.board.take(self.post.take(rt)).expect(rt, "memory");
+    }
 }
 
 // The text of the stock begins so, and this many changes of its prices were told.
@@ -111,16 +124,15 @@ const HALTED: &str = r#"{"stock":"ABCD","locate":1,"halted":true"#;
 
 #[test]
 fn what_is_new_is_told_once(rt: HostRuntime) {
-    let alloc = rt.alloc();
-    let post = Post::new(alloc);
-    let mut recorder = Recorder::new(alloc);
-    let mut book = FeedBook::new(alloc);
-    let mut board = Board::new(alloc);
-    see(&rt, &mut recorder, &mut book, &add(1, b'B', 99_900));
-    see(&rt, &mut recorder, &mut book, &add(2, b'S', 100_100));
+    let mut room = Room::new(rt.alloc());
+    room.see(&rt, &add(1, b'B', 99_900));
+    room.see(&rt, &add(2, b'S', 100_100));
     let now = Instant::now(&rt).expect(&rt, "the time");
-    pass_on(&rt, &mut recorder, &post, &book, &mut board, now);
-    holds(&rt, shows(&board, TRADING, 2) && board.changes == 1);
+    room.pass_on(&rt, now);
+    holds(
+        &rt,
+        shows(&room.board, TRADING, 2) && room.board.changes == 1,
+    );
     // Nothing more is told within the twentieth part of a second.
     let halted = Feed::StockTradingAction(StockTradingAction {
         locate: 1,
@@ -129,14 +141,20 @@ fn what_is_new_is_told_once(rt: HostRuntime) {
         trading_state: b'H',
         reason: *b"T1  ",
     });
-    see(&rt, &mut recorder, &mut book, &halted);
-    pass_on(&rt, &mut recorder, &post, &book, &mut board, now);
-    holds(&rt, shows(&board, TRADING, 2) && board.changes == 1);
+    room.see(&rt, &halted);
+    room.pass_on(&rt, now);
+    holds(
+        &rt,
+        shows(&room.board, TRADING, 2) && room.board.changes == 1,
+    );
     let later = now.checked_add(Duration::from_secs(1)).unwrap_or(now);
-    pass_on(&rt, &mut recorder, &post, &book, &mut board, later);
-    pass_on(&rt, &mut recorder, &post, &book, &mut board, later);
-    holds(&rt, shows(&board, HALTED, 2) && board.changes == 2);
-    holds(&rt, board.sheet(2).is_none());
+    room.pass_on(&rt, later);
+    room.pass_on(&rt, later);
+    holds(
+        &rt,
+        shows(&room.board, HALTED, 2) && room.board.changes == 2,
+    );
+    holds(&rt, room.board.sheet(2).is_none());
 }
 
 // The only execution of the stock.
@@ -149,11 +167,7 @@ fn only_trade(board: &Board) -> Option<Trade> {
 
 #[test]
 fn a_broken_execution_is_marked(rt: HostRuntime) {
-    let alloc = rt.alloc();
-    let post = Post::new(alloc);
-    let mut recorder = Recorder::new(alloc);
-    let mut book = FeedBook::new(alloc);
-    let mut board = Board::new(alloc);
+    let mut room = Room::new(rt.alloc());
     let trade = Feed::Trade(HiddenTrade {
         locate: 1,
         time: 7,
@@ -169,20 +183,20 @@ fn a_broken_execution_is_marked(rt: HostRuntime) {
         shares: 20,
         is_broken: false,
     };
-    see(&rt, &mut recorder, &mut book, &trade);
+    room.see(&rt, &trade);
     let now = Instant::now(&rt).expect(&rt, "the time");
-    pass_on(&rt, &mut recorder, &post, &book, &mut board, now);
-    equal(&rt, only_trade(&board), Some(told));
+    room.pass_on(&rt, now);
+    equal(&rt, only_trade(&room.board), Some(told));
     let broken = Feed::BrokenTrade(BrokenTrade {
         locate: 1,
         time: 8,
         match_number: 4,
     });
-    see(&rt, &mut recorder, &mut book, &broken);
+    room.see(&rt, &broken);
     let later = now.checked_add(Duration::from_secs(1)).unwrap_or(now);
-    pass_on(&rt, &mut recorder, &post, &book, &mut board, later);
+    room.pass_on(&rt, later);
     told.is_broken = true;
-    equal(&rt, only_trade(&board), Some(told));
+    equal(&rt, only_trade(&room.board), Some(told));
 }
 
 #[test]

@@ -4,7 +4,7 @@
 ghost use Rattle.std.specs.Prelude.{◌≡◌};
 
 use super::days::{DAYS, Worked};
-use super::{equal, holds};
+use crate::tests::{equal, holds};
 use hx_blog::{Log, Reader};
 use hx_desk::{Desk, DeskError, Done, Entry};
 use hx_market::Event;

@@ -1,7 +1,7 @@
 //! Each read and each write of a command goes wrong in turn, in each way.
 
 use super::days::{Case, Command, DAYS};
-use super::{equal, holds};
+use crate::tests::{equal, holds};
 use hx_replay::{Counts, Kind, TapeError};
 use hx_testing::lines::count_lines;
 use hx_testing::memory::{Bad, Input, NONE_BAD, Output};

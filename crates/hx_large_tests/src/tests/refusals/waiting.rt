@@ -1,6 +1,6 @@
 //! What a line tells goes out before the next one is waited for, also through a buffer.
 
-use super::equal;
+use crate::tests::equal;
 use hx_replay::replay;
 use hx_testing::Day;
 use hx_testing::memory::{Behind, Input, Output};

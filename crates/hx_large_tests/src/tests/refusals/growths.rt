@@ -3,7 +3,7 @@
 //! Here they have all the memory that they need. `tests/refusals` refuses each growth of these tests in turn.
 
 use super::days::{Case, Command, DAYS};
-use super::{equal, holds};
+use crate::tests::{equal, holds};
 use hx_replay::{Counts, TapeError};
 use std::alloc::Global;
 use std::process::Abort;
