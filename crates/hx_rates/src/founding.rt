@@ -1,5 +1,5 @@
 //! An exchange, to which events are sent through passes.
-ghost use Rattle.std.specs.Prelude.{◌≡◌, ◌≤◌, [], true};
+ghost use Rattle.std.specs.Prelude.{◌≡◌, ◌≤◌, [], true, IfOk};
 ghost use Rattle.hx_tape_lines.specs.Text.{record_of};
 ghost use Rattle.hx_desk.specs.Entries.{restored};
 ghost use Rattle.hx_engine.specs.Journals.{lines};
@@ -15,10 +15,11 @@ use crate::passes::{hire, passes_of, send_at_once};
 use crate::report::report;
 use crate::tape::{MEMBERS, day_setup};
 use hx_blog::Log;
-use hx_engine::{Entry, Exchange, Journal, Logs, Recovered, Venue};
+use hx_engine::{Entry, Exchange, Journal, Logs, Pass, Recovered, Venue};
 use hx_journal::{FileJournal, HostFile, Noted, RawFile, Unkept};
 use hx_market::Event;
 use hx_members::{Seed, Setup};
+use hx_units::NoMemory;
 use std::alloc::Global;
 use std::fs;
 use std::marker::Brand;
@@ -57,6 +58,42 @@ struct Founding<J: Journal> {
     logs: Logs,
     blank: Blank,
     recovered: Recovered<J>,
+}
+
+// Sends the events, and gives the passes back if none was refused.
+fn send<
+    V: Venue + Send + Sync,
+    J: Journal + Drop + Send,
+    R: Threads + Wait + Print + Eprint + Clock + Sync,
+>(
+    rt: &R,
+    alloc: Global,
+    exchange: &Exchange<V, J>,
+    passes: Vec<Pass<V>>,
+    each: usize,
+    events: Vec<Event>,
+) -> Result<Vec<Pass<V>>, Failure> {
+    let count = events.len() as u64;
+    let mut senders = hire(alloc, passes, each, events)?;
+    let begun = Instant::now(rt)?;
+    send_at_once(rt, alloc, exchange, &mut senders);
+    report(rt, begun, "an exchange", count, "events")?;
+    passes_of(alloc, senders)
+}
+
+// Ends the exchange, whose history must have this many events.
+fn end<V: Venue, J: Journal + Drop>(
+    exchange: Exchange<V, J>,
+    passes: Vec<Pass<V>>,
+    count: u64,
+) -> Result<(), Failure> {
+    let Ok(finished) = exchange.finish(passes) else {
+        return Err(Failure::Wrong);
+    };
+    if finished.history.len() as u64 != count {
+        return Err(Failure::Wrong);
+    }
+    Ok(())
 }
 
 // Opens the exchange, and sends the events.
@@ -99,17 +136,24 @@ fn run<
         Seed::Fixed,
     )?;
     let count = events.len() as u64;
-    let mut senders = hire(alloc, passes, sending.each, events)?;
-    let begun = Instant::now(rt)?;
-    send_at_once(rt, alloc, &exchange, &mut senders);
-    report(rt, begun, "an exchange", count, "events")?;
-    let Ok(finished) = exchange.finish(passes_of(alloc, senders)?) else {
-        return Err(Failure::Wrong);
-    };
-    if finished.history.len() as u64 != count {
-        return Err(Failure::Wrong);
-    }
-    Ok(())
+    let passes = send(rt, alloc, &exchange, passes, sending.each, events)?;
+    end(exchange, passes, count)
+}
+
+// The logs of a new exchange.
+fn new_logs(alloc: Global) -> Result<Logs, NoMemory>
+    ensures feed { IfOk result (λ logs. IsNewLog logs.feed.0 logs.feed) }
+    ensures admitted { IfOk result (λ logs. IsNewLog logs.admitted.0 logs.admitted) }
+    ensures kept { IfOk result (λ logs. IsNewLog logs.kept.0 logs.kept) }
+{
+    let (log, pen, _) = Log::<Entry>::new(alloc, CAPACITY)?;
+    let (admitted, register, _) = Log::<Entry>::new(alloc, 1)?;
+    let (kept, keeper, _) = Log::<Entry>::new(alloc, 1)?;
+    Ok(Logs {
+        feed: (log, pen),
+        admitted: (admitted, register),
+        kept: (kept, keeper),
+    })
 }
 
 // Over a new journal, or what is there of one.
@@ -125,16 +169,9 @@ fn found<J: Journal + Drop + Send, R: Threads + Wait + Print + Eprint + Clock + 
     requires safe { (J.kept recovered.journal ≡ J.appended recovered.journal)
         × (J.is_open recovered.journal ≡ true) }
 {
-    let (log, pen, _) = Log::<Entry>::new(alloc, CAPACITY)?;
-    let (admitted, register, _) = Log::<Entry>::new(alloc, 1)?;
-    let (kept, keeper, _) = Log::<Entry>::new(alloc, 1)?;
     let founding = Founding {
+        logs: new_logs(alloc)?,
         setup: day_setup(alloc)?,
-        logs: Logs {
-            feed: (log, pen),
-            admitted: (admitted, register),
-            kept: (kept, keeper),
-        },
         blank: Blank::new(u64::from(sending.passes)),
         recovered,
     };
