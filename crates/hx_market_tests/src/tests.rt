@@ -5,6 +5,7 @@ mod books;
 mod events;
 mod histories;
 mod market;
+mod numbers;
 mod orders;
 mod plans;
 mod setups;

@@ -91,27 +91,3 @@ impl Refs {
         self.matches
     }
 }
-
-#[cfg(test)]
-mod tests {
-    use super::*;
-    use std::test::Fail;
-
-    fn member(number: u16) -> Result<MemberNo, Fail>
-        ensures { IfOk result (λ member. member ≡ number) }
-    {
-        Ok(MemberNo::of(number).ok_or("no member")?)
-    }
-
-    #[test]
-    fn numbers_are_drawn_in_turn(rt: HostRuntime) -> Result<(), Fail> {
-        let mut refs = Refs::new(rt.alloc())?;
-        assert_eq!(rt; refs.public(), 1);
-        assert_eq!(rt; refs.public(), 2);
-        let member = member(1)?;
-        assert_eq!(rt; refs.private(member), 9_223_373_136_366_403_585);
-        assert_eq!(rt; refs.matched(), 1);
-        assert_eq!(rt; refs.matched(), 2);
-        Ok(())
-    }
-}
