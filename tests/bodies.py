@@ -4,8 +4,10 @@ import os, re
 # What the prover says of a function that it did not prove, and why: what it calls is not proved, or it is not itself.
 UNPROVED = re.compile(r'^fn (\S+): (?:no proof|not proved)(.*)$', re.M)
 BY_ANOTHER = re.compile(r'it (calls|passes) .*\b(is|are) not proved$|it waits for the proof of ')
-# The answers of a function, by the words of its path, that it or one that calls it stands on.
-ANSWERS = re.compile(r'it stands on `Rattle\.(\w+)\.proofs\.(.+)\.Answers\.[^.`]+`, which antt refuses$')
+# Answers that a function, or one that calls it, stands on: the crate and the path of the function whose they are.
+ANSWERS = re.compile(r'`Rattle\.(\w+)\.proofs\.([^`]+)\.Answers\.[^.`]+`')
+# The head of an impl of a type of its own, with the type, or the end of an item.
+HEAD = re.compile(r'^(?:impl(?:<.*>)? (\w+)(?:<.*>)? \{|\})$', re.M)
 
 
 class Body:
@@ -30,10 +32,11 @@ class Body:
             text = read(crate, file)
             if not file.startswith('src/') or text.count(old) != 1:
                 return set()
-            name = function_at(text, text.index(old), len(old))
+            at = text.index(old)
+            name = function_at(text, at, len(old))
             if name is None:
                 return set()
-            found.add((module_of(file), name))
+            found.add((module_of(home_of(type_at(text, at), file, crate)), name))
         return found
 
     def put_into(self, crate):
@@ -52,6 +55,27 @@ def module_of(file):
     """The words of the path of a file's module: none for the file at the top."""
     words = file.removeprefix('src/').removesuffix('.rt').split('/')
     return tuple(words[:-1] if words[-1] in ('lib', 'main', 'mod') else words)
+
+
+def type_at(text, at):
+    """The type in whose own impl a place of a text stands, or none."""
+    heads = HEAD.findall(text[:at])
+    return (heads[-1] or None) if heads else None
+
+
+def home_of(name, file, crate):
+    """The file that declares a type, or the given one. The prover names a method by the module of its type."""
+    if name is None:
+        return file
+    declares = re.compile(rf'^(?:pub(?:\([a-z]+\))? )?(?:struct|enum) {name}\b', re.M)
+    return next((it for it in [file, *files_of(crate)] if declares.search(read(crate, it))), file)
+
+
+def files_of(crate):
+    """The files of a crate's code, by their paths in it."""
+    walked = os.walk(os.path.join(crate, 'src'))
+    paths = [os.path.join(at, name) for at, _, names in walked for name in names if name.endswith('.rt')]
+    return sorted(os.path.relpath(path, crate) for path in paths)
 
 
 def function_at(text, at, length):
@@ -73,7 +97,8 @@ def function_at(text, at, length):
 
 
 def groups_of(bodies, crate):
-    """The bodies in groups, each of bodies of different functions, and those that are to be tried alone."""
+    """The bodies in groups, each of bodies of different functions, and those that are to be tried alone: what changes no
+    function, and all where no two can be tried at once."""
     groups, alone = [], []
     for body in bodies:
         changed = body.functions(crate)
@@ -87,15 +112,17 @@ def groups_of(bodies, crate):
                 break
         else:
             groups.append(([body], set(changed)))
-    alone += [group[0] for group, _ in groups if len(group) == 1]
-    return [group for group, _ in groups if len(group) > 1], alone
+    groups = [group for group, _ in groups]
+    if all(len(group) == 1 for group in groups):
+        return [], alone + [group[0] for group in groups]
+    return groups, alone
 
 
 def is_by_another(name, reason):
     """Whether a function is not proved for this reason because another is not."""
-    answers = ANSWERS.match(reason)
+    answers = ANSWERS.findall(reason) if reason.startswith('it stands on ') else []
     if answers:
-        return [answers[1], *answers[2].split('.')] != name.split('::')
+        return all([crate, *path.split('.')] != name.split('::') for crate, path in answers)
     return BY_ANOTHER.match(reason) is not None
 
 

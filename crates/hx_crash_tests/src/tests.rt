@@ -4,6 +4,7 @@ mod at_once;
 mod busy;
 mod crash_points;
 mod failing;
+mod five_records;
 mod going_on;
 mod journal;
 mod journal_tool;

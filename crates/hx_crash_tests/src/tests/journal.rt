@@ -1,32 +1,12 @@
 //! The journal of a day in a file: what it keeps, what a crash leaves, what is damaged.
 
+use crate::tests::five_records::{DAY, FIRST_END, HEAD_END, SECOND_END, TAPE};
 use crate::tests::{equal, holds};
 use hx_journal::*;
 use std::alloc::Global;
 use std::os::unix::fs::MetadataExt;
 use std::process::Abort;
 use std::{fs, thread};
-
-// A day of five records in three blocks. The sums are zlib's.
-const DAY: &[u8] = b"#hx1 HX00000006 20260711 9fc2
-one
-two
-#1 8 81178952 609977658
-three
-#3 6 609977658 141501702
-four
-five
-#4 10 141501702 707532057
-";
-
-const TAPE: &[u8] = b"one\ntwo\nthree\nfour\nfive\n";
-
-// Where the head, and each block, ends.
-const HEAD_END: usize = 30;
-
-const FIRST_END: usize = 62;
-
-const SECOND_END: usize = 93;
 
 type MemoryJournal = FileJournal<Noted<MemoryFile>>;
 

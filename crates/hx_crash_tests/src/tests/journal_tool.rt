@@ -1,5 +1,6 @@
 //! What the tool tells of a journal, and what it cuts off.
 
+use crate::tests::five_records::{DAY, DAY_END, FIRST_END, HEAD_END, SECOND_END, TAPE};
 use crate::tests::{equal, holds};
 use hx_journal::{
     FileJournal, Head, Journal, MemoryFile, Noted, OpenError, Survey, open_file, survey_of,
@@ -16,29 +17,6 @@ use std::rt::Files;
 fn equal_at<R: Abort, T: PartialEq + Debug + Drop>(rt: &R, place: usize, found: T, wanted: T) {
     assert_eq!(rt; found, wanted, "at {place}");
 }
-
-// A day of five records in three blocks. The sums are zlib's.
-const DAY: &[u8] = b"#hx1 HX00000006 20260711 9fc2
-one
-two
-#1 8 81178952 609977658
-three
-#3 6 609977658 141501702
-four
-five
-#4 10 141501702 707532057
-";
-
-const TAPE: &[u8] = b"one\ntwo\nthree\nfour\nfive\n";
-
-// Where the first line, and each block, ends.
-const HEAD_END: usize = 30;
-
-const FIRST_END: usize = 62;
-
-const SECOND_END: usize = 93;
-
-const DAY_END: usize = 129;
 
 type Opened = Result<(FileJournal<Noted<MemoryFile>>, Vec<u8>), OpenError>;
 

@@ -3,7 +3,7 @@
 use super::venue::Model;
 use crate::tests::answered::answered;
 use crate::tests::{equal, holds};
-use http_server::{Reason, State};
+use http_server::{Reason, Refusal, State};
 use hx_metrics::{Health, Page};
 use std::process::Abort;
 use std::random::RandomSource;
@@ -128,9 +128,11 @@ fn garbage_is_refused(rt: HostRuntime) {
     let venue = Model::new(Health::Ready);
     let mut page = Page::new(rt.alloc(), &venue);
     let (state, output) = answered(&rt, &mut page, b"\0\x01\x02 what?\r\n\r\n", 1000);
-    holds(
-        &rt,
-        output.starts_with(b"HTTP/1.1 400 Bad Request\r\nconnection: close\r\n"),
+    let refused = matches!(
+        state,
+        State::Closing(Reason::Refused(Refusal::Unreadable(_)))
     );
-    holds(&rt, state != State::Open && !page.is_read);
+    holds(&rt, refused && !page.is_read);
+    let bad_request = b"HTTP/1.1 400 Bad Request\r\nconnection: close\r\ncontent-length: 0\r\n\r\n";
+    equal(&rt, output.as_slice(), bad_request.as_slice());
 }
