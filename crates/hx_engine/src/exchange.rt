@@ -28,7 +28,6 @@ use std::sync::{Condvar, Mutex, Wait};
 
 /// A desk behind a lock, with the log that everybody may read, and a journal: nothing is told before the journal keeps
 /// it.
-#[derive(Drop)]
 pub struct Exchange<V: Venue, J: Journal> {
     pub(crate) log: Log<Entry>,
     // The logs of what is admitted and of what is kept, which have no messages.
@@ -51,6 +50,26 @@ pub struct Exchange<V: Venue, J: Journal> {
     pub ghost named: { log ≡ V.log },
     pub ghost admitted_named: { admitted ≡ V.admitted },
     pub ghost kept_named: { kept ≡ V.kept },
+}
+
+// By hand, so that where a value is dropped its owner's proof sees one call.
+impl<V: Venue, J: Journal + Drop> Drop for Exchange<V, J> {
+    fn drop(self) {
+        let Exchange {
+            log: _,
+            admitted: _,
+            kept: _,
+            desk: _,
+            recorded: _,
+            bells: _,
+            feed_bell: _,
+            is_feed_due: _,
+            entering: _,
+            passes: _,
+            ahead: _,
+            alloc: _,
+        } = self;
+    }
 }
 
 // The journal of a keeper, which keeps the records of all that is told.

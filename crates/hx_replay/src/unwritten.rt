@@ -86,11 +86,17 @@ pub(crate) struct ToldCounts {
 }
 
 /// Lines of output before they are spelled: the messages, and their numbers. Contracts see their text.
-#[derive(Drop)]
 pub struct Unwritten {
     // The market writes what it tells into these lists, where it stays.
     told: Output,
     marks: Vec<Mark>,
+}
+
+// By hand, so that where a value is dropped its owner's proof sees one call.
+impl Drop for Unwritten {
+    fn drop(self) {
+        let Unwritten { told: _, marks: _ } = self;
+    }
 }
 
 impl Model for Unwritten {
