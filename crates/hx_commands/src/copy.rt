@@ -1,8 +1,9 @@
 //! The commands that copy the log of a day, and trim it behind its copies.
 
+use crate::argument::{Argument, FLAG, OPTION};
 use crate::log::LOG;
+use crate::subcommand::Subcommand;
 use clap::builder::ValueParser;
-use hx_tape_commands::{Argument, FLAG, OPTION, Subcommand};
 
 /// Where the copy goes, and under which number it shows how much it has.
 pub const COPY: Subcommand = Subcommand {

@@ -1,7 +1,8 @@
 //! The command that follows the log of a day.
 
+use crate::argument::{Argument, FLAG, OPTION};
 use crate::log::LOG;
-use hx_tape_commands::{Argument, FLAG, OPTION, Subcommand};
+use crate::subcommand::Subcommand;
 
 /// The nodes of the log, a copy of it, and whether to wait for more.
 pub const FOLLOW: Subcommand = Subcommand {

@@ -1,8 +1,9 @@
 //! The command that asks a standby to take over.
 
+use crate::argument::{Argument, OPTION};
 use crate::log::LOG;
+use crate::subcommand::Subcommand;
 use clap::builder::ValueParser;
-use hx_tape_commands::{Argument, OPTION, Subcommand};
 
 /// The nodes of the log, and who leaves office.
 pub const HANDOVER: Subcommand = Subcommand {

@@ -1,6 +1,7 @@
 //! The command over the journal of a day.
 
-use hx_tape_commands::{Argument, Choice, FLAG, Subcommand, WORD};
+use crate::argument::{Argument, FLAG, WORD};
+use crate::subcommand::{Choice, Subcommand};
 
 /// How far a journal goes, or its history, or a cut of it.
 pub const JOURNAL: Subcommand = Subcommand {

@@ -1,6 +1,6 @@
 //! The argument that names the log of a day.
 
-use hx_tape_commands::{Argument, OPTION};
+use crate::argument::{Argument, OPTION};
 
 /// The nodes of the log.
 pub const LOG: Argument = Argument {

@@ -1,6 +1,7 @@
 //! The command that says the operator's words.
 
-use hx_tape_commands::{Argument, Form, Subcommand, WORD};
+use crate::argument::{Argument, Form, WORD};
+use crate::subcommand::Subcommand;
 
 /// Whom it tells, and what.
 pub const OPERATE: Subcommand = Subcommand {

@@ -1,6 +1,7 @@
 //! The command that relays the feed of a day.
 
-use hx_tape_commands::{Argument, Form, OPTION, Subcommand};
+use crate::argument::{Argument, Form, OPTION};
+use crate::subcommand::Subcommand;
 
 // An address.
 const ADDRESS: Argument = Argument {

@@ -1,7 +1,9 @@
 //! The command that serves a day.
 
+use crate::argument::{Argument, FLAG, Form, OPTION};
+use crate::subcommand::Subcommand;
+use crate::tapes::SETUP_FILE;
 use clap::builder::ValueParser;
-use hx_tape_commands::{Argument, FLAG, Form, OPTION, SETUP_FILE, Subcommand};
 
 /// Where a day listens and sends, how large it is, who directs it and what keeps it.
 pub const SERVE: Subcommand = Subcommand {

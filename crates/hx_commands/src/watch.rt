@@ -1,7 +1,8 @@
 //! The command that shows a day to its readers.
 
+use crate::argument::{Argument, OPTION};
+use crate::subcommand::Subcommand;
 use clap::builder::ValueParser;
-use hx_tape_commands::{Argument, OPTION, Subcommand};
 
 // A port, 1 to 65,535.
 const PORT: Argument = Argument {

@@ -16,7 +16,6 @@ use std::alloc::Global;
 
 /// A log in an etcd, as this client knows it: of the records that stand there it knows how many answers have told, and
 /// keeps the last of them until it reads on. What nodes answer against that is an error.
-#[derive(Drop)]
 pub struct EtcdLog<N> {
     pub(crate) alloc: Global,
     pub(crate) nodes: N,
@@ -26,6 +25,19 @@ pub struct EtcdLog<N> {
     pub(crate) told: Told,
     // The node that is asked next: the last that answered, or the one behind the last that did not.
     pub(crate) node: usize,
+}
+
+// By hand, so that where a value is dropped its owner's proof sees one call.
+impl<N: Drop> Drop for EtcdLog<N> {
+    fn drop(self) {
+        let EtcdLog {
+            alloc: _,
+            nodes: _,
+            asks: _,
+            told: _,
+            node: _,
+        } = self;
+    }
 }
 
 impl<N: Nodes> EtcdLog<N> {

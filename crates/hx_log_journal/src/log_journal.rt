@@ -17,7 +17,6 @@ use std::marker::Model;
 
 /// The journal of an exchange over a log that several append to. The lines of a sync are one record, which all readers
 /// count or none. What is kept is what its writer has read.
-#[derive(Drop)]
 pub struct LogJournal<L: Log> {
     alloc: Global,
     log: L,
@@ -26,6 +25,19 @@ pub struct LogJournal<L: Log> {
     waiting: Vec<u8>,
     // Why it is closed.
     fault: Option<KeepError>,
+}
+
+// By hand, so that where a value is dropped its owner's proof sees one call.
+impl<L: Log + Drop> Drop for LogJournal<L> {
+    fn drop(self) {
+        let LogJournal {
+            alloc: _,
+            log: _,
+            writer: _,
+            waiting: _,
+            fault: _,
+        } = self;
+    }
 }
 
 impl<L: Log> Model for LogJournal<L> {
@@ -181,7 +193,14 @@ impl<L: Log> LogJournal<L> {
     pub fn into_follower(self) -> Follower<L>
         ensures { result ≡ record { log = self.log; writer = self.writer } }
     {
-        Follower::at(self.log, self.writer)
+        let LogJournal {
+            alloc: _,
+            log,
+            writer,
+            waiting: _,
+            fault: _,
+        } = self;
+        Follower::at(log, writer)
     }
 }
 

@@ -2,8 +2,8 @@
 
 use crate::fault::RunError;
 use clap::ArgMatches;
+use hx_commands::Shell;
 use hx_replay::TapeError;
-use hx_tape_commands::Shell;
 use std::io;
 use std::io::Write;
 

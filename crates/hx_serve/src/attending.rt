@@ -34,7 +34,6 @@ use std::time::Clock;
 const KEPT: u64 = 8;
 
 /// What is left when all workers have ended.
-#[derive(Drop)]
 pub struct Outcome<V: Venue> {
     passes: Vec<Pass<V>>,
     network: bool,
@@ -43,8 +42,20 @@ pub struct Outcome<V: Venue> {
     socket: Option<OperatorSocket>,
 }
 
+// By hand, so that where a value is dropped its owner's proof sees one call.
+impl<V: Venue> Drop for Outcome<V> {
+    fn drop(self) {
+        let Outcome {
+            passes: _,
+            network: _,
+            memory: _,
+            operated: _,
+            socket: _,
+        } = self;
+    }
+}
+
 /// By what the sessions and the operator submit, and by what the publisher and the sessions read.
-#[derive(Drop)]
 pub struct Crew<V: Venue> {
     /// The operator's pass.
     pub own: Pass<V>,
@@ -57,6 +68,19 @@ pub struct Crew<V: Venue> {
     /// What the operator has made of the day so far.
     pub bulletin: Bulletin,
     pub ghost belongs: { reader.log ≡ V.log },
+}
+
+// By hand, so that where a value is dropped its owner's proof sees one call.
+impl<V: Venue> Drop for Crew<V> {
+    fn drop(self) {
+        let Crew {
+            own: _,
+            passes: _,
+            reader: _,
+            fittings: _,
+            bulletin: _,
+        } = self;
+    }
 }
 
 // The publisher learns what every pass knows.
@@ -72,62 +96,64 @@ fn learn_all<'a, V: Venue>(
     }
 }
 
-// A day of this many connections, from the first one on, up to the packet that ends the feed.
-fn attend<
-    V: Venue + Send + Sync,
-    J: Journal + Drop + Send,
-    G: Gate + Sync,
-    B: Board + Sync,
-    D: Datagrams + Sync + Drop,
-    T: Threads + Wait + Clock + Logger + Sync,
-    R: Read + Drop,
->(
-    rt: &T,
-    alloc: Global,
-    exchange: &Exchange<V, J>,
-    hosting: &Hosting<'_, G, B>,
-    doors: Doors<D>,
-    crew: Crew<V>,
-    input: R,
-) -> Result<Outcome<V>, ServeError> {
-    let Crew {
-        own: pass,
-        mut passes,
-        mut reader,
-        ..
-    } = crew;
-    let Doors { listener, socket } = doors;
-    let log = exchange.feed_log();
-    let connections = take(alloc, &listener, hosting.args.sessions)?;
-    drop(listener);
-    let parts = hire(
-        rt,
-        alloc,
-        hosting.times,
-        log,
-        connections,
-        &mut passes,
-        &mut reader,
-    )?;
-    let now = DayClock::of_clock(rt).time_of_day();
-    let other = reader.split(log);
-    let session = *hosting.setup.session();
-    let publishing = Publishing::new(session, hosting, log, reader, other, now);
-    let writers = Writers { parts, pass, input };
-    let (mut publishing, ((own, operated), served)) = work(
-        rt, alloc, exchange, hosting, &socket, publishing, writers,
-    );
-    let begun = dismiss(rt, hosting.setup, served, &mut passes);
-    let _ = passes.push(own);
-    learn_all(&mut publishing, log, &mut passes);
-    let sent = exchange.failure(rt).is_some() || publishing.finish(rt, &socket);
-    Ok(Outcome {
-        passes,
-        network: !sent,
-        memory: !begun,
-        operated,
-        socket: None,
-    })
+impl<V: Venue + Send + Sync> Crew<V> {
+    // A day of this many connections, from the first one on, up to the packet that ends the feed.
+    fn attend<
+        J: Journal + Drop + Send,
+        G: Gate + Sync,
+        B: Board + Sync,
+        D: Datagrams + Sync + Drop,
+        T: Threads + Wait + Clock + Logger + Sync,
+        R: Read + Drop,
+    >(
+        self,
+        rt: &T,
+        alloc: Global,
+        exchange: &Exchange<V, J>,
+        hosting: &Hosting<'_, G, B>,
+        doors: Doors<D>,
+        input: R,
+    ) -> Result<Outcome<V>, ServeError> {
+        let Doors { listener, socket } = doors;
+        let log = exchange.feed_log();
+        let connections = take(alloc, &listener, hosting.args.sessions)?;
+        drop(listener);
+        let Crew {
+            own: pass,
+            mut passes,
+            mut reader,
+            fittings: _,
+            bulletin: _,
+        } = self;
+        let parts = hire(
+            rt,
+            alloc,
+            hosting.times,
+            log,
+            connections,
+            &mut passes,
+            &mut reader,
+        )?;
+        let now = DayClock::of_clock(rt).time_of_day();
+        let other = reader.split(log);
+        let session = *hosting.setup.session();
+        let publishing = Publishing::new(session, hosting, log, reader, other, now);
+        let writers = Writers { parts, pass, input };
+        let (mut publishing, ((own, operated), served)) = work(
+            rt, alloc, exchange, hosting, &socket, publishing, writers,
+        );
+        let begun = dismiss(rt, hosting.setup, served, &mut passes);
+        let _ = passes.push(own);
+        learn_all(&mut publishing, log, &mut passes);
+        let sent = exchange.failure(rt).is_some() || publishing.finish(rt, &socket);
+        Ok(Outcome {
+            passes,
+            network: !sent,
+            memory: !begun,
+            operated,
+            socket: None,
+        })
+    }
 }
 
 // Who attends to an open day, and by what readers its feed is published.
@@ -142,51 +168,53 @@ struct Opening<V: Venue, R> {
     ghost belong: { (first.log ≡ V.log) × (second.log ≡ V.log) },
 }
 
-// The places, the operator's desk and the page of an open day, of its crew.
-fn open_up<V: Venue, R: Drop>(
-    alloc: Global,
-    log: &Log<Entry>,
-    listener: TcpListener,
-    crew: Crew<V>,
-    input: R,
-    open: OpenArgs,
-) -> Result<Opening<V, R>, ServeError>
-    requires { log.now ≡ V.log }
-{
-    let Crew {
-        own: pass,
-        mut passes,
-        mut reader,
-        fittings,
-        bulletin,
-    } = crew;
-    let Fittings { duties, metrics } = fittings;
-    let Some(other) = passes.pop() else {
-        return Err(ServeError::NoMemory);
-    };
-    let seats = Seats::new(alloc, passes.len())?;
-    let places = make_places(alloc, log, passes, &mut reader)?;
-    let second = reader.split(log);
-    let viewer = Viewer::new(reader.split(log));
-    let desk = Desk {
-        pass,
-        input,
-        other,
-        duties,
-    };
-    Ok(Opening {
-        staff: Staff {
-            places,
-            listener,
-            desk,
-            page: Page { metrics, viewer },
-            open,
-        },
-        seats,
-        bulletin,
-        first: reader,
-        second,
-    })
+impl<V: Venue> Crew<V> {
+    // The places, the operator's desk and the page of an open day, of its crew.
+    fn open_up<R: Drop>(
+        self,
+        alloc: Global,
+        log: &Log<Entry>,
+        listener: TcpListener,
+        input: R,
+        open: OpenArgs,
+    ) -> Result<Opening<V, R>, ServeError>
+        requires { log.now ≡ V.log }
+    {
+        let Crew {
+            own: pass,
+            mut passes,
+            mut reader,
+            fittings,
+            bulletin,
+        } = self;
+        let (duties, metrics) = fittings.into_both();
+        let Some(other) = passes.pop() else {
+            return Err(ServeError::NoMemory);
+        };
+        let seats = Seats::new(alloc, passes.len())?;
+        let places = make_places(alloc, log, passes, &mut reader)?;
+        let second = reader.split(log);
+        let viewer = Viewer::new(reader.split(log));
+        let desk = Desk {
+            pass,
+            input,
+            other,
+            duties,
+        };
+        Ok(Opening {
+            staff: Staff {
+                places,
+                listener,
+                desk,
+                page: Page { metrics, viewer },
+                open,
+            },
+            seats,
+            bulletin,
+            first: reader,
+            second,
+        })
+    }
 }
 
 // What an open day leaves, once the end of its feed is told.
@@ -253,7 +281,7 @@ pub fn attend_open<
     input: R,
 ) -> Result<Outcome<V>, ServeError> {
     let Some(open) = hosting.open else {
-        return attend(rt, alloc, exchange, hosting, doors, crew, input);
+        return crew.attend(rt, alloc, exchange, hosting, doors, input);
     };
     let Doors { listener, socket } = doors;
     keep_room(rt, exchange, hosting);
@@ -264,7 +292,7 @@ pub fn attend_open<
         bulletin,
         first,
         second,
-    } = open_up(alloc, log, listener, crew, input, open)?;
+    } = crew.open_up(alloc, log, listener, input, open)?;
     let (session, now) = (
         *hosting.setup.session(),
         DayClock::of_clock(rt).time_of_day(),
@@ -315,32 +343,34 @@ fn end<V: Venue, J: Journal + Drop>(
     }
 }
 
-/// Ends the exchange, and writes the last line.
-pub fn conclude<V: Venue, J: Journal + Drop, W: Write>(
-    alloc: Global,
-    exchange: Exchange<V, J>,
-    outcome: Outcome<V>,
-    output: &mut W,
-) -> Result<Day, ServeError>
-    ensures served { IfOk result (λ day. IsServed V.setup day.history.items day.feed) }
-    ensures begins { IfOk result (λ day. IsPrefix (restored V.before) day.history.items) }
-    ensures told { IfOk result (λ day. day.fault ≡ None
-        → Appends (W.contents output.old) (W.contents output.new)
-        (last_line (length day.history.items) day.feed)) }
-{
-    let Outcome {
-        passes,
-        network,
-        memory,
-        operated,
-        socket,
-    } = outcome;
-    let (history, feed) = end(exchange, passes)?;
-    let written = write_last_line(alloc, output, history.len() as u64, feed).err();
-    Ok(Day {
-        history,
-        feed,
-        fault: fault_of_day(network, memory, operated, written),
-        socket,
-    })
+impl<V: Venue> Outcome<V> {
+    /// Ends the exchange, and writes the last line.
+    pub fn conclude<J: Journal + Drop, W: Write>(
+        self,
+        alloc: Global,
+        exchange: Exchange<V, J>,
+        output: &mut W,
+    ) -> Result<Day, ServeError>
+        ensures served { IfOk result (λ day. IsServed V.setup day.history.items day.feed) }
+        ensures begins { IfOk result (λ day. IsPrefix (restored V.before) day.history.items) }
+        ensures told { IfOk result (λ day. day.fault ≡ None
+            → Appends (W.contents output.old) (W.contents output.new)
+            (last_line (length day.history.items) day.feed)) }
+    {
+        let Outcome {
+            passes,
+            network,
+            memory,
+            operated,
+            socket,
+        } = self;
+        let (history, feed) = end(exchange, passes)?;
+        let written = write_last_line(alloc, output, history.len() as u64, feed).err();
+        Ok(Day {
+            history,
+            feed,
+            fault: fault_of_day(network, memory, operated, written),
+            socket,
+        })
+    }
 }

@@ -1,18 +1,19 @@
 //! What a day begins with, and what it leaves.
-ghost use Rattle.std.specs.Prelude.{◌≡◌, []};
+ghost use Rattle.std.specs.Prelude.{◌≡◌, [], IfOk};
 ghost use Rattle.hx_journal.specs.Unkept.{appended_in, kept_in};
 
+use crate::ending::fault_of_resume;
 use crate::fault::ServeError;
 use crate::fittings::Fittings;
 use crate::played_day::PlayedDay;
-use hx_engine::{Entry, Journal, Recovered};
+use hx_engine::{Entry, Journal, Recovered, play_all};
+use hx_floor::ServeArgs;
 use hx_journal::Unkept;
-use hx_members::Seed;
+use hx_members::{Seed, Setup};
 use hx_operator::OperatorSocket;
 use std::alloc::Global;
 
 /// What a day begins with: the seed of its table of tokens, and what its journal keeps.
-#[derive(Drop)]
 pub struct Beginning<J: Journal> {
     /// The seed, which is drawn where strangers trade.
     pub seed: Seed,
@@ -22,6 +23,51 @@ pub struct Beginning<J: Journal> {
     pub ahead: u64,
     /// What an open day has besides its doors.
     pub fittings: Fittings,
+}
+
+// By hand, so that where a value is dropped its owner's proof sees one call.
+impl<J: Journal + Drop> Drop for Beginning<J> {
+    fn drop(self) {
+        let Beginning {
+            seed: _,
+            recovered: _,
+            ahead: _,
+            fittings: _,
+        } = self;
+    }
+}
+
+impl<J: Journal + Drop> Beginning<J> {
+    /// What a day begins with, its events played under this setup.
+    pub(crate) fn play<'a>(
+        self,
+        alloc: Global,
+        setup: &'a Setup,
+        args: &ServeArgs,
+    ) -> Result<PlayedBeginning<'a, J>, ServeError>
+        ensures setup { IfOk result (λ played. played.day.setup ≡ setup.now) }
+        ensures events { IfOk result (λ played.
+            played.day.events ≡ self.recovered.events.items) }
+        ensures journal { IfOk result (λ played. played.journal ≡ self.recovered.journal) }
+    {
+        let Beginning {
+            seed,
+            recovered,
+            ahead,
+            fittings,
+        } = self;
+        let Recovered { journal, events } = recovered;
+        let mut day = PlayedDay::new(alloc, setup, args, seed)?;
+        if let Err(error) = play_all(&mut day, &events) {
+            return Err(fault_of_resume(error));
+        }
+        Ok(PlayedBeginning {
+            day,
+            journal,
+            ahead,
+            fittings,
+        })
+    }
 }
 
 impl Beginning<Unkept> {
@@ -45,7 +91,6 @@ impl Beginning<Unkept> {
 }
 
 /// What a day begins with whose events are played.
-#[derive(Drop)]
 pub struct PlayedBeginning<'a, J: Journal> {
     /// The day so far.
     pub day: PlayedDay<'a>,
@@ -57,8 +102,35 @@ pub struct PlayedBeginning<'a, J: Journal> {
     pub fittings: Fittings,
 }
 
+// By hand, so that where a value is dropped its owner's proof sees one call.
+impl<J: Journal + Drop> Drop for PlayedBeginning<'_, J> {
+    fn drop(self) {
+        let PlayedBeginning {
+            day: _,
+            journal: _,
+            ahead: _,
+            fittings: _,
+        } = self;
+    }
+}
+
+impl<'a, J: Journal + Drop> PlayedBeginning<'a, J> {
+    /// The day, its journal, how many events may wait for that, and what the day has besides its doors.
+    pub fn into_parts(self) -> (PlayedDay<'a>, J, u64, Fittings)
+        ensures day { result.0 ≡ self.entry.day }
+        ensures journal { result.1 ≡ self.entry.journal }
+    {
+        let PlayedBeginning {
+            day,
+            journal,
+            ahead,
+            fittings,
+        } = self;
+        (day, journal, ahead, fittings)
+    }
+}
+
 /// What a day leaves.
-#[derive(Drop)]
 pub struct Day {
     /// Its history.
     pub history: Vec<Entry>,
@@ -68,4 +140,16 @@ pub struct Day {
     pub fault: Option<ServeError>,
     /// The operator's socket, whose file is there until it is closed.
     pub socket: Option<OperatorSocket>,
+}
+
+// By hand, so that where a value is dropped its owner's proof sees one call.
+impl Drop for Day {
+    fn drop(self) {
+        let Day {
+            history: _,
+            feed: _,
+            fault: _,
+            socket: _,
+        } = self;
+    }
 }

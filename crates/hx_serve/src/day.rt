@@ -9,14 +9,12 @@ ghost use Rattle.hx_engine.specs.Opening.{IsNewLog};
 ghost use Rattle.hx_serve.specs.Days.{IsServed};
 ghost use Rattle.hx_serve.specs.LastLine.{last_line};
 
-use crate::attending::{Crew, attend_open, conclude};
+use crate::attending::{Crew, attend_open};
 use crate::beginning::{Beginning, Day, PlayedBeginning};
-use crate::ending::fault_of_resume;
 use crate::fault::ServeError;
-use crate::played_day::PlayedDay;
 use hx_blog::{Log, Writer};
 use hx_doors::{Datagrams, Doors, Tally};
-use hx_engine::{Entry, Exchange, Journal, Plays, Recovered, Venue, play_all};
+use hx_engine::{Entry, Exchange, Journal, Plays, Venue};
 use hx_floor::{Board, Hosting, Meter, Notice, Notices, ServeArgs, Times};
 use hx_members::{Seed, Setup};
 use hx_sessions::Gate;
@@ -31,12 +29,23 @@ use std::thread::Threads;
 use std::time::Clock;
 
 // What an exchange is made of: its logs of what is admitted and of what is kept, its ledger, and what it goes on from.
-#[derive(Drop)]
 struct Founding<'a, J: Journal> {
     admitted: (Log<Entry>, Writer<Entry>),
     kept: (Log<Entry>, Writer<Entry>),
     blank: Blank,
     beginning: PlayedBeginning<'a, J>,
+}
+
+// By hand, so that where a value is dropped its owner's proof sees one call.
+impl<J: Journal + Drop> Drop for Founding<'_, J> {
+    fn drop(self) {
+        let Founding {
+            admitted: _,
+            kept: _,
+            blank: _,
+            beginning: _,
+        } = self;
+    }
 }
 
 // The logs of what is admitted and of what is kept of a new exchange, and its ledger.
@@ -58,63 +67,55 @@ fn new_ends(alloc: Global, sessions: u16) -> Result<Ends, ServeError>
     Ok(((admitted, register), (kept, keeper), blank))
 }
 
-// The exchange, and by what those submit and read who attend to it. Where the day goes on, that is said.
-fn open<V: Venue, J: Journal + Drop, G: Gate, B: Board>(
-    alloc: Global,
-    hosting: &Hosting<'_, G, B>,
-    founding: Founding<'_, J>,
-) -> Result<(Exchange<V, J>, Crew<V>), ServeError>
-    requires feed { founding.beginning.day.log ≡ V.log }
-    requires admitted { IsNewLog V.admitted founding.admitted }
-    requires kept { IsNewLog V.kept founding.kept }
-    requires of_setup { founding.beginning.day.setup ≡ V.setup }
-    requires before { founding.beginning.day.events ≡ V.before }
-    requires journal { J.appended founding.beginning.journal
-        ≡ lines record_of (restored V.before) }
-    requires safe { (J.kept founding.beginning.journal ≡ J.appended founding.beginning.journal)
-        × (J.is_open founding.beginning.journal ≡ true) }
-    requires blank { (founding.blank.name ≡ V.name) × (founding.blank.parts ≡ V.parts) }
-    requires passes { hosting.now.args.now.sessions + 2 ≡ V.parts }
-{
-    let Founding {
-        admitted,
-        kept,
-        blank,
-        beginning,
-    } = founding;
-    let PlayedBeginning {
-        day,
-        journal,
-        ahead,
-        fittings,
-    } = beginning;
-    let events = day.count();
-    let PlayedDay {
-        played,
-        mut reader,
-        bulletin,
-        ..
-    } = day;
-    let count = hosting.args.sessions + 2;
-    let (exchange, mut passes) = Exchange::<V, J>::open(
-        alloc, played, admitted, kept, journal, blank, count,
-    )?;
-    let exchange = exchange.at_most_ahead(ahead);
-    let Some(own) = passes.pop() else {
-        return Err(ServeError::NoMemory);
-    };
-    let feed = reader.look(exchange.feed_log());
-    if events != 0 {
-        hosting.board.post(Notice::Resumed { events, feed });
+impl<J: Journal + Drop> Founding<'_, J> {
+    // The exchange, and by what those submit and read who attend to it. Where the day goes on, that is said.
+    fn open<V: Venue, G: Gate, B: Board>(
+        self,
+        alloc: Global,
+        hosting: &Hosting<'_, G, B>,
+    ) -> Result<(Exchange<V, J>, Crew<V>), ServeError>
+        requires feed { self.beginning.day.log ≡ V.log }
+        requires admitted { IsNewLog V.admitted self.admitted }
+        requires kept { IsNewLog V.kept self.kept }
+        requires of_setup { self.beginning.day.setup ≡ V.setup }
+        requires before { self.beginning.day.events ≡ V.before }
+        requires journal { J.appended self.beginning.journal
+            ≡ lines record_of (restored V.before) }
+        requires safe { (J.kept self.beginning.journal ≡ J.appended self.beginning.journal)
+            × (J.is_open self.beginning.journal ≡ true) }
+        requires blank { (self.blank.name ≡ V.name) × (self.blank.parts ≡ V.parts) }
+        requires passes { hosting.now.args.now.sessions + 2 ≡ V.parts }
+    {
+        let Founding {
+            admitted,
+            kept,
+            blank,
+            beginning,
+        } = self;
+        let (day, journal, ahead, fittings) = beginning.into_parts();
+        let events = day.count();
+        let (played, mut reader, bulletin) = day.into_parts();
+        let count = hosting.args.sessions + 2;
+        let (exchange, mut passes) = Exchange::<V, J>::open(
+            alloc, played, admitted, kept, journal, blank, count,
+        )?;
+        let exchange = exchange.at_most_ahead(ahead);
+        let Some(own) = passes.pop() else {
+            return Err(ServeError::NoMemory);
+        };
+        let feed = reader.look(exchange.feed_log());
+        if events != 0 {
+            hosting.board.post(Notice::Resumed { events, feed });
+        }
+        let crew = Crew {
+            own,
+            passes,
+            reader,
+            fittings,
+            bulletin,
+        };
+        Ok((exchange, crew))
     }
-    let crew = Crew {
-        own,
-        passes,
-        reader,
-        fittings,
-        bulletin,
-    };
-    Ok((exchange, crew))
 }
 
 // A day over an exchange of its own.
@@ -153,9 +154,9 @@ fn run<
         → Appends (W.contents output.old) (W.contents output.new)
         (last_line (length day.history.items) day.feed)) }
 {
-    let (exchange, crew) = open::<V, J, G, B>(alloc, hosting, founding)?;
+    let (exchange, crew) = founding.open::<V, G, B>(alloc, hosting)?;
     let outcome = attend_open(rt, alloc, &exchange, hosting, doors, crew, input)?;
-    conclude(alloc, exchange, outcome, output)
+    outcome.conclude(alloc, exchange, output)
 }
 
 /// Serves a day through these doors, on from the events that are played of it, of which none is played again, and returns
@@ -202,37 +203,6 @@ pub fn serve_played_from<
     run::<Brand, J, G, B, D, T, R, W>(rt, alloc, hosting, doors, founding, input, output)
 }
 
-// What a day begins with, its events played.
-fn play_beginning<'a, J: Journal + Drop>(
-    alloc: Global,
-    setup: &'a Setup,
-    args: &ServeArgs,
-    beginning: Beginning<J>,
-) -> Result<PlayedBeginning<'a, J>, ServeError>
-    ensures setup { IfOk result (λ played. played.day.setup ≡ setup.now) }
-    ensures events { IfOk result (λ played.
-        played.day.events ≡ beginning.recovered.events.items) }
-    ensures journal { IfOk result (λ played. played.journal ≡ beginning.recovered.journal) }
-{
-    let Beginning {
-        seed,
-        recovered,
-        ahead,
-        fittings,
-    } = beginning;
-    let Recovered { journal, events } = recovered;
-    let mut day = PlayedDay::new(alloc, setup, args, seed)?;
-    if let Err(error) = play_all(&mut day, &events) {
-        return Err(fault_of_resume(error));
-    }
-    Ok(PlayedBeginning {
-        day,
-        journal,
-        ahead,
-        fittings,
-    })
-}
-
 /// Serves a day through these doors, from what its journal keeps of it on, and returns what it leaves; or why its sessions
 /// never began. The gate is called round each submit and at each login. The last line goes to the output: where the day
 /// had no fault it is the one of its history and feed. The history begins with the events of the journal.
@@ -265,7 +235,7 @@ pub fn serve_from<
         → Appends (W.contents output.old) (W.contents output.new)
         (last_line (length day.history.items) day.feed)) }
 {
-    let beginning = play_beginning(alloc, hosting.setup, hosting.args, beginning)?;
+    let beginning = beginning.play(alloc, hosting.setup, hosting.args)?;
     serve_played_from(rt, alloc, hosting, doors, beginning, input, output)
 }
 

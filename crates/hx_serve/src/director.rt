@@ -37,7 +37,6 @@ pub struct Director<'a, V: Venue, J: Journal + Drop, B, T> {
 }
 
 /// What the clock asks for, and where the operator speaks.
-#[derive(Drop)]
 pub struct Duties {
     /// His socket, where there is one.
     pub socket: Option<OperatorSocket>,
@@ -47,6 +46,18 @@ pub struct Duties {
     pub tick: u64,
     /// How many seconds behind the day's end sessions have for what is theirs.
     pub grace: u64,
+}
+
+// By hand, so that where a value is dropped its owner's proof sees one call.
+impl Drop for Duties {
+    fn drop(self) {
+        let Duties {
+            socket: _,
+            schedule: _,
+            tick: _,
+            grace: _,
+        } = self;
+    }
 }
 
 // How long ago the last tick and the day's end are, and after how long what is to be done, in milliseconds; and how many
@@ -243,25 +254,20 @@ impl<'a, V: Venue, J: Journal + Drop, B: Board, T: Wait + Clock> Director<'a, V,
     /// socket back.
     pub fn direct(self, duties: Duties, gone: &AtomicBool) -> (Pass<V>, Option<OperatorSocket>) {
         let mut director = self;
-        let Duties {
-            mut socket,
-            mut schedule,
-            tick,
-            grace,
-        } = duties;
-        let mut beat = Beat::of(tick, grace);
+        let mut duties = duties;
+        let mut beat = Beat::of(duties.tick, duties.grace);
         for _ in 0..u64::MAX {
             if gone.load(Ordering::SeqCst) {
                 break;
             }
             let (rt, alloc) = (director.rt, director.alloc);
-            if let Some(socket) = &mut socket {
+            if let Some(socket) = &mut duties.socket {
                 socket.turn(rt, alloc, &mut director);
             }
-            director.keep_time(&mut beat, &mut schedule);
+            director.keep_time(&mut beat, &mut duties.schedule);
             thread::sleep(rt, Duration::from_millis(LOOK_AGAIN));
         }
-        (director.pass, socket)
+        (director.pass, duties.socket.take())
     }
 }
 

@@ -14,7 +14,6 @@ pub struct Metrics {
 }
 
 /// What an open day has besides its doors: who directs it, and where it is watched.
-#[derive(Drop)]
 pub struct Fittings {
     /// The operator's socket, the schedule, the ticks, and the time behind the day's end.
     pub duties: Duties,
@@ -22,7 +21,23 @@ pub struct Fittings {
     pub metrics: Option<Metrics>,
 }
 
+// By hand, so that where a value is dropped its owner's proof sees one call.
+impl Drop for Fittings {
+    fn drop(self) {
+        let Fittings {
+            duties: _,
+            metrics: _,
+        } = self;
+    }
+}
+
 impl Fittings {
+    /// Who directs the day, and where it is watched.
+    pub fn into_both(self) -> (Duties, Option<Metrics>) {
+        let Fittings { duties, metrics } = self;
+        (duties, metrics)
+    }
+
     /// Nothing: only standard input directs the day, no time passes without it, and nobody watches.
     pub fn none() -> Fittings {
         Fittings {

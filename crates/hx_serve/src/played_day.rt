@@ -28,15 +28,27 @@ pub fn time_of(event: &Event) -> u64
 
 /// A day whose events are played as they come, and that is served on from there without playing one again. Contracts see
 /// the log of its feed, its setup and the events.
-#[derive(Drop)]
 pub struct PlayedDay<'a> {
-    pub(crate) played: Played,
-    pub(crate) reader: Reader<Entry>,
+    played: Played,
+    reader: Reader<Entry>,
     // What the operator has made of the day so far.
-    pub(crate) bulletin: Bulletin,
+    bulletin: Bulletin,
     setup: &'a Setup,
     // The last time of the events.
     last: u64,
+}
+
+// By hand, so that where a value is dropped its owner's proof sees one call.
+impl Drop for PlayedDay<'_> {
+    fn drop(self) {
+        let PlayedDay {
+            played: _,
+            reader: _,
+            bulletin: _,
+            setup: _,
+            last: _,
+        } = self;
+    }
 }
 
 impl<'a> Model for PlayedDay<'a> {
@@ -79,6 +91,21 @@ impl<'a> PlayedDay<'a> {
         ensures { result ≡ day.last_time self.now.events }
     {
         self.last
+    }
+
+    /// What the day is served on with: what was played, a reader of its feed, and what the operator has made of it.
+    pub(crate) fn into_parts(self) -> (Played, Reader<Entry>, Bulletin)
+        ensures played { result.0 ≡ self.entry }
+        ensures reads { result.1.log ≡ self.entry.log }
+    {
+        let PlayedDay {
+            played,
+            reader,
+            bulletin,
+            setup: _,
+            last: _,
+        } = self;
+        (played, reader, bulletin)
     }
 }
 

@@ -33,7 +33,6 @@ const SILENCE: u64 = 1_000_000_000;
 const REQUEST: usize = 64;
 
 /// A publisher of the feed and a server of requests, each over a reader of its own of the log.
-#[derive(Drop)]
 pub struct Publishing<'a, V: Venue> {
     publisher: Publisher<LogMessages<'a, Entry>>,
     server: Server<LogMessages<'a, Entry>>,
@@ -48,6 +47,22 @@ pub struct Publishing<'a, V: Venue> {
     pub failed: bool,
     of: PhantomData<V>,
     pub ghost belongs: { publisher.messages.log ≡ V.log },
+}
+
+// By hand, so that where a value is dropped its owner's proof sees one call.
+impl<V: Venue> Drop for Publishing<'_, V> {
+    fn drop(self) {
+        let Publishing {
+            publisher: _,
+            server: _,
+            feeds: _,
+            last: _,
+            rate: _,
+            meter: _,
+            failed: _,
+            of: _,
+        } = self;
+    }
 }
 
 impl<'a, V: Venue> Publishing<'a, V> {

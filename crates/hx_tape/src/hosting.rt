@@ -258,12 +258,7 @@ fn host_mirrored<
     requires mirror { Mirrors M.appended M.kept M.is_open mirror
         (lines record_of (restored beginning.day.events)) }
 {
-    let PlayedBeginning {
-        day,
-        journal,
-        ahead,
-        fittings,
-    } = beginning;
+    let (day, journal, ahead, fittings) = beginning.into_parts();
     let beginning = PlayedBeginning {
         day,
         journal: MirroredJournal::new(rt.alloc(), journal, mirror),

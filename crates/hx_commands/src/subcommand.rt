@@ -1,7 +1,7 @@
 //! Commands as lines of a table.
 
 use crate::argument::Argument;
-use clap::{ArgGroup, Command};
+use clap::{Arg, ArgGroup, Command};
 use std::alloc::{AllocError, Global};
 
 /// Two arguments of which a command takes one at most, or just one.
@@ -31,27 +31,35 @@ impl Choice {
 }
 
 impl Subcommand {
+    // What `clap` calls its arguments.
+    fn args<'a>(&self, alloc: Global) -> Result<Vec<Arg<'a>>, AllocError> {
+        let mut args = Vec::new(alloc);
+        for argument in self.arguments {
+            args.push(argument.arg(alloc)?)?;
+        }
+        Ok(args)
+    }
+
     // What `clap` calls it.
     fn command<'a>(&self, alloc: Global) -> Result<Command<'a>, AllocError> {
-        let mut command = Command::new(alloc, self.name).about(self.about);
-        for argument in self.arguments {
-            command = command.arg(argument.arg(alloc)?)?;
-        }
-        match self.choice {
-            Some(choice) => command.group(choice.group(alloc)?),
-            None => Ok(command),
-        }
+        let args = self.args(alloc)?;
+        let Some(choice) = self.choice else {
+            return Command::new(alloc, self.name).about(self.about).args(args);
+        };
+        let group = choice.group(alloc)?;
+        let command = Command::new(alloc, self.name).about(self.about);
+        command.args(args)?.group(group)
     }
 }
 
-/// The command line with these commands as well, in this order.
-pub fn with_subcommands<'a>(
+/// What `clap` calls these commands, in this order.
+pub fn commands_of<'a>(
     alloc: Global,
-    mut command: Command<'a>,
     subcommands: &[Subcommand],
-) -> Result<Command<'a>, AllocError> {
+) -> Result<Vec<Command<'a>>, AllocError> {
+    let mut commands = Vec::new(alloc);
     for subcommand in subcommands {
-        command = command.subcommand(subcommand.command(alloc)?)?;
+        commands.push(subcommand.command(alloc)?)?;
     }
-    Ok(command)
+    Ok(commands)
 }

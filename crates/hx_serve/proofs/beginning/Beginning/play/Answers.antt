@@ -1,6 +1,6 @@
 use Rattle.std.proofs.Common.{List, ◌++◌, ap, ◌∙◌}
 use Rattle.hx_rules.specs.declared.event.Event.{Event}
-use Rattle.hx_serve.proofs.day.play_beginning.Goals as goal
+use Rattle.hx_serve.proofs.beginning.Beginning.play.Goals as goal
 
 -- the events that were played are those of the journal
 pub returns-clause-events : goal.returns-clause-events

@@ -1,7 +1,7 @@
 //! The commands over tapes, each with its arguments.
 
 use crate::argument::{Argument, FLAG, OPTION, WORD};
-use crate::subcommand::{Choice, Subcommand, with_subcommands};
+use crate::subcommand::{Choice, Subcommand, commands_of};
 use clap::Command;
 use clap::builder::ValueParser;
 use std::alloc::{AllocError, Global};
@@ -114,8 +114,10 @@ const COMMANDS: &[Subcommand] = &[REPLAY, STRIKE, SHOW, COMPLETIONS, AUDIT];
 /// The command line of the commands over tapes: replay, strike, show, audit and completions. Its texts name the program
 /// `hx_tape`, whatever its file is called.
 pub fn tape_command<'a>(alloc: Global) -> Result<Command<'a>, AllocError> {
-    let program = Command::new(alloc, PROGRAM)
+    let commands = commands_of(alloc, COMMANDS)?;
+    Command::new(alloc, PROGRAM)
         .version(VERSION)
-        .subcommand_required(true);
-    with_subcommands(alloc, program, COMMANDS)?.bin_name(PROGRAM)
+        .subcommand_required(true)
+        .subcommands(commands)?
+        .bin_name(PROGRAM)
 }
