@@ -1,5 +1,5 @@
 //! What a day begins with, and what it leaves.
-ghost use Rattle.std.specs.Prelude.{◌≡◌, [], IfOk};
+ghost use Rattle.std.specs.Prelude.{◌≡◌, ◌-◌, ◌^◌, [], IfOk};
 ghost use Rattle.hx_journal.specs.Unkept.{appended_in, kept_in};
 
 use crate::ending::fault_of_resume;
@@ -49,6 +49,8 @@ impl<J: Journal + Drop> Beginning<J> {
         ensures events { IfOk result (λ played.
             played.day.events ≡ self.recovered.events.items) }
         ensures journal { IfOk result (λ played. played.journal ≡ self.recovered.journal) }
+        ensures ahead { IfOk result (λ played. played.ahead ≡ self.ahead) }
+        ensures fittings { IfOk result (λ played. played.fittings ≡ self.fittings) }
     {
         let Beginning {
             seed,
@@ -73,6 +75,8 @@ impl<J: Journal + Drop> Beginning<J> {
 impl Beginning<Unkept> {
     /// That of a new day, which no journal keeps.
     pub fn unkept(alloc: Global, seed: Seed) -> Beginning<Unkept>
+        ensures seed { result.seed ≡ seed }
+        ensures ahead { result.ahead ≡ 2 ^ 64 - 1 }
         ensures events { result.recovered.events.items ≡ [] }
         ensures appended { appended_in result.recovered.journal.log.events ≡ [] }
         ensures kept { kept_in result.recovered.journal.log.events ≡ [] }
@@ -119,6 +123,8 @@ impl<'a, J: Journal + Drop> PlayedBeginning<'a, J> {
     pub fn into_parts(self) -> (PlayedDay<'a>, J, u64, Fittings)
         ensures day { result.0 ≡ self.entry.day }
         ensures journal { result.1 ≡ self.entry.journal }
+        ensures ahead { result.2 ≡ self.entry.ahead }
+        ensures fittings { result.3 ≡ self.entry.fittings }
     {
         let PlayedBeginning {
             day,

@@ -1,4 +1,5 @@
 //! What an open day has besides its doors.
+ghost use Rattle.std.specs.Prelude.{◌≡◌, ◌-◌, ◌^◌, None};
 
 use crate::director::Duties;
 use std::hash::RandomState;
@@ -33,13 +34,22 @@ impl Drop for Fittings {
 
 impl Fittings {
     /// Who directs the day, and where it is watched.
-    pub fn into_both(self) -> (Duties, Option<Metrics>) {
+    pub fn into_both(self) -> (Duties, Option<Metrics>)
+        ensures duties { result.0 ≡ self.duties }
+        ensures metrics { result.1 ≡ self.metrics }
+    {
         let Fittings { duties, metrics } = self;
         (duties, metrics)
     }
 
     /// Nothing: only standard input directs the day, no time passes without it, and nobody watches.
-    pub fn none() -> Fittings {
+    pub fn none() -> Fittings
+        ensures socket { result.duties.socket ≡ None }
+        ensures schedule { result.duties.schedule ≡ None }
+        ensures tick { result.duties.tick ≡ 0 }
+        ensures grace { result.duties.grace ≡ 2 ^ 64 - 1 }
+        ensures metrics { result.metrics ≡ None }
+    {
         Fittings {
             duties: Duties {
                 socket: None,
