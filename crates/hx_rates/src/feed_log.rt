@@ -1,6 +1,6 @@
 //! Messages of 36 bytes through the log of a feed, each an event of its own: written, then read by one reader and by
 //! another, and then written and read at the same time.
-ghost use Rattle.std.specs.Prelude.{◌≡◌};
+ghost use Rattle.std.specs.Prelude.{◌≡◌, ◌≤◌};
 
 use crate::failure::Failure;
 use crate::report::report;
@@ -89,6 +89,48 @@ fn at_once<R: Threads>(
     staged && right
 }
 
+// The rate of a reader.
+fn read_rate<R: Print + Eprint + Clock>(
+    rt: &R,
+    log: &Log<u64>,
+    reader: Reader<u64>,
+    what: &str,
+    messages: u64,
+) -> Result<(), Failure>
+    requires { reader.log ≡ log.now }
+{
+    let begun = Instant::now(rt)?;
+    let right = read(log, reader, messages);
+    tell(rt, begun, what, messages, right)
+}
+
+// The rates of the writer of a log, and then of two readers.
+fn in_turn<R: Print + Eprint + Clock>(rt: &R, alloc: Global, messages: u64) -> Result<(), Failure>
+    requires { (1 ≤ messages) × (messages ≤ 1000000) }
+{
+    let (log, writer, mut one) = Log::<u64>::new(alloc, messages)?;
+    let two = one.split(&log);
+    let begun = Instant::now(rt)?;
+    let staged = write(&log, writer, messages);
+    tell(rt, begun, "written", messages, staged)?;
+    read_rate(rt, &log, one, "read by one reader", messages)?;
+    read_rate(rt, &log, two, "read by another", messages)
+}
+
+// The rate of a log that is read while it is written.
+fn meanwhile<R: Print + Eprint + Clock + Threads>(
+    rt: &R,
+    alloc: Global,
+    messages: u64,
+) -> Result<(), Failure>
+    requires { (1 ≤ messages) × (messages ≤ 1000000) }
+{
+    let (log, writer, reader) = Log::<u64>::new(alloc, messages)?;
+    let begun = Instant::now(rt)?;
+    let right = at_once(rt, &log, writer, reader, messages);
+    tell(rt, begun, "written and read at once", messages, right)
+}
+
 /// The rates of two logs of this number of messages, 1 to 1,000,000.
 pub fn log_rates<R: Print + Eprint + Clock + Threads>(
     rt: &R,
@@ -98,19 +140,6 @@ pub fn log_rates<R: Print + Eprint + Clock + Threads>(
     if messages == 0 || messages > MOST {
         return Err(Failure::Words);
     }
-    let (log, writer, mut one) = Log::<u64>::new(alloc, messages)?;
-    let (other, other_writer, other_reader) = Log::<u64>::new(alloc, messages)?;
-    let two = one.split(&log);
-    let begun = Instant::now(rt)?;
-    let staged = write(&log, writer, messages);
-    tell(rt, begun, "written", messages, staged)?;
-    let begun = Instant::now(rt)?;
-    let right = read(&log, one, messages);
-    tell(rt, begun, "read by one reader", messages, right)?;
-    let begun = Instant::now(rt)?;
-    let right = read(&log, two, messages);
-    tell(rt, begun, "read by another", messages, right)?;
-    let begun = Instant::now(rt)?;
-    let right = at_once(rt, &other, other_writer, other_reader, messages);
-    tell(rt, begun, "written and read at once", messages, right)
+    in_turn(rt, alloc, messages)?;
+    meanwhile(rt, alloc, messages)
 }

@@ -34,6 +34,7 @@ use crate::screen::screen_rate;
 use crate::small::small_rates;
 use crate::tape::read_tape;
 use crate::transport::transport_rates;
+use hx_market::Event;
 use std::rt::{Env, Files};
 use std::sync::Wait;
 use std::thread::Threads;
@@ -44,8 +45,84 @@ fn number(word: &String) -> Result<u64, Failure> {
     word.as_str().parse::<u64>().map_err(|_| Failure::Words)
 }
 
-fn sending(passes: &String, each: &String) -> Result<Sending, Failure> {
-    Sending::of(number(passes)?, number(each)?)
+// The events of the tape on standard input.
+fn events_of<R: AllocGlobal + Input>(rt: &R) -> Result<Vec<Event>, Failure> {
+    read_tape(rt.alloc(), &mut rt.reader())
+}
+
+// What is measured of a tape: the market, a desk, or a little of each.
+fn of_tape<R: AllocGlobal + Input + Print + Eprint + Threads + Wait + Clock + Sync>(
+    rt: &R,
+    what: &str,
+) -> Result<(), Failure> {
+    let alloc = rt.alloc();
+    match what {
+        "market" => market_rate(rt, alloc, &events_of(rt)?),
+        "desk" => desk_rate(rt, alloc, &events_of(rt)?),
+        "small" => small_rates(rt, alloc, &events_of(rt)?),
+        _ => Err(Failure::Words),
+    }
+}
+
+// What is measured by messages: the log of a feed, or a framer and a publisher.
+fn of_messages<R: AllocGlobal + Print + Eprint + Clock + Threads>(
+    rt: &R,
+    what: &str,
+    messages: &String,
+) -> Result<(), Failure> {
+    match what {
+        "log" => log_rates(rt, rt.alloc(), number(messages)?),
+        "transport" => transport_rates(rt, rt.alloc(), number(messages)?),
+        _ => Err(Failure::Words),
+    }
+}
+
+// A vendor's screen: how many orders are shown, and how many of them rest.
+fn of_screen<R: AllocGlobal + Print + Eprint + Clock>(
+    rt: &R,
+    orders: &String,
+    resting: &String,
+) -> Result<(), Failure> {
+    screen_rate(rt, rt.alloc(), number(orders)?, number(resting)?)
+}
+
+// An exchange, over a journal in a file, if one is named: by how many passes, and how many events a call.
+fn of_exchange<
+    R: AllocGlobal
+        + Input
+        + Print
+        + Eprint
+        + Files<File = fs::File>
+        + Threads
+        + Wait
+        + Clock
+        + Sync,
+>(rt: &R, passes: &String, each: &String, file: Option<&String>) -> Result<(), Failure> {
+    let sending = Sending::of(number(passes)?, number(each)?)?;
+    let events = events_of(rt)?;
+    match file {
+        None => memory_rate(rt, rt.alloc(), sending, events),
+        Some(file) => file_rate(rt, rt.alloc(), file.as_str(), sending, events),
+    }
+}
+
+// A journal in a file: how many groups, how many records each has, and how many zeros are laid ahead.
+fn of_journal<R: AllocGlobal + Print + Eprint + Files<File = fs::File> + Clock>(
+    rt: &R,
+    file: &String,
+    [groups, records, ahead]: [&String; 3],
+) -> Result<(), Failure> {
+    let groups = Groups {
+        groups: number(groups)?,
+        records: number(records)?,
+    };
+    journal_rate(
+        rt,
+        rt.alloc(),
+        file.as_str(),
+        groups,
+        number(ahead)? as usize,
+    )
 }
 
 // What the words behind the program's name ask for.
@@ -60,30 +137,15 @@ fn measure<
         + Clock
         + Sync,
 >(rt: &R, what: &str, words: &[String]) -> Result<(), Failure> {
-    let alloc = rt.alloc();
-    match (what, words) {
-        ("market", []) => market_rate(rt, alloc, &read_tape(alloc, &mut rt.reader())?),
-        ("desk", []) => desk_rate(rt, alloc, &read_tape(alloc, &mut rt.reader())?),
-        ("exchange", [passes, each]) => {
-            let sending = sending(passes, each)?;
-            memory_rate(rt, alloc, sending, read_tape(alloc, &mut rt.reader())?)
+    match words {
+        [] => of_tape(rt, what),
+        [messages] => of_messages(rt, what, messages),
+        [orders, resting] if what == "reader" => of_screen(rt, orders, resting),
+        [passes, each] if what == "exchange" => of_exchange(rt, passes, each, None),
+        [passes, each, file] if what == "exchange" => of_exchange(rt, passes, each, Some(file)),
+        [file, groups, records, ahead] if what == "journal" => {
+            of_journal(rt, file, [groups, records, ahead])
         }
-        ("exchange", [passes, each, file]) => {
-            let sending = sending(passes, each)?;
-            let events = read_tape(alloc, &mut rt.reader())?;
-            file_rate(rt, alloc, file.as_str(), sending, events)
-        }
-        ("log", [messages]) => log_rates(rt, alloc, number(messages)?),
-        ("reader", [orders, resting]) => screen_rate(rt, alloc, number(orders)?, number(resting)?),
-        ("transport", [messages]) => transport_rates(rt, alloc, number(messages)?),
-        ("journal", [file, groups, records, ahead]) => {
-            let groups = Groups {
-                groups: number(groups)?,
-                records: number(records)?,
-            };
-            journal_rate(rt, alloc, file.as_str(), groups, number(ahead)? as usize)
-        }
-        ("small", []) => small_rates(rt, alloc, &read_tape(alloc, &mut rt.reader())?),
         _ => Err(Failure::Words),
     }
 }

@@ -97,6 +97,22 @@ fn show_all(screen: &mut Screen, packets: &[Packet]) -> u64 {
     shown
 }
 
+// The rate of a screen that is sent packets of this many messages.
+fn show_rate<R: Print + Eprint + Clock>(
+    rt: &R,
+    screen: &mut Screen,
+    packets: &[Packet],
+    count: u64,
+) -> Result<(), Failure> {
+    let begun = Instant::now(rt)?;
+    let shown = show_all(screen, packets);
+    report(rt, begun, "shown", shown, "messages")?;
+    if shown == count {
+        return Ok(());
+    }
+    Err(Failure::Wrong)
+}
+
 /// The rate of a screen that is sent the feed of this number of orders, with at most this many of them in the book.
 pub fn screen_rate<R: Print + Eprint + Clock>(
     rt: &R,
@@ -106,11 +122,5 @@ pub fn screen_rate<R: Print + Eprint + Clock>(
 ) -> Result<(), Failure> {
     let (packets, count) = packets_of(alloc, orders, resting)?;
     let mut screen = Screen::new(alloc, SESSION, PLACES)?;
-    let begun = Instant::now(rt)?;
-    let shown = show_all(&mut screen, &packets);
-    report(rt, begun, "shown", shown, "messages")?;
-    if shown == count {
-        return Ok(());
-    }
-    Err(Failure::Wrong)
+    show_rate(rt, &mut screen, &packets, count)
 }

@@ -26,8 +26,8 @@ const GROUPS: Groups = Groups {
     records: 32,
 };
 
-/// Each once.
-pub fn small_rates<R: Threads + Wait + Print + Eprint + Clock + Sync>(
+// The market, a desk and an exchange.
+fn small_days<R: Threads + Wait + Print + Eprint + Clock + Sync>(
     rt: &R,
     alloc: Global,
     events: &[Event],
@@ -38,6 +38,16 @@ pub fn small_rates<R: Threads + Wait + Print + Eprint + Clock + Sync>(
         let sending = Sending::of(passes, each)?;
         memory_rate(rt, alloc, sending, copy_all(alloc, events)?)?;
     }
+    Ok(())
+}
+
+/// Each once.
+pub fn small_rates<R: Threads + Wait + Print + Eprint + Clock + Sync>(
+    rt: &R,
+    alloc: Global,
+    events: &[Event],
+) -> Result<(), Failure> {
+    small_days(rt, alloc, events)?;
     log_rates(rt, alloc, MESSAGES)?;
     screen_rate(rt, alloc, MESSAGES, RESTING)?;
     transport_rates(rt, alloc, MESSAGES)?;

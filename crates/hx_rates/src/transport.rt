@@ -8,6 +8,7 @@ use hx_retransmit::{ListMessages, Publisher};
 use hx_soup::{Framer, frame};
 use hx_units::{NoMemory, Symbol};
 use std::alloc::Global;
+use std::io;
 use std::time::{Clock, Instant};
 
 const SESSION: [u8; 10] = *b"HX00000001";
@@ -74,20 +75,32 @@ fn published(publisher: &mut Publisher<ListMessages>) -> u64 {
     count
 }
 
+// The rate of a framer.
+fn framer_rate<R: Print + Eprint + Clock>(rt: &R, alloc: Global, bytes: &[u8]) -> io::Result<()> {
+    let begun = Instant::now(rt)?;
+    let packets = framed(alloc, bytes);
+    report(rt, begun, "framed", packets, "messages")
+}
+
+// The rate of a publisher of this number of messages.
+fn publisher_rate<R: Print + Eprint + Clock>(
+    rt: &R,
+    sender: &mut Publisher<ListMessages>,
+    messages: u64,
+) -> io::Result<()> {
+    let begun = Instant::now(rt)?;
+    let packets = published(sender);
+    report(rt, begun, "published", messages, "messages")?;
+    println!(rt; "in {packets} packets")
+}
+
 /// The rates of a framer and of a publisher, for this number of messages.
 pub fn transport_rates<R: Print + Eprint + Clock>(
     rt: &R,
     alloc: Global,
     messages: u64,
 ) -> Result<(), Failure> {
-    let bytes = stream(alloc, messages)?;
-    let mut sender = publisher(alloc, messages)?;
-    let begun = Instant::now(rt)?;
-    let packets = framed(alloc, &bytes);
-    report(rt, begun, "framed", packets, "messages")?;
-    let begun = Instant::now(rt)?;
-    let packets = published(&mut sender);
-    report(rt, begun, "published", messages, "messages")?;
-    println!(rt; "in {packets} packets")?;
+    framer_rate(rt, alloc, &stream(alloc, messages)?)?;
+    publisher_rate(rt, &mut publisher(alloc, messages)?, messages)?;
     Ok(())
 }
