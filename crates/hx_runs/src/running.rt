@@ -18,12 +18,13 @@ pub fn run_command<R: AllocGlobal + Input + Print + Eprint + Files + Threads + S
 where
     R::Reader: Send,
 {
-    match matches.subcommand() {
-        Some(("replay", matches)) => replay_input(rt, matches),
-        Some(("strike", matches)) => strike_input(rt, matches),
-        Some(("show", matches)) => show_input(rt, matches),
-        Some(("completions", matches)) => write_completions(rt, matches),
-        Some(("audit", matches)) => audit_input(rt, matches),
+    let (name, own) = matches.subcommand().unwrap_or(("", matches));
+    match name {
+        "replay" => replay_input(rt, own),
+        "strike" => strike_input(rt, own),
+        "show" => show_input(rt, own),
+        "completions" => write_completions(rt, own),
+        "audit" => audit_input(rt, own),
         _ => Err(RunError::CommandLine),
     }
 }

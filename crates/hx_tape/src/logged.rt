@@ -122,6 +122,20 @@ pub struct Candidate<'x, 'm> {
 /// The journal of an exchange whose day a log keeps, over TCP.
 pub type OfficeJournal<'x, R> = LogJournal<FileLog<OfficeNodes<'x, R>>>;
 
+// The log of these nodes for a candidate: once he has left office, he writes nothing there.
+fn office_log_of<'x, R: AllocGlobal + Files<File = fs::File> + Net<Stream = TcpStream>>(
+    rt: &'x R,
+    nodes: &[SocketAddr],
+    candidate: Candidate<'x, '_>,
+) -> Result<FileLog<OfficeNodes<'x, R>>, Failure> {
+    let pages = pages_of(rt, nodes, candidate.from)?;
+    let office = OfficeNodes {
+        nodes: tcp_nodes(rt, nodes)?,
+        has_left: candidate.has_left,
+    };
+    Ok(CopiedLog::new(rt.alloc(), pages, office))
+}
+
 /// Takes the log of a day over: the day, once the events that the log keeps are played to it, and the journal of the
 /// exchange. A standby plays them as they come. The board is told when it stands by and when it is in office.
 ///
@@ -147,19 +161,9 @@ pub fn take_office<
     ensures under { IfOk result (λ r. D.under r.0 ≡ D.under day) }
 {
     let alloc = rt.alloc();
-    let Candidate {
-        writer,
-        patience,
-        has_left,
-        from,
-    } = candidate;
-    let pages = pages_of(rt, nodes, from)?;
-    let office = OfficeNodes {
-        nodes: tcp_nodes(rt, nodes)?,
-        has_left,
-    };
-    let log = CopiedLog::new(alloc, pages, office);
-    let (day, journal) = match patience {
+    let log = office_log_of(rt, nodes, candidate)?;
+    let writer = candidate.writer;
+    let (day, journal) = match candidate.patience {
         None => open_and_play(alloc, log, writer, day, &Unwatched)?,
         Some(patience) => {
             board.post(Notice::StandingBy);
@@ -209,20 +213,13 @@ pub fn take_mirrored<
     Ok((day, mirror, journal))
 }
 
-/// Whether the log says that the candidate is not in office: that another one is, or that it is trimmed where he has not
-/// read it. It does not if no node tells.
-pub fn is_deposed<R: AllocGlobal + Files<File = fs::File> + Net<Stream = TcpStream>>(
-    rt: &R,
-    nodes: &[SocketAddr],
-    candidate: Candidate<'_, '_>,
+// Whether a reader of the log finds its writer out of office: that another one is in it, or that the log is trimmed where
+// he has not read it.
+fn finds_another<'x, R: AllocGlobal + Net<Stream = TcpStream>>(
+    rt: &'x R,
+    reader: &mut Follower<FileLog<TcpNodes<'x, R>>>,
+    writer: u64,
 ) -> bool {
-    let writer = candidate.writer;
-    let log = match copied_log_of(rt, nodes, candidate.from) {
-        Ok(log) => log,
-        Err(Failure::OtherLog { .. }) => return true,
-        Err(_) => return false,
-    };
-    let mut reader = Follower::new(log, writer);
     for _ in 0..MOST_READS {
         let before = reader.count_read();
         match reader.read_on(rt.alloc()) {
@@ -235,4 +232,22 @@ pub fn is_deposed<R: AllocGlobal + Files<File = fs::File> + Net<Stream = TcpStre
         }
     }
     reader.holder() != writer
+}
+
+/// Whether the log says that the candidate is not in office: that another one is, or that it is trimmed where he has not
+/// read it. It does not if no node tells.
+pub fn is_deposed<R: AllocGlobal + Files<File = fs::File> + Net<Stream = TcpStream>>(
+    rt: &R,
+    nodes: &[SocketAddr],
+    candidate: Candidate<'_, '_>,
+) -> bool {
+    match copied_log_of(rt, nodes, candidate.from) {
+        Ok(log) => finds_another(
+            rt,
+            &mut Follower::new(log, candidate.writer),
+            candidate.writer,
+        ),
+        Err(Failure::OtherLog { .. }) => true,
+        Err(_) => false,
+    }
 }

@@ -87,16 +87,17 @@ fn perform<
 where
     R::Reader: Send,
 {
-    match matches.subcommand() {
-        Some(("serve", matches)) => serve_input(rt, matches),
-        Some(("watch", matches)) => watch_feed(rt, matches),
-        Some(("operate", matches)) => operate_server(rt, matches),
-        Some(("journal", matches)) => journal_file(rt, matches),
-        Some(("follow", matches)) => follow_log(rt, matches),
-        Some(("handover", matches)) => hand_over(rt, matches),
-        Some(("copy", matches)) => copy_log(rt, matches),
-        Some(("trim", matches)) => trim_log(rt, matches),
-        Some(("relay", matches)) => relay_day(rt, matches),
+    let (name, own) = matches.subcommand().unwrap_or(("", matches));
+    match name {
+        "serve" => serve_input(rt, own),
+        "watch" => watch_feed(rt, own),
+        "operate" => operate_server(rt, own),
+        "journal" => journal_file(rt, own),
+        "follow" => follow_log(rt, own),
+        "handover" => hand_over(rt, own),
+        "copy" => copy_log(rt, own),
+        "trim" => trim_log(rt, own),
+        "relay" => relay_day(rt, own),
         _ => Ok(run_command(rt, matches)?),
     }
 }

@@ -1,5 +1,11 @@
 //! A day that is served over its log.
-ghost use Rattle.std.specs.Prelude.{◌≡◌, IfOk};
+ghost use Rattle.std.specs.Prelude.{◌≡◌, [], true, IfOk};
+ghost use Rattle.hx_disk.specs.Calls.{seen_of};
+ghost use Rattle.hx_journal.specs.Files.{stored, appended};
+ghost use Rattle.hx_journal.specs.Records.{records_of};
+ghost use Rattle.hx_tape_lines.specs.Text.{record_of};
+ghost use Rattle.hx_desk.specs.Entries.{restored};
+ghost use Rattle.hx_engine.specs.Journals.{lines};
 
 use crate::failure::Failure;
 use crate::fittings::fittings_of;
@@ -9,13 +15,16 @@ use crate::logged::{Candidate, is_deposed, nodes_of, signs_of, take_mirrored, ta
 use crate::plan::{Plan, open_file};
 use crate::signs::Beacon;
 use clap::ArgMatches;
+use hx_day_journal::DayFile;
 use hx_day_log::Alone;
-use hx_engine::Journal;
+use hx_engine::{Journal, Recovered};
+use hx_etcd_log::TcpNodes;
 use hx_members::Seed;
 use hx_serve::{Board, Fittings, Hosting, PlayedBeginning, PlayedDay, ServeError};
 use hx_sessions::Gate;
 use log::Log;
 use std::fs;
+use std::io::Read;
 use std::net::{Net, SocketAddr, TcpListener, TcpStream};
 use std::random::RandomSource;
 use std::rt::{Clock, Files};
@@ -103,6 +112,148 @@ fn reason_of<R: AllocGlobal + Files<File = fs::File> + Net<Stream = TcpStream>>(
     }
 }
 
+// Who takes office over a log, and at which nodes.
+#[derive(Clone, Copy)]
+struct Office<'n, 'y, 'm> {
+    nodes: &'n [SocketAddr],
+    candidate: Candidate<'y, 'm>,
+}
+
+impl<'n, 'y, 'm> Office<'n, 'y, 'm> {
+    // By what he shows that he is in office.
+    fn beacon<'x, R: AllocGlobal + Net<Stream = TcpStream>>(
+        self,
+        rt: &'x R,
+    ) -> Result<Beacon<'y, TcpNodes<'x, R>>, Failure> {
+        Ok(Beacon {
+            signs: signs_of(rt, self.nodes)?,
+            writer: self.candidate.writer,
+            has_left: self.candidate.has_left,
+        })
+    }
+}
+
+// What waits for a log: a day of which nothing is played yet, its connections, if they are open, and the operator's input.
+#[derive(Drop)]
+struct Waiting<'a, I> {
+    day: PlayedDay<'a>,
+    early: Option<Fittings>,
+    input: I,
+}
+
+// Serves a day over its log, and shows meanwhile that it is in office there.
+fn serve_alone<
+    'x,
+    R: AllocGlobal
+        + Print
+        + Files<File = fs::File>
+        + Log
+        + Net<Listener = TcpListener, Stream = TcpStream>
+        + Clock
+        + RandomSource
+        + Threads
+        + Wait
+        + Sync,
+    G: Gate + Sync,
+    B: Board + Sync,
+    I: Read + Send + Drop,
+>(
+    rt: &'x R,
+    matches: &ArgMatches<'_>,
+    plan: Plan<'x>,
+    hosting: &Hosting<'_, G, B>,
+    office: Office<'_, '_, '_>,
+    waiting: Waiting<'_, I>,
+) -> Result<(), Failure>
+    requires new { waiting.day.events ≡ [] }
+    requires of_setup { waiting.day.setup ≡ hosting.now.setup.now }
+{
+    let Waiting { day, early, input } = waiting;
+    let beacon = office.beacon(rt)?;
+    let Office { nodes, candidate } = office;
+    let (alone, journal) = take_office(rt, hosting.board, nodes, candidate, Alone { day })?;
+    let beginning = beginning_of(rt, matches, plan, early, alone.day, journal)?;
+    let path = matches.get_str("history");
+    host_logged(rt, path, hosting, beginning, input, beacon)
+}
+
+// The same, where a journal in a file is kept beside the log.
+fn serve_mirrored<
+    'x,
+    R: AllocGlobal
+        + Print
+        + Files<File = fs::File>
+        + Log
+        + Net<Listener = TcpListener, Stream = TcpStream>
+        + Clock
+        + RandomSource
+        + Threads
+        + Wait
+        + Sync,
+    G: Gate + Sync,
+    B: Board + Sync,
+    I: Read + Send + Drop,
+>(
+    rt: &'x R,
+    matches: &ArgMatches<'_>,
+    plan: Plan<'x>,
+    hosting: &Hosting<'_, G, B>,
+    office: Office<'_, '_, '_>,
+    waiting: Waiting<'_, I>,
+    beside: Recovered<DayFile<'x, B, R>>,
+) -> Result<(), Failure>
+    requires new { waiting.day.events ≡ [] }
+    requires of_setup { waiting.day.setup ≡ hosting.now.setup.now }
+    requires appended { records_of (appended (λ d. seen_of d.log.events) beside.journal)
+        ≡ lines record_of (restored beside.events.items) }
+    requires kept { records_of (stored (λ d. seen_of d.log.events) beside.journal)
+        ≡ lines record_of (restored beside.events.items) }
+    requires is_open { beside.journal.is_open ≡ true }
+{
+    let Waiting { day, early, input } = waiting;
+    let beacon = office.beacon(rt)?;
+    let Office { nodes, candidate } = office;
+    let (day, mirror, journal) = take_mirrored(rt, hosting.board, nodes, candidate, day, beside)?;
+    let beginning = beginning_of(rt, matches, plan, early, day, journal)?;
+    let path = matches.get_str("history");
+    host_filed(rt, path, hosting, beginning, mirror, input, beacon)
+}
+
+// Serves a day over its log, and over a journal in a file beside it, if the command line names one.
+fn serve_waiting<
+    'x,
+    R: AllocGlobal
+        + Print
+        + Files<File = fs::File>
+        + Log
+        + Net<Listener = TcpListener, Stream = TcpStream>
+        + Clock
+        + RandomSource
+        + Threads
+        + Wait
+        + Sync,
+    G: Gate + Sync,
+    B: Board + Sync,
+    I: Read + Send + Drop,
+>(
+    rt: &'x R,
+    matches: &ArgMatches<'_>,
+    plan: Plan<'x>,
+    hosting: &Hosting<'_, G, B>,
+    board: &'x B,
+    office: Office<'_, '_, '_>,
+    waiting: Waiting<'_, I>,
+) -> Result<(), Failure>
+    requires new { waiting.day.events ≡ [] }
+    requires of_setup { waiting.day.setup ≡ hosting.now.setup.now }
+{
+    let Some(file) = matches.get_str("journal") else {
+        return serve_alone(rt, matches, plan, hosting, office, waiting);
+    };
+    let beside = open_file(rt, matches, plan, board, file)?;
+    serve_mirrored(rt, matches, plan, hosting, office, waiting, beside)
+}
+
 // Serves a day over its log, and shows meanwhile that it is in office there. The log may fail, or the day end, and then
 // nobody waits for the operator's next line.
 pub(crate) fn begin_logged<
@@ -135,26 +286,15 @@ where
     let nodes = nodes_of(rt.alloc(), nodes)?;
     let has_left = AtomicBool::new(false);
     let candidate = candidate_of(matches, &has_left);
-    let early = early_fittings(rt, matches, candidate)?;
-    let beacon = Beacon {
-        signs: signs_of(rt, &nodes)?,
-        writer: candidate.writer,
-        has_left: &has_left,
+    let waiting = Waiting {
+        early: early_fittings(rt, matches, candidate)?,
+        day: PlayedDay::new(rt.alloc(), hosting.setup, hosting.args, seed)?,
+        input: WakingInput::new(rt.reader()),
     };
-    let (path, input) = (matches.get_str("history"), WakingInput::new(rt.reader()));
-    let day = PlayedDay::new(rt.alloc(), hosting.setup, hosting.args, seed)?;
-    let served = match matches.get_str("journal") {
-        None => {
-            let (alone, journal) = take_office(rt, board, &nodes, candidate, Alone { day })?;
-            let beginning = beginning_of(rt, matches, plan, early, alone.day, journal)?;
-            host_logged(rt, path, hosting, beginning, input, beacon)
-        }
-        Some(file) => {
-            let beside = open_file(rt, matches, plan, board, file)?;
-            let (day, mirror, journal) = take_mirrored(rt, board, &nodes, candidate, day, beside)?;
-            let beginning = beginning_of(rt, matches, plan, early, day, journal)?;
-            host_filed(rt, path, hosting, beginning, mirror, input, beacon)
-        }
+    let office = Office {
+        nodes: &nodes,
+        candidate,
     };
+    let served = serve_waiting(rt, matches, plan, hosting, board, office, waiting);
     reason_of(rt, &nodes, candidate, served)
 }

@@ -277,6 +277,35 @@ where
     begin(rt, matches, plan, gate, &board)
 }
 
+// Serves a day of this plan, and tells it to those who watch: in words or as JSON if it is open.
+fn serve_plan<
+    'x,
+    R: AllocGlobal
+        + Input
+        + Print
+        + Eprint
+        + Files<File = fs::File>
+        + Log
+        + Net<Listener = TcpListener, Stream = TcpStream>
+        + Clock
+        + RandomSource
+        + Threads
+        + Wait
+        + Sync,
+>(rt: &'x R, matches: &ArgMatches<'_>, plan: Plan<'x>) -> Result<(), Failure>
+where
+    R::Reader: Send,
+{
+    let notices = Notices { rt };
+    if plan.open.is_none() {
+        return begin_metered(rt, matches, plan, &notices, &notices);
+    }
+    if matches.get_flag("json") {
+        return begin_metered(rt, matches, plan, &Silent, &JsonNotices { rt });
+    }
+    begin_metered(rt, matches, plan, &Silent, &notices)
+}
+
 /// Serves a day as the command line asks.
 pub fn serve_input<
     R: AllocGlobal
@@ -307,7 +336,6 @@ where
     let text = text.as_deref();
     let setup = setup_of(rt.alloc(), text)?;
     let copies = copies_of(rt.alloc(), &setup, matches)?;
-    let meter = Meter::new();
     let plan = Plan {
         setup: &setup,
         text,
@@ -316,15 +344,8 @@ where
         open,
         day: day_asked(rt, matches)?,
         last: &AtomicU64::new(0),
-        meter: &meter,
+        meter: &Meter::new(),
         copies: &copies,
     };
-    let notices = Notices { rt };
-    if plan.open.is_none() {
-        return begin_metered(rt, matches, plan, &notices, &notices);
-    }
-    if matches.get_flag("json") {
-        return begin_metered(rt, matches, plan, &Silent, &JsonNotices { rt });
-    }
-    begin_metered(rt, matches, plan, &Silent, &notices)
+    serve_plan(rt, matches, plan)
 }
