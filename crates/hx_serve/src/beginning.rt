@@ -1,6 +1,7 @@
 //! What a day begins with, and what it leaves.
-ghost use Rattle.std.specs.Prelude.{◌≡◌, ◌-◌, ◌^◌, [], IfOk};
+ghost use Rattle.std.specs.Prelude.{◌≡◌, [], IfOk};
 ghost use Rattle.hx_journal.specs.Unkept.{appended_in, kept_in};
+ghost use Rattle.hx_serve.specs.Fittings.{endless, AreNone};
 
 use crate::ending::fault_of_resume;
 use crate::fault::ServeError;
@@ -76,7 +77,8 @@ impl Beginning<Unkept> {
     /// That of a new day, which no journal keeps.
     pub fn unkept(alloc: Global, seed: Seed) -> Beginning<Unkept>
         ensures seed { result.seed ≡ seed }
-        ensures ahead { result.ahead ≡ 2 ^ 64 - 1 }
+        ensures ahead { result.ahead ≡ endless }
+        ensures fittings { AreNone result.fittings }
         ensures events { result.recovered.events.items ≡ [] }
         ensures appended { appended_in result.recovered.journal.log.events ≡ [] }
         ensures kept { kept_in result.recovered.journal.log.events ≡ [] }

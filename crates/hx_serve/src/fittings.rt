@@ -1,5 +1,6 @@
 //! What an open day has besides its doors.
-ghost use Rattle.std.specs.Prelude.{◌≡◌, ◌-◌, ◌^◌, None};
+ghost use Rattle.std.specs.Prelude.{◌≡◌};
+ghost use Rattle.hx_serve.specs.Fittings.{AreNone};
 
 use crate::director::Duties;
 use std::hash::RandomState;
@@ -44,11 +45,7 @@ impl Fittings {
 
     /// Nothing: only standard input directs the day, no time passes without it, and nobody watches.
     pub fn none() -> Fittings
-        ensures socket { result.duties.socket ≡ None }
-        ensures schedule { result.duties.schedule ≡ None }
-        ensures tick { result.duties.tick ≡ 0 }
-        ensures grace { result.duties.grace ≡ 2 ^ 64 - 1 }
-        ensures metrics { result.metrics ≡ None }
+        ensures none { AreNone result }
     {
         Fittings {
             duties: Duties {
