@@ -133,12 +133,14 @@ impl<'n, 'y, 'm> Office<'n, 'y, 'm> {
     }
 }
 
-// What waits for a log: a day of which nothing is played yet, its connections, if they are open, and the operator's input.
+// What waits for a log: a day of which nothing is played yet, its connections, if they are open, the operator's input, and
+// what is shown once it is in office.
 #[derive(Drop)]
-struct Waiting<'a, I> {
+struct Waiting<'a, 'y, N, I> {
     day: PlayedDay<'a>,
     early: Option<Fittings>,
     input: I,
+    beacon: Beacon<'y, N>,
 }
 
 // Serves a day over its log, and shows meanwhile that it is in office there.
@@ -163,13 +165,17 @@ fn serve_alone<
     plan: Plan<'x>,
     hosting: &Hosting<'_, G, B>,
     office: Office<'_, '_, '_>,
-    waiting: Waiting<'_, I>,
+    waiting: Waiting<'_, '_, TcpNodes<'x, R>, I>,
 ) -> Result<(), Failure>
     requires new { waiting.day.events ≡ [] }
     requires of_setup { waiting.day.setup ≡ hosting.now.setup.now }
 {
-    let Waiting { day, early, input } = waiting;
-    let beacon = office.beacon(rt)?;
+    let Waiting {
+        day,
+        early,
+        input,
+        beacon,
+    } = waiting;
     let Office { nodes, candidate } = office;
     let (alone, journal) = take_office(rt, hosting.board, nodes, candidate, Alone { day })?;
     let beginning = beginning_of(rt, matches, plan, early, alone.day, journal)?;
@@ -199,7 +205,7 @@ fn serve_mirrored<
     plan: Plan<'x>,
     hosting: &Hosting<'_, G, B>,
     office: Office<'_, '_, '_>,
-    waiting: Waiting<'_, I>,
+    waiting: Waiting<'_, '_, TcpNodes<'x, R>, I>,
     beside: Recovered<DayFile<'x, B, R>>,
 ) -> Result<(), Failure>
     requires new { waiting.day.events ≡ [] }
@@ -210,8 +216,12 @@ fn serve_mirrored<
         ≡ lines record_of (restored beside.events.items) }
     requires is_open { beside.journal.is_open ≡ true }
 {
-    let Waiting { day, early, input } = waiting;
-    let beacon = office.beacon(rt)?;
+    let Waiting {
+        day,
+        early,
+        input,
+        beacon,
+    } = waiting;
     let Office { nodes, candidate } = office;
     let (day, mirror, journal) = take_mirrored(rt, hosting.board, nodes, candidate, day, beside)?;
     let beginning = beginning_of(rt, matches, plan, early, day, journal)?;
@@ -242,7 +252,7 @@ fn serve_waiting<
     hosting: &Hosting<'_, G, B>,
     board: &'x B,
     office: Office<'_, '_, '_>,
-    waiting: Waiting<'_, I>,
+    waiting: Waiting<'_, '_, TcpNodes<'x, R>, I>,
 ) -> Result<(), Failure>
     requires new { waiting.day.events ≡ [] }
     requires of_setup { waiting.day.setup ≡ hosting.now.setup.now }
@@ -286,14 +296,15 @@ where
     let nodes = nodes_of(rt.alloc(), nodes)?;
     let has_left = AtomicBool::new(false);
     let candidate = candidate_of(matches, &has_left);
-    let waiting = Waiting {
-        early: early_fittings(rt, matches, candidate)?,
-        day: PlayedDay::new(rt.alloc(), hosting.setup, hosting.args, seed)?,
-        input: WakingInput::new(rt.reader()),
-    };
     let office = Office {
         nodes: &nodes,
         candidate,
+    };
+    let waiting = Waiting {
+        early: early_fittings(rt, matches, candidate)?,
+        day: PlayedDay::new(rt.alloc(), hosting.setup, hosting.args, seed)?,
+        beacon: office.beacon(rt)?,
+        input: WakingInput::new(rt.reader()),
     };
     let served = serve_waiting(rt, matches, plan, hosting, board, office, waiting);
     reason_of(rt, &nodes, candidate, served)
