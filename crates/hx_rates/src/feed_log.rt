@@ -1,7 +1,9 @@
 //! Messages of 36 bytes through the log of a feed, each an event of its own: written, then read by one reader and by
 //! another, and then written and read at the same time.
 ghost use Rattle.std.specs.Prelude.{◌≡◌, ◌≤◌};
+ghost use Rattle.hx_blog.specs.Ends.{most_room};
 
+use crate::alone::CAPACITY;
 use crate::failure::Failure;
 use crate::report::report;
 use arrayvec::ArrayVec;
@@ -11,9 +13,6 @@ use std::rt::Clock;
 use std::thread;
 use std::thread::Threads;
 use std::time::Instant;
-
-// The most messages that a log has room for.
-const MOST: u64 = 1_000_000;
 
 fn numbered(n: u64) -> ArrayVec<u8, 44> {
     let mut message = ArrayVec::new();
@@ -106,7 +105,7 @@ fn read_rate<R: Print + Eprint + Clock>(
 
 // The rates of the writer of a log, and then of two readers.
 fn in_turn<R: Print + Eprint + Clock>(rt: &R, alloc: Global, messages: u64) -> Result<(), Failure>
-    requires { (1 ≤ messages) × (messages ≤ 1000000) }
+    requires { (1 ≤ messages) × (messages ≤ most_room) }
 {
     let (log, writer, mut one) = Log::<u64>::new(alloc, messages)?;
     let two = one.split(&log);
@@ -123,7 +122,7 @@ fn meanwhile<R: Print + Eprint + Clock + Threads>(
     alloc: Global,
     messages: u64,
 ) -> Result<(), Failure>
-    requires { (1 ≤ messages) × (messages ≤ 1000000) }
+    requires { (1 ≤ messages) × (messages ≤ most_room) }
 {
     let (log, writer, reader) = Log::<u64>::new(alloc, messages)?;
     let begun = Instant::now(rt)?;
@@ -137,7 +136,7 @@ pub fn log_rates<R: Print + Eprint + Clock + Threads>(
     alloc: Global,
     messages: u64,
 ) -> Result<(), Failure> {
-    if messages == 0 || messages > MOST {
+    if messages == 0 || messages > CAPACITY {
         return Err(Failure::Words);
     }
     in_turn(rt, alloc, messages)?;
