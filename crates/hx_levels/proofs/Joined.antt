@@ -11,7 +11,7 @@ use Rattle.hx_levels.specs.declared.level_book.linked_orders.Node.{Node}
 use Rattle.hx_levels.specs.declared.level_book.linked_orders.Both.{Both}
 use Rattle.hx_levels.specs.Book.{with_less}
 use Rattle.hx_levels.specs.Chain.{is_key}
-use Rattle.hx_levels.specs.Nodes.{node_at, joined, nodes_of, HaveLinks, with_links, less_at, time_links, queue_links}
+use Rattle.hx_levels.specs.Nodes.{node_at, joined, nodes_of, HaveLinks, with_links, less_at, time_links, queue_links, number_at}
 use Rattle.hx_levels.proofs.Lists.{is_some-map}
 
 -- the node at a key
@@ -49,7 +49,7 @@ count-joined (None ∷ slots) (both ∷ links) h =
 count-joined (Some order ∷ slots) (both ∷ links) h =
     omega (
       arith,
-      sum_by-cons (λ (o : Option Node). cond (is_some o) 1 0) (Some (record { order = order; time = both.time; queue = both.queue })) (joined slots links),
+      sum_by-cons (λ (o : Option Node). cond (is_some o) 1 0) (Some (record { order = order; time = both.time; queue = both.queue; number = both.number })) (joined slots links),
       sum_by-cons (λ (o : Option Order). cond (is_some o) 1 0) (Some order) slots,
       count-joined slots links (λ k i. let l : suc k < suc (length links) = h (suc k) i in omega arith),
     )
@@ -96,7 +96,7 @@ module _ (slots : List (Option Order)) (links : List Both) (at : Option ℕ) (ke
   kept other k e (Some n) = ap Some (other n ∙ ap (λ b. change b n) (sym e ∙ at_key k))
 
   pub written : (old new : Both) → slice_get links key ≡ Some old
-      → ((o : Order) → record { order = o; time = new.time; queue = new.queue } ≡ change true (record { order = o; time = old.time; queue = old.queue }))
+      → ((o : Order) → record { order = o; time = new.time; queue = new.queue; number = new.number } ≡ change true (record { order = o; time = old.time; queue = old.queue; number = old.number }))
       → ((n : Node) → n ≡ change false n)
       → (k : ℕ) → get_or (joined slots (set links key new)) k None ≡ option_map (change (is_key at k)) (get_or (joined slots links) k None)
   written old new there own other k =
@@ -169,18 +169,18 @@ has-order orders links places nodes e h k i =
 
 -- and the node of that order has the links at the key
 pub node-joined : (orders : Slab Order) (links : List Both) (places : ℕ) (k : ℕ) (order : Order) (both : Both) → get orders k ≡ Some order → slice_get links k ≡ Some both
-    → get (nodes_of orders links places) k ≡ Some (record { order = order; time = both.time; queue = both.queue })
+    → get (nodes_of orders links places) k ≡ Some (record { order = order; time = both.time; queue = both.queue; number = both.number })
 node-joined orders links places k order both o l = get-joined orders.slots links k ∙ ap (λ v. node_at v (slice_get links k)) o ∙ ap (node_at (Some order)) l
 
 pub links-joined : (orders : Slab Order) (links : List Both) (places : ℕ) (k : ℕ) (both : Both) → IsSome (get orders k) → slice_get links k ≡ Some both
-    → (time_links (nodes_of orders links places) k ≡ Some both.time) × (queue_links (nodes_of orders links places) k ≡ Some both.queue)
+    → (time_links (nodes_of orders links places) k ≡ Some both.time) × (queue_links (nodes_of orders links places) k ≡ Some both.queue) × (number_at (nodes_of orders links places) k ≡ Some both.number)
 links-joined orders links places k both i l = by (get orders k) refl i
   where
-    by : (o : Option Order) → get orders k ≡ o → IsSome o → (time_links (nodes_of orders links places) k ≡ Some both.time) × (queue_links (nodes_of orders links places) k ≡ Some both.queue)
+    by : (o : Option Order) → get orders k ≡ o → IsSome o → (time_links (nodes_of orders links places) k ≡ Some both.time) × (queue_links (nodes_of orders links places) k ≡ Some both.queue) × (number_at (nodes_of orders links places) k ≡ Some both.number)
     by None e none = absurd (true≢false (sym none))
     by (Some order) e some =
         let n = node-joined orders links places k order both e l in
-        (ap (option_map (λ (n : Node). n.time)) n, ap (option_map (λ (n : Node). n.queue)) n)
+        (ap (option_map (λ (n : Node). n.time)) n, ap (option_map (λ (n : Node). n.queue)) n, ap (option_map (λ (n : Node). n.number)) n)
 
 -- what a change of one order leaves at each key
 module _ (orders orders' : Slab Order) (links : List Both) (places places' : ℕ) (key : ℕ) (slot : Option Order) (updates : Updates orders orders' key slot) where
@@ -202,7 +202,7 @@ module _ (orders orders' : Slab Order) (links : List Both) (places places' : ℕ
 less-other : (key by k : ℕ) → eqb k key ≡ false → (o : Option Node) → o ≡ option_map (less_at key by k) o
 less-other key by k n None = refl
 less-other key by k n (Some node) =
-    ap (λ o. Some (record { order = o; time = node.time; queue = node.queue })) (sym (cond-false (eqb k key) (with_less by node.order) node.order n))
+    ap (λ o. Some (record { order = o; time = node.time; queue = node.queue; number = node.number })) (sym (cond-false (eqb k key) (with_less by node.order) node.order n))
 
 -- an order is changed in place
 module _ (orders : Slab Order) (links : List Both) (places : ℕ) (key : ℕ) (old new : Order) (there : get orders key ≡ Some old) where
@@ -226,7 +226,7 @@ module _ (orders : Slab Order) (links : List Both) (places : ℕ) (key : ℕ) (o
       own : (both : Option Both) → node_at (Some new) both ≡ option_map (less_at key by key) (node_at (Some old) both)
       own None = refl
       own (Some both) =
-          ap (λ o. Some (record { order = o; time = both.time; queue = both.queue })) (e ∙ sym (cond-true (eqb key key) (with_less by old) old (eq-eqb key key refl)))
+          ap (λ o. Some (record { order = o; time = both.time; queue = both.queue; number = both.number })) (e ∙ sym (cond-true (eqb key key) (with_less by old) old (eq-eqb key key refl)))
 
       on : (b : Bool) → eqb k key ≡ b → get (nodes_of (with_value orders key new) links places) k ≡ option_map (less_at key by k) (get (nodes_of orders links places) k)
       on true q =
@@ -286,12 +286,13 @@ module _ (orders orders' : Slab Order) (links links' : List Both) (key : ℕ) (o
 
 -- a node is known by its order and its links
 pub node_by_parts : (o : Option Node) (node : Node) → option_map (λ (n : Node). n.order) o ≡ Some node.order → option_map (λ (n : Node). n.time) o ≡ Some node.time
-    → option_map (λ (n : Node). n.queue) o ≡ Some node.queue → o ≡ Some node
-node_by_parts None node a b c = cc
-node_by_parts (Some n) node a b c = same (cc) (cc) (cc)
+    → option_map (λ (n : Node). n.queue) o ≡ Some node.queue → option_map (λ (n : Node). n.number) o ≡ Some node.number → o ≡ Some node
+node_by_parts None node a b c d = cc
+node_by_parts (Some n) node a b c d = same (cc) (cc) (cc) (cc)
   where
-    same : n.order ≡ node.order → n.time ≡ node.time → n.queue ≡ node.queue → Some n ≡ Some node
-    same order time queue =
-        ap (λ v. Some (record { order = v; time = n.time; queue = n.queue })) order
-        ∙ ap (λ v. Some (record { order = node.order; time = v; queue = n.queue })) time
-        ∙ ap (λ v. Some (record { order = node.order; time = node.time; queue = v })) queue
+    same : n.order ≡ node.order → n.time ≡ node.time → n.queue ≡ node.queue → n.number ≡ node.number → Some n ≡ Some node
+    same order time queue number =
+        ap (λ v. Some (record { order = v; time = n.time; queue = n.queue; number = n.number })) order
+        ∙ ap (λ v. Some (record { order = node.order; time = v; queue = n.queue; number = n.number })) time
+        ∙ ap (λ v. Some (record { order = node.order; time = node.time; queue = v; number = n.number })) queue
+        ∙ ap (λ v. Some (record { order = node.order; time = node.time; queue = node.queue; number = v })) number

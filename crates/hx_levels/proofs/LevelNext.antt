@@ -12,20 +12,42 @@ use Rattle.hx_levels.specs.declared.level_book.linked_orders.Ends.{Ends}
 use Rattle.hx_levels.specs.declared.level_book.levels.Level.{Level}
 use Rattle.hx_levels.specs.Lists.{head_of, behind_first}
 use Rattle.hx_levels.specs.Rank.{first_of}
-use Rattle.hx_levels.specs.Chain.{has}
+use Rattle.hx_levels.specs.Chain.{has, IsLinked}
 use Rattle.hx_levels.specs.Nodes.{queue_links, time_links}
 use Rattle.hx_levels.specs.Rung.{LevelKey}
-use Rattle.hx_levels.specs.Levels.{LevelStore, level_at, ends_in, first_at, IsFirstFrom}
+use Rattle.hx_levels.specs.Levels.{LevelStore, level_at, ends_in, first_at, IsFirstFrom, IsEmptyLevel}
 use Rattle.hx_units.specs.Side.{is_buy}
-use Rattle.hx_levels.specs.Book.{is_under, is_ahead, crosses, has_key, IsRanked, next_by_rank, next_by_time, is_candidate, is_equal, terms_of}
-use Rattle.hx_levels.specs.LevelBook.{keys_of, is_in, rung_of, contra, limit_of, to_key, IsBook}
-use Rattle.hx_levels.proofs.Lists.{or_else, found_among, all_weaker}
+use Rattle.hx_levels.specs.Book.{is_under, is_ahead, crosses, has_key, IsRanked, next_by_rank, next_by_time, is_candidate, is_equal, terms_of, KeysDiffer, is_conditional, unconditional}
+use Rattle.hx_levels.specs.LevelBook.{keys_of, is_in, queue, rung_of, contra, limit_of, to_key, IsBook}
+use Rattle.hx_ranked.specs.Contents.{Contents as RankedContents}
+use Rattle.hx_levels.proofs.Keys.{differ-filtered}
+use Rattle.hx_levels.proofs.Lists.{or_else, found_among, all_weaker, all_filtered, find-filter}
 use Rattle.hx_levels.proofs.Orders.{once_under}
 use Rattle.hx_levels.proofs.Chains.{chain-after}
 use Rattle.hx_levels.proofs.Next.{next-none, next-some, Ranked, behind-filter}
 use Rattle.hx_levels.proofs.Added.{is_in_own, is_in_at}
 use Rattle.hx_levels.proofs.Queues.{has-keys}
 use Rattle.hx_levels.proofs.LevelRanks.{InClass, IsPriced, ahead-distance, all_in_class, best_at, both_all, crosses-rung, distance_of, first_none, in_queue, rung-crosses}
+
+-- the queues of the levels hold these orders, each where it belongs
+pub record IsQueued (nodes : Slab Node) (levels : LevelStore) (kept : Option LevelKey) (orders : List Live) : Type 0 where
+  pub differ : KeysDiffer orders
+  pub stored : (key : ℕ) (live : Live) → find (is_under key) orders ≡ Some live → option_map (λ (n : Node). n.order) (get nodes key) ≡ Some live.order
+  pub in_level : (at : LevelKey) (shown : Bool) → IsLinked (queue_links nodes) (ends_in shown (level_at levels at)) (queue at shown orders)
+  pub priced : AllByRecursion (λ live. live.order.price ≤ 1999999900) orders
+  pub filled : (at : LevelKey) (level : Level) → level_at levels at ≡ Some level → IsEmptyLevel level → kept ≡ Some at
+
+-- so they do the orders of a book that are not conditional
+pub queued : (nodes : Slab Node) (levels : LevelStore) (time : Ends) (place : Option Terms) (kept : Option LevelKey) (next : ℕ) (ranked : RankedContents) (orders : List Live)
+    → IsBook nodes levels time place kept next ranked orders → IsQueued nodes levels kept (unconditional orders)
+queued nodes levels time place kept next ranked orders b = record {
+  differ = differ-filtered (λ y. not (is_conditional y.order)) orders b.differ;
+  stored = λ key live f. b.stored key
+      ∙ ap (option_map (λ (y : Live). y.order)) (find-filter (λ y. not (is_conditional y.order)) (is_under key) orders live (once_under key orders b.differ) f);
+  in_level = b.in_level;
+  priced = all_filtered (λ live. live.order.price ≤ 1999999900) (λ y. not (is_conditional y.order)) orders b.priced;
+  filled = b.filled;
+}
 
 -- what the ends of a queue tell
 
@@ -57,8 +79,8 @@ has_first p orders key h = at (find p orders) refl (sym (head-keys (filter p ord
     at None f e = cc
     at (Some x) f e = record { live = x; found = f; key_is = cc }
 
-module _ (nodes : Slab Node) (levels : LevelStore) (time : Ends) (place : Option Terms) (kept : Option LevelKey) (orders : List Live)
-    (book : IsBook nodes levels time place kept orders) (terms : Terms) where
+module _ (nodes : Slab Node) (levels : LevelStore) (kept : Option LevelKey) (orders : List Live)
+    (book : IsQueued nodes levels kept orders) (terms : Terms) where
   queue_first : (d : ℕ) (s : Bool) → first_at levels terms.locate (not (is_buy terms.side)) d s ≡ head_of (keys_of (filter (is_in (contra terms d) s) orders))
   queue_first d s = (book.in_level (contra terms d) s).first
 
@@ -204,13 +226,13 @@ equal-in terms a y pa py c =
     let d : distance_of y ≡ distance_of a = ap (λ n. cond (is_buy y.order.side) (2000000000 - n) n) (eqb-true y.order.price a.order.price q.1) ∙ ap (λ t. cond t (2000000000 - a.order.price) a.order.price) o in
     in_queue (rung_of (terms_of a.order)) a.order.shown y (s.0 ∙ ap (contra terms) d ∙ sym r.0) (shown_is y.order.shown a.order.shown p.1))
 
-module _ (nodes : Slab Node) (levels : LevelStore) (time : Ends) (place : Option Terms) (kept : Option LevelKey) (orders : List Live)
-    (book : IsBook nodes levels time place kept orders) (terms : Terms) (key : ℕ) (ranked : IsRanked terms key orders) (node : Node) (stored : get nodes key ≡ Some node) where
+module _ (nodes : Slab Node) (levels : LevelStore) (kept : Option LevelKey) (orders : List Live)
+    (book : IsQueued nodes levels kept orders) (terms : Terms) (key : ℕ) (ranked : IsRanked terms key orders) (node : Node) (stored : get nodes key ≡ Some node) where
   pub rank : Ranked terms key orders
   rank = next-some terms key orders book.differ ranked
 
   pub node_order : node.order ≡ rank.live.order
-  node_order = let e : Some node.order ≡ Some rank.live.order = ap (option_map (λ (n : Node). n.order)) (sym stored) ∙ book.stored key ∙ ap (option_map (λ (y : Live). y.order)) rank.found in cc
+  node_order = let e : Some node.order ≡ Some rank.live.order = ap (option_map (λ (n : Node). n.order)) (sym stored) ∙ book.stored key rank.live rank.found in cc
 
   priced_live : IsPriced rank.live
   priced_live = found_among IsPriced (is_under key) rank.live orders book.priced rank.found
@@ -286,7 +308,7 @@ module _ (nodes : Slab Node) (levels : LevelStore) (time : Ends) (place : Option
   pub next_hidden : (next : ℕ) → node.queue.after ≡ None → rank.live.order.shown ≡ true
       → first_at levels terms.locate (not (is_buy terms.side)) (distance_of rank.live) false ≡ Some next → Some (record { 0 = next }) ≡ next_by_rank terms (Some (record { 0 = key })) orders
   next_hidden next e s f =
-      let h = has_first (is_in (contra terms (distance_of rank.live)) false) orders next (sym (queue_first nodes levels time place kept orders book terms (distance_of rank.live) false) ∙ f) in
+      let h = has_first (is_in (contra terms (distance_of rank.live)) false) orders next (sym (queue_first nodes levels kept orders book terms (distance_of rank.live) false) ∙ f) in
       ap (λ (n : ℕ). Some (to_key n)) (sym h.key_is)
       ∙ ap (option_map (λ (y : Live). y.key)) (sym (best_at terms (is_candidate terms (Some rank.live)) (distance_of rank.live) false orders book.priced (λ y t. (parts y t).0) inside rest h.live h.found))
       ∙ past_queue e
@@ -319,7 +341,7 @@ module _ (nodes : Slab Node) (levels : LevelStore) (time : Ends) (place : Option
         let r = crosses-rung terms y p (parts y t).0 in
         elim (beyond y t p) [
           | inl l ↦ omega arith
-          | inr w ↦ absurd (not_there nodes levels time place kept orders book terms y (distance_of rank.live) (r.0 ∙ ap (contra terms) w.0) c
+          | inr w ↦ absurd (not_there nodes levels kept orders book terms y (distance_of rank.live) (r.0 ∙ ap (contra terms) w.0) c
               (ap (first_at levels terms.locate (not (is_buy terms.side)) (distance_of rank.live)) w.2 ∙ hidden w.1))
         ]
 
@@ -335,10 +357,10 @@ module _ (nodes : Slab Node) (levels : LevelStore) (time : Ends) (place : Option
 
     pub next_level : (next : ℕ) → IsFirstFrom levels terms.locate (not (is_buy terms.side)) (distance_of rank.live + 1) (limit_of terms) next → Some (record { 0 = next }) ≡ next_by_rank terms (Some (record { 0 = key })) orders
     next_level next f =
-        best_from nodes levels time place kept orders book terms (is_candidate terms (Some rank.live)) (distance_of rank.live + 1) (λ y t. (parts y t).0) after_live within_live next f ∙ past_queue e
+        best_from nodes levels kept orders book terms (is_candidate terms (Some rank.live)) (distance_of rank.live + 1) (λ y t. (parts y t).0) after_live within_live next f ∙ past_queue e
 
     pub next_none : ((d : ℕ) (s : Bool) → distance_of rank.live + 1 ≤ d → d ≤ limit_of terms → first_at levels terms.locate (not (is_buy terms.side)) d s ≡ None) → None ≡ next_by_rank terms (Some (record { 0 = key })) orders
-    next_none n = none_from nodes levels time place kept orders book terms (is_candidate terms (Some rank.live)) (distance_of rank.live + 1) (λ y t. (parts y t).0) after_live within_live n ∙ past_queue e
+    next_none n = none_from nodes levels kept orders book terms (is_candidate terms (Some rank.live)) (distance_of rank.live + 1) (λ y t. (parts y t).0) after_live within_live n ∙ past_queue e
 
 -- by time
 
@@ -346,13 +368,13 @@ pub to_keys : (r : Option ℕ) (o : Option Live) → r ≡ option_map (λ (y : L
 to_keys r None e = ap (option_map to_key) e
 to_keys r (Some x) e = ap (option_map to_key) e
 
-pub time_first : (nodes : Slab Node) (levels : LevelStore) (time : Ends) (place : Option Terms) (kept : Option LevelKey) (orders : List Live) → IsBook nodes levels time place kept orders
+pub time_first : (nodes : Slab Node) (levels : LevelStore) (time : Ends) (place : Option Terms) (kept : Option LevelKey) (next : ℕ) (ranked : RankedContents) (orders : List Live) → IsBook nodes levels time place kept next ranked orders
     → option_map to_key time.first ≡ next_by_time None orders
-time_first nodes levels time place kept orders b = to_keys time.first (head_of orders) (b.in_time.first ∙ head-keys orders)
+time_first nodes levels time place kept next ranked orders b = to_keys time.first (head_of orders) (b.in_time.first ∙ head-keys orders)
 
-pub time_behind : (nodes : Slab Node) (levels : LevelStore) (time : Ends) (place : Option Terms) (kept : Option LevelKey) (orders : List Live) → IsBook nodes levels time place kept orders
+pub time_behind : (nodes : Slab Node) (levels : LevelStore) (time : Ends) (place : Option Terms) (kept : Option LevelKey) (next : ℕ) (ranked : RankedContents) (orders : List Live) → IsBook nodes levels time place kept next ranked orders
     → (key : ℕ) (node : Node) → has_key key orders ≡ true → get nodes key ≡ Some node → option_map to_key node.time.after ≡ next_by_time (Some (record { 0 = key })) orders
-time_behind nodes levels time place kept orders b key node h e =
+time_behind nodes levels time place kept next ranked orders b key node h e =
     to_keys node.time.after (head_of (behind_first (is_under key) orders))
     (chain-after (time_links nodes) key node.time None time.last (keys_of orders) b.in_time.chain (has-keys key orders ∙ h) (ap (option_map (λ (n : Node). n.time)) e)
     ∙ ap head_of (behind-keys key orders) ∙ head-keys (behind_first (is_under key) orders))
@@ -372,9 +394,9 @@ pub record Found (nodes : Slab Node) (orders : List Live) (key : ℕ) : Type 0 w
   pub stored : get nodes key ≡ Some node
   pub order : node.order ≡ live.order
 
-pub node_found : (nodes : Slab Node) (levels : LevelStore) (time : Ends) (place : Option Terms) (kept : Option LevelKey) (orders : List Live) → IsBook nodes levels time place kept orders
+pub node_found : (nodes : Slab Node) (levels : LevelStore) (time : Ends) (place : Option Terms) (kept : Option LevelKey) (next : ℕ) (ranked : RankedContents) (orders : List Live) → IsBook nodes levels time place kept next ranked orders
     → (key : ℕ) → has_key key orders ≡ true → Found nodes orders key
-node_found nodes levels time place kept orders b key h =
+node_found nodes levels time place kept next ranked orders b key h =
     let s = some_found key orders h in
     at s.0 s.1 (get nodes key) refl (b.stored key ∙ ap (option_map (λ (y : Live). y.order)) s.1)
   where

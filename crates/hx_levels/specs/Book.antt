@@ -1,14 +1,15 @@
 -- The book as the list of live orders in time order, each under its key; and who ranks before whom: a better price first,
 -- then a displayed order before one that is not, then the earlier (the rule of price, display and time).
-use Rattle.std.specs.Prelude.{◌≡◌, ℕ, ◌<◌, ◌-◌, ◌==◌, ◌||◌, ◌&&◌, not, nat_lt, nat_le, Bool, true, false, List, [], ◌∷◌, Option, Some, None, if◌then◌else◌, ◌+◌, length, drop, slice_get, slice_index_or, slice_set, map}
+use Rattle.std.specs.Prelude.{◌≡◌, ℕ, ◌<◌, ◌-◌, ◌==◌, ◌||◌, ◌&&◌, not, nat_lt, nat_le, Bool, true, false, List, [], ◌∷◌, Option, Some, None, if◌then◌else◌, ◌+◌, length, drop, min, max, slice_get, slice_index_or, slice_set, map}
 use Rattle.std.specs.List.{filter, find, list_any, remove}
-use Rattle.std.specs.Option.{option_map, is_some, IsSome}
+use Rattle.std.specs.Option.{option_map, is_some, IsSome, IfSome}
 use Rattle.hx_units.specs.declared.side.Side.{Side}
 use Rattle.hx_units.specs.Side.{is_buy}
 use Rattle.hx_levels.specs.declared.order.Key.{Key}
 use Rattle.hx_levels.specs.declared.order.Order.{Order}
 use Rattle.hx_levels.specs.declared.order.Live.{Live}
 use Rattle.hx_levels.specs.declared.order.Terms.{Terms}
+use Rattle.hx_levels.specs.declared.order.Walk.{Walk}
 use Rattle.std.specs.Global.{Vec}
 use Rattle.std.specs.Vec.{vec_len, vec_capacity}
 use Rattle.slab.specs.Slab.{Slab, get, HasRoomFor}
@@ -101,6 +102,53 @@ next_by_time after orders = key_after after orders
 -- the key is that of an order that crosses
 abbrev pub IsRanked : Terms → ℕ → List Live → Type 0
 IsRanked terms key orders = has_key key (ranked terms orders) ≡ true
+
+-- with `left` open shares of an incoming order, each of whose executions has to have `minimum` shares at least, the
+-- shares that would be executed are one at least, reach that minimum, and reach the resting order's minimum as far as its
+-- open shares go (OUCH 4.2, Enter Order: Minimum Quantity, which one execution meets alone)
+abbrev pub qualifies : (left minimum : ℕ) → Order → Bool
+qualifies left minimum x =
+    nat_le (max 1 (max minimum (min x.minimum x.shares))) (min left x.shares)
+
+-- the order has a minimum above one: an incoming order may be too small for it
+abbrev pub is_conditional : Order → Bool
+is_conditional x = nat_lt 1 x.minimum
+
+-- the orders that are not conditional
+abbrev pub unconditional : List Live → List Live
+unconditional orders = filter (λ live. not (is_conditional live.order)) orders
+
+-- all, or those after the order that has the key
+abbrev pub rest_after : Option Key → List Live → List Live
+rest_after None orders = orders
+rest_after (Some after) orders = behind_first (is_under after.0) orders
+
+-- the next order by rank, of those that cross and qualify
+abbrev pub next_qualifying : Terms → Option Key → (left minimum : ℕ) → List Live → Option Key
+next_qualifying terms after left minimum orders =
+    option_map (λ live. live.key)
+    (find (λ live. qualifies left minimum live.order) (rest_after after (ranked terms orders)))
+
+-- the order is not conditional, and has as many open shares
+abbrev pub is_ready : (least : ℕ) → Live → Bool
+is_ready least live = not (is_conditional live.order) && nat_le least live.order.shares
+
+-- the next of these by rank, of those that cross
+abbrev pub next_ready : Terms → Option Key → (least : ℕ) → List Live → Option Key
+next_ready terms after least orders =
+    option_map (λ live. live.key) (find (is_ready least) (rest_after after (ranked terms orders)))
+
+-- what a walk knows of the next unconditional order is true
+abbrev pub IsAhead : Terms → Option Key → (minimum : ℕ) → List Live → Option (Option Key)
+    → Type 0
+IsAhead terms after minimum orders None = Unit {0}
+IsAhead terms after minimum orders (Some next) =
+    next ≡ next_ready terms after (max 1 minimum) orders
+
+-- a walk stands after an order that crosses, or before all
+pub record IsWalk (terms : Terms) (minimum : ℕ) (orders : List Live) (walk : Walk) : Type 0 where
+  pub ranked : IfSome walk.after (λ key. has_key key.0 (ranked terms orders) ≡ true)
+  pub ahead : IsAhead terms walk.after minimum orders walk.ahead
 
 -- the orders, without their keys
 abbrev pub lives : List Live → List Order

@@ -1,7 +1,7 @@
 -- How the nodes, the levels and the links hold a list of live orders.
-use Rattle.std.specs.Prelude.{◌≡◌, ℕ, ◌-◌, ◌≤◌, ◌==◌, ◌&&◌, not, suc, zero, Bool, List, [], ◌∷◌, map, length, Option, Some, None, if◌then◌else◌}
-use Rattle.std.specs.List.{filter, AllByRecursion}
-use Rattle.std.specs.Option.{option_map, IsSome}
+use Rattle.std.specs.Prelude.{◌≡◌, ℕ, ◌+◌, ◌*◌, ◌^◌, ◌-◌, ◌<◌, ◌≤◌, ◌==◌, ◌&&◌, not, suc, zero, min, max, Bool, true, false, List, [], ◌∷◌, map, length, Option, Some, None, if◌then◌else◌}
+use Rattle.std.specs.List.{filter, find, AllByRecursion}
+use Rattle.std.specs.Option.{option_map, unwrap_or, IsSome}
 use Rattle.slab.specs.Slab.{Slab, get, HasRoomFor}
 use Rattle.hx_levels.specs.declared.order.Key.{Key}
 use Rattle.hx_levels.specs.declared.order.Live.{Live}
@@ -10,12 +10,16 @@ use Rattle.hx_levels.specs.declared.level_book.linked_orders.Node.{Node}
 use Rattle.hx_levels.specs.declared.level_book.linked_orders.Ends.{Ends}
 use Rattle.hx_levels.specs.declared.level_book.levels.Level.{Level}
 use Rattle.hx_levels.specs.Chain.{IsLinked}
-use Rattle.hx_levels.specs.Nodes.{time_links, queue_links}
-use Rattle.hx_levels.specs.Rung.{LevelKey}
+use Rattle.hx_levels.specs.Nodes.{time_links, queue_links, number_at}
+use Rattle.hx_levels.specs.Rung.{LevelKey, rung_number}
 use Rattle.hx_levels.specs.Levels.{LevelStore, level_at, ends_in, IsEmptyLevel}
 use Rattle.hx_units.specs.Side.{is_buy}
 use Rattle.hx_units.specs.Limits.{greatest_price}
-use Rattle.hx_levels.specs.Book.{terms_of, order_of, KeysDiffer}
+use Rattle.hx_levels.specs.Book.{terms_of, order_of, KeysDiffer, is_conditional, unconditional}
+use Rattle.hx_levels.specs.declared.order.Order.{Order}
+use Rattle.hx_ranked.specs.declared.entry.Entry.{Entry}
+use Rattle.hx_ranked.specs.Contents.{Contents as Ranked}
+use Rattle.hx_ranked.specs.Ranked.{has_rank}
 
 -- a number above each price: the distance of a buy's level counts down from it
 abbrev pub above_prices : ℕ
@@ -55,21 +59,81 @@ keys_of orders = map (λ live. live.key.0) orders
 abbrev pub queue : LevelKey → Bool → List Live → List ℕ
 queue at shown orders = keys_of (filter (is_in at shown) orders)
 
--- the slab, the levels and the links hold these live orders and no others
+-- the number of the order with a key: that of an order that came later is greater
+abbrev pub number_in : Slab Node → ℕ → ℕ
+number_in nodes key = unwrap_or (number_at nodes key) 0
+
+-- where an order ranks among all, as one number: by its level, shown before hidden, and by its own number
+abbrev pub rank_at : LevelKey → (shown : Bool) → (number : ℕ) → ℕ
+rank_at at shown number =
+    rung_number at * 2 ^ 64 + ((if shown then 0 else 2 ^ 63) + number)
+
+-- the rank of a live order
+abbrev pub rank_of : (number : ℕ → ℕ) → Live → ℕ
+rank_of number live = rank_at (rung_of (terms_of live.order)) live.order.shown (number live.key.0)
+
+-- the fewest shares for which an order may be executed
+abbrev pub least_of : Order → ℕ
+least_of x = max 1 (min x.minimum x.shares)
+
+-- a conditional order as the ranked blocks hold it
+abbrev pub entry_of : (number : ℕ → ℕ) → Live → Entry
+entry_of number live =
+    record {
+      rank = rank_of number live;
+      key = live.key.0;
+      least = least_of live.order;
+      shares = live.order.shares;
+    }
+
+-- the order is conditional, and has this rank
+abbrev pub is_waiting_at : (number : ℕ → ℕ) → (rank : ℕ) → Live → Bool
+is_waiting_at number rank live = is_conditional live.order && (rank_of number live == rank)
+
+-- the entry of the conditional order that has this rank
+abbrev pub entry_at : (number : ℕ → ℕ) → (rank : ℕ) → List Live → Option Entry
+entry_at number rank orders =
+    option_map (entry_of number) (find (is_waiting_at number rank) orders)
+
+-- the entries are those of the conditional orders
+abbrev pub AreIndexed : (number : ℕ → ℕ) → List Entry → List Live → Type 0
+AreIndexed number entries orders =
+    (rank : ℕ) → find (has_rank rank) entries ≡ entry_at number rank orders
+
+-- the numbers rise, and the next is above them all
+abbrev pub AreNumbered : (number : ℕ → ℕ) → (next : ℕ) → List Live → Type 0
+AreNumbered number next [] = Unit {0}
+AreNumbered number next (x ∷ xs) =
+    AllByRecursion (λ y. number x.key.0 < number y.key.0) xs × (number x.key.0 < next)
+    × AreNumbered number next xs
+
+-- the slab, the levels, the links and the ranked blocks hold these live orders and no others: an order that is not
+-- conditional stands in the queue of its level, a conditional one by its rank
 pub record IsBook (nodes : Slab Node) (levels : LevelStore) (time : Ends)
-    (place : Option Terms) (kept : Option LevelKey) (orders : List Live) : Type 0 where
+    (place : Option Terms) (kept : Option LevelKey) (next : ℕ) (ranked : Ranked)
+    (orders : List Live) : Type 0 where
   pub differ : KeysDiffer orders
   pub stored : (key : ℕ) → option_map (λ node. node.order) (get nodes key) ≡ order_of key orders
   pub in_time : IsLinked (time_links nodes) time (keys_of orders)
   pub in_level : (at : LevelKey) (shown : Bool)
-      → IsLinked (queue_links nodes) (ends_in shown (level_at levels at)) (queue at shown orders)
+      → IsLinked (queue_links nodes) (ends_in shown (level_at levels at))
+      (queue at shown (unconditional orders))
   pub priced : AllByRecursion (λ live. live.order.price ≤ greatest_price) orders
+  pub numbered : AreNumbered (number_in nodes) next orders
+  pub indexed : AreIndexed (number_in nodes) ranked.entries orders
+  pub small : next < 2 ^ 63
   pub room : (terms : Terms) → place ≡ Some terms
       → HasRoomFor nodes 1 × IsSome (level_at levels (rung_of terms))
-      × (kept ≡ Some (rung_of terms))
+      × (kept ≡ Some (rung_of terms)) × (ranked.has_room ≡ true) × (next + 1 < 2 ^ 63)
   pub filled : (at : LevelKey) (level : Level) → level_at levels at ≡ Some level
       → IsEmptyLevel level
       → kept ≡ Some at
+
+-- what contracts see of a book by levels: a book, and the nodes, which have the number of each order
+pub record LevelContents : Type 0 where
+  pub orders : List Live
+  pub place : Option Terms
+  pub nodes : Slab Node
 
 -- the order at a node, and those behind it
 abbrev pub step : (Option ℕ → List Live) → ℕ → Option Node → List Live
@@ -95,3 +159,10 @@ contra terms distance =
 -- the distance of the worst price at which incoming terms cross
 abbrev pub limit_of : Terms → ℕ
 limit_of terms = if is_buy terms.side then terms.price else above_prices - terms.price
+
+-- the least rank that an order may have that crosses incoming terms, and the greatest
+abbrev pub first_rank : Terms → ℕ
+first_rank terms = rank_at (contra terms 0) true 0
+
+abbrev pub last_rank : Terms → ℕ
+last_rank terms = rank_at (contra terms (limit_of terms)) false (2 ^ 63 - 1)

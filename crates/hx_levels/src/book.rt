@@ -1,9 +1,9 @@
 //! What a book promises, however it is kept.
-ghost use Rattle.std.specs.Prelude.{◌≡◌, ◌+◌, ◌-◌, ◌<◌, ◌++◌, List, [], ◌∷◌, Option, Some, None, IfSome, OnOk, OnErr, true, false};
+ghost use Rattle.std.specs.Prelude.{◌≡◌, ◌+◌, ◌-◌, ◌<◌, ◌++◌, List, [], ◌∷◌, Option, Some, None, IfSome, MatchOption, OnOk, OnErr, true, false};
 ghost use Rattle.std.specs.Option.{option_copied, is_some};
-ghost use Rattle.hx_levels.specs.Book.{terms_at, terms_of, order_of, has_key, KeysDiffer, ranked, reduced, without, next_by_rank, next_by_time, IsRanked};
+ghost use Rattle.hx_levels.specs.Book.{terms_at, terms_of, order_of, has_key, KeysDiffer, ranked, reduced, without, next_by_rank, next_by_time, next_qualifying, IsRanked, IsWalk};
 
-use crate::order::{Key, Order};
+use crate::order::{Key, Order, Terms, Walk};
 use hx_units::{NoMemory, Price, Side};
 
 /// A book, seen as the live orders in time order, each under its key (`orders`), and one reserved place
@@ -61,6 +61,19 @@ pub trait Book {
         ensures exact { result ≡ next_by_rank (terms_at locate side price) after (orders self.now) }
         ensures ranked { IfSome result (λ key.
             IsRanked (terms_at locate side price) key.0 (orders self.now)) }
+        ensures keys { KeysDiffer (orders self.now) };
+
+    /// The next order that an incoming order of these terms can be executed against, as a step of a walk: of those that
+    /// cross, the next by rank after the last one met that qualifies, if `left` shares of the incoming order are open and
+    /// each execution has to have `minimum` shares at least. The walk keeps one minimum, and goes on with as many open
+    /// shares or fewer. Orders that do not qualify are not met, and never looked at again.
+    fn next_qualifying(&self, terms: &Terms, walk: Walk, left: u32, minimum: u32) -> Option<Walk>
+        requires { IsWalk terms.now minimum (orders self.now) walk }
+        ensures exact { MatchOption result
+            (next_qualifying terms.now walk.after left minimum (orders self.now) ≡ None)
+            (λ next. next.after
+            ≡ next_qualifying terms.now walk.after left minimum (orders self.now)) }
+        ensures walk { IfSome result (λ next. IsWalk terms.now minimum (orders self.now) next) }
         ensures keys { KeysDiffer (orders self.now) };
 
     /// The next order in time after the one with the key `after`, or the oldest.

@@ -2,7 +2,7 @@
 ghost use Rattle.std.specs.Prelude.{◌≡◌, ◌+◌, ◌-◌, ◌≤◌, ◌++◌, ◌<◌, [], ◌∷◌, Option, Some, None, IfSome, OnOk, OnErr, true, false};
 ghost use Rattle.hx_levels.specs.LevelBook.{above_prices, rung_of, contra, limit_of, to_key};
 ghost use Rattle.hx_units.specs.Limits.{greatest_price};
-ghost use Rattle.hx_levels.specs.Book.{terms_of, has_key, order_of, KeysDiffer, IsRanked, next_by_rank, next_by_time, without, reduced};
+ghost use Rattle.hx_levels.specs.Book.{terms_of, has_key, order_of, is_conditional, KeysDiffer, next_by_time, without, reduced};
 ghost use Rattle.std.specs.Option.{option_copied, option_map, is_some};
 
 mod best_bounds;
@@ -12,19 +12,27 @@ mod levels;
 mod link;
 mod linked_orders;
 mod sides;
+mod walking;
 
 use crate::book::Book;
 use crate::level_book::level_key::LevelKey;
 use crate::level_book::link::Link;
-use crate::level_book::linked_orders::{Ends, LinkedOrders, link_last, store, take_shares, unlink};
+use crate::level_book::linked_orders::{
+    Ends, LinkedOrders, link_last, store, take_shares, unlink, unlink_in_time,
+};
 use crate::level_book::sides::Sides;
-use crate::order::{Key, Order, Terms};
+use crate::level_book::walking::{least_of, rank_at};
+use crate::order::{Key, Order, Terms, Walk};
+use hx_ranked::{Entry, RankedBlocks};
 use hx_units::{NoMemory, Price, Side};
 use std::alloc::Global;
 use std::marker::Model;
 
 // A number above each price: the distance of a buy's level counts down from it.
 const ABOVE_PRICES: u32 = 2_000_000_000;
+
+// The last number that an order may have, which leaves a bit of a rank's lower half for whether it is shown.
+const LAST_NUMBER: u64 = 9_223_372_036_854_775_807;
 
 /// A book by levels of price: the orders in a slab, linked in time order, and in queues by price and by
 /// whether they are shown. A call takes time in proportion to the logarithm of the number of levels at most.
@@ -33,8 +41,12 @@ pub struct LevelBook {
     ladders: Sides,
     time: Ends,
     place: Option<Terms>,
-    // The level of the reserved place. It stays also where it is empty.
+    // The level of the reserved place. It stays also if it is empty.
     kept: Option<LevelKey>,
+    // The number of the next order.
+    next: u64,
+    // The conditional orders by rank: they stand in no queue of a level.
+    conditional: RankedBlocks,
 }
 
 // By hand, so that where a value is dropped its owner's proof sees one call.
@@ -46,20 +58,25 @@ impl Drop for LevelBook {
             time: _,
             place: _,
             kept: _,
+            next: _,
+            conditional: _,
         } = self;
     }
 }
 
 impl Model for LevelBook {
-    ghost use Rattle.hx_levels.specs.Book.{Contents};
-    ghost use Rattle.hx_levels.specs.LevelBook.{walked, IsBook};
+    ghost use Rattle.hx_levels.specs.LevelBook.{LevelContents, walked, IsBook};
 
-    ghost Value = { Contents };
+    ghost Value = { LevelContents };
 
-    ghost view = { λ b. record { orders = walked b.nodes b.time; place = b.place } };
+    ghost view = { λ b. record {
+      orders = walked b.nodes b.time;
+      place = b.place;
+      nodes = b.nodes;
+    } };
 
-    ghost invariant = { λ b. IsBook b.nodes b.ladders.levels b.time b.place b.kept
-        (walked b.nodes b.time) };
+    ghost invariant = { λ b. IsBook b.nodes b.ladders.levels b.time b.place b.kept b.next
+        b.conditional (walked b.nodes b.time) };
 }
 
 impl LevelBook {
@@ -74,15 +91,18 @@ impl LevelBook {
             time: Ends::none(),
             place: None,
             kept: None,
+            next: 0,
+            conditional: RankedBlocks::new(alloc),
         }
     }
 }
 
 impl LevelBook {
-    // Puts an order last, whose level is there.
+    // Puts an order last that is not conditional: it joins the queue of its level, which is there.
     #[inline(always)]
-    fn add_last(&mut self, order: Order) -> Key
-        requires { self.old.place ≡ Some (terms_of order) }
+    fn add_to_queue(&mut self, order: Order) -> Key
+        requires place { self.old.place ≡ Some (terms_of order) }
+        requires queued { is_conditional order ≡ false }
         ensures orders { self.new.orders ≡ self.old.orders
             ++ (record { key = result; order = order }) ∷ [] }
         ensures fresh { has_key result.0 self.old.orders ≡ false }
@@ -90,12 +110,40 @@ impl LevelBook {
     {
         let _price = order.price.get();
         let rung = rung_of(&order);
+        let number = self.next;
         let key = store(&mut self.nodes, order);
         let last = self.ladders.join_queue(rung, order.shown, key);
-        link_last(&mut self.nodes, key, last, self.time.last);
+        link_last(&mut self.nodes, key, last, self.time.last, number);
         self.time = self.time.with(key);
         self.place = None;
         self.kept = None;
+        self.next = number + 1;
+        Key(key)
+    }
+
+    // Puts a conditional order last: it is kept by its rank, and in no queue.
+    fn add_conditional(&mut self, order: Order) -> Key
+        requires place { self.old.place ≡ Some (terms_of order) }
+        requires conditional { is_conditional order ≡ true }
+        ensures orders { self.new.orders ≡ self.old.orders
+            ++ (record { key = result; order = order }) ∷ [] }
+        ensures fresh { has_key result.0 self.old.orders ≡ false }
+        ensures place { self.new.place ≡ None }
+    {
+        let _price = order.price.get();
+        let rung = rung_of(&order);
+        let number = self.next;
+        let key = store(&mut self.nodes, order);
+        link_last(&mut self.nodes, key, Link::none(), self.time.last, number);
+        self.conditional.insert(Entry {
+            rank: rank_at(rung, order.shown, number),
+            key,
+            least: least_of(&order),
+            shares: order.shares,
+        });
+        self.time = self.time.with(key);
+        self.place = None;
+        self.next = number + 1;
         Key(key)
     }
 }
@@ -114,18 +162,6 @@ fn rung_of(order: &Order) -> LevelKey
     )
 }
 
-// The contra side of the terms: its rungs begin at this one, and go up to the distance.
-fn contra_of(terms: &Terms) -> (LevelKey, u32)
-    ensures rung { result.0 ≡ contra terms.now 0 }
-    ensures limit { result.1 ≡ limit_of terms.now }
-    ensures small { result.1 ≤ above_prices }
-{
-    let buy = terms.side.is_buy();
-    let price = terms.price.get();
-    let rung = LevelKey::of(terms.locate, !buy, 0);
-    (rung, if buy { price } else { ABOVE_PRICES - price })
-}
-
 impl LevelBook {
     #[inline(always)]
     fn order(&self, key: Key) -> Option<&Order>
@@ -134,42 +170,6 @@ impl LevelBook {
         ensures keys { KeysDiffer self.now.orders }
     {
         self.nodes.order(key.0)
-    }
-
-    #[inline(always)]
-    fn first_contra(&self, terms: &Terms) -> Option<Key>
-        ensures exact { result ≡ next_by_rank terms.now None self.now.orders }
-        ensures keys { KeysDiffer self.now.orders }
-    {
-        let (rung, limit) = contra_of(terms);
-        match self.ladders.first_from(rung, limit) {
-            Some(key) => Some(Key(key)),
-            None => None,
-        }
-    }
-
-    fn contra_after(&self, terms: &Terms, key: Key) -> Option<Key>
-        requires { IsRanked terms.now key.0 self.now.orders }
-        ensures exact { result ≡ next_by_rank terms.now (Some key) self.now.orders }
-        ensures keys { KeysDiffer self.now.orders }
-    {
-        let order = self.nodes.order(key.0).unwrap();
-        if let Some(next) = self.nodes.links(key.0).queue.after.get() {
-            return Some(Key(next));
-        }
-        let rung = rung_of(order);
-        let hidden = self.ladders.ends_at(rung, false).first.get();
-        match hidden {
-            Some(next) if order.shown => Some(Key(next)),
-            _ => {
-                let (_, limit) = contra_of(terms);
-                let from = rung.at(rung.distance() + 1);
-                match self.ladders.first_from(from, limit) {
-                    Some(next) => Some(Key(next)),
-                    None => None,
-                }
-            }
-        }
     }
 }
 
@@ -196,9 +196,12 @@ impl LevelBook {
 }
 
 impl LevelBook {
+    // Takes an order out that is not conditional.
     #[inline(always)]
-    fn take(&mut self, key: Key) -> Order
-        requires { has_key key.0 self.old.orders ≡ true }
+    fn take_from_queue(&mut self, key: Key) -> Order
+        requires live { has_key key.0 self.old.orders ≡ true }
+        requires queued { IfSome (order_of key.0 self.old.orders)
+            (λ order. is_conditional order ≡ false) }
         ensures was { order_of key.0 self.old.orders ≡ Some result }
         ensures orders { self.new.orders ≡ without key.0 self.old.orders }
         ensures place { self.new.place ≡ self.old.place }
@@ -211,12 +214,47 @@ impl LevelBook {
         node.order
     }
 
-    fn take_off(&mut self, key: Key, by: u32)
+    // Takes a conditional order out.
+    fn take_conditional(&mut self, key: Key) -> Order
+        requires live { has_key key.0 self.old.orders ≡ true }
+        requires conditional { IfSome (order_of key.0 self.old.orders)
+            (λ order. is_conditional order ≡ true) }
+        ensures was { order_of key.0 self.old.orders ≡ Some result }
+        ensures orders { self.new.orders ≡ without key.0 self.old.orders }
+        ensures place { self.new.place ≡ self.old.place }
+    {
+        let node = unlink_in_time(&mut self.nodes, key.0);
+        let rung = rung_of(&node.order);
+        self.conditional.remove(rank_at(rung, node.order.shown, node.number));
+        self.time = self.time.without(node.time);
+        node.order
+    }
+
+    // Takes shares off an order that is not conditional.
+    fn reduce_in_queue(&mut self, key: Key, by: u32)
         requires less { IfSome (order_of key.0 self.old.orders) (λ order. by < order.shares) }
+        requires queued { IfSome (order_of key.0 self.old.orders)
+            (λ order. is_conditional order ≡ false) }
         ensures orders { self.new.orders ≡ reduced key.0 by self.old.orders }
         ensures place { self.new.place ≡ self.old.place }
     {
         take_shares(&mut self.nodes, key.0, by);
+    }
+
+    // Takes shares off a conditional order.
+    fn reduce_conditional(&mut self, key: Key, by: u32)
+        requires live { has_key key.0 self.old.orders ≡ true }
+        requires less { IfSome (order_of key.0 self.old.orders) (λ order. by < order.shares) }
+        requires conditional { IfSome (order_of key.0 self.old.orders)
+            (λ order. is_conditional order ≡ true) }
+        ensures orders { self.new.orders ≡ reduced key.0 by self.old.orders }
+        ensures place { self.new.place ≡ self.old.place }
+    {
+        let number = self.nodes.links(key.0).number;
+        take_shares(&mut self.nodes, key.0, by);
+        let order = self.nodes.order(key.0).unwrap();
+        let rank = rank_at(rung_of(order), order.shown, number);
+        self.conditional.renew(rank, least_of(order), order.shares);
     }
 
     fn reserve_place(&mut self, terms: Terms) -> Result<(), NoMemory>
@@ -225,7 +263,12 @@ impl LevelBook {
         ensures err { OnErr result (self.new.place ≡ self.old.place) }
     {
         let rung = rung_at(&terms);
+        // Out of reach: a book would have to be given 2 ^ 63 orders.
+        if self.next >= LAST_NUMBER {
+            return Err(NoMemory);
+        }
         self.nodes.reserve()?;
+        self.conditional.reserve()?;
         self.ladders.make_level(rung)?;
         if let Some(old) = self.kept {
             self.ladders.drop_empty(old, Some(rung));
@@ -264,16 +307,26 @@ impl Book for LevelBook {
 
     #[inline(always)]
     fn add(&mut self, order: Order) -> Key {
-        self.add_last(order)
+        if order.is_conditional() {
+            return self.add_conditional(order);
+        }
+        self.add_to_queue(order)
     }
 
     fn reduce(&mut self, key: Key, by: u32) {
-        self.take_off(key, by);
+        if self.is_conditional(key) {
+            self.reduce_conditional(key, by);
+        } else {
+            self.reduce_in_queue(key, by);
+        }
     }
 
     #[inline(always)]
     fn remove(&mut self, key: Key) -> Order {
-        self.take(key)
+        if self.is_conditional(key) {
+            return self.take_conditional(key);
+        }
+        self.take_from_queue(key)
     }
 
     #[inline(always)]
@@ -294,10 +347,12 @@ impl Book for LevelBook {
             side,
             price,
         };
-        match after {
-            None => self.first_contra(&terms),
-            Some(key) => self.contra_after(&terms, key),
-        }
+        self.next_crossing(&terms, after)
+    }
+
+    #[inline(always)]
+    fn next_qualifying(&self, terms: &Terms, walk: Walk, left: u32, minimum: u32) -> Option<Walk> {
+        self.walk_on(terms, walk, left, minimum)
     }
 
     fn next_in_time(&self, after: Option<Key>) -> Option<Key> {

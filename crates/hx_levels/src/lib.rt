@@ -9,4 +9,4 @@ mod order;
 pub use book::Book;
 pub use level_book::LevelBook;
 pub use list_book::ListBook;
-pub use order::{Key, Life, Live, Order, Terms};
+pub use order::{Key, Life, Live, Order, Terms, Walk};

@@ -7,7 +7,7 @@ ghost use Rattle.hx_levels.specs.Rank.{first_of, higher};
 ghost use Rattle.hx_levels.specs.Book.{is_under, is_ahead, crosses, outranks, ranked, is_candidate, is_equal, has_key, IsPlace, order_of, KeysDiffer, IsRanked, next_by_rank};
 
 use crate::book::Book;
-use crate::order::{Key, Live, Order, Terms};
+use crate::order::{Key, Live, Order, Terms, Walk};
 use hx_units::{NoMemory, Price, Side};
 use slab::Slab;
 use std::alloc::Global;
@@ -239,6 +239,11 @@ impl Book for ListBook {
             None => first_in(&self.entries, &terms),
             Some(key) => next_in(&self.entries, &terms, key),
         }
+    }
+
+    fn next_qualifying(&self, terms: &Terms, walk: Walk, left: u32, minimum: u32) -> Option<Walk> {
+        let mut next = walk.after;
+        None
     }
 
     fn next_in_time(&self, after: Option<Key>) -> Option<Key> {

@@ -1,4 +1,7 @@
 //! An order, and the key under which a book keeps it.
+ghost use Rattle.std.specs.Prelude.{◌≡◌, None};
+ghost use Rattle.hx_levels.specs.Book.{is_conditional, qualifies};
+
 use hx_units::{Firm, MemberNo, Price, Side, Token};
 
 /// The name of a live order in a book. It is used only while its order lives.
@@ -49,6 +52,25 @@ pub struct Order {
     pub life: Life,
 }
 
+impl Order {
+    /// Whether it has a minimum above one, so that an incoming order may be too small for it.
+    #[inline(always)]
+    pub fn is_conditional(&self) -> bool
+        ensures { result ≡ is_conditional self.now }
+    {
+        1 < self.minimum
+    }
+
+    /// Whether it may be executed against an incoming order with `left` open shares, each of whose executions has to have
+    /// `minimum` shares at least (OUCH 4.2: Minimum Quantity).
+    pub fn qualifies(&self, left: u32, minimum: u32) -> bool
+        ensures { result ≡ qualifies left minimum self.now }
+    {
+        let least = minimum.max(self.minimum.min(self.shares));
+        1.max(least) <= left.min(self.shares)
+    }
+}
+
 /// An order under its key.
 #[derive(Clone, Copy, Debug)]
 pub struct Live {
@@ -67,4 +89,26 @@ pub struct Terms {
     pub side: Side,
     /// The limit, in units of 1/10,000 dollar.
     pub price: Price,
+}
+
+/// Where a walk along the orders that an incoming order can be executed against stands.
+#[derive(Clone, Copy, Debug)]
+pub struct Walk {
+    /// The key of the last order met: none before the first.
+    pub after: Option<Key>,
+    /// The key of the next order that is not conditional, if the book has looked for it already.
+    pub ahead: Option<Option<Key>>,
+}
+
+impl Walk {
+    /// A walk that has met no order.
+    pub fn start() -> Walk
+        ensures after { result.after ≡ None }
+        ensures ahead { result.ahead ≡ None }
+    {
+        Walk {
+            after: None,
+            ahead: None,
+        }
+    }
 }

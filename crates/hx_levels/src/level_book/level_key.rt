@@ -4,7 +4,7 @@ ghost use Rattle.std.proofs.Common.{rules};
 ghost use Rattle.std.specs.Ordering.{as_partial_cmp, eq_by_cmp};
 ghost use Rattle.std.specs.Cmp.{partial_equiv_from_equiv, partial_order_from_own_ties};
 ghost use Rattle.std.specs.Cmp.Rules.{comparing};
-ghost use Rattle.hx_levels.specs.Rung.{LevelKey, rung_cmp, side_number};
+ghost use Rattle.hx_levels.specs.Rung.{LevelKey, rung_cmp, rung_number, side_number};
 
 use std::cmp::Ordering;
 use std::marker::Model;
@@ -58,6 +58,13 @@ impl LevelKey {
         ensures small { result < 4294967296 }
     {
         (self.number / DISTANCES) as usize
+    }
+
+    /// The rung as one number: of a stock and side the better price has the smaller one.
+    pub fn number(self) -> u64
+        ensures { result ≡ rung_number self }
+    {
+        self.number
     }
 
     /// How far its price is from the best.

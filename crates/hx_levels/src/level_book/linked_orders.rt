@@ -3,7 +3,7 @@ ghost use Rattle.std.specs.Prelude.{◌≡◌, ◌+◌, ◌<◌, ◌≤◌, ◌=
 ghost use Rattle.std.specs.Option.{option_copied, option_map, is_some};
 ghost use Rattle.slab.specs.Slab.{get, ContainsKey, slab_len, HasRoomFor};
 ghost use Rattle.hx_levels.specs.Chain.{links_to};
-ghost use Rattle.hx_levels.specs.Nodes.{after_at, before_at, on_time, on_queue, no_ends, no_links, not_linked, linked_last, with_links, with_next, unlinked, time_links, queue_links, ends_with, ends_without, less_at};
+ghost use Rattle.hx_levels.specs.Nodes.{after_at, before_at, on_time, on_queue, no_ends, no_links, not_linked, linked_last, with_links, with_next, unlinked, time_links, queue_links, number_at, ends_with, ends_without, less_at};
 
 use crate::level_book::link::Link;
 use crate::order::Order;
@@ -26,19 +26,21 @@ pub struct Ends {
     pub last: Link,
 }
 
-/// A live order, and its places in time and in its queue.
+/// A live order, its neighbours in time and in its queue, and its number: that of an order that came later is greater.
 #[derive(Clone, Copy)]
 pub struct Node {
     pub order: Order,
     pub time: Links,
     pub queue: Links,
+    pub number: u64,
 }
 
-/// The links of a live order.
+/// The links of a live order, and its number.
 #[derive(Clone, Copy)]
 pub struct Both {
     pub time: Links,
     pub queue: Links,
+    pub number: u64,
 }
 
 /// The orders of a book with their links: the orders in a slab, and beside it the links of each, under the same
@@ -103,6 +105,7 @@ impl LinkedOrders {
         requires { ContainsKey self.now key }
         ensures time { time_links self.now key ≡ Some result.time }
         ensures queue { queue_links self.now key ≡ Some result.queue }
+        ensures number { number_at self.now key ≡ Some result.number }
     {
         self.links[key]
     }
@@ -168,6 +171,7 @@ impl Both {
         Both {
             time: Links::behind(Link::none()),
             queue: Links::behind(Link::none()),
+            number: 0,
         }
     }
 }
@@ -314,9 +318,18 @@ fn take_out(nodes: &mut LinkedOrders, key: usize) -> Node
     ensures capacity { nodes.new.capacity ≡ nodes.old.capacity }
     ensures len { slab_len nodes.new + 1 ≡ slab_len nodes.old }
 {
-    let Both { time, queue } = nodes.links[key];
+    let Both {
+        time,
+        queue,
+        number,
+    } = nodes.links[key];
     let order = nodes.orders.remove(key);
-    Node { order, time, queue }
+    Node {
+        order,
+        time,
+        queue,
+        number,
+    }
 }
 
 // Stores an order that is not linked yet.
@@ -337,12 +350,18 @@ pub fn store(nodes: &mut LinkedOrders, order: Order) -> usize
     key
 }
 
-// Links a stored order, as the last of its queue and the last in time.
+// Links a stored order, as the last of its queue and the last in time, and gives it its number.
 #[inline(always)]
-pub fn link_last(nodes: &mut LinkedOrders, key: usize, queue_last: Link, time_last: Link)
+pub fn link_last(
+    nodes: &mut LinkedOrders,
+    key: usize,
+    queue_last: Link,
+    time_last: Link,
+    number: u64,
+)
     requires { key + 1 < 2 ^ 64 }
     ensures own { get nodes.new key
-        ≡ option_map (linked_last queue_last time_last) (get nodes.old key) }
+        ≡ option_map (linked_last queue_last time_last number) (get nodes.old key) }
     ensures others { (k : ℕ) → (k == key) ≡ false → get nodes.new k
         ≡ option_map (with_next queue_last time_last key k) (get nodes.old k) }
     ensures capacity { nodes.new.capacity ≡ nodes.old.capacity }
@@ -354,6 +373,7 @@ pub fn link_last(nodes: &mut LinkedOrders, key: usize, queue_last: Link, time_la
     let both = Both {
         time: Links::behind(time_last),
         queue: Links::behind(queue_last),
+        number,
     };
     set_links(nodes, key, both);
 }
@@ -373,6 +393,24 @@ pub fn unlink(nodes: &mut LinkedOrders, key: usize) -> Node
     let queue = node.queue;
     set_queue_after(nodes, queue.before, queue.after);
     set_queue_before(nodes, queue.after, queue.before);
+    let time = node.time;
+    set_time_after(nodes, time.before, time.after);
+    set_time_before(nodes, time.after, time.before);
+    node
+}
+
+// Takes an order out that is in no queue, and links its neighbours in time to each other.
+pub fn unlink_in_time(nodes: &mut LinkedOrders, key: usize) -> Node
+    requires { ContainsKey nodes.old key }
+    ensures was { get nodes.old key ≡ Some result }
+    ensures own { get nodes.new key ≡ None }
+    ensures others { (k : ℕ) → (k == key) ≡ false → get nodes.new k
+        ≡ option_map (unlinked (record result { queue = links_to None None }) k)
+        (get nodes.old k) }
+    ensures capacity { nodes.new.capacity ≡ nodes.old.capacity }
+    ensures len { slab_len nodes.new + 1 ≡ slab_len nodes.old }
+{
+    let node = take_out(nodes, key);
     let time = node.time;
     set_time_after(nodes, time.before, time.after);
     set_time_before(nodes, time.after, time.before);

@@ -10,7 +10,7 @@ use Rattle.hx_levels.proofs.level_book.linked_orders.set_queue_after.Goals as go
 pub returns-in-Some-get_mut-clause-changed : goal.returns-in-Some-get_mut-clause-changed
 returns-in-Some-get_mut-clause-changed c = λ k.
     let i = c.nodes.inside in
-    let change : Bool → Node → Node = λ b n. record { order = n.order; time = n.time; queue = record { before = n.queue.before; after = cond b c.args.to n.queue.after } } in
+    let change : Bool → Node → Node = λ b n. record { order = n.order; time = n.time; queue = record { before = n.queue.before; after = cond b c.args.to n.queue.after }; number = n.number } in
     let l = c.in-Some-get_mut.ensures.variant.0 refl in
     let there = read_links i.links.items c.in-Some.key c.in-Some-get_mut.links.now (omega (arith, i.links.ok.0)) c.in-Some-get_mut.ensures.value in
     written i.orders.slots i.links.items c.args.at c.in-Some.key (sym c.get.ensures ∙ c.in-Some.is) change c.in-Some-get_mut.links.now _ there (λ o. refl) (λ n. refl) k
@@ -24,6 +24,6 @@ returns-in-Some-get_mut-clause-len c =
 pub returns-in_default-get_mut-clause-changed : goal.returns-in_default-get_mut-clause-changed
 returns-in_default-get_mut-clause-changed c = λ k.
     let i = c.nodes.inside in
-    let change : Bool → Node → Node = λ b n. record { order = n.order; time = n.time; queue = record { before = n.queue.before; after = cond b c.args.to n.queue.after } } in
+    let change : Bool → Node → Node = λ b n. record { order = n.order; time = n.time; queue = record { before = n.queue.before; after = cond b c.args.to n.queue.after }; number = n.number } in
     unwritten i.orders.slots i.links.items c.args.at c.in-Some.key (sym c.get.ensures ∙ c.in-Some.is) change (slice_get_past i.links.items c.in-Some.key c.in_default-get_mut.ensures.item.3) (λ n. refl) k
     ∙ ap (λ s. option_map (on_queue (after_at c.args.at c.args.to k)) (get s k)) c.nodes.view_is

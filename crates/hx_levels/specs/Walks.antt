@@ -1,0 +1,29 @@
+-- What a walk along the orders of a book by levels looks for.
+use Rattle.std.specs.Prelude.{ℕ, ◌+◌, ◌&&◌, nat_le, Bool, List, Option, Some, None}
+use Rattle.std.specs.List.{find}
+use Rattle.hx_levels.specs.declared.order.Key.{Key}
+use Rattle.hx_levels.specs.declared.order.Live.{Live}
+use Rattle.hx_levels.specs.declared.order.Terms.{Terms}
+use Rattle.hx_levels.specs.Book.{is_under, is_conditional}
+use Rattle.hx_levels.specs.LevelBook.{rank_of, least_of, first_rank}
+
+-- the rank after that of a live order
+abbrev pub rank_past : (number : ℕ → ℕ) → Option Live → ℕ
+rank_past number None = 0
+rank_past number (Some live) = rank_of number live + 1
+
+-- the least rank of the orders after the one with the key, or of all that cross the terms
+abbrev pub rank_after : (number : ℕ → ℕ) → Terms → Option Key → List Live → ℕ
+rank_after number terms None orders = first_rank terms
+rank_after number terms (Some key) orders = rank_past number (find (is_under key.0) orders)
+
+-- the order ranks at this place or after it, and has as many open shares
+abbrev pub is_from : (number : ℕ → ℕ) → (rank least : ℕ) → Live → Bool
+is_from number rank least live =
+    nat_le rank (rank_of number live) && nat_le least live.order.shares
+
+-- the order is conditional, `left` shares are enough for it, and it has as many open shares as `least`
+abbrev pub is_waiting : (left least : ℕ) → Live → Bool
+is_waiting left least live =
+    is_conditional live.order
+    && (nat_le (least_of live.order) left && nat_le least live.order.shares)

@@ -1,0 +1,307 @@
+//! Walks along the orders of a book that cross incoming terms, by rank. An order that is not conditional stands in the
+//! queue of its level; a conditional one is found by its rank, so that those that an incoming order is too small for cost
+//! no step each.
+ghost use Rattle.std.specs.Prelude.{◌≡◌, ◌+◌, ◌<◌, nat_lt, ◌≤◌, ◌^◌, ◌&&◌, Option, Some, None, IfSome, MatchOption, true, false, max};
+ghost use Rattle.std.specs.List.{find};
+ghost use Rattle.std.specs.Option.{option_map, option_copied, is_some};
+ghost use Rattle.hx_levels.specs.Book.{has_key, order_of, is_under, is_conditional, unconditional, KeysDiffer, IsRanked, IsWalk, ranked, rest_after, next_by_rank, next_ready, next_qualifying};
+ghost use Rattle.hx_levels.specs.LevelBook.{above_prices, contra, limit_of, number_in, rank_at, rank_of, least_of, entry_of, first_rank, last_rank, to_key};
+ghost use Rattle.hx_levels.specs.Walks.{rank_after, is_from, is_waiting};
+
+use crate::level_book::level_key::LevelKey;
+use crate::level_book::{ABOVE_PRICES, LAST_NUMBER, LevelBook, rung_of};
+use crate::order::{Key, Order, Terms, Walk};
+use hx_ranked::Entry;
+
+// The upper half of a rank is the number of the level, the lower half says whether the order is shown, and its number.
+const LEVEL: u128 = 1 << 64;
+const HIDDEN: u64 = 1 << 63;
+
+/// The rank of an order at a level, shown or not, with its number.
+pub fn rank_at(at: LevelKey, shown: bool, number: u64) -> u128
+    requires { number < 2 ^ 63 }
+    ensures rank { result ≡ rank_at at shown number }
+    ensures small { result < 2 ^ 128 }
+{
+    let lower = if shown { number } else { HIDDEN + number };
+    u128::from(at.number()) * LEVEL + u128::from(lower)
+}
+
+/// The fewest shares for which an order may be executed.
+pub fn least_of(order: &Order) -> u32
+    ensures { result ≡ least_of order.now }
+{
+    1.max(order.minimum.min(order.shares))
+}
+
+// The contra side of the terms: its rungs begin at this one, and go up to the distance.
+fn contra_of(terms: &Terms) -> (LevelKey, u32)
+    ensures rung { result.0 ≡ contra terms.now 0 }
+    ensures limit { result.1 ≡ limit_of terms.now }
+    ensures small { result.1 ≤ above_prices }
+{
+    let buy = terms.side.is_buy();
+    let price = terms.price.get();
+    let rung = LevelKey::of(terms.locate, !buy, 0);
+    (rung, if buy { price } else { ABOVE_PRICES - price })
+}
+
+// The greatest rank that an order may have that crosses the terms.
+fn last_rank(terms: &Terms) -> u128
+    ensures { result ≡ last_rank terms.now }
+{
+    let (rung, limit) = contra_of(terms);
+    rank_at(rung.at(limit), false, LAST_NUMBER)
+}
+
+// The least rank that an order may have that crosses the terms.
+fn first_rank(terms: &Terms) -> u128
+    ensures { result ≡ first_rank terms.now }
+{
+    let (rung, _) = contra_of(terms);
+    rank_at(rung, true, 0)
+}
+
+impl LevelBook {
+    #[inline(always)]
+    fn first_queued(&self, terms: &Terms) -> Option<Key>
+        ensures exact { result
+            ≡ next_by_rank terms.now None (unconditional self.now.orders) }
+        ensures keys { KeysDiffer self.now.orders }
+    {
+        let (rung, limit) = contra_of(terms);
+        match self.ladders.first_from(rung, limit) {
+            Some(key) => Some(Key(key)),
+            None => None,
+        }
+    }
+
+    fn queued_after(&self, terms: &Terms, key: Key) -> Option<Key>
+        requires { IsRanked terms.now key.0 (unconditional self.now.orders) }
+        ensures exact { result
+            ≡ next_by_rank terms.now (Some key) (unconditional self.now.orders) }
+        ensures keys { KeysDiffer self.now.orders }
+    {
+        let order = self.nodes.order(key.0).unwrap();
+        if let Some(next) = self.nodes.links(key.0).queue.after.get() {
+            return Some(Key(next));
+        }
+        let rung = rung_of(order);
+        let hidden = self.ladders.ends_at(rung, false).first.get();
+        match hidden {
+            Some(next) if order.shown => Some(Key(next)),
+            _ => {
+                let (_, limit) = contra_of(terms);
+                let from = rung.at(rung.distance() + 1);
+                match self.ladders.first_from(from, limit) {
+                    Some(next) => Some(Key(next)),
+                    None => None,
+                }
+            }
+        }
+    }
+}
+
+impl LevelBook {
+    // The next order in the queues, after the one with the key, or the first.
+    #[inline(always)]
+    fn next_queued(&self, terms: &Terms, after: Option<Key>) -> Option<Key>
+        requires { IfSome after (λ key.
+            IsRanked terms.now key.0 (unconditional self.now.orders)) }
+        ensures exact { result
+            ≡ next_by_rank terms.now after (unconditional self.now.orders) }
+        ensures keys { KeysDiffer self.now.orders }
+    {
+        match after {
+            None => self.first_queued(terms),
+            Some(key) => self.queued_after(terms, key),
+        }
+    }
+
+    // Whether a live order is conditional.
+    #[inline(always)]
+    pub fn is_conditional(&self, key: Key) -> bool
+        requires { has_key key.0 self.now.orders ≡ true }
+        ensures { IfSome (order_of key.0 self.now.orders) (λ order.
+            result ≡ is_conditional order) }
+    {
+        self.nodes.order(key.0).unwrap().is_conditional()
+    }
+
+    // The rank of a live order.
+    #[inline(always)]
+    fn rank(&self, key: Key) -> u128
+        requires { has_key key.0 self.now.orders ≡ true }
+        ensures exact { IfSome (find (is_under key.0) self.now.orders) (λ live.
+            result ≡ rank_of (number_in self.now.nodes) live) }
+        ensures small { result + 1 < 2 ^ 128 }
+    {
+        let order = self.nodes.order(key.0).unwrap();
+        rank_at(
+            rung_of(order),
+            order.shown,
+            self.nodes.links(key.0).number,
+        )
+    }
+
+    // The least rank of the orders after the one with the key, or of all that cross the terms.
+    fn rank_after(&self, terms: &Terms, after: Option<Key>) -> u128
+        requires { IfSome after (λ key. has_key key.0 self.now.orders ≡ true) }
+        ensures { result ≡ rank_after (number_in self.now.nodes) terms.now after self.now.orders }
+    {
+        match after {
+            None => first_rank(terms),
+            Some(key) => self.rank(key) + 1,
+        }
+    }
+
+    // The next order in the queues, after the one with the key or the first, that ranks at `from` or after it and has
+    // `least` open shares.
+    #[inline(always)]
+    fn ready_from(
+        &self,
+        terms: &Terms,
+        start: Option<Key>,
+        from: u128,
+        least: u32,
+    ) -> Option<Key>
+        requires { IfSome start (λ key.
+            IsRanked terms.now key.0 (unconditional self.now.orders)) }
+        ensures { result ≡ option_map (λ live. live.key)
+            (find (is_from (number_in self.now.nodes) from least)
+            (rest_after start (ranked terms.now (unconditional self.now.orders)))) }
+    {
+        let mut next = self.next_queued(terms, start);
+        while let Some(key) = next {
+            let order = self.nodes.order(key.0).unwrap();
+            if least <= order.shares && (from == 0 || from <= self.rank(key)) {
+                return Some(key);
+            }
+            next = self.queued_after(terms, key);
+        }
+        None
+    }
+
+    // The next order that is not conditional and has `least` open shares.
+    #[inline(always)]
+    fn next_ready(&self, terms: &Terms, after: Option<Key>, least: u32) -> Option<Key>
+        requires { IfSome after (λ key. IsRanked terms.now key.0 self.now.orders) }
+        ensures { result ≡ next_ready terms.now after least self.now.orders }
+    {
+        match after {
+            Some(key) if self.is_conditional(key) => {
+                self.ready_from(terms, None, self.rank(key) + 1, least)
+            }
+            _ => self.ready_from(terms, after, 0, least),
+        }
+    }
+
+    // The entry of the next conditional order for which `left` shares are enough and that has `least` open shares.
+    #[inline(always)]
+    fn next_waiting(
+        &self,
+        terms: &Terms,
+        after: Option<Key>,
+        left: u32,
+        least: u32,
+    ) -> Option<Entry>
+        requires { IfSome after (λ key. IsRanked terms.now key.0 self.now.orders) }
+        ensures { result ≡ option_map (entry_of (number_in self.now.nodes))
+            (find (is_waiting left least)
+            (rest_after after (ranked terms.now self.now.orders))) }
+    {
+        if self.conditional.len() == 0 {
+            return None;
+        }
+        let from = self.rank_after(terms, after);
+        self.conditional
+            .first_within(from, last_rank(terms), left, least)
+    }
+
+    // The entry of the next conditional order.
+    fn next_conditional(&self, terms: &Terms, after: Option<Key>) -> Option<Entry>
+        requires { IfSome after (λ key. IsRanked terms.now key.0 self.now.orders) }
+        ensures { result ≡ option_map (entry_of (number_in self.now.nodes))
+            (find (λ live. is_conditional live.order)
+            (rest_after after (ranked terms.now self.now.orders))) }
+    {
+        let from = self.rank_after(terms, after);
+        match self.conditional.first_from(from) {
+            Some(entry) if entry.rank <= last_rank(terms) => Some(entry),
+            _ => None,
+        }
+    }
+
+    // Whether a rank comes before that of a live order, if there is one.
+    fn is_before(&self, rank: u128, key: Option<Key>) -> bool
+        requires { IfSome key (λ key. has_key key.0 self.now.orders ≡ true) }
+        ensures none { key ≡ None → result ≡ true }
+        ensures some { IfSome key (λ key. IfSome (find (is_under key.0) self.now.orders)
+            (λ live. result ≡ nat_lt rank (rank_of (number_in self.now.nodes) live))) }
+    {
+        match key {
+            Some(key) => rank < self.rank(key),
+            None => true,
+        }
+    }
+
+    /// The next order by rank that crosses the terms, after the one with the key, or the first.
+    pub fn next_crossing(&self, terms: &Terms, after: Option<Key>) -> Option<Key>
+        requires { IfSome after (λ key. IsRanked terms.now key.0 self.now.orders) }
+        ensures exact { result ≡ next_by_rank terms.now after self.now.orders }
+        ensures keys { KeysDiffer self.now.orders }
+    {
+        let ready = self.next_ready(terms, after, 0);
+        match self.next_conditional(terms, after) {
+            Some(entry) if self.is_before(entry.rank, ready) => Some(Key(entry.key)),
+            _ => ready,
+        }
+    }
+
+    /// The next order by rank that crosses the terms and qualifies, as a step of a walk.
+    #[inline(always)]
+    pub fn walk_on(
+        &self,
+        terms: &Terms,
+        walk: Walk,
+        left: u32,
+        minimum: u32,
+    ) -> Option<Walk>
+        requires { IsWalk terms.now minimum self.now.orders walk }
+        ensures exact { MatchOption result
+            (next_qualifying terms.now walk.after left minimum self.now.orders ≡ None)
+            (λ next. next.after
+            ≡ next_qualifying terms.now walk.after left minimum self.now.orders) }
+        ensures walk { IfSome result (λ next. IsWalk terms.now minimum self.now.orders next) }
+        ensures keys { KeysDiffer self.now.orders }
+    {
+        let least = 1.max(minimum);
+        if left < least {
+            return None;
+        }
+        let ready = match walk.ahead {
+            Some(next) => next,
+            None => self.next_ready(terms, walk.after, least),
+        };
+        match self.next_waiting(terms, walk.after, left, least) {
+            Some(entry) if self.is_before(entry.rank, ready) => Some(Walk {
+                after: Some(Key(entry.key)),
+                ahead: Some(ready),
+            }),
+            _ => met(ready),
+        }
+    }
+}
+
+// A walk that has met the order with the key, if there is one.
+fn met(key: Option<Key>) -> Option<Walk>
+    ensures { MatchOption result (key ≡ None) (λ walk. (walk.after ≡ key) × (walk.ahead ≡ None)) }
+{
+    match key {
+        Some(_) => Some(Walk {
+            after: key,
+            ahead: None,
+        }),
+        None => None,
+    }
+}
