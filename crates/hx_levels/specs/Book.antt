@@ -1,6 +1,6 @@
 -- The book as the list of live orders in time order, each under its key; and who ranks before whom: a better price first,
 -- then a displayed order before one that is not, then the earlier (the rule of price, display and time).
-use Rattle.std.specs.Prelude.{◌≡◌, ℕ, ◌<◌, ◌-◌, ◌==◌, ◌||◌, ◌&&◌, not, nat_lt, nat_le, Bool, true, false, List, [], ◌∷◌, Option, Some, None, if◌then◌else◌, ◌+◌, length, drop, slice_get, slice_index_or, slice_set, map}
+use Rattle.std.specs.Prelude.{◌≡◌, ℕ, ◌<◌, ◌-◌, ◌==◌, ◌||◌, ◌&&◌, not, nat_lt, nat_le, min, max, Bool, true, false, List, [], ◌∷◌, Option, Some, None, if◌then◌else◌, ◌+◌, length, drop, slice_get, slice_index_or, slice_set, map}
 use Rattle.std.specs.List.{filter, find, list_any, remove}
 use Rattle.std.specs.Option.{option_map, is_some, IsSome}
 use Rattle.hx_units.specs.declared.side.Side.{Side}
@@ -97,6 +97,29 @@ next_by_rank terms after orders = key_after after (ranked terms orders)
 -- the next order in time
 abbrev pub next_by_time : Option Key → List Live → Option Key
 next_by_time after orders = key_after after orders
+
+-- the orders after the one that has this key, or all of them
+abbrev pub rest_after : Option Key → List Live → List Live
+rest_after None orders = orders
+rest_after (Some after) orders = behind_first (is_under after.0) orders
+
+-- with `left` open shares of the incoming order, the shares that would be executed are one at least, reach the incoming
+-- order's minimum, and reach the resting order's minimum as far as its open shares go (OUCH 4.2, Enter Order: Minimum
+-- Quantity, which one execution meets alone)
+abbrev pub qualifies : (left minimum : ℕ) → Order → Bool
+qualifies left minimum x =
+    nat_le (max 1 (max minimum (min x.minimum x.shares))) (min left x.shares)
+
+-- of the orders that cross, the next by rank that qualifies
+abbrev pub next_qualifying : Terms → Option Key → (left minimum : ℕ) → List Live → Option Key
+next_qualifying terms after left minimum orders =
+    option_map (λ live. live.key)
+    (find (λ live. qualifies left minimum live.order) (rest_after after (ranked terms orders)))
+
+-- a hidden order with a minimum quantity above one. The market accepts no minimum with a shown order, so an incoming
+-- order without a minimum passes over conditional orders only
+abbrev pub is_conditional : Order → Bool
+is_conditional order = not order.shown && nat_lt 1 order.minimum
 
 -- the key is that of an order that crosses
 abbrev pub IsRanked : Terms → ℕ → List Live → Type 0

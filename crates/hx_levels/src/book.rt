@@ -1,9 +1,9 @@
 //! What a book promises, however it is kept.
 ghost use Rattle.std.specs.Prelude.{◌≡◌, ◌+◌, ◌-◌, ◌<◌, ◌++◌, List, [], ◌∷◌, Option, Some, None, IfSome, OnOk, OnErr, true, false};
 ghost use Rattle.std.specs.Option.{option_copied, is_some};
-ghost use Rattle.hx_levels.specs.Book.{terms_at, terms_of, order_of, has_key, KeysDiffer, ranked, reduced, without, next_by_rank, next_by_time, IsRanked};
+ghost use Rattle.hx_levels.specs.Book.{terms_at, terms_of, order_of, has_key, KeysDiffer, ranked, reduced, without, next_by_rank, next_by_time, next_qualifying, IsRanked};
 
-use crate::order::{Key, Order};
+use crate::order::{Key, Order, Terms};
 use hx_units::{NoMemory, Price, Side};
 
 /// A book, seen as the live orders in time order, each under its key (`orders`), and one reserved place
@@ -61,6 +61,24 @@ pub trait Book {
         ensures exact { result ≡ next_by_rank (terms_at locate side price) after (orders self.now) }
         ensures ranked { IfSome result (λ key.
             IsRanked (terms_at locate side price) key.0 (orders self.now)) }
+        ensures keys { KeysDiffer (orders self.now) };
+
+    /// The next order that an incoming order can be executed against: of those that cross its terms, the next by rank
+    /// after the one with the key `after`, or the first, that qualifies where `left` shares of the incoming order are
+    /// open and each execution has to have `minimum` shares at least. `plain`: a hint, the key of the last
+    /// unconditional order that this walk has met; the result does not depend on it.
+    fn next_qualifying(
+        &self,
+        terms: &Terms,
+        after: Option<Key>,
+        plain: Option<Key>,
+        left: u32,
+        minimum: u32,
+    ) -> Option<Key>
+        requires after { IfSome after (λ key. IsRanked terms.now key.0 (orders self.now)) }
+        requires plain { IfSome plain (λ key. IsRanked terms.now key.0 (orders self.now)) }
+        ensures exact { result ≡ next_qualifying terms.now after left minimum (orders self.now) }
+        ensures ranked { IfSome result (λ key. IsRanked terms.now key.0 (orders self.now)) }
         ensures keys { KeysDiffer (orders self.now) };
 
     /// The next order in time after the one with the key `after`, or the oldest.

@@ -11,6 +11,7 @@ mod level_store;
 mod levels;
 mod link;
 mod linked_orders;
+mod qualifying;
 mod sides;
 
 use crate::book::Book;
@@ -298,6 +299,18 @@ impl Book for LevelBook {
             None => self.first_contra(&terms),
             Some(key) => self.contra_after(&terms, key),
         }
+    }
+
+    #[inline(always)]
+    fn next_qualifying(
+        &self,
+        terms: &Terms,
+        after: Option<Key>,
+        _plain: Option<Key>,
+        left: u32,
+        minimum: u32,
+    ) -> Option<Key> {
+        self.qualifying_after(terms, after, left, minimum)
     }
 
     fn next_in_time(&self, after: Option<Key>) -> Option<Key> {

@@ -1,4 +1,7 @@
 //! An order, and the key under which a book keeps it.
+ghost use Rattle.std.specs.Prelude.{◌≡◌};
+ghost use Rattle.hx_levels.specs.Book.{is_conditional, qualifies};
+
 use hx_units::{Firm, MemberNo, Price, Side, Token};
 
 /// The name of a live order in a book. It is used only while its order lives.
@@ -47,6 +50,26 @@ pub struct Order {
     pub reference: u64,
     /// How long it lives.
     pub life: Life,
+}
+
+impl Order {
+    /// Whether the order is hidden and has a minimum quantity above one. An incoming order without a minimum passes
+    /// over such orders only, since the market accepts no minimum with a shown order.
+    #[inline(always)]
+    pub fn is_conditional(&self) -> bool
+        ensures { result ≡ is_conditional self.now }
+    {
+        !self.shown && 1 < self.minimum
+    }
+
+    /// Whether an execution against the order meets both minimums, where `left` shares of the incoming order are open
+    /// and each of its executions has to have `minimum` shares at least.
+    #[inline(always)]
+    pub fn qualifies(&self, left: u32, minimum: u32) -> bool
+        ensures exact { result ≡ qualifies left minimum self.now }
+    {
+        1.max(minimum.max(self.minimum.min(self.shares))) <= left.min(self.shares)
+    }
 }
 
 /// An order under its key.
