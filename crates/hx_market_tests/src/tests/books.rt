@@ -2,7 +2,7 @@
 
 use super::orders::{order, price, rest};
 use super::{equal, holds};
-use hx_levels::{Book, Key, LevelBook, ListBook, Order};
+use hx_levels::{Book, Key, LevelBook, ListBook, Order, Terms};
 use hx_units::{Price, Side};
 use std::alloc::Global;
 use std::process::Abort;
@@ -59,16 +59,48 @@ fn each_call<B: Book>(rt: &impl Abort, book: &mut B) {
     equal(rt, shares(book, low), 400);
 }
 
+// Of the orders that cross, only those that qualify are met.
+fn qualifying_calls<B: Book>(rt: &impl Abort, book: &mut B) {
+    let terms = Terms {
+        locate: 1,
+        side: Side::Sell,
+        price: price(rt, 100000),
+    };
+    let large = rest(rt, book, order(rt, Side::Buy, 100200, 500, 300, false));
+    let small = rest(rt, book, order(rt, Side::Buy, 100100, 100, 0, true));
+    let exact = rest(rt, book, order(rt, Side::Buy, 100000, 200, 200, false));
+    // 200 shares are fewer than the minimum of the first.
+    let first = book.next_qualifying(&terms, None, None, 200, 0);
+    equal(rt, first, Some(small));
+    let second = book.next_qualifying(&terms, first, first, 200, 0);
+    equal(rt, second, Some(exact));
+    holds(
+        rt,
+        book.next_qualifying(&terms, second, first, 200, 0)
+            .is_none(),
+    );
+    // 300 are not. The small order is below the minimum of the incoming order.
+    let first = book.next_qualifying(&terms, None, None, 300, 200);
+    equal(rt, first, Some(large));
+    let second = book.next_qualifying(&terms, first, None, 300, 200);
+    equal(rt, second, Some(exact));
+    holds(rt, book.next_qualifying(&terms, None, None, 0, 0).is_none());
+}
+
 #[test]
 fn list_book(rt: HostRuntime) {
     let mut book = ListBook::new(rt.alloc());
     each_call(&rt, &mut book);
+    let mut book = ListBook::new(rt.alloc());
+    qualifying_calls(&rt, &mut book);
 }
 
 #[test]
 fn level_book(rt: HostRuntime) {
     let mut book = LevelBook::new(rt.alloc());
     each_call(&rt, &mut book);
+    let mut book = LevelBook::new(rt.alloc());
+    qualifying_calls(&rt, &mut book);
 }
 
 // Whether the keys are those of the same order, by its reference and its open shares.
@@ -102,6 +134,40 @@ fn agree_by_rank<A: Book, B: Book>(
     false
 }
 
+// Whether an order stands under the key that is not conditional.
+fn is_plain<B: Book>(book: &B, key: Key) -> bool {
+    book.get(key).map_or(false, |order| !order.is_conditional())
+}
+
+// Whether both books give the same orders that qualify, from the first to the last.
+fn agree_by_minimum<A: Book, B: Book>(
+    one: &A,
+    two: &B,
+    terms: &Terms,
+    left: u32,
+    minimum: u32,
+) -> bool {
+    let mut a = one.next_qualifying(terms, None, None, left, minimum);
+    let mut b = two.next_qualifying(terms, None, None, left, minimum);
+    let mut plain_a = None;
+    let mut plain_b = None;
+    for _ in 0..100000 {
+        let (Some(x), Some(y)) = (a, b) else {
+            return a.is_none() && b.is_none();
+        };
+        if !is_same(one, two, x, y) {
+            return false;
+        }
+        if is_plain(one, x) {
+            plain_a = a;
+            plain_b = b;
+        }
+        a = one.next_qualifying(terms, Some(x), plain_a, left, minimum);
+        b = two.next_qualifying(terms, Some(y), plain_b, left, minimum);
+    }
+    false
+}
+
 // Whether both books give the same orders in time, from the first to the last.
 fn agree_in_time<A: Book, B: Book>(one: &A, two: &B) -> bool {
     let mut a = one.next_in_time(None);
@@ -128,7 +194,8 @@ fn next_number(state: &mut u64) -> u64 {
     x
 }
 
-// An order of one of two stocks, on one of the four sides, at one of 50 prices.
+// An order of one of two stocks, on one of the four sides, at one of 50 prices. A hidden one has a minimum of up to all
+// its shares.
 fn drawn(rt: &impl Abort, number: u64, reference: u64) -> Order {
     let side = match number / 4 % 6 {
         0..3 => Side::Buy,
@@ -137,10 +204,12 @@ fn drawn(rt: &impl Abort, number: u64, reference: u64) -> Order {
         _ => Side::ShortExempt,
     };
     let units = (10000 + number / 32 % 50 * 100) as u32;
+    let shown = number / 4096 % 2 == 0;
+    let minimum = if shown { 0 } else { (number / 8192 % 6) as u32 };
     Order {
         reference,
         locate: if number / 2048 % 2 == 0 { 1 } else { 2 },
-        ..order(rt, side, units, 5, 0, number / 4096 % 2 == 0)
+        ..order(rt, side, units, 5, minimum, shown)
     }
 }
 
@@ -158,7 +227,27 @@ fn agree<A: Book, B: Book>(rt: &impl Abort, one: &A, two: &B) -> bool {
     agree_in_time(one, two)
 }
 
-// 2,000 commands, the same to both books, with up to 80 live orders. Both are compared after each.
+// The same of the orders that qualify for this many shares and this minimum.
+fn agree_for<A: Book, B: Book>(rt: &impl Abort, one: &A, two: &B, left: u32, minimum: u32) -> bool {
+    let low = price(rt, 1);
+    let high = price(rt, 1000000);
+    for locate in [1, 2] {
+        for (side, price) in [(Side::Buy, high), (Side::Sell, low)] {
+            let terms = Terms {
+                locate,
+                side,
+                price,
+            };
+            if !agree_by_minimum(one, two, &terms, left, minimum) {
+                return false;
+            }
+        }
+    }
+    true
+}
+
+// 2,000 commands, the same to both books, with up to 80 live orders. Both are compared after each, and after each fourth for
+// an incoming order of some shares and some minimum.
 fn both_agree<A: Book, B: Book>(rt: &impl Abort, alloc: Global, one: &mut A, two: &mut B) {
     let mut keys: Vec<(Key, Key)> = Vec::new(alloc);
     let mut state: u64 = 88172645463325252;
@@ -180,6 +269,11 @@ fn both_agree<A: Book, B: Book>(rt: &impl Abort, alloc: Global, one: &mut A, two
             }
         }
         holds(rt, agree(rt, one, two));
+        if i % 4 == 0 {
+            let left = (number / 65536 % 8) as u32;
+            let minimum = (number / 524288 % 5) as u32;
+            holds(rt, agree_for(rt, one, two, left, minimum));
+        }
     }
 }
 
