@@ -138,17 +138,10 @@ abbrev pub next_ready : Terms → Option Key → (least : ℕ) → List Live →
 next_ready terms after least orders =
     option_map (λ live. live.key) (find (is_ready least) (rest_after after (ranked terms orders)))
 
--- what a walk knows of the next unconditional order is true
-abbrev pub IsAhead : Terms → Option Key → (minimum : ℕ) → List Live → Option (Option Key)
-    → Type 0
-IsAhead terms after minimum orders None = Unit {0}
-IsAhead terms after minimum orders (Some next) =
-    next ≡ next_ready terms after (max 1 minimum) orders
-
--- a walk stands after an order that crosses, or before all
+-- a walk stands after an order that crosses, or before all; what it knows of the next that is not conditional is true
 pub record IsWalk (terms : Terms) (minimum : ℕ) (orders : List Live) (walk : Walk) : Type 0 where
   pub ranked : IfSome walk.after (λ key. has_key key.0 (ranked terms orders) ≡ true)
-  pub ahead : IsAhead terms walk.after minimum orders walk.ahead
+  pub ahead : IfSome walk.ahead (λ next. next ≡ next_ready terms walk.after (max 1 minimum) orders)
 
 -- the orders, without their keys
 abbrev pub lives : List Live → List Order

@@ -1,5 +1,5 @@
 //! What a book promises, however it is kept.
-ghost use Rattle.std.specs.Prelude.{◌≡◌, ◌+◌, ◌-◌, ◌<◌, ◌++◌, List, [], ◌∷◌, Option, Some, None, IfSome, MatchOption, OnOk, OnErr, true, false};
+ghost use Rattle.std.specs.Prelude.{◌≡◌, ◌+◌, ◌-◌, ◌<◌, ◌++◌, List, [], ◌∷◌, Option, Some, None, IfSome, OnOk, OnErr, true, false};
 ghost use Rattle.std.specs.Option.{option_copied, is_some};
 ghost use Rattle.hx_levels.specs.Book.{terms_at, terms_of, order_of, has_key, KeysDiffer, ranked, reduced, without, next_by_rank, next_by_time, next_qualifying, IsRanked, IsWalk};
 
@@ -63,17 +63,22 @@ pub trait Book {
             IsRanked (terms_at locate side price) key.0 (orders self.now)) }
         ensures keys { KeysDiffer (orders self.now) };
 
-    /// The next order that an incoming order of these terms can be executed against, as a step of a walk: of those that
-    /// cross, the next by rank after the last one met that qualifies, if `left` shares of the incoming order are open and
-    /// each execution has to have `minimum` shares at least. The walk keeps one minimum, and goes on with as many open
-    /// shares or fewer. Orders that do not qualify are not met, and never looked at again.
-    fn next_qualifying(&self, terms: &Terms, walk: Walk, left: u32, minimum: u32) -> Option<Walk>
-        requires { IsWalk terms.now minimum (orders self.now) walk }
-        ensures exact { MatchOption result
-            (next_qualifying terms.now walk.after left minimum (orders self.now) ≡ None)
-            (λ next. next.after
-            ≡ next_qualifying terms.now walk.after left minimum (orders self.now)) }
-        ensures walk { IfSome result (λ next. IsWalk terms.now minimum (orders self.now) next) }
+    /// The next order that an incoming order can be executed against, as a step of a walk: of those that cross its terms,
+    /// the next by rank after the last one met that qualifies, if `left` shares of the incoming order are open and each
+    /// execution has to have `minimum` shares at least. A walk keeps to its terms and its minimum, and `left` never rises,
+    /// so an order that was passed over is not looked at again.
+    fn next_qualifying(
+        &self,
+        terms: &Terms,
+        walk: &mut Walk,
+        left: u32,
+        minimum: u32,
+    ) -> Option<Key>
+        requires { IsWalk terms.now minimum (orders self.now) walk.old }
+        ensures exact { result
+            ≡ next_qualifying terms.now walk.old.after left minimum (orders self.now) }
+        ensures met { IfSome result (λ key. walk.new.after ≡ Some key) }
+        ensures walk { IsWalk terms.now minimum (orders self.now) walk.new }
         ensures keys { KeysDiffer (orders self.now) };
 
     /// The next order in time after the one with the key `after`, or the oldest.

@@ -351,7 +351,13 @@ impl Book for LevelBook {
     }
 
     #[inline(always)]
-    fn next_qualifying(&self, terms: &Terms, walk: Walk, left: u32, minimum: u32) -> Option<Walk> {
+    fn next_qualifying(
+        &self,
+        terms: &Terms,
+        walk: &mut Walk,
+        left: u32,
+        minimum: u32,
+    ) -> Option<Key> {
         self.walk_on(terms, walk, left, minimum)
     }
 

@@ -4,7 +4,7 @@ ghost use Rattle.std.specs.List.{position, filter, find};
 ghost use Rattle.std.specs.Option.{option_map, option_copied, is_some};
 ghost use Rattle.hx_levels.specs.Lists.{head_of, drop_first, behind_first};
 ghost use Rattle.hx_levels.specs.Rank.{first_of, higher};
-ghost use Rattle.hx_levels.specs.Book.{is_under, is_ahead, crosses, outranks, ranked, is_candidate, is_equal, has_key, IsPlace, order_of, KeysDiffer, IsRanked, next_by_rank};
+ghost use Rattle.hx_levels.specs.Book.{is_under, is_ahead, crosses, outranks, ranked, is_candidate, is_equal, has_key, IsPlace, order_of, KeysDiffer, IsRanked, next_by_rank, next_qualifying};
 
 use crate::book::Book;
 use crate::order::{Key, Live, Order, Terms, Walk};
@@ -182,6 +182,43 @@ fn next_in(entries: &[Live], terms: &Terms, key: Key) -> Option<Key>
     }
 }
 
+// The next by rank after the order with the key, or the first.
+fn next_from(entries: &[Live], terms: &Terms, after: Option<Key>) -> Option<Key>
+    requires differ { KeysDiffer entries.now }
+    requires ranked { IfSome after (λ key. IsRanked terms.now key.0 entries.now) }
+    ensures exact { result ≡ next_by_rank terms.now after entries.now }
+    ensures ranked { IfSome result (λ key. IsRanked terms.now key.0 entries.now) }
+{
+    match after {
+        None => first_in(entries, terms),
+        Some(key) => next_in(entries, terms, key),
+    }
+}
+
+// The next by rank that qualifies: the orders are tried one by one.
+fn qualifying_from(
+    entries: &[Live],
+    terms: &Terms,
+    after: Option<Key>,
+    left: u32,
+    minimum: u32,
+) -> Option<Key>
+    requires differ { KeysDiffer entries.now }
+    requires ranked { IfSome after (λ key. IsRanked terms.now key.0 entries.now) }
+    ensures exact { result ≡ next_qualifying terms.now after left minimum entries.now }
+    ensures ranked { IfSome result (λ key. IsRanked terms.now key.0 entries.now) }
+{
+    let mut last = after;
+    'walk: while let Some(key) = next_from(entries, terms, last) {
+        let order = order_in(entries, key).unwrap();
+        if order.qualifies(left, minimum) {
+            return Some(key);
+        }
+        last = Some(key);
+    }
+    None
+}
+
 impl Book for ListBook {
     ghost orders = { λ book. book.orders };
 
@@ -235,15 +272,19 @@ impl Book for ListBook {
             side,
             price,
         };
-        match after {
-            None => first_in(&self.entries, &terms),
-            Some(key) => next_in(&self.entries, &terms, key),
-        }
+        next_from(&self.entries, &terms, after)
     }
 
-    fn next_qualifying(&self, terms: &Terms, walk: Walk, left: u32, minimum: u32) -> Option<Walk> {
-        let mut next = walk.after;
-        None
+    fn next_qualifying(
+        &self,
+        terms: &Terms,
+        walk: &mut Walk,
+        left: u32,
+        minimum: u32,
+    ) -> Option<Key> {
+        let key = qualifying_from(&self.entries, terms, walk.after, left, minimum)?;
+        *walk = Walk::at(key);
+        Some(key)
     }
 
     fn next_in_time(&self, after: Option<Key>) -> Option<Key> {

@@ -1,5 +1,5 @@
 //! An order, and the key under which a book keeps it.
-ghost use Rattle.std.specs.Prelude.{◌≡◌, None};
+ghost use Rattle.std.specs.Prelude.{◌≡◌, Some, None};
 ghost use Rattle.hx_levels.specs.Book.{is_conditional, qualifies};
 
 use hx_units::{Firm, MemberNo, Price, Side, Token};
@@ -61,13 +61,13 @@ impl Order {
         1 < self.minimum
     }
 
-    /// Whether it may be executed against an incoming order with `left` open shares, each of whose executions has to have
-    /// `minimum` shares at least (OUCH 4.2: Minimum Quantity).
+    /// Whether an execution against the order meets both minimums, if `left` shares of the incoming order are open and
+    /// each of its executions has to have `minimum` shares at least (OUCH 4.2: Minimum Quantity).
+    #[inline(always)]
     pub fn qualifies(&self, left: u32, minimum: u32) -> bool
-        ensures { result ≡ qualifies left minimum self.now }
+        ensures exact { result ≡ qualifies left minimum self.now }
     {
-        let least = minimum.max(self.minimum.min(self.shares));
-        1.max(least) <= left.min(self.shares)
+        1.max(minimum.max(self.minimum.min(self.shares))) <= left.min(self.shares)
     }
 }
 
@@ -108,6 +108,17 @@ impl Walk {
     {
         Walk {
             after: None,
+            ahead: None,
+        }
+    }
+
+    /// A walk that has met the order with the key.
+    pub fn at(key: Key) -> Walk
+        ensures after { result.after ≡ Some key }
+        ensures ahead { result.ahead ≡ None }
+    {
+        Walk {
+            after: Some(key),
             ahead: None,
         }
     }

@@ -1,20 +1,15 @@
 -- The executions by key, step by step: a stepping stone from the one pass to the definition.
-use Rattle.std.specs.Prelude.{ℕ, zero, suc, ◌-◌, ◌&&◌, nat_lt, nat_le, min, max, Bool, List, [], ◌∷◌, length, Option, Some, None, if◌then◌else◌}
+use Rattle.std.specs.Prelude.{ℕ, zero, suc, ◌-◌, ◌&&◌, nat_lt, min, List, [], ◌∷◌, length, Option, Some, None, if◌then◌else◌}
 use Rattle.std.specs.List.{sum_by}
-use Rattle.hx_levels.specs.declared.order.Order.{Order}
 use Rattle.hx_levels.specs.declared.order.Live.{Live}
 use Rattle.hx_levels.specs.Rank.{first_of}
-use Rattle.hx_levels.specs.Book.{crosses, is_ahead, reduced, without}
+use Rattle.hx_levels.specs.Book.{crosses, is_ahead, reduced, without, qualifies}
 use Rattle.hx_match.specs.declared.fills.Incoming.{Incoming}
 use Rattle.hx_match.specs.declared.fills.Fill.{Fill}
 use Rattle.hx_match.specs.Matching.{terms}
 
--- x qualifies for r shares where the incoming order's minimum is k
-abbrev pub reaches : ℕ → ℕ → Order → Bool
-reaches r k x = nat_le (max 1 (max k (min x.minimum x.shares))) (min r x.shares)
-
 abbrev pub chosen : Incoming → ℕ → List Live → Option Live
-chosen incoming r orders = first_of (is_ahead incoming.side) (λ live. crosses (terms incoming) live.order && reaches r incoming.minimum live.order) orders
+chosen incoming r orders = first_of (is_ahead incoming.side) (λ live. crosses (terms incoming) live.order && qualifies r incoming.minimum live.order) orders
 
 abbrev pub fill : ℕ → Live → Fill
 fill r x = record { key = x.key; shares = min r x.order.shares; price = x.order.price }

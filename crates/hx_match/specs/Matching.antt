@@ -1,21 +1,18 @@
 -- Which resting orders an incoming order executes, and for how many shares.
-use Rattle.std.specs.Prelude.{ℕ, zero, suc, ◌-◌, min, max, Bool, true, false, if◌then◌else◌, ◌&&◌, nat_lt, nat_le, List, [], ◌∷◌, ◌++◌, Option, Some, None}
+use Rattle.std.specs.Prelude.{ℕ, zero, suc, ◌-◌, min, Bool, true, false, if◌then◌else◌, ◌&&◌, nat_lt, List, [], ◌∷◌, ◌++◌, Option, Some, None}
 use Rattle.hx_levels.specs.declared.order.Order.{Order}
 use Rattle.hx_levels.specs.declared.order.Live.{Live}
 use Rattle.hx_levels.specs.declared.order.Terms.{Terms}
-use Rattle.hx_levels.specs.Book.{terms_at, crosses, outranks}
+use Rattle.hx_levels.specs.Book.{terms_at, crosses, outranks, qualifies as book_qualifies}
 use Rattle.hx_match.specs.declared.fills.Incoming.{Incoming}
 
 -- the stock, side and price of an incoming order
 abbrev pub terms : Incoming → Terms
 terms incoming = terms_at incoming.locate incoming.side incoming.price
 
--- with r open shares of the incoming order, the shares that would be executed are one at least, reach the
--- incoming order's minimum, and reach the resting order's minimum as far as its open shares go (OUCH 4.2, Enter Order:
--- Minimum Quantity, which one execution meets alone)
+-- with r open shares of the incoming order, x qualifies for an execution of its minimum
 abbrev pub qualifies : Incoming → (left : ℕ) → Order → Bool
-qualifies incoming r x =
-    nat_le (max 1 (max incoming.minimum (min x.minimum x.shares))) (min r x.shares)
+qualifies incoming r x = book_qualifies r incoming.minimum x
 
 -- x crosses and qualifies
 abbrev pub passes : Incoming → (left : ℕ) → Order → Bool

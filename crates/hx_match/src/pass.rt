@@ -1,13 +1,13 @@
 //! The one pass over the orders that cross.
-ghost use Rattle.std.specs.Prelude.{List, ◌≡◌, ◌<◌, ◌++◌, length, IfOk, IfErr, OnOk, OnErr, MatchOption, true, false, min, max};
+ghost use Rattle.std.specs.Prelude.{List, ◌≡◌, ◌<◌, ◌++◌, length, IfOk, IfErr, OnOk, OnErr, min};
 ghost use Rattle.hx_levels.specs.Book.{KeysDiffer, lives};
-ghost use Rattle.hx_match.specs.Matching.{qualifies, matched, matched_live};
+ghost use Rattle.hx_match.specs.Matching.{matched, matched_live};
 ghost use Rattle.hx_match.specs.Executing.{fills_of, AreGood, done_by, left_by};
 ghost use Rattle.hx_match.specs.Rules.{AreFills};
 ghost use Rattle.hx_match.specs.declared.fills.Fill.{Fill};
 
 use crate::fills::{Fill, Incoming, Plan};
-use hx_levels::{Book, Key, Order};
+use hx_levels::{Book, Key, Order, Terms, Walk};
 use hx_units::NoMemory;
 use std::alloc::Global;
 
@@ -54,49 +54,36 @@ pub fn plan_into<B: Book>(
     ensures keys { KeysDiffer (B.orders book.now) }
 {
     fills.clear();
-    let least = least_fill(incoming);
+    let terms = Terms {
+        locate: incoming.locate,
+        side: incoming.side,
+        price: incoming.price,
+    };
     let mut left = incoming.shares;
-    let mut next = book.next_contra(incoming.locate, incoming.side, incoming.price, None);
-    while let Some(key) = next {
-        if left < least {
-            break;
-        }
+    let mut walk = Walk::start();
+    'walk: while let Some(key) =
+        book.next_qualifying(&terms, &mut walk, left, incoming.minimum)
+    {
         let order = book.get(key).unwrap();
-        if let Some(fill) = execution(left, incoming, key, order) {
-            left -= fill.shares;
-            fills.push(fill)?;
-        }
-        next = book.next_contra(incoming.locate, incoming.side, incoming.price, Some(key));
+        let fill = execution(left, key, order);
+        left -= fill.shares;
+        fills.push(fill)?;
     }
     Ok(left)
 }
 
-// The fewest shares for which an order may be executed: no order qualifies where fewer are left.
+// The execution of a resting order that qualifies for the shares that are left.
 #[inline(always)]
-fn least_fill(incoming: &Incoming) -> u32
-    ensures { result ≡ max 1 incoming.now.minimum }
+fn execution(left: u32, key: Key, order: &Order) -> Fill
+    ensures { result ≡ record {
+      key = key;
+      shares = min left order.now.shares;
+      price = order.now.price;
+    } }
 {
-    1.max(incoming.minimum)
-}
-
-// The execution of a resting order, where it qualifies for the shares that are left.
-#[inline(always)]
-fn execution(left: u32, incoming: &Incoming, key: Key, order: &Order) -> Option<Fill>
-    ensures { MatchOption result (qualifies incoming.now left order.now ≡ false)
-        (λ fill. (qualifies incoming.now left order.now ≡ true)
-        × (fill ≡ record {
-          key = key;
-          shares = min left order.now.shares;
-          price = order.now.price;
-        })) }
-{
-    let shares = left.min(order.shares);
-    if shares < 1.max(incoming.minimum.max(order.minimum.min(order.shares))) {
-        return None;
-    }
-    Some(Fill {
+    Fill {
         key,
-        shares,
+        shares: left.min(order.shares),
         price: order.price,
-    })
+    }
 }

@@ -67,12 +67,12 @@ found-rank q e xs h =
     let is = (found-here (λ x. Unit {0}) (has_rank q) e xs (every-unit xs) h).1 in
     grind (arith, nat_tests)
 
-module _ (from last left minimum : ℕ) where
-  -- the entry is found under its rank, is within the limits, and ranks at or before each entry within them
-  abbrev IsFirst : Entry → List Entry → Type 0
-  IsFirst e xs = (find (has_rank e.rank) xs ≡ Some e) × (is_within from last left minimum e ≡ true) × ((q : ℕ) (f : Entry) → find (has_rank q) xs ≡ Some f → is_within from last left minimum f ≡ true → e.rank ≤ q)
+module _ (test : Entry → Bool) where
+  -- the entry is found under its rank, passes, and ranks at or before each entry that does
+  abbrev pub IsFirst : Entry → List Entry → Type 0
+  IsFirst e xs = (find (has_rank e.rank) xs ≡ Some e) × (test e ≡ true) × ((q : ℕ) (f : Entry) → find (has_rank q) xs ≡ Some f → test f ≡ true → e.rank ≤ q)
 
-  first-here : (x : Entry) (xs : List Entry) → Every (λ y. x.rank < y.rank) xs → is_within from last left minimum x ≡ true → IsFirst x (x ∷ xs)
+  first-here : (x : Entry) (xs : List Entry) → Every (λ y. x.rank < y.rank) xs → test x ≡ true → IsFirst x (x ∷ xs)
   first-here x xs above within =
       let has : has_rank x.rank x ≡ true = grind (arith, nat_tests) in
       (rw has refl, within, λ q f found _. first q f (has_rank q x) refl found)
@@ -83,30 +83,37 @@ module _ (from last left minimum : ℕ) where
           let later = found-here (λ y. x.rank < y.rank) (has_rank q) f xs above found in
           grind (arith, nat_tests, later.0, later.1)
 
-  first-later : (e x : Entry) (xs : List Entry) → x.rank < e.rank → is_within from last left minimum x ≡ false → IsFirst e xs → IsFirst e (x ∷ xs)
+  first-later : (e x : Entry) (xs : List Entry) → x.rank < e.rank → test x ≡ false → IsFirst e xs → IsFirst e (x ∷ xs)
   first-later e x xs above out rest =
       let other : has_rank e.rank x ≡ false = grind (arith, nat_tests) in
       (rw other rest.0, rest.1, λ q f found within. first q f within (has_rank q x) refl found)
     where
-      first : (q : ℕ) (f : Entry) → is_within from last left minimum f ≡ true → (b : Bool) → has_rank q x ≡ b → cond b (Some x) (find (has_rank q) xs) ≡ Some f → e.rank ≤ q
+      first : (q : ℕ) (f : Entry) → test f ≡ true → (b : Bool) → has_rank q x ≡ b → cond b (Some x) (find (has_rank q) xs) ≡ Some f → e.rank ≤ q
       first q f within true k found = absurd (cc)
       first q f within false k found = rest.2 q f found within
 
+  -- the first entry that passes is found under its rank, and ranks at or before each that does
+  pub first-of-all : (e : Entry) (xs : List Entry) → IsRising xs → find test xs ≡ Some e → IsFirst e xs
+  first-of-all e [] rising h = absurd (cc)
+  first-of-all e (x ∷ xs) rising h = by (test x) refl h (first-of-all e xs rising.1)
+    where
+      by : (b : Bool) → test x ≡ b → cond b (Some x) (find test xs) ≡ Some e → (find test xs ≡ Some e → IsFirst e xs) → IsFirst e (x ∷ xs)
+      by true g is rest = subst (λ y. IsFirst y (x ∷ xs)) (the_same is) (first-here x xs rising.0 g)
+        where
+          the_same : Some x ≡ Some e → x ≡ e
+          the_same k = cc
+      by false g is rest =
+          let later = found-here (λ y. x.rank < y.rank) test e xs rising.0 is in
+          first-later e x xs later.0 g (rest is)
+
+  -- if no entry passes, none that is found under a rank does
+  pub none-of-all : (xs : List Entry) → find test xs ≡ None → (q : ℕ) (f : Entry) → find (has_rank q) xs ≡ Some f → test f ≡ false
+  none-of-all xs none q f found = (found-here (λ e. test e ≡ false) (has_rank q) f xs (none-every test xs none) found).0
+
 -- the first entry within the limits is found under its rank, is within them, and ranks at or before each entry within them
 pub found-first : (from last left minimum : ℕ) (e : Entry) (xs : List Entry) → IsRising xs → first_within_of from last left minimum xs ≡ Some e → (find (has_rank e.rank) xs ≡ Some e) × (is_within from last left minimum e ≡ true) × ((q : ℕ) (f : Entry) → find (has_rank q) xs ≡ Some f → is_within from last left minimum f ≡ true → e.rank ≤ q)
-found-first from last left minimum e [] rising h = absurd (cc)
-found-first from last left minimum e (x ∷ xs) rising h = by (is_within from last left minimum x) refl h (found-first from last left minimum e xs rising.1)
-  where
-    by : (b : Bool) → is_within from last left minimum x ≡ b → cond b (Some x) (first_within_of from last left minimum xs) ≡ Some e → (first_within_of from last left minimum xs ≡ Some e → IsFirst from last left minimum e xs) → IsFirst from last left minimum e (x ∷ xs)
-    by true g is rest = subst (λ y. IsFirst from last left minimum y (x ∷ xs)) (the_same is) (first-here from last left minimum x xs rising.0 g)
-      where
-        the_same : Some x ≡ Some e → x ≡ e
-        the_same k = cc
-    by false g is rest =
-        let later = found-here (λ y. x.rank < y.rank) (is_within from last left minimum) e xs rising.0 is in
-        first-later from last left minimum e x xs later.0 g (rest is)
+found-first from last left minimum e xs rising h = first-of-all (is_within from last left minimum) e xs rising h
 
 -- if no entry is within the limits, none that is found under a rank is
 pub found-none : (from last left minimum : ℕ) (xs : List Entry) → first_within_of from last left minimum xs ≡ None → (q : ℕ) (f : Entry) → find (has_rank q) xs ≡ Some f → is_within from last left minimum f ≡ false
-found-none from last left minimum xs none q f found =
-    (found-here (λ e. is_within from last left minimum e ≡ false) (has_rank q) f xs (none-every (is_within from last left minimum) xs none) found).0
+found-none from last left minimum xs none q f found = none-of-all (is_within from last left minimum) xs none q f found

@@ -1,7 +1,7 @@
 //! Walks along the orders of a book that cross incoming terms, by rank. An order that is not conditional stands in the
 //! queue of its level; a conditional one is found by its rank, so that those that an incoming order is too small for cost
 //! no step each.
-ghost use Rattle.std.specs.Prelude.{◌≡◌, ◌+◌, ◌<◌, nat_lt, ◌≤◌, ◌^◌, ◌&&◌, Option, Some, None, IfSome, MatchOption, true, false, max};
+ghost use Rattle.std.specs.Prelude.{◌≡◌, ◌+◌, ◌<◌, nat_lt, ◌≤◌, ◌^◌, ◌&&◌, Option, Some, None, IfSome, IfNone, true, false, max};
 ghost use Rattle.std.specs.List.{find};
 ghost use Rattle.std.specs.Option.{option_map, option_copied, is_some};
 ghost use Rattle.hx_levels.specs.Book.{has_key, order_of, is_under, is_conditional, unconditional, KeysDiffer, IsRanked, IsWalk, ranked, rest_after, next_by_rank, next_ready, next_qualifying};
@@ -48,7 +48,8 @@ fn contra_of(terms: &Terms) -> (LevelKey, u32)
 
 // The greatest rank that an order may have that crosses the terms.
 fn last_rank(terms: &Terms) -> u128
-    ensures { result ≡ last_rank terms.now }
+    ensures rank { result ≡ last_rank terms.now }
+    ensures small { limit_of terms.now < 2 ^ 32 }
 {
     let (rung, limit) = contra_of(terms);
     rank_at(rung.at(limit), false, LAST_NUMBER)
@@ -155,6 +156,23 @@ impl LevelBook {
         }
     }
 
+    // Whether a live order ranks at `from` or after it, and has `least` open shares.
+    #[inline(always)]
+    fn is_from(&self, key: Key, from: u128, least: u32) -> bool
+        requires { has_key key.0 self.now.orders ≡ true }
+        ensures { IfSome (find (is_under key.0) self.now.orders) (λ live.
+            result ≡ is_from (number_in self.now.nodes) from least live) }
+    {
+        let order = self.nodes.order(key.0).unwrap();
+        if order.shares < least {
+            return false;
+        }
+        if from == 0 {
+            return true;
+        }
+        from <= self.rank(key)
+    }
+
     // The next order in the queues, after the one with the key or the first, that ranks at `from` or after it and has
     // `least` open shares.
     #[inline(always)]
@@ -171,13 +189,12 @@ impl LevelBook {
             (find (is_from (number_in self.now.nodes) from least)
             (rest_after start (ranked terms.now (unconditional self.now.orders)))) }
     {
-        let mut next = self.next_queued(terms, start);
-        while let Some(key) = next {
-            let order = self.nodes.order(key.0).unwrap();
-            if least <= order.shares && (from == 0 || from <= self.rank(key)) {
+        let mut last = start;
+        'walk: while let Some(key) = self.next_queued(terms, last) {
+            if self.is_from(key, from, least) {
                 return Some(key);
             }
-            next = self.queued_after(terms, key);
+            last = Some(key);
         }
         None
     }
@@ -188,12 +205,14 @@ impl LevelBook {
         requires { IfSome after (λ key. IsRanked terms.now key.0 self.now.orders) }
         ensures { result ≡ next_ready terms.now after least self.now.orders }
     {
-        match after {
-            Some(key) if self.is_conditional(key) => {
-                self.ready_from(terms, None, self.rank(key) + 1, least)
-            }
-            _ => self.ready_from(terms, after, 0, least),
+        let _ = &self.nodes;
+        let Some(key) = after else {
+            return self.ready_from(terms, None, 0, least);
+        };
+        if self.is_conditional(key) {
+            return self.ready_from(terms, None, self.rank(key) + 1, least);
         }
+        self.ready_from(terms, after, 0, least)
     }
 
     // The entry of the next conditional order for which `left` shares are enough and that has `least` open shares.
@@ -225,14 +244,17 @@ impl LevelBook {
             (find (λ live. is_conditional live.order)
             (rest_after after (ranked terms.now self.now.orders))) }
     {
+        let _ = &self.nodes;
         let from = self.rank_after(terms, after);
+        let last = last_rank(terms);
         match self.conditional.first_from(from) {
-            Some(entry) if entry.rank <= last_rank(terms) => Some(entry),
+            Some(entry) if entry.rank <= last => Some(entry),
             _ => None,
         }
     }
 
     // Whether a rank comes before that of a live order, if there is one.
+    #[inline(always)]
     fn is_before(&self, rank: u128, key: Option<Key>) -> bool
         requires { IfSome key (λ key. has_key key.0 self.now.orders ≡ true) }
         ensures none { key ≡ None → result ≡ true }
@@ -251,11 +273,15 @@ impl LevelBook {
         ensures exact { result ≡ next_by_rank terms.now after self.now.orders }
         ensures keys { KeysDiffer self.now.orders }
     {
+        let _ = &self.nodes;
         let ready = self.next_ready(terms, after, 0);
-        match self.next_conditional(terms, after) {
-            Some(entry) if self.is_before(entry.rank, ready) => Some(Key(entry.key)),
-            _ => ready,
+        let Some(entry) = self.next_conditional(terms, after) else {
+            return ready;
+        };
+        if self.is_before(entry.rank, ready) {
+            return Some(Key(entry.key));
         }
+        ready
     }
 
     /// The next order by rank that crosses the terms and qualifies, as a step of a walk.
@@ -263,45 +289,69 @@ impl LevelBook {
     pub fn walk_on(
         &self,
         terms: &Terms,
-        walk: Walk,
+        walk: &mut Walk,
         left: u32,
         minimum: u32,
-    ) -> Option<Walk>
-        requires { IsWalk terms.now minimum self.now.orders walk }
-        ensures exact { MatchOption result
-            (next_qualifying terms.now walk.after left minimum self.now.orders ≡ None)
-            (λ next. next.after
-            ≡ next_qualifying terms.now walk.after left minimum self.now.orders) }
-        ensures walk { IfSome result (λ next. IsWalk terms.now minimum self.now.orders next) }
+    ) -> Option<Key>
+        requires { IsWalk terms.now minimum self.now.orders walk.old }
+        ensures exact { result
+            ≡ next_qualifying terms.now walk.old.after left minimum self.now.orders }
+        ensures met { IfSome result (λ key. walk.new.after ≡ Some key) }
+        ensures walk { IsWalk terms.now minimum self.now.orders walk.new }
         ensures keys { KeysDiffer self.now.orders }
     {
-        let least = 1.max(minimum);
+        let _ = &self.nodes;
+        let least = at_least_one(minimum);
         if left < least {
             return None;
         }
-        let ready = match walk.ahead {
+        let ready = self.known_ready(terms, walk, least);
+        let Some(entry) = self.next_waiting(terms, walk.after, left, least) else {
+            return meet(walk, ready);
+        };
+        if !self.is_before(entry.rank, ready) {
+            return meet(walk, ready);
+        }
+        let met = Some(Key(entry.key));
+        *walk = Walk {
+            after: met,
+            ahead: Some(ready),
+        };
+        met
+    }
+
+    // The next order that is not conditional and has `least` open shares, by what the walk knows or by a look for it.
+    #[inline(always)]
+    fn known_ready(&self, terms: &Terms, walk: &Walk, least: u32) -> Option<Key>
+        requires ranked { IfSome walk.now.after (λ key.
+            IsRanked terms.now key.0 self.now.orders) }
+        requires ahead { IfSome walk.now.ahead (λ next.
+            next ≡ next_ready terms.now walk.now.after least self.now.orders) }
+        ensures { result ≡ next_ready terms.now walk.now.after least self.now.orders }
+    {
+        match walk.ahead {
             Some(next) => next,
             None => self.next_ready(terms, walk.after, least),
-        };
-        match self.next_waiting(terms, walk.after, left, least) {
-            Some(entry) if self.is_before(entry.rank, ready) => Some(Walk {
-                after: Some(Key(entry.key)),
-                ahead: Some(ready),
-            }),
-            _ => met(ready),
         }
     }
 }
 
-// A walk that has met the order with the key, if there is one.
-fn met(key: Option<Key>) -> Option<Walk>
-    ensures { MatchOption result (key ≡ None) (λ walk. (walk.after ≡ key) × (walk.ahead ≡ None)) }
+// Has the walk meet the order with the key, if there is one.
+#[inline(always)]
+fn meet(walk: &mut Walk, next: Option<Key>) -> Option<Key>
+    ensures next { result ≡ next }
+    ensures some { IfSome next (λ key. (walk.new.after ≡ Some key) × (walk.new.ahead ≡ None)) }
+    ensures none { IfNone next (walk.new ≡ walk.old) }
 {
-    match key {
-        Some(_) => Some(Walk {
-            after: key,
-            ahead: None,
-        }),
-        None => None,
-    }
+    let key = next?;
+    *walk = Walk::at(key);
+    next
+}
+
+// The fewest shares that an execution may have by the incoming order's minimum.
+#[inline(always)]
+fn at_least_one(minimum: u32) -> u32
+    ensures { result ≡ max 1 minimum }
+{
+    1.max(minimum)
 }

@@ -2,7 +2,7 @@
 
 use super::orders::{order, price, rest};
 use super::{equal, holds};
-use hx_levels::{Book, Key, LevelBook, ListBook, Order};
+use hx_levels::{Book, Key, LevelBook, ListBook, Order, Terms, Walk};
 use hx_units::{Price, Side};
 use std::alloc::Global;
 use std::process::Abort;
@@ -59,16 +59,43 @@ fn each_call<B: Book>(rt: &impl Abort, book: &mut B) {
     equal(rt, shares(book, low), 400);
 }
 
+// Of the orders that cross, only those that qualify are met.
+fn qualifying_calls<B: Book>(rt: &impl Abort, book: &mut B) {
+    let terms = Terms {
+        locate: 1,
+        side: Side::Sell,
+        price: price(rt, 100000),
+    };
+    let large = rest(rt, book, order(rt, Side::Buy, 100200, 500, 300, false));
+    let small = rest(rt, book, order(rt, Side::Buy, 100100, 100, 0, true));
+    let exact = rest(rt, book, order(rt, Side::Buy, 100000, 200, 200, false));
+    // 200 shares are fewer than the minimum of the first.
+    let mut walk = Walk::start();
+    equal(rt, book.next_qualifying(&terms, &mut walk, 200, 0), Some(small));
+    equal(rt, book.next_qualifying(&terms, &mut walk, 200, 0), Some(exact));
+    holds(rt, book.next_qualifying(&terms, &mut walk, 200, 0).is_none());
+    // 300 are not. The small order is below the minimum of the incoming order.
+    let mut walk = Walk::start();
+    equal(rt, book.next_qualifying(&terms, &mut walk, 300, 200), Some(large));
+    equal(rt, book.next_qualifying(&terms, &mut walk, 300, 200), Some(exact));
+    let mut walk = Walk::start();
+    holds(rt, book.next_qualifying(&terms, &mut walk, 0, 0).is_none());
+}
+
 #[test]
 fn list_book(rt: HostRuntime) {
     let mut book = ListBook::new(rt.alloc());
     each_call(&rt, &mut book);
+    let mut book = ListBook::new(rt.alloc());
+    qualifying_calls(&rt, &mut book);
 }
 
 #[test]
 fn level_book(rt: HostRuntime) {
     let mut book = LevelBook::new(rt.alloc());
     each_call(&rt, &mut book);
+    let mut book = LevelBook::new(rt.alloc());
+    qualifying_calls(&rt, &mut book);
 }
 
 // Whether the keys are those of the same order, by its reference and its open shares.
@@ -102,6 +129,34 @@ fn agree_by_rank<A: Book, B: Book>(
     false
 }
 
+// Whether both books give the same orders that qualify, from the first to the last, as shares of the incoming order are
+// taken.
+fn agree_by_minimum<A: Book, B: Book>(
+    one: &A,
+    two: &B,
+    terms: &Terms,
+    shares: u32,
+    minimum: u32,
+) -> bool {
+    let mut left = shares;
+    let mut walk_a = Walk::start();
+    let mut walk_b = Walk::start();
+    for i in 0..100000 {
+        let a = one.next_qualifying(terms, &mut walk_a, left, minimum);
+        let b = two.next_qualifying(terms, &mut walk_b, left, minimum);
+        let (Some(x), Some(y)) = (a, b) else {
+            return a.is_none() && b.is_none();
+        };
+        if !is_same(one, two, x, y) {
+            return false;
+        }
+        if i % 3 == 2 {
+            left = left.saturating_sub(1);
+        }
+    }
+    false
+}
+
 // Whether both books give the same orders in time, from the first to the last.
 fn agree_in_time<A: Book, B: Book>(one: &A, two: &B) -> bool {
     let mut a = one.next_in_time(None);
@@ -128,7 +183,8 @@ fn next_number(state: &mut u64) -> u64 {
     x
 }
 
-// An order of one of two stocks, on one of the four sides, at one of 50 prices.
+// An order of one of two stocks, on one of the four sides, at one of 50 prices. A hidden one has a minimum of up to all
+// its shares.
 fn drawn(rt: &impl Abort, number: u64, reference: u64) -> Order {
     let side = match number / 4 % 6 {
         0..3 => Side::Buy,
@@ -137,10 +193,12 @@ fn drawn(rt: &impl Abort, number: u64, reference: u64) -> Order {
         _ => Side::ShortExempt,
     };
     let units = (10000 + number / 32 % 50 * 100) as u32;
+    let shown = number / 4096 % 2 == 0;
+    let minimum = if shown { 0 } else { (number / 8192 % 6) as u32 };
     Order {
         reference,
         locate: if number / 2048 % 2 == 0 { 1 } else { 2 },
-        ..order(rt, side, units, 5, 0, number / 4096 % 2 == 0)
+        ..order(rt, side, units, 5, minimum, shown)
     }
 }
 
@@ -158,7 +216,27 @@ fn agree<A: Book, B: Book>(rt: &impl Abort, one: &A, two: &B) -> bool {
     agree_in_time(one, two)
 }
 
-// 2,000 commands, the same to both books, with up to 80 live orders. Both are compared after each.
+// The same of the orders that qualify for this many shares and this minimum.
+fn agree_for<A: Book, B: Book>(rt: &impl Abort, one: &A, two: &B, left: u32, minimum: u32) -> bool {
+    let low = price(rt, 1);
+    let high = price(rt, 1000000);
+    for locate in [1, 2] {
+        for (side, price) in [(Side::Buy, high), (Side::Sell, low)] {
+            let terms = Terms {
+                locate,
+                side,
+                price,
+            };
+            if !agree_by_minimum(one, two, &terms, left, minimum) {
+                return false;
+            }
+        }
+    }
+    true
+}
+
+// 2,000 commands, the same to both books, with up to 80 live orders. Both are compared after each, and after each fourth for
+// an incoming order of some shares and some minimum.
 fn both_agree<A: Book, B: Book>(rt: &impl Abort, alloc: Global, one: &mut A, two: &mut B) {
     let mut keys: Vec<(Key, Key)> = Vec::new(alloc);
     let mut state: u64 = 88172645463325252;
@@ -180,6 +258,11 @@ fn both_agree<A: Book, B: Book>(rt: &impl Abort, alloc: Global, one: &mut A, two
             }
         }
         holds(rt, agree(rt, one, two));
+        if i % 4 == 0 {
+            let left = (number / 65536 % 8) as u32;
+            let minimum = (number / 524288 % 5) as u32;
+            holds(rt, agree_for(rt, one, two, left, minimum));
+        }
     }
 }
 

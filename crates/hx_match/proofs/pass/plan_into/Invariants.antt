@@ -1,21 +1,20 @@
-use Rattle.std.proofs.Common.{◌≡◌, ◌+◌, ◌++◌, true, length}
-use Rattle.std.specs.Option.{IfSome}
-use Rattle.hx_levels.specs.Book.{ranked, has_key}
+use Rattle.std.proofs.Common.{◌≡◌, ◌+◌, ◌++◌, length}
+use Rattle.hx_levels.specs.Book.{ranked, rest_after, IsWalk}
 use Rattle.hx_match.specs.Matching.{terms}
 use Rattle.hx_match.proofs.Steps.{shares_of}
-use Rattle.hx_match.proofs.OnePass.{pass, rest_from}
+use Rattle.hx_match.proofs.OnePass.{pass}
 use Rattle.hx_match.proofs.pass.plan_into.Given as goal
 
 -- the fills so far and those of what is left of the pass are those of the pass
-abbrev pub invariant-loop-next : goal.invariant-loop-next
-invariant-loop-next g l =
+abbrev pub invariant-walk : goal.invariant-walk
+invariant-walk g l =
     let orders = g.B.Book.orders l.book in
     let line = ranked (terms l.incoming) orders in
     record {
-      told : l.fills.items ++ pass l.incoming.minimum l.left (rest_from l.next line) ≡ pass l.incoming.minimum l.incoming.shares line;
+      told : l.fills.items ++ pass l.incoming.minimum l.left (rest_after l.walk.after line) ≡ pass l.incoming.minimum l.incoming.shares line;
       total : l.left + shares_of l.fills.items ≡ l.incoming.shares;
-      live : IfSome l.next (λ key. has_key key.0 line ≡ true);
+      walk : IsWalk (terms l.incoming) l.incoming.minimum orders l.walk;
     }
 
-abbrev pub decreases-loop-next : goal.decreases-loop-next
-decreases-loop-next g l = length (rest_from l.next (ranked (terms l.incoming) (g.B.Book.orders l.book)))
+abbrev pub decreases-walk : goal.decreases-walk
+decreases-walk g l = length (rest_after l.walk.after (ranked (terms l.incoming) (g.B.Book.orders l.book)))

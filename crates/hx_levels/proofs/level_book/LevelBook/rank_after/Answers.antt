@@ -1,0 +1,16 @@
+use Rattle.std.proofs.Common.{◌≡◌, ℕ, ◌+◌, true, Option, Some, List, sym, ap, ◌∙◌, subst}
+use Rattle.std.specs.List.{find}
+use Rattle.std.specs.Option.{IfSome}
+use Rattle.hx_levels.specs.declared.order.Key.{Key}
+use Rattle.hx_levels.specs.declared.order.Live.{Live}
+use Rattle.hx_levels.specs.declared.order.Terms.{Terms}
+use Rattle.hx_levels.specs.Book.{is_under, has_key}
+use Rattle.hx_levels.specs.LevelBook.{number_in, rank_of}
+use Rattle.hx_levels.specs.Walks.{rank_after, rank_past}
+use Rattle.hx_levels.proofs.Walks.{past_found}
+use Rattle.hx_levels.proofs.level_book.LevelBook.rank_after.Goals as goal
+
+pub returns-in-Some : goal.returns-in-Some
+returns-in-Some c =
+    past_found (number_in c.args.self.now.nodes) c.in-Some.key.0 c.rank.result c.args.self.now.orders (subst (λ o. IfSome o (λ key. has_key key.0 c.args.self.now.orders ≡ true)) c.in-Some.is c.requires) c.rank.ensures.exact
+    ∙ ap (λ o. rank_after (number_in c.args.self.now.nodes) c.args.terms.now o c.args.self.now.orders) (sym c.in-Some.is)
