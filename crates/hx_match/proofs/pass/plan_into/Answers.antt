@@ -51,7 +51,7 @@ walk-preserved g c =
       walk = c.next_qualifying.ensures.walk;
     }
 
--- these are the executions, and so many shares are left
+-- these are the executions, and `left` shares are left
 abbrev Told : Incoming → List Live → List Fill → ℕ → Type 0
 Told incoming orders front left = (front ≡ fills_of incoming orders) × (left ≡ (matched_live incoming orders).left)
 
