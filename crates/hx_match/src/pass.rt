@@ -61,9 +61,7 @@ pub fn plan_into<B: Book>(
     };
     let mut left = incoming.shares;
     let mut walk = Walk::start();
-    'walk: while let Some(key) =
-        book.next_qualifying(&terms, &mut walk, left, incoming.minimum)
-    {
+    'walk: while let Some(key) = book.next_qualifying(&terms, &mut walk, left, incoming.minimum) {
         let order = book.get(key).unwrap();
         let fill = execution(left, key, order);
         left -= fill.shares;

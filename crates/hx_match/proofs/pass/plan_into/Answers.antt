@@ -1,5 +1,5 @@
 use Rattle.std.proofs.Common.{ℕ, append-nil, append_assoc, ◌≡◌, ◌+◌, ◌-◌, ◌<◌, ◌++◌, ◌∷◌, [], List, length, Option, Some, Result, Ok, Err, IfErr, sym, ap, ◌∙◌, subst, arith, Bor}
-use Rattle.std.specs.Option.{option_copied}
+use Rattle.std.specs.Option.{option_copied, IfSome}
 use Rattle.hx_levels.specs.declared.order.Key.{Key}
 use Rattle.hx_levels.specs.declared.order.Order.{Order}
 use Rattle.hx_levels.specs.declared.order.Live.{Live}
@@ -36,7 +36,8 @@ walk-smaller g c =
     let step : StepAt inc orders c.walk.walk.after c.walk.left c.in-Some.key c.walk.fills.items c.execution-fill.result =
     executed inc c.walk.walk.after c.walk.left c.in-Some.key orders c.unwrap-order.result.now c.walk.fills.items (pass inc.minimum inc.shares (ranked (terms inc) orders)) c.execution-fill.result c.get.ensures.keys
     (sym c.in-Some.is ∙ c.next_qualifying.ensures.exact) (found c.get.result c.unwrap-order.result (order_of c.in-Some.key.0 orders) c.unwrap-order.ensures c.get.ensures.exact) c.execution-fill.ensures c.walk.invariant.told in
-    step.shorter
+    let met : c.next_qualifying.new.walk.after ≡ Some c.in-Some.key = subst (λ o. IfSome o (λ key. c.next_qualifying.new.walk.after ≡ Some key)) c.in-Some.is c.next_qualifying.ensures.met in
+    subst (λ o. length (rest_after o (ranked (terms inc) orders)) < length (rest_after c.walk.walk.after (ranked (terms inc) orders))) (sym met) step.shorter
 
 pub walk-preserved : goal.walk-preserved
 walk-preserved g c =
@@ -45,8 +46,10 @@ walk-preserved g c =
     let step : StepAt inc orders c.walk.walk.after c.walk.left c.in-Some.key c.walk.fills.items c.execution-fill.result =
     executed inc c.walk.walk.after c.walk.left c.in-Some.key orders c.unwrap-order.result.now c.walk.fills.items (pass inc.minimum inc.shares (ranked (terms inc) orders)) c.execution-fill.result c.get.ensures.keys
     (sym c.in-Some.is ∙ c.next_qualifying.ensures.exact) (found c.get.result c.unwrap-order.result (order_of c.in-Some.key.0 orders) c.unwrap-order.ensures c.get.ensures.exact) c.execution-fill.ensures c.walk.invariant.told in
+    let met : c.next_qualifying.new.walk.after ≡ Some c.in-Some.key = subst (λ o. IfSome o (λ key. c.next_qualifying.new.walk.after ≡ Some key)) c.in-Some.is c.next_qualifying.ensures.met in
     record {
-      told = ap (λ (v : List Fill). v ++ pass inc.minimum (c.walk.left - c.execution-fill.result.shares) (rest_after (Some c.in-Some.key) (ranked (terms inc) orders))) c.in_ok-push.ensures.items ∙ step.told;
+      told = ap (λ o. c.push.new.self.items ++ pass inc.minimum (c.walk.left - c.execution-fill.result.shares) (rest_after o (ranked (terms inc) orders))) met
+          ∙ ap (λ (v : List Fill). v ++ pass inc.minimum (c.walk.left - c.execution-fill.result.shares) (rest_after (Some c.in-Some.key) (ranked (terms inc) orders))) c.in_ok-push.ensures.items ∙ step.told;
       total = ap (λ (v : List Fill). c.walk.left - c.execution-fill.result.shares + shares_of v) c.in_ok-push.ensures.items ∙ step.total ∙ c.walk.invariant.total;
       walk = c.next_qualifying.ensures.walk;
     }
