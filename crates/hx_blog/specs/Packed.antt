@@ -1,5 +1,5 @@
 -- A message as six words of the log.
-use Rattle.std.specs.Prelude.{ℕ, ◌-◌, ◌<◌, ◌≤◌, List, [], ◌∷◌, ◌++◌, All, length, take, drop, replicate}
+use Rattle.std.specs.Prelude.{◌≡◌, ℕ, ◌-◌, ◌<◌, ◌≤◌, List, [], ◌∷◌, ◌++◌, All, length, take, drop, replicate}
 use Rattle.std.specs.Int.{w64, from_be_bytes}
 
 -- one byte
@@ -32,3 +32,14 @@ packed m =
 abbrev pub words_of : List (List ℕ) → List ℕ
 words_of [] = []
 words_of (m ∷ ms) = packed m ++ words_of ms
+
+-- The worked example: the feed's Order Delete of reference 1, locate 1 and time 1000, of 19 bytes.
+abbrev pub one_delete : List ℕ
+one_delete =
+    0x44 ∷ 0 ∷ 1 ∷ 0 ∷ 0 ∷ 0 ∷ 0 ∷ 0 ∷ 0 ∷ 0x03 ∷ 0xe8 ∷ 0 ∷ 0 ∷ 0 ∷ 0 ∷ 0 ∷ 0 ∷ 0 ∷ 1 ∷ []
+
+-- its six words
+abbrev pub DeleteIsPacked : Type 0
+DeleteIsPacked =
+    packed one_delete
+    ≡ 0x1344000100000000 ∷ 0x000003e800000000 ∷ 0x0000000100000000 ∷ 0 ∷ 0 ∷ 0 ∷ []

@@ -8,6 +8,7 @@
 //! `Log::new`. Only `Log::new` takes memory. Each call asks that the log and its ends belong together.
 #![tactic(auto)]
 
+pub mod laws;
 mod loads;
 mod log;
 mod reader;

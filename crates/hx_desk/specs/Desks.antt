@@ -171,6 +171,27 @@ pub record Releases (old new : DeskState) : Type 0 where
   pub market : new.market ≡ old.market
   pub kept : new.kept ≡ old.kept
 
+-- The desk has grown by an entry, and all of its history is told: what is published is the history with
+-- its feed, and each row is its member's replies to the history. The entry's place in the history is
+-- counted from 1, and so is the number of its first message of the feed.
+pub record Submits (old new : DeskState) (entry : Entry) (done : Done) : Type 0 where
+  pub log : new.log ≡ old.log
+  pub setup : new.setup ≡ old.setup
+  pub history : new.history ≡ old.history ++ entry ∷ []
+  pub told : new.told ≡ length new.history
+  pub sealed : new.sealed ≡ length new.history
+  pub market : new.market ≡ run old.setup (events_of new.history)
+  pub published : new.published ≡ ledger old.setup new.history
+  pub rows :
+      (member : ℕ) → member < row_count
+      → row_of new.rows member ≡ replies_spelled (replies old.setup member (events_of new.history))
+  pub place : done.place ≡ length new.history
+  pub first : done.first ≡ length (feed old.published) + 1
+  pub count : done.count ≡ needed_of old entry.event
+  pub accepted : refusal_of old entry.event ≡ None
+  pub room : needed_of old entry.event ≤ free_of old entry.event
+  pub kept : new.kept ≡ old.kept
+
 -- The desk has grown by an event of no pass, and all of its history is told.
 pub record Restores (old new : DeskState) (event : Event) : Type 0 where
   pub log : new.log ≡ old.log

@@ -6,7 +6,7 @@ ghost use Rattle.hx_units.specs.Fields.{texts};
 ghost use Rattle.hx_desk.specs.Rows.{row_of, from_number, page};
 ghost use Rattle.hx_desk.specs.Entries.{entry_of, ledger};
 ghost use Rattle.hx_desk.specs.InStep.{IsMark, AreAnswered};
-ghost use Rattle.hx_desk.specs.Desks.{AreRepliesAt, IsStanding, TellsNoSecret, Grows, Releases, Restores, IsResumed, Faults, kept_from, start_of, is_over, told_of, told_market};
+ghost use Rattle.hx_desk.specs.Desks.{AreRepliesAt, IsStanding, TellsNoSecret, Grows, Releases, Submits, Restores, IsResumed, Faults, kept_from, start_of, is_over, told_of, told_market};
 ghost use Rattle.hx_desk.specs.Known.{CatchesUp};
 
 use crate::commit::commit_entry;
@@ -274,6 +274,26 @@ impl Desk {
     {
         self.tell(log);
         self.stands();
+    }
+
+    /// Records an event for a pass, and tells it at once: one step of the market, whose messages of the feed are
+    /// published, and whose replies stand in their members' rows. Nothing may wait to be told. Where it is refused,
+    /// nothing changes. The refusals come in the order `BadTime`, `NoMember`, `Limit`, and then `NoMemory` or `Full`,
+    /// as they are met.
+    pub fn submit(&mut self, log: &Log<Entry>, pass: u16, event: &Event) -> Result<Done, DeskError>
+        requires log { self.old.log ≡ log.now }
+        requires settled { self.old.told ≡ length self.old.history }
+        ensures ok { IfOk result (Submits self.old self.new (entry_of pass event.now)) }
+        ensures err { OnErr result (self.new ≡ self.old) }
+        ensures refused { IfErr result (Faults self.old event.now) }
+        ensures standing { IsStanding self.new }
+        ensures secret { TellsNoSecret self.new }
+    {
+        self.stands();
+        let done = self.admit(log, pass, event)?;
+        self.seal();
+        self.release(log);
+        Ok(done)
     }
 
     /// Records an event of a history that is kept already, under no pass, and tells it at once. Nothing may wait to be

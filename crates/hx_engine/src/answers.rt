@@ -9,6 +9,7 @@ use crate::venue::Venue;
 use hx_blog::{Log, Writer};
 use hx_desk::{DeskError, Entry};
 use hx_journal::Journal;
+use thiserror::Error;
 
 /// A history, as it was audited.
 #[derive(Drop)]
@@ -74,11 +75,13 @@ pub enum FinishError<V: Venue, J: Journal> {
 }
 
 /// Why an event is not recorded.
-#[derive(Clone, Copy, Debug, PartialEq, Eq, Drop)]
+#[derive(Clone, Copy, Debug, PartialEq, Eq, Drop, Error)]
 pub enum SubmitError {
     /// The desk refused it: nothing of it is recorded.
+    #[error("{0}")]
     Refused(DeskError),
     /// The journal failed: whether a crash leaves the event is not known.
+    #[error("the journal failed")]
     Stopped,
 }
 

@@ -1,5 +1,5 @@
 //! The market alone, and a desk alone: one thread, and no lock.
-ghost use Rattle.std.specs.Prelude.{◌≡◌};
+ghost use Rattle.std.specs.Prelude.{◌≡◌, length};
 
 use crate::failure::Failure;
 use crate::report::report;
@@ -57,15 +57,13 @@ pub fn market_rate<R: Print + Eprint + Clock>(
     Ok(())
 }
 
-// Each event is admitted, sealed and told on its own.
+// Each event is submitted on its own.
 fn record_all(desk: &mut Desk, log: &Log<Entry>, events: &[Event]) -> Result<(), DeskError>
     requires log { desk.old.log ≡ log.now }
-    requires told { desk.old.sealed ≡ desk.old.told }
+    requires told { desk.old.told ≡ length desk.old.history }
 {
     for event in events {
-        desk.admit(log, 1, event)?;
-        desk.seal();
-        desk.release(log);
+        desk.submit(log, 1, event)?;
     }
     Ok(())
 }
@@ -78,7 +76,7 @@ fn report_desk<R: Print + Eprint + Clock>(
     events: &[Event],
 ) -> Result<(), Failure>
     requires log { desk.old.log ≡ log.now }
-    requires told { desk.old.sealed ≡ desk.old.told }
+    requires told { desk.old.told ≡ length desk.old.history }
 {
     let begun = Instant::now(rt)?;
     record_all(desk, log, events)?;

@@ -22,7 +22,7 @@ const READ: usize = 8_192;
 
 // A stream of packets, each of which carries as many bytes as an Enter Order Message.
 fn stream(alloc: Global, packets: u64) -> Result<Vec<u8>, NoMemory> {
-    let packet = frame::<PACKET>(b'U', &[b'O'; ENTER]);
+    let packet = frame(b'U', &[b'O'; ENTER]);
     let mut bytes = Vec::new(alloc);
     for _ in 0..packets {
         bytes.extend_from_slice(packet.as_slice())?;

@@ -11,18 +11,18 @@ use Rattle.hx_session_core.specs.declared.intake.Action.TheVariants as action
 
 -- The first packet is a login that can be read, or a fault.
 abbrev pub FirstMeans : SoupPacket → Action → Type 0
-FirstMeans p (action.Login login) = (p.kind ≡ login_request) × IsLogin p.payload login
+FirstMeans p (action.Login login) = (p.kind ≡ login_request) × IsLogin p.payload.items login
 FirstMeans p action.Submit = ⊥
 FirstMeans p action.Ignore = ⊥
 FirstMeans p action.Logout = ⊥
 FirstMeans p action.Fault =
-    (login : LoginRequest) → p.kind ≡ login_request → IsLogin p.payload login → ⊥
+    (login : LoginRequest) → p.kind ≡ login_request → IsLogin p.payload.items login → ⊥
 
 -- what a packet behind the login asks for
 abbrev pub later_action : SoupPacket → Action
 later_action p =
     if p.kind == unsequenced_data
-    then (if length p.payload == 0 then action.Ignore else action.Submit)
+    then (if length p.payload.items == 0 then action.Ignore else action.Submit)
     else if p.kind == client_heartbeat || p.kind == debug then action.Ignore
     else if p.kind == logout_request then action.Logout
     else action.Fault

@@ -7,9 +7,6 @@ use hx_soup::{frame, kinds};
 use hx_units::is_heartbeat_due;
 use std::marker::Model;
 
-/// The most bytes of a packet that goes out: its head of 3 bytes, and a reply.
-pub const LONGEST_FRAME: usize = 3 + 80;
-
 // A heartbeat is due after this many nanoseconds without a packet.
 const SILENCE: u64 = 1_000_000_000;
 
@@ -17,7 +14,7 @@ const SILENCE: u64 = 1_000_000_000;
 #[derive(Debug, Drop)]
 pub enum Turn {
     /// The bytes of a packet that goes out.
-    Frame(ArrayVec<u8, LONGEST_FRAME>),
+    Frame(ArrayVec<u8, 1026>),
     /// Nothing goes out now.
     Idle,
     /// The end of the session has gone out, and nothing goes out any more.

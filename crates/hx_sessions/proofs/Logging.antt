@@ -76,14 +76,14 @@ two_bytes n = refl
 
 -- a login packet of 49 bytes is all that was read
 pub logs_in : (a b c : Option (List ℕ)) (bytes piece rest : List ℕ) (p : SoupPacket) (ps : List SoupPacket) (login : LoginRequest) → Consumes a b bytes → Consumes b c piece → Cuts (bytes ++ piece) (p ∷ ps) rest → length bytes + length piece ≤ 49
-    → p.kind ≡ login_request → length p.payload ≡ 46 → IsLogin p.payload login → LogsIn a c login
+    → p.kind ≡ login_request → length p.payload.items ≡ 46 → IsLogin p.payload.items login → LogsIn a c login
 logs_in a b c bytes piece rest p ps login first next cuts most kind size is =
     let whole : bytes ++ piece ≡ packet_bytes p ++ (stream_of ps ++ rest) = cuts.whole ∙ append_assoc (packet_bytes p) (stream_of ps) rest in
-    let two : length (spelled 2 (length p.payload + 1)) ≡ 2 = two_bytes (length p.payload + 1) in
-    let len : length (packet_bytes p) ≡ 49 = omega (arith, two, length-append (spelled 2 (length p.payload + 1)) (p.kind ∷ p.payload), size) in
+    let two : length (spelled 2 (length p.payload.items + 1)) ≡ 2 = two_bytes (length p.payload.items + 1) in
+    let len : length (packet_bytes p) ≡ 49 = omega (arith, two, length-append (spelled 2 (length p.payload.items + 1)) (p.kind ∷ p.payload.items), size) in
     let none : stream_of ps ++ rest ≡ [] = nil_from_length (stream_of ps ++ rest) (omega (arith, ap length whole, length-append bytes piece, length-append (packet_bytes p) (stream_of ps ++ rest), len, most)) in
-    let bytes_are : bytes ++ piece ≡ framed login_request p.payload = whole ∙ (ap (λ l. packet_bytes p ++ l) none ∙ (append-nil (packet_bytes p) ∙ ap (λ k. framed k p.payload) kind)) in record {
-      payload = p.payload;
+    let bytes_are : bytes ++ piece ≡ framed login_request p.payload.items = whole ∙ (ap (λ l. packet_bytes p ++ l) none ∙ (append-nil (packet_bytes p) ∙ ap (λ k. framed k p.payload.items) kind)) in record {
+      payload = p.payload.items;
       read = subst (Consumes a c) bytes_are (Consumes-trans a b c bytes piece first next);
       is = is;
     }
@@ -145,7 +145,7 @@ awaits_login a b c f g n room m login w most r =
     let h = r.gives in
     let same : h.0 ≡ w.bytes = same_bytes h.0 w.bytes (sym h.4 ∙ w.kept) in
     let cuts : Cuts (w.bytes ++ r.piece) (h.2 ∷ h.3) h.1 = subst (λ k. Cuts (k ++ r.piece) (h.2 ∷ h.3) h.1) same h.5 in
-    logs_in a b c w.bytes r.piece h.1 h.2 h.3 login w.read r.read cuts (omega (arith, w.size, r.size, r.fits, most)) h.6 (login_size h.2.payload login h.7) h.7
+    logs_in a b c w.bytes r.piece h.1 h.2 h.3 login w.read r.read cuts (omega (arith, w.size, r.size, r.fits, most)) h.6 (login_size h.2.payload.items login h.7) h.7
 
 pub awaits_stop : (past : Bool) (a b c f : Option (List ℕ)) (n : ℕ) (s : Stop) → AwaitsLogin a b f n → FailsFirst b c s → NoLogin past a c s
 awaits_stop past a b c f n stop.Told w h = absurd h

@@ -84,20 +84,20 @@ pub upto_none : (packets : List SoupPacket) → Upto packets packets []
 upto_none packets = record { asks = λ later. refl }
 
 step : (packets rest others : List SoupPacket) (done : List (List ℕ)) (p : SoupPacket) (a : Action) → Upto packets rest done → rest ≡ p ∷ others → later_action p ≡ a
-    → (later : List SoupPacket) → asked (packets ++ later) ≡ done ++ asked_by a p.payload (asked (others ++ later))
+    → (later : List SoupPacket) → asked (packets ++ later) ≡ done ++ asked_by a p.payload.items (asked (others ++ later))
 step packets rest others done p a u is acts later =
-    u.asks later ∙ ap (λ l. done ++ asked (l ++ later)) is ∙ ap (λ x. done ++ asked_by x p.payload (asked (others ++ later))) acts
+    u.asks later ∙ ap (λ l. done ++ asked (l ++ later)) is ∙ ap (λ x. done ++ asked_by x p.payload.items (asked (others ++ later))) acts
 
-pub upto_submit : (packets rest others : List SoupPacket) (done : List (List ℕ)) (p : SoupPacket) → Upto packets rest done → rest ≡ p ∷ others → later_action p ≡ action.Submit → Upto packets others (done ++ p.payload ∷ [])
+pub upto_submit : (packets rest others : List SoupPacket) (done : List (List ℕ)) (p : SoupPacket) → Upto packets rest done → rest ≡ p ∷ others → later_action p ≡ action.Submit → Upto packets others (done ++ p.payload.items ∷ [])
 upto_submit packets rest others done p u is acts =
-    record { asks = λ later. step packets rest others done p action.Submit u is acts later ∙ sym (append_assoc done (p.payload ∷ []) (asked (others ++ later))) }
+    record { asks = λ later. step packets rest others done p action.Submit u is acts later ∙ sym (append_assoc done (p.payload.items ∷ []) (asked (others ++ later))) }
 
 pub upto_ignore : (packets rest others : List SoupPacket) (done : List (List ℕ)) (p : SoupPacket) → Upto packets rest done → rest ≡ p ∷ others → later_action p ≡ action.Ignore → Upto packets others done
 upto_ignore packets rest others done p u is acts = record { asks = λ later. step packets rest others done p action.Ignore u is acts later }
 
 pub upto_closed : (packets rest others : List SoupPacket) (done : List (List ℕ)) (p : SoupPacket) (a : Action) → Upto packets rest done → rest ≡ p ∷ others → later_action p ≡ a
     → ((text : List ℕ) (more : List (List ℕ)) → asked_by a text more ≡ []) → Closed packets done
-upto_closed packets rest others done p a u is acts none = record { asks = λ later. step packets rest others done p a u is acts later ∙ (ap (λ l. done ++ l) (none p.payload (asked (others ++ later))) ∙ append-nil done) }
+upto_closed packets rest others done p a u is acts none = record { asks = λ later. step packets rest others done p a u is acts later ∙ (ap (λ l. done ++ l) (none p.payload.items (asked (others ++ later))) ∙ append-nil done) }
 
 pub has_at : (packets before rest others : List SoupPacket) (p : SoupPacket) → before ++ rest ≡ packets → rest ≡ p ∷ others → later_action p ≡ action.Logout → HasLogout packets
 has_at packets before rest others p all is acts = record {

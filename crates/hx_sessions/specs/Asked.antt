@@ -21,7 +21,7 @@ asked_by action.Fault text more = []
 -- the messages that the packets ask to submit, in order: the payloads that are not empty, up to a logout or a fault
 abbrev pub asked : List SoupPacket → List (List ℕ)
 asked [] = []
-asked (p ∷ ps) = asked_by (later_action p) p.payload (asked ps)
+asked (p ∷ ps) = asked_by (later_action p) p.payload.items (asked ps)
 
 -- A logout is among the packets.
 pub record HasLogout (packets : List SoupPacket) : Type 0 where

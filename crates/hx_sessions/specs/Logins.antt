@@ -43,7 +43,7 @@ GivesFirst before after piece None =
 GivesFirst before after piece (Some login) =
     (kept : List ℕ) × (rest : List ℕ) × (p : SoupPacket) × (others : List SoupPacket)
     × (before ≡ Some kept) × Cuts (kept ++ piece) (p ∷ others) rest
-    × (p.kind ≡ login_request) × IsLogin p.payload login
+    × (p.kind ≡ login_request) × IsLogin p.payload.items login
 
 -- One read of the first packet, of at most `room` bytes.
 pub record ReadsFirst

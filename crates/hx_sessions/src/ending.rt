@@ -1,5 +1,6 @@
 //! How a session ends.
 use hx_engine::DeskError;
+use thiserror::Error;
 
 /// Why a session ended without a fault.
 #[derive(Clone, Copy, Debug, PartialEq, Eq)]
@@ -13,26 +14,34 @@ pub enum Ended {
 }
 
 /// Why a session ended with a fault.
-#[derive(Drop)]
+#[derive(Debug, Drop, Error)]
 pub enum Fault {
     /// The input failed.
+    #[error("read failed")]
     Read,
     /// The output failed.
+    #[error("write failed")]
     Write,
     /// The client broke the protocol.
+    #[error("protocol broken")]
     Framing,
     /// The login was rejected.
+    #[error("login rejected")]
     NotAuthorized {
         /// The letter of the rejection.
         reason: u8,
     },
     /// A growth was refused, or a thread.
+    #[error("no memory")]
     NoMemory,
     /// All reads, or all turns of the output, are used up.
+    #[error("too many turns")]
     Turns,
     /// The exchange refused a message.
+    #[error("{0}")]
     Refused(DeskError),
     /// The exchange's journal failed: nothing more is told.
+    #[error("the journal failed")]
     Stopped,
 }
 

@@ -9,11 +9,12 @@ ghost use Rattle.hx_sessions.specs.declared.ending.Stop.TheVariants as stops;
 
 use crate::clock_and_gate::{Clock, Gate};
 use crate::ending::{Ended, Fault, Stop};
+use arrayvec::ArrayVec;
 use hx_bells::Source;
 use hx_engine::{DeskError, Exchange, Journal, Pass, SubmitError, Venue};
 use hx_market::{Bytes, Event};
 use hx_session_core::{Action, Intake};
-use hx_soup::{Framer, FramerError, Payload, SoupPacket};
+use hx_soup::{Framer, FramerError, SoupPacket};
 use hx_units::{MemberNo, NoMemory};
 use std::alloc::Global;
 use std::io::{Error, ErrorKind, Read};
@@ -87,10 +88,10 @@ fn add_message(
     events: &mut Vec<Event>,
     member: MemberNo,
     time: u64,
-    payload: Payload,
+    payload: &ArrayVec<u8, 1023>,
 ) -> Result<(), NoMemory>
     ensures ok { OnOk result (events.new.items
-        ≡ events.old.items ++ Message member time payload ∷ []) }
+        ≡ events.old.items ++ Message member time payload.now.items ∷ []) }
     ensures err { OnErr result (events.new.items ≡ events.old.items) }
 {
     events.reserve(1)?;
@@ -124,7 +125,7 @@ fn gather<C: Clock>(
                 if !may_send {
                     return Gathered::until(events, Stop::Faulted(Fault::Framing));
                 }
-                match add_message(alloc, &mut events, member, time, packet.payload) {
+                match add_message(alloc, &mut events, member, time, &packet.payload) {
                     Ok(()) => {}
                     Err(_) => return Gathered::until(events, Stop::Faulted(Fault::NoMemory)),
                 }

@@ -23,48 +23,23 @@ exact (a ∷ b ∷ kind ∷ payload) fits len some =
     let head : spelled 2 (length payload + 1) ≡ a ∷ b ∷ [] = ap (spelled 2) n ∙ spelled_at_2 0 (a ∷ b ∷ kind ∷ payload) (omega arith) fits in
     sym (ap (λ (h : List ℕ). h ++ kind ∷ payload) head)
 
--- the packet that bytes are
-abbrev pub packet_of : List ℕ → SoupPacket
-packet_of bytes = record { kind = byte_at 2 bytes; payload = drop 3 bytes }
-
 -- bytes as many as their length counts are their packet
-pub reads_whole : (bytes payload : List ℕ) (count : ℕ) → AreBytes bytes → length bytes ≡ number_at 0 2 bytes + 2 → 3 ≤ length bytes → length bytes ≤ 1026 → payload ≡ drop 3 bytes
-    → Reads bytes count (step.Whole (record { kind = byte_at 2 bytes; payload = payload }) count)
-reads_whole bytes payload count fits len some most is =
-    rw is (exact bytes fits len (omega (arith, len, some)), (omega arith, omega (arith, most, length-drop 3 bytes)), refl)
-
--- they begin with it, where there is no memory for it
-pub reads_none : (bytes : List ℕ) → AreBytes bytes → length bytes ≡ number_at 0 2 bytes + 2 → 3 ≤ length bytes → length bytes ≤ 1026 → HasPacket bytes
-reads_none bytes fits len some most = record {
-  packet = packet_of bytes;
-  more = [];
-  whole = exact bytes fits len (omega (arith, len, some)) ∙ sym (append-nil (packet_bytes (packet_of bytes)));
-  fits = (omega arith, omega (arith, most, length-drop 3 bytes));
-}
+pub reads_whole : (bytes payload : List ℕ) → AreBytes bytes → length bytes ≡ number_at 0 2 bytes + 2 → 3 ≤ length bytes → length bytes ≤ 1026 → payload ≡ drop 3 bytes
+    → Reads bytes (record { kind = byte_at 2 bytes; payload = record { items = payload } })
+reads_whole bytes payload fits len some most is =
+    rw is (exact bytes fits len (omega (arith, len, some)), (omega arith, omega (arith, most, length-drop 3 bytes)))
 
 -- unfinished bytes and one more that are read
-pub adds_read : (bytes old new : List ℕ) (byte : ℕ) (s : Step) → bytes ≡ old ++ byte ∷ [] → new ≡ [] → Reads bytes 1 s → Adds old new byte s
-adds_read bytes old new byte (step.Whole packet n) is none reads = (sym is ∙ reads.0, reads.1, reads.2, none)
-adds_read bytes old new byte step.NoMemory is none reads = subst HasPacket is reads
-adds_read bytes old new byte step.More is none reads = absurd reads
-adds_read bytes old new byte (step.Fault bad) is none reads = absurd reads
+pub adds_read : (bytes old new : List ℕ) (byte : ℕ) (p : SoupPacket) → bytes ≡ old ++ byte ∷ [] → new ≡ [] → Reads bytes p → Adds old new byte (step.Whole p 1)
+adds_read bytes old new byte p is none reads = (sym is ∙ reads.0, reads.1, refl, none)
 
 pub none_kept : (kept : List ℕ) → length kept ≡ 0 → kept ≡ []
 none_kept [] is = refl
 none_kept (b ∷ kept) is = absurd (omega (arith, is))
 
 -- bytes in front of a piece that are read, where nothing was kept
-pub steps_read : (old piece : List ℕ) (n : ℕ) (s : Step) → old ≡ [] → 0 < n → n ≤ length piece → Reads (take n piece) n s → Steps old old piece s
-steps_read old piece n (step.Whole packet m) none some room reads =
-    rw (reads.2, none) (reads.0, reads.1, refl, some, room)
-steps_read old piece n step.NoMemory none some room reads = rw none (record {
-  packet = reads.packet;
-  more = reads.more ++ drop n piece;
-  whole = sym (take-append-drop n piece) ∙ ap (λ (x : List ℕ). x ++ drop n piece) reads.whole ∙ append_assoc (packet_bytes reads.packet) reads.more (drop n piece);
-  fits = reads.fits;
-})
-steps_read old piece n step.More none some room reads = absurd reads
-steps_read old piece n (step.Fault bad) none some room reads = absurd reads
+pub steps_read : (old piece : List ℕ) (n : ℕ) (p : SoupPacket) → old ≡ [] → 0 < n → n ≤ length piece → Reads (take n piece) p → Steps old old piece (step.Whole p n)
+steps_read old piece n p none some room reads = rw none (reads.0, reads.1, refl, some, room)
 
 -- the first byte of a piece behind unfinished bytes
 pub steps_added : (old new piece : List ℕ) (byte : ℕ) (s : Step) → 0 < length piece → byte ≡ get_or piece 0 0 → Adds old new byte s → Steps old new piece s
@@ -73,12 +48,6 @@ steps_added old new (b ∷ piece) byte (step.Whole packet n) some is adds =
     (ap (λ (m : ℕ). old ++ take m (b ∷ piece)) adds.2 ∙ ap (λ (a : ℕ). old ++ a ∷ []) (sym is) ∙ adds.0, adds.1, adds.3, omega (arith, adds.2), omega (arith, adds.2))
 steps_added old new (b ∷ piece) byte step.More some is adds = (adds.0 ∙ ap (λ (a : ℕ). old ++ a ∷ []) is, adds.1)
 steps_added old new (b ∷ piece) byte (step.Fault bad) some is adds = subst (λ (a : ℕ). IsFault (old ++ a ∷ []) bad) is adds
-steps_added old new (b ∷ piece) byte step.NoMemory some is adds = record {
-  packet = adds.packet;
-  more = adds.more ++ piece;
-  whole = ap (λ (a : ℕ). old ++ a ∷ piece) (sym is) ∙ sym (append_assoc old (byte ∷ []) piece) ∙ ap (λ (x : List ℕ). x ++ piece) adds.whole ∙ append_assoc (packet_bytes adds.packet) adds.more piece;
-  fits = adds.fits;
-}
 
 -- an unfinished packet that is whole with one byte more has just as many bytes as its length counts
 pub whole_len : (old bytes : List ℕ) (byte n : ℕ) → IsUnfinished old → bytes ≡ old ++ byte ∷ [] → 2 ≤ length bytes → n ≡ number_at 0 2 bytes → n ≢ 0 → n ≤ 1024 → n + 2 ≤ length bytes

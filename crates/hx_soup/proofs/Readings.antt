@@ -11,24 +11,24 @@ use Rattle.hx_soup.specs.Packets.{packet_bytes, stream_of, IsPacket, IsUnfinishe
 
 -- ---- the first packet of a stream
 
-front_number : (p : SoupPacket) (x : List ℕ) → IsPacket p → number_at 0 2 (packet_bytes p ++ x) ≡ length p.payload + 1
+front_number : (p : SoupPacket) (x : List ℕ) → IsPacket p → number_at 0 2 (packet_bytes p ++ x) ≡ length p.payload.items + 1
 unfolding spelled
-front_number p x fits = number_2 (length p.payload + 1) (omega arith)
+front_number p x fits = number_2 (length p.payload.items + 1) (omega arith)
 
 front_kind : (p : SoupPacket) (x : List ℕ) → byte_at 2 (packet_bytes p ++ x) ≡ p.kind
 unfolding spelled
 front_kind p x = refl
 
-front_rest : (p : SoupPacket) (x : List ℕ) → drop 3 (packet_bytes p ++ x) ≡ p.payload ++ x
+front_rest : (p : SoupPacket) (x : List ℕ) → drop 3 (packet_bytes p ++ x) ≡ p.payload.items ++ x
 unfolding spelled
 front_rest p x = refl
 
-front_len : (p : SoupPacket) (x : List ℕ) → length (packet_bytes p ++ x) ≡ length p.payload + 3 + length x
+front_len : (p : SoupPacket) (x : List ℕ) → length (packet_bytes p ++ x) ≡ length p.payload.items + 3 + length x
 unfolding spelled
-front_len p x = omega (arith, length-append p.payload x)
+front_len p x = omega (arith, length-append p.payload.items x)
 
-same_packet : (p q : SoupPacket) → p.kind ≡ q.kind → p.payload ≡ q.payload → p ≡ q
-same_packet p q k e = ap (λ (kind : ℕ). record { kind = kind; payload = p.payload }) k ∙ ap (λ (items : List ℕ). record { kind = q.kind; payload = items }) e
+same_packet : (p q : SoupPacket) → p.kind ≡ q.kind → p.payload.items ≡ q.payload.items → p ≡ q
+same_packet p q k e = ap (λ (kind : ℕ). record { kind = kind; payload = p.payload }) k ∙ ap (λ (items : List ℕ). record { kind = q.kind; payload = record { items = items } }) e
 
 same_front : (a b x y : List ℕ) → length a ≡ length b → a ++ x ≡ b ++ y → (a ≡ b) × (x ≡ y)
 same_front a b x y len e = (
@@ -38,8 +38,8 @@ same_front a b x y len e = (
 
 same_first : (p q : SoupPacket) (x y : List ℕ) → IsPacket p → IsPacket q → packet_bytes p ++ x ≡ packet_bytes q ++ y → (p ≡ q) × (x ≡ y)
 same_first p q x y fits others e =
-    let numbers : length p.payload + 1 ≡ length q.payload + 1 = sym (front_number p x fits) ∙ ap (number_at 0 2) e ∙ front_number q y others in
-    let rest = same_front p.payload q.payload x y (omega arith) (sym (front_rest p x) ∙ ap (drop 3) e ∙ front_rest q y) in
+    let numbers : length p.payload.items + 1 ≡ length q.payload.items + 1 = sym (front_number p x fits) ∙ ap (number_at 0 2) e ∙ front_number q y others in
+    let rest = same_front p.payload.items q.payload.items x y (omega arith) (sym (front_rest p x) ∙ ap (drop 3) e ∙ front_rest q y) in
     (same_packet p q (sym (front_kind p x) ∙ ap (byte_at 2) e ∙ front_kind q y) rest.0, rest.1)
 
 next : (p : SoupPacket) (ps : List SoupPacket) (x : List ℕ) → stream_of (p ∷ ps) ++ x ≡ packet_bytes p ++ (stream_of ps ++ x)
@@ -57,13 +57,13 @@ room (a ∷ b ∷ bytes) h two = omega (arith, h.1)
 
 unfinished_is_end : (x : List ℕ) → IsUnfinished x → IsEnd x
 unfinished_is_end x h p y fits e =
-    let len : length x ≡ length p.payload + 3 + length y = ap length e ∙ front_len p y in
-    let first : number_at 0 2 x ≡ length p.payload + 1 = ap (number_at 0 2) e ∙ front_number p y fits in
+    let len : length x ≡ length p.payload.items + 3 + length y = ap length e ∙ front_len p y in
+    let first : number_at 0 2 x ≡ length p.payload.items + 1 = ap (number_at 0 2) e ∙ front_number p y fits in
     omega (arith, room x h (omega (arith, len)), first, len)
 
 bad_is_end : (a b : ℕ) (more : List ℕ) → IsBadLength (number (a ∷ b ∷ [])) → IsEnd (a ∷ b ∷ more)
 bad_is_end a b more bad p y fits e =
-    let first : number (a ∷ b ∷ []) ≡ length p.payload + 1 = ap (number_at 0 2) e ∙ front_number p y fits in
+    let first : number (a ∷ b ∷ []) ≡ length p.payload.items + 1 = ap (number_at 0 2) e ∙ front_number p y fits in
     elim bad [ inl zero ↦ omega (arith, first, zero) | inr big ↦ omega (arith, first, big, fits.1) ]
 
 one_end : (ps qs : List SoupPacket) (x y : List ℕ) → AllByRecursion IsPacket ps → AllByRecursion IsPacket qs → IsEnd x → IsEnd y → stream_of ps ++ x ≡ stream_of qs ++ y → (ps ≡ qs) × (x ≡ y)

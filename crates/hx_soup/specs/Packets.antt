@@ -15,7 +15,7 @@ framed kind payload = spelled 2 (length payload + 1) ++ kind ∷ payload
 
 -- the bytes of a packet
 abbrev pub packet_bytes : SoupPacket → List ℕ
-packet_bytes p = framed p.kind p.payload
+packet_bytes p = framed p.kind p.payload.items
 
 -- packets one after another
 abbrev pub stream_of : List SoupPacket → List ℕ
@@ -32,7 +32,7 @@ IsBadLength n = (n ≡ 0) ⊎ (longest < n)
 
 -- which packets there are
 abbrev pub IsPacket : SoupPacket → Type 0
-IsPacket p = IsLength (length p.payload + 1)
+IsPacket p = IsLength (length p.payload.items + 1)
 
 -- Less than a whole packet, and no fault: at most one byte, or the length of a packet and fewer bytes than it counts.
 abbrev pub IsUnfinished : List ℕ → Type 0

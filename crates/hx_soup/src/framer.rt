@@ -96,7 +96,7 @@ fn take_piece(
     let mut packets = Vec::new(alloc);
     let mut at = 0;
     while at < piece.len() {
-        match advance(alloc, kept, &piece[at..]) {
+        match advance(kept, &piece[at..]) {
             Step::More => at += 1,
             Step::Whole(packet, count) => {
                 let Ok(()) = packets.push(packet) else {
@@ -111,7 +111,6 @@ fn take_piece(
                     before: packets,
                 });
             }
-            Step::NoMemory => return Err(FramerError::NoMemory),
         }
     }
     Ok(packets)

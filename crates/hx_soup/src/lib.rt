@@ -1,6 +1,6 @@
 //! SoupBinTCP 3.00: packets out of a stream and into it, and logins.
 //!
-//! Only `Framer::feed` takes memory: that of the packets it gives.
+//! Only `Framer::feed` takes memory: that of the list of the packets it gives.
 #![tactic(auto)]
 
 mod answer;
@@ -9,7 +9,6 @@ pub mod kinds;
 pub mod laws;
 mod login;
 mod packet;
-mod payload;
 mod step;
 
 pub use answer::{NOT_AUTHORIZED, SESSION_NOT_AVAILABLE, accepted, rejected};
@@ -17,4 +16,3 @@ pub use framer::{Framer, FramerError};
 pub use hx_text::trimmed;
 pub use login::{LoginRequest, decode_login};
 pub use packet::{SoupPacket, frame};
-pub use payload::Payload;

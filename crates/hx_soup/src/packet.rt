@@ -1,8 +1,7 @@
 //! One packet (SoupBinTCP 3.00, Logical Packets).
-ghost use Rattle.std.specs.Prelude.{◌≡◌, ◌+◌, ◌<◌, ◌≤◌, length};
+ghost use Rattle.std.specs.Prelude.{◌≡◌, ◌<◌, length};
 ghost use Rattle.hx_soup.specs.Packets.{longest, framed};
 
-use crate::payload::Payload;
 use arrayvec::ArrayVec;
 use hx_units::fields::{put, u16_bytes};
 use std::fmt::{self, Debug, Formatter, Write};
@@ -14,7 +13,7 @@ pub struct SoupPacket {
     /// Its type (Packet Type): a letter, or `+`.
     pub kind: u8,
     /// What follows the type: 0 to 1,023 bytes.
-    pub payload: Payload,
+    pub payload: ArrayVec<u8, 1023>,
 }
 
 // By hand, without the payload: that of a login has a password.
@@ -28,9 +27,8 @@ impl Debug for SoupPacket {
 
 /// The bytes of a packet of this type and payload, of at most 1,023 bytes: its length in 2 bytes, its type,
 /// its payload (SoupBinTCP 3.00, Logical Packets). It takes no memory.
-pub fn frame<const N: usize>(kind: u8, payload: &[u8]) -> ArrayVec<u8, N>
-    requires longest { length payload.now < longest }
-    requires room { length payload.now + 3 ≤ N }
+pub fn frame(kind: u8, payload: &[u8]) -> ArrayVec<u8, 1026>
+    requires { length payload.now < longest }
     ensures { result.items ≡ framed kind payload.now }
 {
     let mut bytes = ArrayVec::new();

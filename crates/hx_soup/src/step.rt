@@ -5,10 +5,8 @@ ghost use Rattle.hx_soup.specs.Packets.{longest, IsUnfinished};
 ghost use Rattle.hx_soup.specs.Steps.{Adds, Reads, Steps};
 
 use crate::packet::SoupPacket;
-use crate::payload::Payload;
 use arrayvec::ArrayVec;
-use hx_units::fields::u16_at;
-use std::alloc::Global;
+use hx_units::fields::{put, u16_at};
 
 // The greatest length of a packet.
 const LONGEST: u16 = 1024;
@@ -22,23 +20,21 @@ pub(crate) enum Step {
     Whole(SoupPacket, usize),
     /// With one byte more they are a length that no packet has.
     Fault(u16),
-    /// With some bytes more they are a packet, for which there is no memory.
-    NoMemory,
 }
 
 /// Takes bytes of a piece, at least one of them, behind those of an unfinished packet. A packet that stands whole in the
 /// piece is taken at once. Behind a whole packet nothing is kept.
-pub(crate) fn advance(alloc: Global, kept: &mut ArrayVec<u8, 1026>, piece: &[u8]) -> Step
+pub(crate) fn advance(kept: &mut ArrayVec<u8, 1026>, piece: &[u8]) -> Step
     requires some { 0 < length piece.now }
     requires unfinished { IsUnfinished kept.old.items }
     ensures { Steps kept.old.items kept.new.items piece.now result }
 {
     if kept.is_empty() {
         if let Some(size) = whole_size(piece) {
-            return read_packet(alloc, &piece[..size], size);
+            return Step::Whole(read_packet(&piece[..size]), size);
         }
     }
-    add(alloc, kept, piece[0])
+    add(kept, piece[0])
 }
 
 // The size of the packet that stands whole in front.
@@ -57,7 +53,7 @@ fn whole_size(bytes: &[u8]) -> Option<usize>
 }
 
 // Adds a byte to those of an unfinished packet.
-fn add(alloc: Global, kept: &mut ArrayVec<u8, 1026>, byte: u8) -> Step
+fn add(kept: &mut ArrayVec<u8, 1026>, byte: u8) -> Step
     requires { IsUnfinished kept.old.items }
     ensures { Adds kept.old.items kept.new.items byte result }
 {
@@ -73,24 +69,22 @@ fn add(alloc: Global, kept: &mut ArrayVec<u8, 1026>, byte: u8) -> Step
     if bytes.len() < length as usize + 2 {
         return Step::More;
     }
-    let packet = read_packet(alloc, bytes, 1);
+    let packet = read_packet(bytes);
     kept.clear();
-    packet
+    Step::Whole(packet, 1)
 }
 
-// The packet that the bytes are, of which this number came last.
-fn read_packet(alloc: Global, bytes: &[u8], count: usize) -> Step
+// The packet that the bytes are.
+fn read_packet(bytes: &[u8]) -> SoupPacket
     requires len { length bytes.now ≡ number_at 0 2 bytes.now + 2 }
     requires some { 3 ≤ length bytes.now }
     requires most { length bytes.now ≤ longest + 2 }
-    ensures { Reads bytes.now count result }
+    ensures { Reads bytes.now result }
 {
-    let Ok(payload) = Vec::from_slice(alloc, &bytes[3..]) else {
-        return Step::NoMemory;
-    };
-    let packet = SoupPacket {
+    let mut payload = ArrayVec::new();
+    put(&mut payload, &bytes[3..]);
+    SoupPacket {
         kind: bytes[2],
-        payload: Payload::of(payload),
-    };
-    Step::Whole(packet, count)
+        payload,
+    }
 }

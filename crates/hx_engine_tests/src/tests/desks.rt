@@ -1,5 +1,5 @@
 //! A desk with a log of one slot, one with few messages a member, and what its readers meet.
-ghost use Rattle.std.specs.Prelude.{◌≡◌, ◌≤◌};
+ghost use Rattle.std.specs.Prelude.{◌≡◌, ◌≤◌, length};
 
 use super::{entered, equal, holds, member_of};
 use hx_blog::{Log, Reader};
@@ -20,7 +20,7 @@ fn opened<R: Abort>(
     capacity: u64,
 ) -> (Log<Entry>, Desk, Reader<Entry>)
     requires { (1 ≤ capacity) × (capacity ≤ 1000000) }
-    ensures desk { (result.1.log ≡ result.0) × (result.1.sealed ≡ result.1.told) }
+    ensures desk { (result.1.log ≡ result.0) × (result.1.told ≡ length result.1.history) }
     ensures reader { result.2.log ≡ result.0 }
 {
     let (log, writer, reader) = Log::<Entry>::new(alloc, capacity).expect(rt, "a log");
@@ -42,32 +42,21 @@ fn full(free: u64, needed: u64) -> Answer {
     Err(DeskError::Full { free, needed })
 }
 
-// Admits an event for the first pass, and tells it.
-fn submit(desk: &mut Desk, log: &Log<Entry>, event: &Event) -> Answer
-    requires { (desk.old.log ≡ log.now) × (desk.old.sealed ≡ desk.old.told) }
-    ensures { (desk.new.log ≡ desk.old.log) × (desk.new.sealed ≡ desk.new.told) }
-{
-    let done = desk.admit(log, 1, event)?;
-    desk.seal();
-    desk.release(log);
-    Ok(done)
-}
-
 // The event is submitted, and answered so.
 fn expect<R: Abort>(rt: &R, desk: &mut Desk, log: &Log<Entry>, event: &Event, want: Answer)
-    requires { (desk.old.log ≡ log.now) × (desk.old.sealed ≡ desk.old.told) }
-    ensures { (desk.new.log ≡ desk.old.log) × (desk.new.sealed ≡ desk.new.told) }
+    requires { (desk.old.log ≡ log.now) × (desk.old.told ≡ length desk.old.history) }
+    ensures { (desk.new.log ≡ desk.old.log) × (desk.new.told ≡ length desk.new.history) }
 {
-    equal(rt, submit(desk, log, event), want);
+    equal(rt, desk.submit(log, 1, event), want);
 }
 
 // The event is submitted, and again where there was no memory for it: nothing of the first time is left.
 fn submit_again(desk: &mut Desk, log: &Log<Entry>, event: &Event) -> Answer
-    requires { (desk.old.log ≡ log.now) × (desk.old.sealed ≡ desk.old.told) }
-    ensures { (desk.new.log ≡ desk.old.log) × (desk.new.sealed ≡ desk.new.told) }
+    requires { (desk.old.log ≡ log.now) × (desk.old.told ≡ length desk.old.history) }
+    ensures { (desk.new.log ≡ desk.old.log) × (desk.new.told ≡ length desk.new.history) }
 {
-    match submit(desk, log, event) {
-        Err(DeskError::NoMemory) => submit(desk, log, event),
+    match desk.submit(log, 1, event) {
+        Err(DeskError::NoMemory) => desk.submit(log, 1, event),
         answer => answer,
     }
 }
@@ -80,8 +69,8 @@ fn play<R: Abort>(
     log: &Log<Entry>,
     orders: &[(Order, Answer)],
 )
-    requires { (desk.old.log ≡ log.now) × (desk.old.sealed ≡ desk.old.told) }
-    ensures { (desk.new.log ≡ desk.old.log) × (desk.new.sealed ≡ desk.new.told) }
+    requires { (desk.old.log ≡ log.now) × (desk.old.told ≡ length desk.old.history) }
+    ensures { (desk.new.log ≡ desk.old.log) × (desk.new.told ≡ length desk.new.history) }
 {
     for (order, want) in orders {
         let event = entered(rt, alloc, order);
@@ -229,8 +218,8 @@ fn limits_times_and_strangers(rt: HostRuntime) {
 }
 
 fn refused<R: Abort>(rt: &R, alloc: Global, desk: &mut Desk, log: &Log<Entry>)
-    requires { (desk.old.log ≡ log.now) × (desk.old.sealed ≡ desk.old.told) }
-    ensures { (desk.new.log ≡ desk.old.log) × (desk.new.sealed ≡ desk.new.told) }
+    requires { (desk.old.log ≡ log.now) × (desk.old.told ≡ length desk.old.history) }
+    ensures { (desk.new.log ≡ desk.old.log) × (desk.new.told ≡ length desk.new.history) }
 {
     let cancel = message(alloc, 1, 30, b"XT1            \0\0\0\0").expect(rt, "a cancel");
     expect(rt, desk, log, &cancel, Err(DeskError::Limit { member: 1 }));

@@ -1,11 +1,11 @@
 //! The day by a desk: its feed as a publisher sends it out of the log, and each member's replies.
-ghost use Rattle.std.specs.Prelude.{◌≡◌};
+ghost use Rattle.std.specs.Prelude.{◌≡◌, length};
 
 use super::day::{SETUP, day};
 use super::packets::SESSION;
 use super::{equal, holds};
 use hx_blog::{Log, Reader};
-use hx_desk::{Desk, DeskError, Done, Entry};
+use hx_desk::{Desk, Entry};
 use hx_market::Event;
 use hx_mold::{MoldPacket, decode_packet};
 use hx_retransmit::{LogMessages, Publisher};
@@ -17,27 +17,14 @@ use std::alloc::Global;
 use std::process::Abort;
 use std::test::Fail;
 
-// Records an event, and tells it at once.
-fn record(desk: &mut Desk, log: &Log<Entry>, event: &Event) -> Result<Done, DeskError>
-    requires log { desk.old.log ≡ log.now }
-    requires still { desk.old.sealed ≡ desk.old.told }
-    ensures log { desk.new.log ≡ desk.old.log }
-    ensures still { desk.new.sealed ≡ desk.new.told }
-{
-    let done = desk.admit(log, 1, event)?;
-    desk.seal();
-    desk.release(log);
-    Ok(done)
-}
-
 // All events are recorded.
 fn submit_all<R: Abort>(rt: &R, desk: &mut Desk, log: &Log<Entry>, events: &[Event])
     requires log { desk.old.log ≡ log.now }
-    requires still { desk.old.sealed ≡ desk.old.told }
+    requires still { desk.old.told ≡ length desk.old.history }
     ensures { desk.new.log ≡ desk.old.log }
 {
     for event in events {
-        holds(rt, record(desk, log, event).is_ok());
+        holds(rt, desk.submit(log, 1, event).is_ok());
     }
     equal(rt, desk.history_len(), events.len() as u64);
 }

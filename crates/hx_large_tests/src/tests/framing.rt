@@ -14,7 +14,7 @@ const PACKETS: u8 = 195;
 fn stream(alloc: Global) -> Result<Vec<u8>, AllocError> {
     let mut bytes = Vec::new(alloc);
     for number in 0..PACKETS {
-        bytes.extend_from_slice(frame::<1026>(b'U', &[number; 1_023]).as_slice())?;
+        bytes.extend_from_slice(frame(b'U', &[number; 1_023]).as_slice())?;
     }
     Ok(bytes)
 }

@@ -1,7 +1,8 @@
 //! The market's own calls over a worked day.
+ghost use Rattle.std.specs.Prelude.{◌≡◌, []};
 
 use super::{count, equal, holds};
-use hx_levels::ListBook;
+use hx_levels::{Book, LevelBook, ListBook};
 use hx_market::{Event, Market, Output, PrepareError};
 use hx_members::Setup;
 use hx_testing::Day;
@@ -12,10 +13,12 @@ use std::alloc::Global;
 use std::process::Abort;
 use std::test::Fail;
 
-// A market of the standard setup.
-fn opened(rt: &impl Abort, alloc: Global) -> Market<ListBook> {
+// A market of the standard setup, over this book.
+fn opened<B: Book + Drop>(rt: &impl Abort, alloc: Global, book: B) -> Market<B>
+    requires { B.orders book ≡ [] }
+{
     let setup = Setup::standard(alloc).expect(rt, "memory");
-    Market::new(alloc, setup, ListBook::new(alloc)).expect(rt, "memory")
+    Market::new(alloc, setup, book).expect(rt, "memory")
 }
 
 /// How many messages of the feed, and how many replies.
@@ -26,7 +29,7 @@ struct Told {
 }
 
 // What an event was said to give, and what it gave.
-fn played(rt: &impl Abort, market: &mut Market<ListBook>, event: &Event) -> (Told, Told) {
+fn played<B: Book + Drop>(rt: &impl Abort, market: &mut Market<B>, event: &Event) -> (Told, Told) {
     let prepared = market
         .prepare(event)
         .expect(rt, "an event that is accepted");
@@ -42,9 +45,9 @@ fn played(rt: &impl Abort, market: &mut Market<ListBook>, event: &Event) -> (Tol
     (said, gave)
 }
 
-fn expect_told<R: AllocGlobal + Abort>(
+fn expect_told<R: AllocGlobal + Abort, B: Book + Drop>(
     rt: &R,
-    market: &mut Market<ListBook>,
+    market: &mut Market<B>,
     text: &[u8],
     told: Told,
 ) -> Result<(), Fail> {
@@ -56,7 +59,7 @@ fn expect_told<R: AllocGlobal + Abort>(
 }
 
 // The one live order in the end.
-fn expect_live<R: Abort>(rt: &R, market: &Market<ListBook>) {
+fn expect_live<R: Abort, B: Book + Drop>(rt: &R, market: &Market<B>) {
     let live = market.live().expect(rt, "memory");
     count(rt, live.len(), 1);
     equal(rt, live[0].token, Token(*b"S2            "));
@@ -64,7 +67,7 @@ fn expect_live<R: Abort>(rt: &R, market: &Market<ListBook>) {
 }
 
 // What the chain of the replaced order has done, and that an ignored token is not used.
-fn expect_chains<R: Abort>(rt: &R, market: &Market<ListBook>) {
+fn expect_chains<R: Abort, B: Book + Drop>(rt: &R, market: &Market<B>) {
     let member = MemberNo::of(1).expect(rt, "a member");
     let facts = market
         .chain(member, &Token(*b"T3            "))
@@ -79,7 +82,10 @@ fn expect_chains<R: Abort>(rt: &R, market: &Market<ListBook>) {
 }
 
 // Plays the lines of the day, each with what it tells.
-fn play_day<R: AllocGlobal + Abort>(rt: &R, market: &mut Market<ListBook>) -> Result<(), Fail> {
+fn play_day<R: AllocGlobal + Abort, B: Book + Drop>(
+    rt: &R,
+    market: &mut Market<B>,
+) -> Result<(), Fail> {
     let day = Day::of(rt.alloc(), REPLACES_THAT_TRADE)?;
     let mut tape = day.tape.as_slice();
     let told = [
@@ -100,13 +106,21 @@ fn play_day<R: AllocGlobal + Abort>(rt: &R, market: &mut Market<ListBook>) -> Re
     Ok(())
 }
 
+// The day over this book leaves one order.
+fn expect_one_order<R: AllocGlobal + Abort, B: Book + Drop>(rt: &R, book: B) -> Result<(), Fail>
+    requires { B.orders book ≡ [] }
+{
+    let mut market = opened(rt, rt.alloc(), book);
+    play_day(rt, &mut market)?;
+    expect_live(rt, &market);
+    expect_chains(rt, &market);
+    Ok(())
+}
+
 #[test]
 fn replaces_that_trade_leave_one_order(rt: HostRuntime) -> Result<(), Fail> {
-    let mut market = opened(&rt, rt.alloc());
-    play_day(&rt, &mut market)?;
-    expect_live(&rt, &market);
-    expect_chains(&rt, &market);
-    Ok(())
+    expect_one_order(&rt, ListBook::new(rt.alloc()))?;
+    expect_one_order(&rt, LevelBook::new(rt.alloc()))
 }
 
 // Lists of no messages.
@@ -144,7 +158,8 @@ fn play_both(
 #[test]
 fn events_played_at_once_tell_the_same(rt: HostRuntime) -> Result<(), Fail> {
     let alloc = rt.alloc();
-    let (mut player, mut other) = (opened(&rt, alloc), opened(&rt, alloc));
+    let mut player = opened(&rt, alloc, ListBook::new(alloc));
+    let mut other = opened(&rt, alloc, ListBook::new(alloc));
     let (mut told, mut committed) = (no_output(alloc), no_output(alloc));
     let day = Day::of(alloc, REPLACES_THAT_TRADE)?;
     let mut tape = day.tape.as_slice();
@@ -170,7 +185,7 @@ fn events_played_at_once_tell_the_same(rt: HostRuntime) -> Result<(), Fail> {
 
 #[test]
 fn an_event_that_is_refused_tells_nothing(rt: HostRuntime) {
-    let mut market = opened(&rt, rt.alloc());
+    let mut market = opened(&rt, rt.alloc(), ListBook::new(rt.alloc()));
     let mut told = no_output(rt.alloc());
     market
         .play(&Event::Tick { time: 0 }, &mut told)

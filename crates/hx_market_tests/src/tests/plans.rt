@@ -1,8 +1,8 @@
-//! Worked examples of executions.
+//! Worked examples of executions, over both books.
 
 use super::equal;
 use super::orders::{order, price, rest};
-use hx_levels::{Book, Key, ListBook};
+use hx_levels::{Book, Key, LevelBook, ListBook};
 use hx_match::{Fill, Incoming, plan};
 use hx_units::{NoMemory, Side};
 use std::process::Abort;
@@ -47,8 +47,8 @@ fn display_first<B: Book, R: AllocGlobal + Abort>(rt: &R, book: &mut B) {
 
 #[test]
 fn display_beats_time(rt: HostRuntime) {
-    let mut book = ListBook::new(rt.alloc());
-    display_first(&rt, &mut book);
+    display_first(&rt, &mut ListBook::new(rt.alloc()));
+    display_first(&rt, &mut LevelBook::new(rt.alloc()));
 }
 
 fn small_order_stays<B: Book, R: AllocGlobal + Abort>(rt: &R, book: &mut B) {
@@ -60,8 +60,8 @@ fn small_order_stays<B: Book, R: AllocGlobal + Abort>(rt: &R, book: &mut B) {
 
 #[test]
 fn minimum_passed_over(rt: HostRuntime) {
-    let mut book = ListBook::new(rt.alloc());
-    small_order_stays(&rt, &mut book);
+    small_order_stays(&rt, &mut ListBook::new(rt.alloc()));
+    small_order_stays(&rt, &mut LevelBook::new(rt.alloc()));
 }
 
 fn each_execution_meets_the_minimum<B: Book, R: AllocGlobal + Abort>(rt: &R, book: &mut B) {
@@ -82,14 +82,14 @@ fn rest_keeps_its_minimum<B: Book, R: AllocGlobal + Abort>(rt: &R, book: &mut B)
 
 #[test]
 fn minimum_is_met_by_each_execution(rt: HostRuntime) {
-    let mut book = ListBook::new(rt.alloc());
-    each_execution_meets_the_minimum(&rt, &mut book);
+    each_execution_meets_the_minimum(&rt, &mut ListBook::new(rt.alloc()));
+    each_execution_meets_the_minimum(&rt, &mut LevelBook::new(rt.alloc()));
 }
 
 #[test]
 fn minimum_stays(rt: HostRuntime) {
-    let mut book = ListBook::new(rt.alloc());
-    rest_keeps_its_minimum(&rt, &mut book);
+    rest_keeps_its_minimum(&rt, &mut ListBook::new(rt.alloc()));
+    rest_keeps_its_minimum(&rt, &mut LevelBook::new(rt.alloc()));
 }
 
 fn best_price_first<B: Book, R: AllocGlobal + Abort>(rt: &R, book: &mut B) {
@@ -102,8 +102,8 @@ fn best_price_first<B: Book, R: AllocGlobal + Abort>(rt: &R, book: &mut B) {
 
 #[test]
 fn two_levels_taken(rt: HostRuntime) {
-    let mut book = ListBook::new(rt.alloc());
-    best_price_first(&rt, &mut book);
+    best_price_first(&rt, &mut ListBook::new(rt.alloc()));
+    best_price_first(&rt, &mut LevelBook::new(rt.alloc()));
 }
 
 fn hidden_on_both_sides<B: Book, R: AllocGlobal + Abort>(rt: &R, book: &mut B) {
@@ -117,6 +117,6 @@ fn hidden_on_both_sides<B: Book, R: AllocGlobal + Abort>(rt: &R, book: &mut B) {
 
 #[test]
 fn hidden_executions_on_both_sides(rt: HostRuntime) {
-    let mut book = ListBook::new(rt.alloc());
-    hidden_on_both_sides(&rt, &mut book);
+    hidden_on_both_sides(&rt, &mut ListBook::new(rt.alloc()));
+    hidden_on_both_sides(&rt, &mut LevelBook::new(rt.alloc()));
 }

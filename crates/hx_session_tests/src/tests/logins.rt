@@ -8,7 +8,7 @@ use super::packets::{
 };
 use super::stage::{Day, play};
 use arrayvec::ArrayVec;
-use hx_soup::{Payload, SoupPacket};
+use hx_soup::SoupPacket;
 use hx_testing::memory::{Behind, Input, Output};
 use std::sync::atomic::AtomicU64;
 
@@ -228,9 +228,11 @@ fn packets_that_ask_for_nothing(rt: HostRuntime) {
 
 #[test]
 fn no_password_in_a_printed_packet(rt: HostRuntime) {
+    let mut payload = ArrayVec::new();
+    let _ = payload.try_extend_from_slice(&ALPHA[3..]);
     let packet = SoupPacket {
         kind: b'L',
-        payload: Payload::of(copy_of(&rt, rt.alloc(), &ALPHA[3..])),
+        payload,
     };
     let text = format!(in rt.alloc(); "{packet:?}").expect(&rt, "a text");
     equal(&rt, text.as_str(), "SoupPacket { kind: 76, .. }");

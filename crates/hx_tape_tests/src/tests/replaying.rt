@@ -159,12 +159,32 @@ fn empty_tape(rt: HostRuntime) {
     equal(&rt, (counts.events, counts.feed, counts.replies), (0, 0, 0));
 }
 
+// A day, and its tape with more lines behind it.
+fn with_lines<R: AllocGlobal + Abort>(
+    rt: &R,
+    day: &str,
+    text: &[u8],
+) -> Result<(Day, Vec<u8>), Fail> {
+    let day = Day::of(rt.alloc(), day)?;
+    let mut tape = day.tape.clone().expect(rt, "memory");
+    tape.extend_from_slice(text).expect(rt, "memory");
+    Ok((day, tape))
+}
+
+// Two events are counted, and the output is that of the day.
+fn expect_second_event<R: Abort>(rt: &R, day: &Day, replayed: Replayed) {
+    let (output, result) = replayed;
+    let counts = result.expect(rt, "a replay");
+    equal(rt, counts.events, 2);
+    equal(rt, output.as_slice(), day.output.as_slice());
+}
+
 #[test]
-fn an_event_without_output(rt: HostRuntime) {
-    let (output, result) = replayed(rt.alloc(), b"20 1 00\n");
-    let counts = result.expect(&rt, "a replay");
-    equal(&rt, output.len(), 0);
-    equal(&rt, counts.events, 1);
+fn an_event_without_output(rt: HostRuntime) -> Result<(), Fail> {
+    let (day, tape) = with_lines(&rt, worked::ONE_DISPLAYED_ORDER, b"20 1 00\n")?;
+    expect_second_event(&rt, &day, replayed(rt.alloc(), &tape));
+    expect_second_event(&rt, &day, replayed_on_list(rt.alloc(), &tape));
+    Ok(())
 }
 
 // The second line is bad, behind the output of the day.
@@ -179,9 +199,7 @@ fn expect_bad_line<R: Abort>(rt: &R, day: &Day, replayed: Replayed, want: Kind) 
 
 // The line behind the tape of one displayed order is bad, over either book.
 pub fn expect_bad<R: AllocGlobal + Abort>(rt: &R, text: &[u8], want: Kind) -> Result<(), Fail> {
-    let day = Day::of(rt.alloc(), worked::ONE_DISPLAYED_ORDER)?;
-    let mut tape = day.tape.clone().expect(rt, "memory");
-    tape.extend_from_slice(text).expect(rt, "memory");
+    let (day, tape) = with_lines(rt, worked::ONE_DISPLAYED_ORDER, text)?;
     expect_bad_line(rt, &day, replayed(rt.alloc(), &tape), want);
     expect_bad_line(rt, &day, replayed_on_list(rt.alloc(), &tape), want);
     Ok(())

@@ -3,15 +3,17 @@ use super::{equal, holds};
 use arrayvec::ArrayVec;
 use hx_members::Setup;
 use hx_session_core::{Action, Delivery, Intake, Turn, start};
-use hx_soup::{LoginRequest, Payload, SoupPacket, accepted};
+use hx_soup::{LoginRequest, SoupPacket, accepted};
 use hx_units::MemberNo;
-use std::alloc::Global;
-use std::process::Abort;
 
 // What a packet asks for.
-fn asked(rt: &impl Abort, alloc: Global, intake: &mut Intake, kind: u8, payload: &[u8]) -> Action {
-    let payload = Payload::of(Vec::from_slice(alloc, payload).expect(rt, "memory"));
-    intake.packet(&SoupPacket { kind, payload })
+fn asked(intake: &mut Intake, kind: u8, payload: &[u8]) -> Action {
+    let mut bytes = ArrayVec::new();
+    let _ = bytes.try_extend_from_slice(payload);
+    intake.packet(&SoupPacket {
+        kind,
+        payload: bytes,
+    })
 }
 
 // A reply of one byte.
@@ -37,7 +39,7 @@ fn a_login_for_the_third_reply(rt: HostRuntime) {
     let setup = Setup::standard(rt.alloc()).expect(&rt, "memory");
     equal(
         &rt,
-        asked(&rt, rt.alloc(), &mut Intake::new(), b'L', PAYLOAD),
+        asked(&mut Intake::new(), b'L', PAYLOAD),
         Action::Login(LOGIN),
     );
     let start = start(&setup, &LOGIN, 5).expect(&rt, "accepted");
@@ -98,73 +100,31 @@ fn letters_of_rejected_logins(rt: HostRuntime) {
 
 #[test]
 fn packets_of_a_client(rt: HostRuntime) {
-    let alloc = rt.alloc();
     let mut intake = Intake::new();
-    equal(
-        &rt,
-        asked(&rt, alloc, &mut intake, b'L', PAYLOAD),
-        Action::Login(LOGIN),
-    );
-    equal(
-        &rt,
-        asked(&rt, alloc, &mut intake, b'U', b"O"),
-        Action::Submit,
-    );
+    equal(&rt, asked(&mut intake, b'L', PAYLOAD), Action::Login(LOGIN));
+    equal(&rt, asked(&mut intake, b'U', b"O"), Action::Submit);
     let ignored: [(u8, &[u8]); 3] = [(b'U', b""), (b'R', b"x"), (b'+', b"")];
     for (kind, payload) in ignored {
-        equal(
-            &rt,
-            asked(&rt, alloc, &mut intake, kind, payload),
-            Action::Ignore,
-        );
+        equal(&rt, asked(&mut intake, kind, payload), Action::Ignore);
     }
-    equal(
-        &rt,
-        asked(&rt, alloc, &mut intake, b'O', b"x"),
-        Action::Logout,
-    );
-    equal(
-        &rt,
-        asked(&rt, alloc, &mut intake, b'U', b"O"),
-        Action::Ignore,
-    );
+    equal(&rt, asked(&mut intake, b'O', b"x"), Action::Logout);
+    equal(&rt, asked(&mut intake, b'U', b"O"), Action::Ignore);
 }
 
 #[test]
 fn packets_that_are_faults(rt: HostRuntime) {
-    let alloc = rt.alloc();
     equal(
         &rt,
-        asked(&rt, alloc, &mut Intake::new(), b'L', &PAYLOAD[..45]),
+        asked(&mut Intake::new(), b'L', &PAYLOAD[..45]),
         Action::Fault,
     );
-    equal(
-        &rt,
-        asked(&rt, alloc, &mut Intake::new(), b'R', b""),
-        Action::Fault,
-    );
+    equal(&rt, asked(&mut Intake::new(), b'R', b""), Action::Fault);
     let mut intake = Intake::new();
-    equal(
-        &rt,
-        asked(&rt, alloc, &mut intake, b'L', PAYLOAD),
-        Action::Login(LOGIN),
-    );
-    equal(
-        &rt,
-        asked(&rt, alloc, &mut intake, b'L', PAYLOAD),
-        Action::Fault,
-    );
-    equal(
-        &rt,
-        asked(&rt, alloc, &mut intake, b'L', PAYLOAD),
-        Action::Ignore,
-    );
+    equal(&rt, asked(&mut intake, b'L', PAYLOAD), Action::Login(LOGIN));
+    equal(&rt, asked(&mut intake, b'L', PAYLOAD), Action::Fault);
+    equal(&rt, asked(&mut intake, b'L', PAYLOAD), Action::Ignore);
     let mut intake = Intake::Open;
-    equal(
-        &rt,
-        asked(&rt, alloc, &mut intake, b'S', b"O"),
-        Action::Fault,
-    );
+    equal(&rt, asked(&mut intake, b'S', b"O"), Action::Fault);
 }
 
 #[test]

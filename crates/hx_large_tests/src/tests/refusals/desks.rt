@@ -1,7 +1,7 @@
 //! A desk is given an event again where it lacks memory for it: nothing of the first time is left.
 //!
 //! Here it has all the memory that it needs. `tests/refusals` refuses each growth of this test in turn.
-ghost use Rattle.std.specs.Prelude.{◌≡◌};
+ghost use Rattle.std.specs.Prelude.{◌≡◌, length};
 
 use super::days::{DAYS, Worked};
 use crate::tests::{equal, holds};
@@ -16,28 +16,15 @@ use std::alloc::Global;
 use std::process::Abort;
 use std::test::*;
 
-// Records an event, and tells it at once.
-fn record(desk: &mut Desk, log: &Log<Entry>, event: &Event) -> Result<Done, DeskError>
-    requires log { desk.old.log ≡ log.now }
-    requires still { desk.old.sealed ≡ desk.old.told }
-    ensures log { desk.new.log ≡ desk.old.log }
-    ensures still { desk.new.sealed ≡ desk.new.told }
-{
-    let done = desk.admit(log, 1, event)?;
-    desk.seal();
-    desk.release(log);
-    Ok(done)
-}
-
 // The event is recorded, at the second time where there was no memory for it.
 fn record_again(desk: &mut Desk, log: &Log<Entry>, event: &Event) -> Result<Done, DeskError>
     requires log { desk.old.log ≡ log.now }
-    requires still { desk.old.sealed ≡ desk.old.told }
+    requires still { desk.old.told ≡ length desk.old.history }
     ensures log { desk.new.log ≡ desk.old.log }
-    ensures still { desk.new.sealed ≡ desk.new.told }
+    ensures still { desk.new.told ≡ length desk.new.history }
 {
-    match record(desk, log, event) {
-        Err(DeskError::NoMemory) => record(desk, log, event),
+    match desk.submit(log, 1, event) {
+        Err(DeskError::NoMemory) => desk.submit(log, 1, event),
         answer => answer,
     }
 }
@@ -45,7 +32,7 @@ fn record_again(desk: &mut Desk, log: &Log<Entry>, event: &Event) -> Result<Done
 // All events are recorded, each in its place.
 fn submit_all<R: Abort>(rt: &R, desk: &mut Desk, log: &Log<Entry>, events: &[Event])
     requires log { desk.old.log ≡ log.now }
-    requires still { desk.old.sealed ≡ desk.old.told }
+    requires still { desk.old.told ≡ length desk.old.history }
     ensures { desk.new.log ≡ desk.old.log }
 {
     for event in events {

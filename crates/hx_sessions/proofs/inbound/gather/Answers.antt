@@ -21,8 +21,8 @@ loop-packet-preserved-in-Ok g c =
       silent = λ e. absurd (cc (rw e at c.if-not-may_send.false));
       live = c.packet.ensures.after ∙ (ap (λ a. then_at c.loop-packet.intake a) c.in-Submit.is ∙ inv.live);
       upto = (
-        u.0 ++ p.payload ∷ [],
-        messages_more c.args.member c.now-time.result p.payload c.loop-packet.events.items c.add_message.new.events.items u.0 u.1 c.in-Ok.ensures.ok,
+        u.0 ++ p.payload.items ∷ [],
+        messages_more c.args.member c.now-time.result p.payload.items c.loop-packet.events.items c.add_message.new.events.items u.0 u.1 c.in-Ok.ensures.ok,
         upto_submit c.args.packets.items c.loop-packet.packet-iterator.rest.items others u.0 p u.2 steps.0 acts,
       );
     }

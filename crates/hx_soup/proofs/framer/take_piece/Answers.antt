@@ -36,8 +36,3 @@ returns-in_default-clause-err c =
     let w = c.in-Whole.ensures in
     rw (stream_split c.args.kept.now.items c.args.piece.now _ c.loop-at.at 0 left)
     (has_packet _ _ _ _ c.loop-at.invariant.1 (part_has_packet _ _ _ _ w.0 w.1))
-
-pub returns-in-NoMemory-clause-err : goal.returns-in-NoMemory-clause-err
-returns-in-NoMemory-clause-err c =
-    let left = take_rest c.args.piece.now c.loop-at.at in
-    rw (stream_split c.args.kept.now.items c.args.piece.now _ c.loop-at.at 0 left) (has_packet _ _ _ _ c.loop-at.invariant.1 c.in-NoMemory.ensures)

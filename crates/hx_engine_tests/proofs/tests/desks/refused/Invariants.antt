@@ -1,5 +1,5 @@
-use Rattle.std.proofs.Common.{◌≡◌}
+use Rattle.std.proofs.Common.{◌≡◌, length}
 use Rattle.hx_engine_tests.proofs.tests.desks.refused.Given as goal
 
 abbrev pub invariant-loop-member : goal.invariant-loop-member
-invariant-loop-member g l = (l.desk.log ≡ l.fn.desk.log) × (l.desk.sealed ≡ l.desk.told)
+invariant-loop-member g l = (l.desk.log ≡ l.fn.desk.log) × (l.desk.told ≡ length l.desk.history)

@@ -1,5 +1,5 @@
-use Rattle.std.proofs.Common.{◌≡◌}
+use Rattle.std.proofs.Common.{◌≡◌, length}
 use Rattle.hx_large_tests.proofs.tests.desk.submit_all.Given as goal
 
 abbrev pub invariant-loop-event : goal.invariant-loop-event
-invariant-loop-event g l = (l.desk.log ≡ l.fn.desk.log) × (l.desk.sealed ≡ l.desk.told)
+invariant-loop-event g l = (l.desk.log ≡ l.fn.desk.log) × (l.desk.told ≡ length l.desk.history)
