@@ -1,0 +1,124 @@
+//! A list of entries in the order of their ranks.
+ghost use Rattle.std.specs.Prelude.{◌≡◌, ◌<◌, ◌≤◌, length, take, drop, vec_capacity, vec_len};
+ghost use Rattle.std.specs.List.{find};
+ghost use Rattle.hx_ranked.specs.Ranked.{Every, IsRising, has_rank, inserted, without, renewed, first_rank, smallest_least, most_shares, first_within_of};
+
+use crate::entry::Entry;
+
+/// The rank of the first entry, or 0.
+pub fn first_rank(entries: &[Entry]) -> u128
+    ensures { result ≡ first_rank entries.now }
+{
+    match entries.first() {
+        Some(entry) => entry.rank,
+        None => 0,
+    }
+}
+
+/// The smallest of the least executions, or the largest number if there is no entry.
+pub fn smallest_least(entries: &[Entry]) -> u32
+    ensures { result ≡ smallest_least entries.now }
+{
+    let mut least = u32::MAX;
+    for entry in entries {
+        least = least.min(entry.least);
+    }
+    least
+}
+
+/// The most shares of an entry, or 0.
+pub fn most_shares(entries: &[Entry]) -> u32
+    ensures { result ≡ most_shares entries.now }
+{
+    let mut most = 0;
+    for entry in entries {
+        most = most.max(entry.shares);
+    }
+    most
+}
+
+/// The index of the first entry that does not rank before a rank, by binary search.
+pub fn lower_bound(entries: &[Entry], rank: u128) -> usize
+    requires { IsRising entries.now }
+    ensures inside { result ≤ length entries.now }
+    ensures before { Every (λ e. e.rank < rank) (take result entries.now) }
+    ensures after { Every (λ e. rank ≤ e.rank) (drop result entries.now) }
+{
+    let mut low = 0;
+    let mut high = entries.len();
+    while low < high {
+        let middle = low + (high - low) / 2;
+        if entries[middle].rank < rank {
+            low = middle + 1;
+        } else {
+            high = middle;
+        }
+    }
+    low
+}
+
+/// The entry of a rank, if there is one.
+pub fn get(entries: &[Entry], rank: u128) -> Option<Entry>
+    requires { IsRising entries.now }
+    ensures { result ≡ find (has_rank rank) entries.now }
+{
+    let at = lower_bound(entries, rank);
+    if at < entries.len() && entries[at].rank == rank {
+        return Some(entries[at]);
+    }
+    None
+}
+
+/// The first entry from a rank to another that can trade `left` shares at most and `minimum` at least.
+pub fn first_within(
+    entries: &[Entry],
+    from: u128,
+    last: u128,
+    left: u32,
+    minimum: u32,
+) -> Option<Entry>
+    ensures { result ≡ first_within_of from last left minimum entries.now }
+{
+    entries
+        .iter()
+        .copied()
+        .find(|entry| entry.is_within(from, last, left, minimum))
+}
+
+/// Inserts an entry at its rank. There must be capacity for it.
+pub fn insert(entries: &mut Vec<Entry>, entry: Entry)
+    requires sorted { IsRising entries.old.items }
+    requires room { vec_len entries.old < vec_capacity entries.old }
+    ensures items { entries.new.items ≡ inserted entry entries.old.items }
+    ensures capacity { vec_capacity entries.old ≤ vec_capacity entries.new }
+{
+    let at = lower_bound(entries, entry.rank);
+    let _put = entries.insert(at, entry);
+}
+
+/// Removes the entry of a rank, if there is one.
+pub fn remove(entries: &mut Vec<Entry>, rank: u128) -> Option<Entry>
+    requires { IsRising entries.old.items }
+    ensures found { result ≡ find (has_rank rank) entries.old.items }
+    ensures items { entries.new.items ≡ without rank entries.old.items }
+    ensures capacity { vec_capacity entries.new ≡ vec_capacity entries.old }
+{
+    let at = lower_bound(entries, rank);
+    if at < entries.len() && entries[at].rank == rank {
+        return Some(entries.remove(at));
+    }
+    None
+}
+
+/// Gives the entry of a rank another least execution and other shares, if there is one.
+pub fn renew(entries: &mut [Entry], rank: u128, least: u32, shares: u32)
+    requires { IsRising entries.old }
+    ensures { entries.new ≡ renewed rank least shares entries.old }
+{
+    let at = lower_bound(entries, rank);
+    if at < entries.len() && entries[at].rank == rank {
+        let entry = &mut entries[at];
+        entry.least = least;
+        entry.shares = shares;
+    }
+}
