@@ -6,3 +6,4 @@ pub mod Found
 pub mod Halved
 pub mod Joined
 pub mod Lists
+pub mod Summaries

@@ -1,7 +1,7 @@
 //! A block of entries.
 ghost use Rattle.std.specs.Prelude.{◌≡◌, ◌+◌, ◌++◌, ◌∷◌, [], ◌<◌, ◌≤◌, length, take, drop, vec_capacity};
 ghost use Rattle.std.specs.List.{find};
-ghost use Rattle.hx_ranked.specs.Ranked.{IsRising, has_rank, inserted, without, renewed, first_rank, first_within_of};
+ghost use Rattle.hx_ranked.specs.Ranked.{Every, IsRising, has_rank, inserted, without, renewed, first_rank, first_within_of};
 
 use crate::entries;
 use crate::entry::Entry;
@@ -82,8 +82,21 @@ impl Block {
         entries::get(&self.entries, rank)
     }
 
+    // An index before which all entries rank before a rank, to begin a search there.
+    fn start_of(&self, from: u128) -> usize
+        requires { IsRising self.now }
+        ensures inside { result ≤ length self.now }
+        ensures passed { Every (λ e. e.rank < from) (take result self.now) }
+    {
+        if from <= self.first {
+            return 0;
+        }
+        entries::lower_bound(&self.entries, from)
+    }
+
     /// The first entry from a rank to another that can trade `left` shares at most and `minimum` at least.
     pub fn first_within(&self, from: u128, last: u128, left: u32, minimum: u32) -> Option<Entry>
+        requires { IsRising self.now }
         ensures { result ≡ first_within_of from last left minimum self.now }
     {
         if self.least > left {
@@ -92,7 +105,8 @@ impl Block {
         if self.most < minimum {
             return None;
         }
-        entries::first_within(&self.entries, from, last, left, minimum)
+        let start = self.start_of(from);
+        entries::first_within(&self.entries[start..], from, last, left, minimum)
     }
 
     /// Inserts an entry at its rank. The block must not be full.
@@ -103,8 +117,8 @@ impl Block {
     {
         entries::insert(&mut self.entries, entry);
         self.first = entries::first_rank(&self.entries);
-        self.least = entries::smallest_least(&self.entries);
-        self.most = entries::most_shares(&self.entries);
+        self.least = self.least.min(entry.least);
+        self.most = self.most.max(entry.shares);
     }
 
     /// Removes the entry of a rank, if there is one.
@@ -113,11 +127,11 @@ impl Block {
         ensures found { result ≡ find (has_rank rank) self.old }
         ensures rest { self.new ≡ without rank self.old }
     {
-        let entry = entries::remove(&mut self.entries, rank);
+        let entry = entries::remove(&mut self.entries, rank)?;
         self.first = entries::first_rank(&self.entries);
-        self.least = entries::smallest_least(&self.entries);
-        self.most = entries::most_shares(&self.entries);
-        entry
+        self.least = entries::smallest_after(&self.entries, self.least, entry.least, u32::MAX);
+        self.most = entries::most_after(&self.entries, self.most, entry.shares, 0);
+        Some(entry)
     }
 
     /// Gives the entry of a rank another least execution and other shares, if there is one.
@@ -125,10 +139,11 @@ impl Block {
         requires { IsRising self.old }
         ensures { self.new ≡ renewed rank least shares self.old }
     {
-        entries::renew(&mut self.entries, rank, least, shares);
-        self.first = entries::first_rank(&self.entries);
-        self.least = entries::smallest_least(&self.entries);
-        self.most = entries::most_shares(&self.entries);
+        let Some(old) = entries::renew(&mut self.entries, rank, least, shares) else {
+            return;
+        };
+        self.least = entries::smallest_after(&self.entries, self.least, old.least, least);
+        self.most = entries::most_after(&self.entries, self.most, old.shares, shares);
     }
 
     /// Moves the second half of a full block into an empty list of a block's capacity.

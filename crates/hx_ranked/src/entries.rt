@@ -1,5 +1,5 @@
 //! A list of entries in the order of their ranks.
-ghost use Rattle.std.specs.Prelude.{◌≡◌, ◌<◌, ◌≤◌, length, take, drop, vec_capacity, vec_len};
+ghost use Rattle.std.specs.Prelude.{◌≡◌, ◌<◌, ◌≤◌, length, take, drop, min, max, vec_capacity, vec_len};
 ghost use Rattle.std.specs.List.{find};
 ghost use Rattle.hx_ranked.specs.Ranked.{Every, IsRising, has_rank, inserted, without, renewed, first_rank, smallest_least, most_shares, first_within_of};
 
@@ -35,6 +35,40 @@ pub fn most_shares(entries: &[Entry]) -> u32
         most = most.max(entry.shares);
     }
     most
+}
+
+/// The smallest of the least executions after one of them, or none, was `old` and is `new`, from the smallest before. It
+/// reads the entries only if that one may have been the smallest.
+pub fn smallest_after(entries: &[Entry], before: u32, old: u32, new: u32) -> u32
+    requires changed { min new before ≡ min old (smallest_least entries.now) }
+    requires same { old ≡ new → before ≡ smallest_least entries.now }
+    ensures { result ≡ smallest_least entries.now }
+{
+    if old == new {
+        return before;
+    }
+    let smallest = before.min(new);
+    if smallest < old {
+        return smallest;
+    }
+    smallest_least(entries)
+}
+
+/// The most shares of an entry after those of one, or of none, were `old` and are `new`, from the most before. It reads
+/// the entries only if that one may have had the most.
+pub fn most_after(entries: &[Entry], before: u32, old: u32, new: u32) -> u32
+    requires changed { max new before ≡ max old (most_shares entries.now) }
+    requires same { old ≡ new → before ≡ most_shares entries.now }
+    ensures { result ≡ most_shares entries.now }
+{
+    if old == new {
+        return before;
+    }
+    let most = before.max(new);
+    if most > old {
+        return most;
+    }
+    most_shares(entries)
 }
 
 /// The index of the first entry that does not rank before a rank, by binary search.
@@ -110,15 +144,19 @@ pub fn remove(entries: &mut Vec<Entry>, rank: u128) -> Option<Entry>
     None
 }
 
-/// Gives the entry of a rank another least execution and other shares, if there is one.
-pub fn renew(entries: &mut [Entry], rank: u128, least: u32, shares: u32)
+/// Gives the entry of a rank another least execution and other shares, if there is one, and returns it as it was.
+pub fn renew(entries: &mut [Entry], rank: u128, least: u32, shares: u32) -> Option<Entry>
     requires { IsRising entries.old }
-    ensures { entries.new ≡ renewed rank least shares entries.old }
+    ensures found { result ≡ find (has_rank rank) entries.old }
+    ensures items { entries.new ≡ renewed rank least shares entries.old }
 {
     let at = lower_bound(entries, rank);
     if at < entries.len() && entries[at].rank == rank {
         let entry = &mut entries[at];
+        let old = *entry;
         entry.least = least;
         entry.shares = shares;
+        return Some(old);
     }
+    None
 }

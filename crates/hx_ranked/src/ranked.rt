@@ -64,6 +64,9 @@ impl RankedBlocks {
         ensures exact { result ≡ first_within_of from last left minimum self.now.entries }
         ensures rising { IsRising self.now.entries }
     {
+        if self.len == 0 {
+            return None;
+        }
         blocks::first_within(&self.blocks, from, last, left, minimum)
     }
 

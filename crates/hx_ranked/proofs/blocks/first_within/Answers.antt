@@ -1,5 +1,6 @@
 use Rattle.std.proofs.Common.{sym, ◌∙◌}
 use Rattle.hx_ranked.proofs.Flat.{after-block, found-here, none-more, none-rest}
+use Rattle.hx_ranked.proofs.Changed.{rising-block}
 use Rattle.hx_ranked.proofs.blocks.first_within.Goals as goal
 
 -- the block begins after the last rank
@@ -16,3 +17,7 @@ returns-in-Some c =
 pub loop-at-preserved : goal.loop-at-preserved
 loop-at-preserved c =
     none-more c.args.from c.args.last c.args.left c.args.minimum c.args.blocks.now c.loop-at.at c.index-blocks-at.result c.loop-at-test.true c.index-blocks-at.is c.loop-at.invariant (sym c.first_within.ensures ∙ c.in_default.is)
+
+pub first_within-requires : goal.first_within-requires
+first_within-requires c =
+    rising-block c.args.blocks.now c.requires c.loop-at.at c.index-blocks-at.result c.loop-at-test.true c.index-blocks-at.is
