@@ -1,5 +1,5 @@
 -- On entries in blocks: where a rank stands among them, and what a change of a block leaves.
-use Rattle.std.proofs.Common.{◌≡◌, ℕ, suc, ◌+◌, ◌<◌, ◌≤◌, List, [], ◌∷◌, ◌++◌, length, get_or, set, take, drop, false, Some, None, refl, ap, sym, subst, ◌∙◌, arith, add-one, append_assoc}
+use Rattle.std.proofs.Common.{◌≡◌, ℕ, suc, ◌+◌, ◌<◌, ◌≤◌, List, [], ◌∷◌, ◌++◌, length, get_or, set, take, drop, false, Some, None, refl, ap, sym, subst, ◌∙◌, arith, add-one, append_assoc, nat_le, ◌&&◌, Bool, true}
 use Rattle.std.specs.List.{insert, remove}
 use Rattle.std.proofs.lemmas.List.{append-nil, take-append-drop, drop_more, take_more, set_split}
 use Rattle.std.proofs.lemmas.List.Folds.{find-append}
@@ -106,6 +106,15 @@ none-shares from last left minimum [] h = refl
 none-shares from last left minimum (x ∷ xs) h =
     let out : is_within from last left minimum x ≡ false = grind (arith, nat_tests) in
     rw out (none-shares from last left minimum xs (omega arith))
+
+-- so a block whose summaries rule its entries out has none
+pub none-qualifies : (from last left minimum : ℕ) (xs : List Entry) → (nat_le (smallest_least xs) left && nat_le minimum (most_shares xs)) ≡ false → first_within_of from last left minimum xs ≡ None
+none-qualifies from last left minimum xs h =
+    either (nat_le (smallest_least xs) left) refl h
+  where
+    either : (b : Bool) → nat_le (smallest_least xs) left ≡ b → (b && nat_le minimum (most_shares xs)) ≡ false → first_within_of from last left minimum xs ≡ None
+    either false g k = none-least from last left minimum xs (grind (arith, nat_tests))
+    either true g k = none-shares from last left minimum xs (grind (arith, nat_tests))
 
 module _ (from : ℕ) (last left minimum : ℕ) (bs : List (List Entry)) (i : ℕ) (b : List Entry) (within : i < length bs) (read : b ≡ get_or bs i b) (none : first_within_of from last left minimum (flat (take i bs)) ≡ None) where
   -- it is the block's, if the block has one

@@ -1,7 +1,7 @@
 //! A block of entries.
-ghost use Rattle.std.specs.Prelude.{◌≡◌, ◌+◌, ◌++◌, ◌∷◌, [], ◌<◌, ◌≤◌, length, take, drop, vec_capacity};
+ghost use Rattle.std.specs.Prelude.{◌≡◌, ◌&&◌, nat_le, ◌+◌, ◌++◌, ◌∷◌, [], ◌<◌, ◌≤◌, length, take, drop, vec_capacity};
 ghost use Rattle.std.specs.List.{find};
-ghost use Rattle.hx_ranked.specs.Ranked.{Every, IsRising, has_rank, inserted, without, renewed, first_rank, first_within_of};
+ghost use Rattle.hx_ranked.specs.Ranked.{Every, IsRising, has_rank, inserted, without, renewed, first_rank, smallest_least, most_shares, first_within_of};
 
 use crate::entries;
 use crate::entry::Entry;
@@ -94,17 +94,21 @@ impl Block {
         entries::lower_bound(&self.entries, from)
     }
 
+    /// Whether an entry can qualify, by the summaries: if not, no entry can trade `left` shares at most and `minimum` at
+    /// least.
+    #[inline(always)]
+    pub fn may_qualify(&self, left: u32, minimum: u32) -> bool
+        ensures { result ≡ (nat_le (smallest_least self.now) left && nat_le minimum (most_shares self.now)) }
+    {
+        self.least <= left && minimum <= self.most
+    }
+
     /// The first entry from a rank to another that can trade `left` shares at most and `minimum` at least.
+    #[inline(never)]
     pub fn first_within(&self, from: u128, last: u128, left: u32, minimum: u32) -> Option<Entry>
         requires { IsRising self.now }
         ensures { result ≡ first_within_of from last left minimum self.now }
     {
-        if self.least > left {
-            return None;
-        }
-        if self.most < minimum {
-            return None;
-        }
         let start = self.start_of(from);
         entries::first_within(&self.entries[start..], from, last, left, minimum)
     }

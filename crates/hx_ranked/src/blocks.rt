@@ -56,6 +56,9 @@ pub fn first_within(
         if last < block.first() {
             return None;
         }
+        if !block.may_qualify(left, minimum) {
+            continue;
+        }
         if let Some(entry) = block.first_within(from, last, left, minimum) {
             return Some(entry);
         }

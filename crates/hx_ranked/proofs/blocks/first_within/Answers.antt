@@ -1,5 +1,5 @@
 use Rattle.std.proofs.Common.{sym, ◌∙◌}
-use Rattle.hx_ranked.proofs.Flat.{after-block, found-here, none-more, none-rest}
+use Rattle.hx_ranked.proofs.Flat.{none-qualifies, after-block, found-here, none-more, none-rest}
 use Rattle.hx_ranked.proofs.Changed.{rising-block}
 use Rattle.hx_ranked.proofs.blocks.first_within.Goals as goal
 
@@ -21,3 +21,8 @@ loop-at-preserved c =
 pub first_within-requires : goal.first_within-requires
 first_within-requires c =
     rising-block c.args.blocks.now c.requires c.loop-at.at c.index-blocks-at.result c.loop-at-test.true c.index-blocks-at.is
+
+-- no entry of the block qualifies
+pub loop-at-preserved-then-not-may_qualify : goal.loop-at-preserved-then-not-may_qualify
+loop-at-preserved-then-not-may_qualify c =
+    none-more c.args.from c.args.last c.args.left c.args.minimum c.args.blocks.now c.loop-at.at c.index-blocks-at.result c.loop-at-test.true c.index-blocks-at.is c.loop-at.invariant (none-qualifies c.args.from c.args.last c.args.left c.args.minimum c.index-blocks-at.result (sym c.if-not-may_qualify.ensures))
