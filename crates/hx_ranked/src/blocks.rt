@@ -6,7 +6,8 @@ ghost use Rattle.hx_ranked.specs.Ranked.{Every, AreBlocks, flat, first_within_of
 use crate::block::{Block, CAPACITY};
 use crate::entry::Entry;
 
-// The index of the block to which a rank belongs, by binary search: the blocks before it rank before, those after it after.
+// The index of the block to which a rank belongs, by binary search: the entries of the blocks before it rank before the
+// rank, those of the blocks after it after the rank.
 fn locate(blocks: &[Block], rank: u128) -> usize
     requires some { 0 < length blocks.now }
     requires blocks { AreBlocks blocks.now }

@@ -14,10 +14,9 @@ pub struct Entry {
 
 impl Entry {
     // Whether it ranks from `from` to `last`, its least execution is no more than `left`, and it has `minimum` shares or more.
-    // The shares are tested first, since these tests are the cheaper ones.
     pub fn is_within(&self, from: u128, last: u128, left: u32, minimum: u32) -> bool
         ensures { result ≡ is_within from last left minimum self.now }
     {
-        self.least <= left && minimum <= self.shares && from <= self.rank && self.rank <= last
+        from <= self.rank && self.rank <= last && self.least <= left && minimum <= self.shares
     }
 }
