@@ -74,8 +74,6 @@ const TWOS: u64 = 0x00ff_00ff_00ff_00ff;
 const FOURS: u64 = 0x0000_ffff_0000_ffff;
 
 impl PackedName {
-    ghost use Rattle.hx_members.specs.Series.{number_of};
-
     /// A member's token in two words. Its letters are read four, two and eight at once.
     #[inline(always)]
     pub(crate) fn of(member: MemberNo, token: &Token) -> PackedName
@@ -102,10 +100,9 @@ impl PackedName {
 
     /// The number that its token's last eight letters spell, where they are digits. Of any letter the lower four bits are
     /// taken for a digit. Digits become numbers of two digits each, these numbers of four, and these the number.
+    /// Nothing is promised of it.
     #[inline(always)]
-    pub(crate) fn number(self) -> u64
-        ensures { result ≡ number_of self }
-    {
+    pub(crate) fn number(self) -> u64 {
         let digits = self.high & DIGITS;
         let twos = digits.wrapping_mul(10).wrapping_add(digits / 0x100) & TWOS;
         let fours = twos.wrapping_mul(100).wrapping_add(twos / 0x1_0000) & FOURS;
