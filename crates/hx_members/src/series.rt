@@ -133,6 +133,16 @@ impl AllSeries {
         }
     }
 
+    /// The name to which a hint probably leads, as `name_hint` tells it: its first letters are those of the name that the
+    /// member used last.
+    #[inline(always)]
+    pub(crate) fn likely_name(&self, hint: u64) -> Option<PackedName> {
+        match self.members.get((hint / 0x1_0000_0000) as usize) {
+            Some(series) => Some(series.last.with_number(hint % 0x1_0000_0000)),
+            None => None,
+        }
+    }
+
     /// What is in the cell to which a hint leads, as `name_hint` tells it, or 0.
     #[inline(always)]
     pub(crate) fn guess(&self, hint: u64) -> u32 {
