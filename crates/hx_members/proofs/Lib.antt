@@ -12,4 +12,3 @@ pub mod BadLines
 pub mod TextLaws
 pub mod Packing
 pub mod Indexes
-pub mod Cells

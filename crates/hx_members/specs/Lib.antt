@@ -1,7 +1,5 @@
 pub mod Chains
 pub mod Rows
-pub mod Series
-pub mod Places
 pub mod Tokens
 pub mod Packed
 pub mod Seeds

@@ -1,5 +1,5 @@
 -- A name in two words.
-use Rattle.std.specs.Prelude.{◌≡◌, ℕ, ◌+◌, ◌*◌, ◌/◌, ◌%◌, ◌^◌, ◌<◌, ◌++◌, List, [], ◌∷◌, slice_index}
+use Rattle.std.specs.Prelude.{◌≡◌, ℕ, ◌+◌, ◌*◌, ◌/◌, ◌%◌, ◌^◌, ◌<◌, ◌++◌, List, [], ◌∷◌, slice_index, bit_and}
 use Rattle.std.specs.Hash as fed
 use Rattle.std.specs.Int.{w16, w32, w64, to_le_bytes, from_le_bytes}
 use Rattle.std.proofs.Common.{ap, ◌∙◌}
@@ -21,9 +21,15 @@ high_of name =
     from_le_bytes w64 (slice_index t 6 ∷ slice_index t 7 ∷ slice_index t 8 ∷ slice_index t 9
     ∷ slice_index t 10 ∷ slice_index t 11 ∷ slice_index t 12 ∷ slice_index t 13 ∷ [])
 
--- what is hashed of a name: its two words at once, the high one above the low one
+-- the digits that the last two letters of a token spell, each in four bits
+abbrev pub last_of : Name → ℕ
+last_of name = let last = high_of name / 2 ^ 48 in last % 16 * 16 + last / 256 % 16
+
+-- what is hashed of a name: its two words at once without the last digits, the high one above the low one, and these digits
 abbrev pub hashed_of : Name → List (List ℕ)
-hashed_of name = fed.u128 (high_of name * 2 ^ 64 + low_of name)
+hashed_of name =
+    fed.u128 (bit_and (high_of name) 0xf0f0ffffffffffff * 2 ^ 64 + low_of name)
+    ++ fed.u8 (last_of name)
 
 -- the name of two words
 abbrev pub name_of_words : (low high : ℕ) → Name

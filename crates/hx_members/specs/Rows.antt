@@ -33,6 +33,10 @@ row_place name [] = None
 row_place name (row ∷ rows) =
     if is_name name row.0 then Some 0 else option_map suc (row_place name rows)
 
+-- whether the row at a place has the name
+abbrev pub is_at : List Row → Name → (place : ℕ) → Bool
+is_at rows name place = option_map_or (λ row. is_name name row.0) (slice_get rows place) false
+
 -- no row has the name
 abbrev pub IsUnused : Name → List Row → Type 0
 IsUnused name rows = row_place name rows ≡ None

@@ -62,9 +62,15 @@ impl Hash for PackedName {
 
     #[inline(always)]
     fn hash<H: Hasher>(&self, state: &mut H) {
-        state.write_u128(u128::from(self.high) * (1 << 64) + u128::from(self.low));
+        let rest = self.high & ALL_BUT_LAST;
+        let last = self.high / 0x1_0000_0000_0000;
+        state.write_u128(u128::from(rest) * (1 << 64) + u128::from(self.low));
+        state.write_u8((last % 16 * 16 + last / 256 % 16) as u8);
     }
 }
+
+// All but the digits of the last two of eight letters.
+const ALL_BUT_LAST: u64 = 0xf0f0_ffff_ffff_ffff;
 
 // Where digits stand in a word of letters, and then numbers of two digits, and of four.
 const DIGITS: u64 = 0x0f0f_0f0f_0f0f_0f0f;
@@ -73,9 +79,29 @@ const TWOS: u64 = 0x00ff_00ff_00ff_00ff;
 
 const FOURS: u64 = 0x0000_ffff_0000_ffff;
 
-impl PackedName {
-    ghost use Rattle.hx_members.specs.Series.{number_of};
+// Where quotients by 100 stand, and by 10, and the letter 0 in each place.
+const HUNDREDS: u64 = 0x0000_007f_0000_007f;
 
+const TENS: u64 = 0x000f_000f_000f_000f;
+
+const ZEROS: u64 = 0x3030_3030_3030_3030;
+
+// The eight digits of a number, the first in the lowest byte.
+#[inline(always)]
+fn spelled(number: u64) -> u64 {
+    let fours = number / 10_000 % 10_000 + number % 10_000 * 0x1_0000_0000;
+    let hundreds = fours.wrapping_mul(0x147b) / 0x8_0000 & HUNDREDS;
+    let twos = hundreds.wrapping_add(
+        fours
+            .wrapping_sub(hundreds.wrapping_mul(100))
+            .wrapping_mul(0x1_0000),
+    );
+    let tens = twos.wrapping_mul(0x67) / 0x400 & TENS;
+    let digits = tens.wrapping_add(twos.wrapping_sub(tens.wrapping_mul(10)).wrapping_mul(0x100));
+    digits | ZEROS
+}
+
+impl PackedName {
     /// A member's token in two words. Its letters are read four, two and eight at once.
     #[inline(always)]
     pub(crate) fn of(member: MemberNo, token: &Token) -> PackedName
@@ -102,10 +128,9 @@ impl PackedName {
 
     /// The number that its token's last eight letters spell, where they are digits. Of any letter the lower four bits are
     /// taken for a digit. Digits become numbers of two digits each, these numbers of four, and these the number.
+    /// Nothing is promised of it.
     #[inline(always)]
-    pub(crate) fn number(self) -> u64
-        ensures { result ≡ number_of self }
-    {
+    pub(crate) fn number(self) -> u64 {
         let digits = self.high & DIGITS;
         let twos = digits.wrapping_mul(10).wrapping_add(digits / 0x100) & TWOS;
         let fours = twos.wrapping_mul(100).wrapping_add(twos / 0x1_0000) & FOURS;
@@ -113,6 +138,16 @@ impl PackedName {
             .wrapping_mul(10_000)
             .wrapping_add(fours / 0x1_0000_0000)
             % 0x1_0000_0000
+    }
+
+    /// A name of the same member and the same first six letters, whose last eight are the digits of a number. Nothing is
+    /// promised of it.
+    #[inline(always)]
+    pub(crate) fn with_number(self, number: u64) -> PackedName {
+        PackedName {
+            low: self.low,
+            high: spelled(number),
+        }
     }
 
     /// The name in its usual form.

@@ -1,17 +1,16 @@
 //! The rows of the used tokens, in order of use.
-ghost use Rattle.std.specs.Prelude.{◌≡◌, ◌+◌, ◌<◌, ◌^◌, ◌++◌, [], ◌∷◌, length, Some, None, false, if◌then◌else◌, IsSome, IfSome, OnOk, OnErr, slice_get};
+ghost use Rattle.std.specs.Prelude.{◌≡◌, ◌+◌, ◌<◌, ◌≤◌, ◌^◌, ◌++◌, [], ◌∷◌, length, Some, None, false, IsSome, IfSome, OnOk, OnErr, slice_get};
 ghost use Rattle.std.specs.Option.{option_map, option_copied};
-ghost use Rattle.indexmap.specs.IndexMap.{get, spare};
+ghost use Rattle.indexmap.specs.IndexMap.{spare};
 ghost use Rattle.hx_members.specs.declared.name.Name.{Name};
 ghost use Rattle.hx_members.specs.Chains.{is_used, entered_at, IsChainAt};
-ghost use Rattle.hx_members.specs.Rows.{Row, is_name, AreDistinct, tokens_of, row_place, row_state, noted_rows, settled_rows};
-ghost use Rattle.hx_members.specs.Places.{is_at};
+ghost use Rattle.hx_members.specs.Rows.{Row, is_at, AreDistinct, tokens_of, row_place, row_state, noted_rows, settled_rows};
 
 use crate::name::{ChainFacts, Name, TokenState};
 use crate::packed::PackedName;
 use crate::seed::Seed;
 use crate::series::AllSeries;
-use hx_units::{Known, NoMemory, Token, reserve_ahead};
+use hx_units::{Known, NoMemory, Token, places_ahead};
 use indexmap::IndexMap;
 use std::alloc::Global;
 use std::marker::Model;
@@ -87,98 +86,109 @@ impl UsedToken {
     }
 }
 
-/// The most rows that cells may lead to: one more than a place fits into a cell. All rows behind these are strays.
-const MOST_CELLED: usize = 0xffff_ffff;
-
-/// How the next row will be found: by the cell of its name, or among the strays.
-#[derive(Clone, Copy)]
-pub(crate) enum Spot {
-    InSeries,
-    InStrays,
-}
-
-/// The place of the next row: its name, and how it is found.
-#[derive(Drop)]
-pub(crate) struct Reserved {
-    name: PackedName,
-    spot: Spot,
-}
-
-/// The rows, and the name for which a place is reserved. A row is found by the cell of its name in the series, from the
-/// name's number. Where there is no such cell, or the row of another name is in it, the row is a stray: its place is found
-/// from the hash of its name.
+/// The used tokens: one map, whose order is the order of use, and the name for which a place is reserved. A token is found by
+/// a hint first, the cell of its name in the series: where the entry to which that leads has another name, and where there is
+/// no hint, the map is asked.
 #[derive(Drop)]
 pub(crate) struct Rows {
-    rows: Vec<(PackedName, UsedToken)>,
+    tokens: IndexMap<PackedName, UsedToken, Seed>,
     series: AllSeries,
-    strays: IndexMap<PackedName, usize, Seed>,
-    place: Option<Reserved>,
+    place: Option<PackedName>,
     alloc: Global,
 }
 
 impl Model for Rows {
     ghost use Rattle.hx_members.specs.Rows.{RowList};
-    ghost use Rattle.hx_members.specs.Places.{IsIndex, IsSpot};
-    ghost use Rattle.std.specs.Prelude.{◌<◌, vec_len, vec_capacity, IfSome};
-    ghost use Rattle.std.specs.Option.{option_map};
+    ghost use Rattle.std.specs.Prelude.{◌<◌, IfSome};
+    ghost use Rattle.indexmap.specs.IndexMap.{spare};
 
     ghost Value = { RowList };
 
-    ghost view = { λ r. record { rows = r.rows.items; place = option_map (λ p. p.name) r.place } };
+    ghost view = { λ r. record { rows = r.tokens.entries; place = r.place } };
 
-    ghost invariant = { λ r. IsIndex r.series r.strays r.rows.items
-        × IfSome r.place (λ p. IsSpot r.series r.strays (vec_len r.rows) p.name p.spot
-        × (vec_len r.rows < vec_capacity r.rows)) };
+    ghost invariant = { λ r. IfSome r.place (λ _. 0 < spare r.tokens) };
 }
 
-// Whether the row at a place has the name.
+// Whether the token at an index has the name.
 #[inline(always)]
-fn is_at(rows: &[(PackedName, UsedToken)], place: usize, name: PackedName) -> bool
-    ensures { result ≡ is_at rows.now name place }
+fn is_at(tokens: &IndexMap<PackedName, UsedToken, Seed>, index: usize, name: PackedName) -> bool
+    ensures { result ≡ is_at tokens.now.entries name index }
 {
-    match rows.get(place) {
+    match tokens.get_index(index) {
         Some((other, _)) => name == *other,
         None => false,
     }
 }
 
-// The place of the stray of this name.
+// The index of a name, by its hash.
 #[inline(never)]
-fn stray_place(strays: &IndexMap<PackedName, usize, Seed>, name: PackedName) -> Option<usize>
-    ensures { result ≡ get is_name strays.now name }
+fn search(tokens: &IndexMap<PackedName, UsedToken, Seed>, name: PackedName) -> Option<usize>
+    ensures { result ≡ row_place name tokens.now.entries }
 {
-    strays.get(&name).copied()
+    tokens.get_index_of(&name)
 }
 
-// Adds a stray, for which there is room.
-#[inline(never)]
-fn add_stray(strays: &mut IndexMap<PackedName, usize, Seed>, name: PackedName, place: usize)
-    requires { 0 < spare strays.old }
-    ensures { (q : Name) → get is_name strays.new q
-        ≡ if is_name name q then Some place else get is_name strays.old q }
-{
-    strays.insert(name, place).unwrap();
-}
-
-// Sets the key at a place.
+// Makes room for one more token.
 #[inline(always)]
-fn settle_at(rows: &mut [(PackedName, UsedToken)], place: usize, key: Option<usize>)
-    ensures { rows.new ≡ settled_rows place key rows.old }
+fn make_room(tokens: &mut IndexMap<PackedName, UsedToken, Seed>) -> Result<(), NoMemory>
+    ensures entries { tokens.new.entries ≡ tokens.old.entries }
+    ensures room { spare tokens.old ≤ spare tokens.new }
+    ensures ok { OnOk result (0 < spare tokens.new) }
 {
-    if place < rows.len() {
-        rows[place].1.settle(key);
+    if tokens.capacity() == tokens.len() {
+        return grow_ahead(tokens);
+    }
+    Ok(())
+}
+
+// Grows a map that is full. A long one grows far ahead, where so much memory is to be had.
+#[inline(never)]
+fn grow_ahead(tokens: &mut IndexMap<PackedName, UsedToken, Seed>) -> Result<(), NoMemory>
+    ensures entries { tokens.new.entries ≡ tokens.old.entries }
+    ensures room { spare tokens.old ≤ spare tokens.new }
+    ensures ok { OnOk result (0 < spare tokens.new) }
+{
+    let _refused = tokens.reserve(places_ahead(tokens.len()));
+    tokens.reserve(1)?;
+    Ok(())
+}
+
+// Adds a token, for which there is room, and whose name is not there.
+#[inline(always)]
+fn add(tokens: &mut IndexMap<PackedName, UsedToken, Seed>, name: PackedName, used: UsedToken)
+    requires room { 0 < spare tokens.old }
+    requires unused { is_used (tokens_of tokens.old.entries) name.member name.token ≡ false }
+    ensures { tokens.new.entries ≡ tokens.old.entries ++ (name, used) ∷ [] }
+{
+    tokens.insert(name, used).unwrap();
+}
+
+// Sets the key at an index.
+#[inline(always)]
+fn settle_at(tokens: &mut IndexMap<PackedName, UsedToken, Seed>, index: usize, key: Option<usize>)
+    ensures entries { tokens.new.entries ≡ settled_rows index key tokens.old.entries }
+    ensures room { spare tokens.new ≡ spare tokens.old }
+{
+    if let Some(used) = tokens.get_index_mut(index) {
+        used.settle(key);
     }
 }
 
-// Adds to what the chain at a place has done.
+// Adds to what the chain at an index has done.
 #[inline(always)]
-fn note_at(rows: &mut [(PackedName, UsedToken)], chain: usize, shares: u32, displayed: bool)
-    requires { (row : Row) × (slice_get rows.old chain ≡ Some row)
+fn note_at(
+    tokens: &mut IndexMap<PackedName, UsedToken, Seed>,
+    chain: usize,
+    shares: u32,
+    displayed: bool,
+)
+    requires { (row : Row) × (slice_get tokens.old.entries chain ≡ Some row)
         × (row.1.executed + shares < 2 ^ 32) }
-    ensures { rows.new ≡ noted_rows chain shares displayed rows.old }
+    ensures entries { tokens.new.entries ≡ noted_rows chain shares displayed tokens.old.entries }
+    ensures room { spare tokens.new ≡ spare tokens.old }
 {
-    if chain < rows.len() {
-        rows[chain].1.note(shares, displayed);
+    if let Some(used) = tokens.get_index_mut(chain) {
+        used.note(shares, displayed);
     }
 }
 
@@ -189,9 +199,8 @@ impl Rows {
         ensures place { result.place ≡ None }
     {
         Rows {
-            rows: Vec::new(alloc),
+            tokens: IndexMap::with_hasher(alloc, seed),
             series: AllSeries::new(alloc),
-            strays: IndexMap::with_hasher(alloc, seed),
             place: None,
             alloc,
         }
@@ -202,7 +211,7 @@ impl Rows {
     pub(crate) fn len(&self) -> u64
         ensures { result ≡ length self.now.rows }
     {
-        self.rows.len() as u64
+        self.tokens.len() as u64
     }
 
     /// Makes room for one more row, of this name.
@@ -212,33 +221,9 @@ impl Rows {
         ensures ok { OnOk result (self.new.place ≡ Some name) }
         ensures err { OnErr result (self.new.place ≡ self.old.place) }
     {
-        if self.rows.len() >= MOST_CELLED {
-            return self.reserve_stray(name);
-        }
-        if !self.series.reserve(self.alloc, name)? {
-            return self.reserve_stray(name);
-        }
-        reserve_ahead(&mut self.rows, 1)?;
-        self.place = Some(Reserved {
-            name,
-            spot: Spot::InSeries,
-        });
-        Ok(())
-    }
-
-    // Makes room for one more row, of a name without a free cell: it will be a stray.
-    #[inline(never)]
-    fn reserve_stray(&mut self, name: PackedName) -> Result<(), NoMemory>
-        ensures rows { self.new.rows ≡ self.old.rows }
-        ensures ok { OnOk result (self.new.place ≡ Some name) }
-        ensures err { OnErr result (self.new.place ≡ self.old.place) }
-    {
-        reserve_ahead(&mut self.rows, 1)?;
-        self.strays.reserve(1)?;
-        self.place = Some(Reserved {
-            name,
-            spot: Spot::InStrays,
-        });
+        self.series.make_cell(self.alloc, name)?;
+        make_room(&mut self.tokens)?;
+        self.place = Some(name);
         Ok(())
     }
 
@@ -252,31 +237,35 @@ impl Rows {
             → self.new.rows ≡ self.old.rows ++ (name, used) ∷ [] }
         ensures place { self.new.place ≡ None }
     {
-        if let Some(place) = self.place.take() {
-            let Reserved { name, spot } = place;
-            match spot {
-                Spot::InSeries => self.series.set(name, self.rows.len() as u32 + 1),
-                Spot::InStrays => add_stray(&mut self.strays, name, self.rows.len()),
-            }
-            self.rows.push_reserved((name, used));
+        if let Some(name) = self.place.take() {
+            self.series.note(name, self.tokens.len());
+            add(&mut self.tokens, name, used);
         }
     }
 
-    /// The place of a name. Its cell is looked at first: where that leads to the name's row, and where there are no strays,
-    /// nothing is hashed. A cell that leads to the row of another name is passed over.
+    // The place to which a name's hint leads, where the row there has the name.
+    #[inline(always)]
+    fn hinted(&self, name: PackedName) -> Option<usize>
+        requires { AreDistinct (tokens_of self.now.rows) }
+        ensures { IfSome result (λ place. row_place name self.now.rows ≡ Some place) }
+    {
+        let at = (self.series.content(name) as usize).wrapping_sub(1);
+        if is_at(&self.tokens, at, name) {
+            return Some(at);
+        }
+        None
+    }
+
+    /// The place of a name. Its hint is looked at first: where that leads to the name's row, nothing is hashed.
     #[inline(always)]
     pub(crate) fn place(&self, name: PackedName) -> Option<usize>
         requires { AreDistinct (tokens_of self.now.rows) }
         ensures { result ≡ row_place name self.now.rows }
     {
-        let at = (self.series.place(name) as usize).wrapping_sub(1);
-        if is_at(&self.rows, at, name) {
-            return Some(at);
+        match self.hinted(name) {
+            Some(place) => Some(place),
+            None => search(&self.tokens, name),
         }
-        if self.strays.is_empty() {
-            return None;
-        }
-        stray_place(&self.strays, name)
     }
 
     /// The place of a name. The last row is looked at first.
@@ -285,8 +274,8 @@ impl Rows {
         requires { AreDistinct (tokens_of self.now.rows) }
         ensures { result ≡ row_place name self.now.rows }
     {
-        let last = self.rows.len().saturating_sub(1);
-        if is_at(&self.rows, last, name) {
+        let last = self.tokens.len().saturating_sub(1);
+        if is_at(&self.tokens, last, name) {
             return Some(last);
         }
         self.place(name)
@@ -297,7 +286,7 @@ impl Rows {
         ensures { option_copied result
             ≡ option_map (λ (row : Row). row.1) (slice_get self.now.rows place) }
     {
-        let (_, used) = self.rows.get(place)?;
+        let (_, used) = self.tokens.get_index(place)?;
         Some(used)
     }
 
@@ -305,7 +294,7 @@ impl Rows {
     pub(crate) fn name_at(&self, place: usize) -> Option<Name>
         ensures { result ≡ option_map (λ (row : Row). row.0) (slice_get self.now.rows place) }
     {
-        let (name, _) = self.rows.get(place)?;
+        let (name, _) = self.tokens.get_index(place)?;
         Some(name.name())
     }
 
@@ -340,7 +329,7 @@ impl Rows {
         ensures rows { self.new.rows ≡ settled_rows place key self.old.rows }
         ensures place { self.new.place ≡ self.old.place }
     {
-        settle_at(&mut self.rows, place, key);
+        settle_at(&mut self.tokens, place, key);
     }
 
     /// Adds to what the chain at a place has done.
@@ -350,18 +339,31 @@ impl Rows {
         ensures rows { self.new.rows ≡ noted_rows chain shares displayed self.old.rows }
         ensures place { self.new.place ≡ self.old.place }
     {
-        note_at(&mut self.rows, chain, shares, displayed);
+        note_at(&mut self.tokens, chain, shares, displayed);
     }
 
-    /// Looks at the cells to which hints lead, and at nothing else in between, so that they are waited for together. Nothing
-    /// is promised of the answer.
+    /// Looks at the cells to which hints lead, and where one is empty in the map, for the name that it probably stands for, so
+    /// that they are waited for together. Nothing is promised of the answer.
     #[inline(always)]
     pub(crate) fn sum_of_cells(&self, hints: &[u64]) -> u64 {
         let mut sum: u64 = 0;
         for hint in hints {
-            sum = sum.wrapping_add(u64::from(self.series.guess(*hint)));
+            sum = sum.wrapping_add(self.seen(*hint));
         }
         sum
+    }
+
+    // What is found by a hint.
+    #[inline(always)]
+    fn seen(&self, hint: u64) -> u64 {
+        let cell = self.series.guess(hint);
+        if cell != 0 {
+            return u64::from(cell);
+        }
+        match self.series.likely_name(hint) {
+            Some(name) => self.tokens.get_index_of(&name).unwrap_or(0) as u64,
+            None => 0,
+        }
     }
 
     // For each hint what is in the cell to which it leads: one more than a place, or 0.
@@ -389,7 +391,7 @@ impl Rows {
     // The key at the row before a place, or at the first row: which of them it is, is chosen without a branch.
     #[inline(always)]
     fn key_before(&self, place: usize) -> usize {
-        match self.rows.get(place.saturating_sub(1)) {
+        match self.tokens.get_index(place.saturating_sub(1)) {
             Some((_, used)) => used.key,
             None => usize::MAX,
         }

@@ -1,11 +1,9 @@
 use Rattle.std.proofs.Common.{sym, ap, ◌∙◌}
-use Rattle.hx_members.specs.Rows.{RowList}
-use Rattle.hx_members.specs.Places.{is_at}
+use Rattle.hx_members.specs.Rows.{RowList, is_at}
 use Rattle.hx_members.proofs.Indexes.{row_place-is_at}
 use Rattle.hx_members.proofs.rows.Rows.last_or_place.Goals as goal
 
 pub returns-then-is_at : goal.returns-then-is_at
 returns-then-is_at c =
     let last = c.saturating_sub-last.result in
-    let rows = c.deref.ensures.value ∙ ap (λ (v : RowList). v.rows) c.self.view_is in
-    sym (row_place-is_at c.args.name c.args.self.now.rows last c.requires (ap (λ l. is_at l c.args.name last) (sym rows) ∙ sym c.is_at.ensures ∙ c.if-is_at.true))
+    sym (row_place-is_at c.args.name c.args.self.now.rows last c.requires (ap (λ (v : RowList). is_at v.rows c.args.name last) (sym c.self.view_is) ∙ sym c.is_at.ensures ∙ c.if-is_at.true))
