@@ -84,10 +84,11 @@ crosses_last n terms y c =
 pub own_entry : (n : ℕ → ℕ) (next : ℕ) (orders : List Live) → AreNumbered n next orders → next < 2 ^ 63
     → AllByRecursion (λ y. is_conditional y.order ≡ true → entry_at n (rank_of n y) orders ≡ Some (entry_of n y)) orders
 own_entry n next [] a l = tt
-own_entry n next (x ∷ xs) a l =
-    ((λ c. entry-step n (rank_of n x) x xs ∙ cond-true (is_waiting_at n (rank_of n x) x) (Some (entry_of n x)) (entry_at n (rank_of n x) xs)
-    (and_from (is_conditional x.order) (eqb (rank_of n x) (rank_of n x)) c (eq-eqb (rank_of n x) (rank_of n x) refl))),
-    later xs a.0 (all-small n next xs a.2 l) (own_entry n next xs a.2 l))
+own_entry n next (x ∷ xs) a l = (
+  (λ c. entry-step n (rank_of n x) x xs ∙ cond-true (is_waiting_at n (rank_of n x) x) (Some (entry_of n x)) (entry_at n (rank_of n x) xs)
+      (and_from (is_conditional x.order) (eqb (rank_of n x) (rank_of n x)) c (eq-eqb (rank_of n x) (rank_of n x) refl))),
+  later xs a.0 (all-small n next xs a.2 l) (own_entry n next xs a.2 l),
+)
   where
     other : (y : Live) → n x.key.0 < n y.key.0 → n y.key.0 < 2 ^ 63 → is_waiting_at n (rank_of n y) x ≡ false
     other y g s = false_from_ne_true (is_waiting_at n (rank_of n y) x) (λ t.
@@ -99,9 +100,10 @@ own_entry n next (x ∷ xs) a l =
         → AllByRecursion (λ y. is_conditional y.order ≡ true → entry_at n (rank_of n y) xs ≡ Some (entry_of n y)) zs
         → AllByRecursion (λ y. is_conditional y.order ≡ true → entry_at n (rank_of n y) (x ∷ xs) ≡ Some (entry_of n y)) zs
     later [] g s h = tt
-    later (z ∷ zs) g s h =
-        ((λ c. entry-step n (rank_of n z) x xs ∙ cond-false (is_waiting_at n (rank_of n z) x) (Some (entry_of n x)) (entry_at n (rank_of n z) xs) (other z g.0 s.0) ∙ h.0 c),
-        later zs g.1 s.1 h.1)
+    later (z ∷ zs) g s h = (
+      (λ c. entry-step n (rank_of n z) x xs ∙ cond-false (is_waiting_at n (rank_of n z) x) (Some (entry_of n x)) (entry_at n (rank_of n z) xs) (other z g.0 s.0) ∙ h.0 c),
+      later zs g.1 s.1 h.1,
+    )
 
 -- the order of an entry
 record OfEntry (n : ℕ → ℕ) (rank : ℕ) (e : Entry) (orders : List Live) : Type 0 where

@@ -170,9 +170,11 @@ module _ (n : ℕ → ℕ) (entries : List Entry) (orders : List Live) (f : Fact
       → Some e ≡ option_map (entry_of n) (find (λ y. is_conditional y.order) (rest_after after (ranked terms orders)))
   conditional_found after r lim e h up l =
       let first = first-of-all (is_entry_from (rank_after n terms after orders)) e entries up h in
-      conditional_is after r lim (Some e)
-      (first.0, and_from (leb (rank_after n terms after orders) e.rank) (leb e.rank (last_rank terms)) first.1 (to_leb e.rank (last_rank terms) l),
-      λ q v g t. first.2 q v g (and_parts (leb (rank_after n terms after orders) v.rank) (leb v.rank (last_rank terms)) t).0)
+      conditional_is after r lim (Some e) (
+        first.0,
+        and_from (leb (rank_after n terms after orders) e.rank) (leb e.rank (last_rank terms)) first.1 (to_leb e.rank (last_rank terms) l),
+        λ q v g t. first.2 q v g (and_parts (leb (rank_after n terms after orders) v.rank) (leb v.rank (last_rank terms)) t).0,
+      )
 
   pub conditional_past : (after : Option Key) → IfSome after (λ key. IsRanked terms key.0 orders) → limit_of terms < 2 ^ 32 → (e : Entry)
       → find (is_entry_from (rank_after n terms after orders)) entries ≡ Some e → IsRising entries → last_rank terms < e.rank

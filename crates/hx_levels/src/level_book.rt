@@ -225,7 +225,8 @@ impl LevelBook {
     {
         let node = unlink_in_time(&mut self.nodes, key.0);
         let rung = rung_of(&node.order);
-        self.conditional.remove(rank_at(rung, node.order.shown, node.number));
+        self.conditional
+            .remove(rank_at(rung, node.order.shown, node.number));
         self.time = self.time.without(node.time);
         node.order
     }

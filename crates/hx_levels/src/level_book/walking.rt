@@ -15,6 +15,7 @@ use hx_ranked::Entry;
 
 // The upper half of a rank is the number of the level, the lower half says whether the order is shown, and its number.
 const LEVEL: u128 = 1 << 64;
+
 const HIDDEN: u64 = 1 << 63;
 
 /// The rank of an order at a level, shown or not, with its number.
@@ -138,11 +139,7 @@ impl LevelBook {
         ensures small { result + 1 < 2 ^ 128 }
     {
         let order = self.nodes.order(key.0).unwrap();
-        rank_at(
-            rung_of(order),
-            order.shown,
-            self.nodes.links(key.0).number,
-        )
+        rank_at(rung_of(order), order.shown, self.nodes.links(key.0).number)
     }
 
     // The least rank of the orders after the one with the key, or of all that cross the terms.
@@ -176,13 +173,7 @@ impl LevelBook {
     // The next order in the queues, after the one with the key or the first, that ranks at `from` or after it and has
     // `least` open shares.
     #[inline(always)]
-    fn ready_from(
-        &self,
-        terms: &Terms,
-        start: Option<Key>,
-        from: u128,
-        least: u32,
-    ) -> Option<Key>
+    fn ready_from(&self, terms: &Terms, start: Option<Key>, from: u128, least: u32) -> Option<Key>
         requires { IfSome start (λ key.
             IsRanked terms.now key.0 (unconditional self.now.orders)) }
         ensures { result ≡ option_map (λ live. live.key)
@@ -286,13 +277,7 @@ impl LevelBook {
 
     /// The next order by rank that crosses the terms and qualifies, as a step of a walk.
     #[inline(always)]
-    pub fn walk_on(
-        &self,
-        terms: &Terms,
-        walk: &mut Walk,
-        left: u32,
-        minimum: u32,
-    ) -> Option<Key>
+    pub fn walk_on(&self, terms: &Terms, walk: &mut Walk, left: u32, minimum: u32) -> Option<Key>
         requires { IsWalk terms.now minimum self.now.orders walk.old }
         ensures exact { result
             ≡ next_qualifying terms.now walk.old.after left minimum self.now.orders }

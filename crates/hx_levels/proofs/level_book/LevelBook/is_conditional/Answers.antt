@@ -14,4 +14,3 @@ unwrap-requires c =
     let h : has_key c.args.key.0 (walked i.nodes i.time) ≡ true = ap (λ v. has_key c.args.key.0 v.orders) c.self.view_is ∙ c.requires in
     let f = node_found i.nodes i.ladders.levels i.time i.place i.kept i.next i.conditional (walked i.nodes i.time) c.self.invariant c.args.key.0 h in
     sym (is_some-map (λ (x : Bor Order). x.now) c.order.result) ∙ ap is_some (c.order.ensures ∙ ap (option_map (λ (n : Node). n.order)) f.stored)
-
