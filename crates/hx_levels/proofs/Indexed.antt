@@ -1,8 +1,8 @@
 -- The ranked blocks hold the conditional orders, after each change too.
-use Rattle.std.proofs.Common.{◌≡◌, ℕ, ◌+◌, ◌-◌, ◌^◌, ◌<◌, Bool, true, false, ◌&&◌, cond, eqb, min, max, List, [], ◌∷◌, ◌++◌, Option, Some, None, refl, sym, ap, ◌∙◌, subst, arith, eqb-true, eq-eqb, ne_eqb}
+use Rattle.std.proofs.Common.{◌≡◌, ℕ, ◌-◌, ◌^◌, ◌<◌, Bool, true, false, ◌&&◌, cond, eqb, List, [], ◌∷◌, ◌++◌, Option, Some, None, refl, sym, ap, ◌∙◌, subst, arith, eqb-true, eq-eqb}
 use Rattle.std.specs.List.{AllByRecursion, find}
 use Rattle.std.specs.Option.{option_map}
-use Rattle.std.proofs.lemmas.Bool.{cond_both, cond-true, cond-false, true≢false, eqb-false, and_parts, and_from, false_from_ne_true}
+use Rattle.std.proofs.lemmas.Bool.{cond-true, cond-false, eqb-false, and_parts}
 use Rattle.hx_levels.specs.declared.order.Live.{Live}
 use Rattle.hx_levels.specs.Lists.{drop_first}
 use Rattle.hx_levels.specs.Book.{is_under, is_conditional, with_less, reduced, terms_of}
@@ -10,7 +10,7 @@ use Rattle.hx_levels.specs.LevelBook.{AreNumbered, AreIndexed, rank_at, rank_of,
 use Rattle.hx_levels.proofs.Lists.{found_among, or_else}
 use Rattle.hx_levels.proofs.Numbers.{AreSame, all-below, ranks-differ}
 use Rattle.hx_ranked.specs.declared.entry.Entry.{Entry}
-use Rattle.hx_ranked.specs.Ranked.{has_rank, inserted, without, renewed, with_least, IsFree}
+use Rattle.hx_ranked.specs.Ranked.{inserted, without, renewed, with_least, IsFree}
 use Rattle.hx_ranked.proofs.Found.{find-inserted, find-without, find-renewed}
 
 mapped : {A B : Type 0} (f : A → B) (b : Bool) (x : A) (r : Option A) → option_map f (cond b (Some x) r) ≡ cond b (Some (f x)) (option_map f r)

@@ -1,26 +1,22 @@
 -- The orders that cross incoming terms, by rank, rise by their ranks as numbers.
-use Rattle.std.proofs.Common.{◌≡◌, ℕ, ◌+◌, ◌-◌, ◌*◌, ◌^◌, ◌<◌, ◌≤◌, ◌⊎◌, inl, inr, Bool, true, false, not, ◌||◌, ◌&&◌, cond, eqb, ltb, leb, List, [], ◌∷◌, Option, Some, None, refl, sym, ap, ◌∙◌, subst, arith, eqb-true, eq-eqb}
+use Rattle.std.proofs.Common.{◌≡◌, ℕ, ◌+◌, ◌*◌, ◌^◌, ◌<◌, inl, inr, Bool, true, false, not, ◌||◌, ◌&&◌, cond, eqb, ltb, List, [], ◌∷◌, Some, refl, sym, ap, ◌∙◌, subst, arith, eqb-true, eq-eqb}
 use Rattle.std.specs.List.{AllByRecursion, find, filter}
-use Rattle.std.specs.Option.{option_map, IfSome}
-use Rattle.std.proofs.lemmas.Bool.{cond_both, cond-true, cond-false, true≢false, false_from_ne_true, and_parts, cases_order}
+use Rattle.std.proofs.lemmas.Bool.{cond_both, cond-true, cond-false, true≢false, false_from_ne_true, cases_order}
 use Rattle.std.proofs.lemmas.Bool.Decides.{nat_tests}
 use Rattle.hx_levels.specs.declared.order.Live.{Live}
-use Rattle.hx_levels.specs.declared.order.Key.{Key}
 use Rattle.hx_levels.specs.declared.order.Terms.{Terms}
-use Rattle.hx_levels.specs.Lists.{behind_first}
 use Rattle.hx_levels.specs.Rank.{placed, by_rank, first_of}
-use Rattle.hx_levels.specs.Rung.{LevelKey, rung_number, side_number}
-use Rattle.hx_units.specs.Side.{is_buy}
-use Rattle.hx_levels.specs.Book.{is_under, is_ahead, crosses, ranked, has_key, terms_of, KeysDiffer, is_conditional, unconditional, rest_after, IsRanked}
-use Rattle.hx_levels.specs.LevelBook.{AreNumbered, rank_at, rank_of, rung_of, contra, limit_of, first_rank, last_rank}
-use Rattle.hx_levels.proofs.Lists.{PassesOnce, all_weaker, all_filtered, once_filtered, found_among}
+use Rattle.hx_levels.specs.Rung.{side_number}
+use Rattle.hx_levels.specs.Book.{is_under, is_ahead, crosses, ranked, has_key, KeysDiffer, is_conditional, unconditional}
+use Rattle.hx_levels.specs.LevelBook.{AreNumbered, rank_at, rank_of, contra}
+use Rattle.hx_levels.proofs.Lists.{all_weaker, all_filtered, once_filtered}
 use Rattle.hx_levels.proofs.Rank.{placed-all, all_ranked, first_of-find, first_of-filter, find-by_rank}
 use Rattle.hx_levels.proofs.Orders.{ahead_asym, ahead_skip, once_under}
-use Rattle.hx_levels.proofs.LevelRanks.{IsPriced, both_all, crosses-rung, distance_of, ahead-distance}
+use Rattle.hx_levels.proofs.LevelRanks.{IsPriced, crosses-rung, distance_of, ahead-distance}
 use Rattle.hx_levels.proofs.LevelNext.{find-kept}
 use Rattle.hx_levels.proofs.Numbers.{numbered-filtered}
 use Rattle.hx_levels.proofs.Indexed.{all-small}
-use Rattle.hx_levels.proofs.Rising.{IsRisingBy, find-same, after_is, from_all}
+use Rattle.hx_levels.proofs.Rising.{IsRisingBy}
 
 -- an order that crosses the terms, as far as ranks go
 abbrev pub IsCrossing : (n : ℕ → ℕ) → Terms → Live → Type 0

@@ -1,12 +1,12 @@
 -- Lists whose orders rise by a number: what stands after one of them, what is found first, and what two searches find together.
-use Rattle.std.proofs.Common.{◌≡◌, ℕ, suc, ◌+◌, ◌<◌, ◌≤◌, Bool, true, false, not, ◌&&◌, cond, ltb, leb, List, [], ◌∷◌, Option, Some, None, refl, sym, ap, ◌∙◌, subst, arith, eq-eqb}
+use Rattle.std.proofs.Common.{◌≡◌, ℕ, ◌+◌, ◌<◌, ◌≤◌, Bool, true, false, not, ◌&&◌, cond, ltb, leb, List, [], ◌∷◌, Option, Some, None, refl, sym, ap, ◌∙◌, subst, arith}
 use Rattle.std.specs.List.{AllByRecursion, find}
 use Rattle.std.proofs.lemmas.Bool.{cond_both, cond-true, cond-false, true≢false, false_from_ne_true, and_parts, and_from}
 use Rattle.std.proofs.lemmas.Bool.Decides.{nat_tests}
 use Rattle.hx_levels.specs.declared.order.Live.{Live}
 use Rattle.hx_levels.specs.Lists.{behind_first}
 use Rattle.hx_levels.specs.Book.{is_under}
-use Rattle.hx_levels.proofs.Lists.{found_among, find-none, all_weaker}
+use Rattle.hx_levels.proofs.Lists.{found_among, all_weaker}
 
 pub find-same_all : (p q : Live → Bool) (xs : List Live) → AllByRecursion (λ x. p x ≡ q x) xs → find p xs ≡ find q xs
 find-same_all p q [] h = refl

@@ -1,26 +1,23 @@
 -- What the ranked blocks find is the next conditional order by rank.
-use Rattle.std.proofs.Common.{◌≡◌, ℕ, ◌+◌, ◌-◌, ◌*◌, ◌^◌, ◌<◌, ◌≤◌, Bool, true, false, not, ◌||◌, ◌&&◌, cond, eqb, ltb, leb, max, min, List, [], ◌∷◌, Option, Some, None, refl, sym, ap, ◌∙◌, subst, arith, eqb-true, eq-eqb}
+use Rattle.std.proofs.Common.{◌≡◌, ℕ, ◌+◌, ◌-◌, ◌*◌, ◌^◌, ◌<◌, ◌≤◌, Bool, true, false, not, ◌&&◌, cond, eqb, leb, List, [], ◌∷◌, Option, Some, None, refl, sym, ap, ◌∙◌, subst, arith, eqb-true, eq-eqb}
 use Rattle.std.specs.List.{AllByRecursion, find, filter}
-use Rattle.std.specs.Option.{option_map, IfSome, MatchOption}
-use Rattle.std.proofs.lemmas.Bool.{cond_both, cond-true, cond-false, true≢false, false_from_ne_true, true_from_ne_false, and_parts, and_from}
-use Rattle.std.proofs.lemmas.Bool.Decides.{nat_tests}
+use Rattle.std.specs.Option.{option_map, IfSome}
+use Rattle.std.proofs.lemmas.Bool.{cond-true, cond-false, true≢false, false_from_ne_true, and_parts, and_from}
 use Rattle.hx_units.specs.Side.{is_buy}
 use Rattle.hx_levels.specs.declared.order.Live.{Live}
 use Rattle.hx_levels.specs.declared.order.Key.{Key}
-use Rattle.hx_levels.specs.declared.order.Order.{Order}
 use Rattle.hx_levels.specs.declared.order.Terms.{Terms}
-use Rattle.hx_levels.specs.Lists.{behind_first}
 use Rattle.hx_levels.specs.Rung.{LevelKey, rung_number, side_number}
-use Rattle.hx_levels.specs.Book.{is_under, is_ahead, crosses, ranked, terms_of, has_key, KeysDiffer, is_conditional, rest_after, IsRanked}
-use Rattle.hx_levels.specs.LevelBook.{AreNumbered, AreIndexed, rank_at, rank_of, rung_of, contra, limit_of, first_rank, last_rank, least_of, entry_of, entry_at, is_waiting_at}
-use Rattle.hx_levels.specs.Walks.{rank_after, rank_past, is_waiting}
+use Rattle.hx_levels.specs.Book.{is_under, is_ahead, crosses, ranked, terms_of, KeysDiffer, is_conditional, rest_after, IsRanked}
+use Rattle.hx_levels.specs.LevelBook.{AreNumbered, AreIndexed, rank_at, rank_of, rung_of, contra, limit_of, first_rank, last_rank, entry_of, entry_at, is_waiting_at}
+use Rattle.hx_levels.specs.Walks.{rank_after, rank_past}
 use Rattle.hx_levels.proofs.Lists.{all_weaker, all_filtered, found_among, find-none}
 use Rattle.hx_levels.proofs.Rank.{all_ranked}
 use Rattle.hx_levels.proofs.Orders.{ahead_asym, ahead_skip}
 use Rattle.hx_levels.proofs.LevelRanks.{IsPriced, crosses-rung, rung-crosses, distance_of}
 use Rattle.hx_levels.proofs.Numbers.{ranks-differ}
 use Rattle.hx_levels.proofs.Indexed.{entry-step, all-small}
-use Rattle.hx_levels.proofs.Rising.{IsRisingBy, find-same, find-same_all, found_passes, all_fail, found_least, from_all, after_is}
+use Rattle.hx_levels.proofs.Rising.{found_passes, found_least, from_all, after_is}
 use Rattle.hx_levels.proofs.Ranking.{IsCrossing, ranked_rising, ranked_crossing, ranked_found, all_own}
 use Rattle.hx_ranked.specs.declared.entry.Entry.{Entry}
 use Rattle.hx_ranked.specs.Ranked.{has_rank}

@@ -1,5 +1,5 @@
 -- Each step of a walk by levels is the next order by rank that qualifies.
-use Rattle.std.proofs.Common.{◌≡◌, ℕ, ◌+◌, ◌^◌, ◌<◌, ◌≤◌, Bool, true, false, not, ◌&&◌, cond, ltb, leb, max, min, List, [], ◌∷◌, Option, Some, None, refl, sym, ap, ◌∙◌, subst, arith, eq-eqb}
+use Rattle.std.proofs.Common.{◌≡◌, ℕ, ◌+◌, ◌^◌, ◌<◌, ◌≤◌, Bool, true, false, not, ◌&&◌, cond, ltb, leb, max, min, List, [], ◌∷◌, Option, Some, None, refl, sym, ap, ◌∙◌, subst, arith}
 use Rattle.std.specs.List.{AllByRecursion, find, filter}
 use Rattle.std.specs.Option.{option_map, IfSome, IfNone}
 use Rattle.std.proofs.lemmas.Bool.{cond_both, cond-true, cond-false, true≢false, false_from_ne_true, and_parts, and_from}
@@ -7,15 +7,14 @@ use Rattle.std.proofs.lemmas.Bool.Decides.{nat_tests}
 use Rattle.slab.specs.Slab.{Slab}
 use Rattle.hx_levels.specs.declared.order.Live.{Live}
 use Rattle.hx_levels.specs.declared.order.Key.{Key}
-use Rattle.hx_levels.specs.declared.order.Order.{Order}
 use Rattle.hx_levels.specs.declared.order.Terms.{Terms}
 use Rattle.hx_levels.specs.declared.order.Walk.{Walk}
 use Rattle.hx_levels.specs.declared.level_book.linked_orders.Node.{Node}
 use Rattle.hx_levels.specs.declared.level_book.linked_orders.Ends.{Ends}
 use Rattle.hx_levels.specs.Rung.{LevelKey}
 use Rattle.hx_levels.specs.Levels.{LevelStore}
-use Rattle.hx_levels.specs.Lists.{head_of, behind_first}
-use Rattle.hx_levels.specs.Book.{is_under, is_ahead, crosses, ranked, has_key, KeysDiffer, is_conditional, unconditional, rest_after, IsRanked, IsWalk, qualifies, next_qualifying, is_ready, next_ready, next_by_rank}
+use Rattle.hx_levels.specs.Lists.{behind_first}
+use Rattle.hx_levels.specs.Book.{is_under, is_ahead, crosses, ranked, has_key, KeysDiffer, is_conditional, unconditional, rest_after, IsRanked, IsWalk, next_qualifying, is_ready, next_ready, next_by_rank}
 use Rattle.hx_levels.specs.declared.level_book.LevelBook.TheInside.{Inside}
 use Rattle.hx_levels.specs.LevelBook.{LevelContents, walked, AreNumbered, AreIndexed, IsBook, number_in, rank_of, limit_of, first_rank, last_rank, least_of, entry_of, entry_at}
 use Rattle.hx_levels.specs.Walks.{rank_after, rank_past, is_from, is_waiting}
@@ -26,11 +25,11 @@ use Rattle.hx_levels.proofs.LevelRanks.{IsPriced}
 use Rattle.hx_levels.proofs.Added.{none_has}
 use Rattle.hx_levels.proofs.Keys.{differ-filtered}
 use Rattle.hx_levels.proofs.Numbers.{numbered-filtered}
-use Rattle.hx_levels.proofs.Next.{Ranked, next-some}
-use Rattle.hx_levels.proofs.Rising.{IsRisingBy, find-same, find-same_all, found_passes, found_least, find-both, from_all, after_is, rising_after, begins_later, sooner, found_by_two}
+use Rattle.hx_levels.proofs.Next.{next-some}
+use Rattle.hx_levels.proofs.Rising.{IsRisingBy, find-same, found_passes, find-both, from_all, after_is, rising_after, begins_later, sooner, found_by_two}
 use Rattle.hx_levels.proofs.Ranking.{IsCrossing, ranked_rising, ranked_crossing, ranked_found, ranked_own, kept_by_rank}
 use Rattle.hx_levels.proofs.Waiting.{range_crosses, crosses_first, crosses_last, own_entry, Finds, waiting_is, rest_from_rank}
-use Rattle.hx_levels.proofs.Qualifying.{has_found, is_qualifying, none_for_few, next-find}
+use Rattle.hx_levels.proofs.Qualifying.{has_found, is_qualifying, next-find}
 use Rattle.hx_ranked.specs.declared.entry.Entry.{Entry}
 use Rattle.hx_ranked.specs.Contents.{Contents as RankedContents}
 use Rattle.hx_ranked.specs.Ranked.{IsRising, has_rank, is_within, first_within_of, is_from as is_entry_from}

@@ -123,10 +123,7 @@ pub fn first_within(
 pub fn first_from(entries: &[Entry], rank: u128) -> Option<Entry>
     ensures { result ≡ find (is_from rank) entries.now }
 {
-    entries
-        .iter()
-        .copied()
-        .find(|entry| rank <= entry.rank)
+    entries.iter().copied().find(|entry| rank <= entry.rank)
 }
 
 /// Inserts an entry at its rank. There must be capacity for it.

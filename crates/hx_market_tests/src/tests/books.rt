@@ -71,13 +71,32 @@ fn qualifying_calls<B: Book>(rt: &impl Abort, book: &mut B) {
     let exact = rest(rt, book, order(rt, Side::Buy, 100000, 200, 200, false));
     // 200 shares are fewer than the minimum of the first.
     let mut walk = Walk::start();
-    equal(rt, book.next_qualifying(&terms, &mut walk, 200, 0), Some(small));
-    equal(rt, book.next_qualifying(&terms, &mut walk, 200, 0), Some(exact));
-    holds(rt, book.next_qualifying(&terms, &mut walk, 200, 0).is_none());
+    equal(
+        rt,
+        book.next_qualifying(&terms, &mut walk, 200, 0),
+        Some(small),
+    );
+    equal(
+        rt,
+        book.next_qualifying(&terms, &mut walk, 200, 0),
+        Some(exact),
+    );
+    holds(
+        rt,
+        book.next_qualifying(&terms, &mut walk, 200, 0).is_none(),
+    );
     // 300 are not. The small order is below the minimum of the incoming order.
     let mut walk = Walk::start();
-    equal(rt, book.next_qualifying(&terms, &mut walk, 300, 200), Some(large));
-    equal(rt, book.next_qualifying(&terms, &mut walk, 300, 200), Some(exact));
+    equal(
+        rt,
+        book.next_qualifying(&terms, &mut walk, 300, 200),
+        Some(large),
+    );
+    equal(
+        rt,
+        book.next_qualifying(&terms, &mut walk, 300, 200),
+        Some(exact),
+    );
     let mut walk = Walk::start();
     holds(rt, book.next_qualifying(&terms, &mut walk, 0, 0).is_none());
 }

@@ -8,7 +8,7 @@ use Rattle.hx_levels.specs.declared.level_book.linked_orders.Node.{Node}
 use Rattle.hx_ranked.specs.declared.entry.Entry.{Entry}
 use Rattle.hx_ranked.specs.Ranked.{IsFree, inserted}
 use Rattle.hx_levels.specs.Book.{terms_of, has_key}
-use Rattle.hx_levels.specs.LevelBook.{walked, IsBook, number_in, entry_of, rank_at, rank_of, rung_of, least_of}
+use Rattle.hx_levels.specs.LevelBook.{walked, IsBook, number_in, entry_of, rank_at, rung_of}
 use Rattle.hx_levels.proofs.Numbers.{AreSame, number-is, number-kept, numbered-same, all-other}
 use Rattle.hx_levels.proofs.Indexed.{free-last, indexed-same}
 use Rattle.hx_levels.proofs.Added.{waits_at, none_has}

@@ -1,8 +1,8 @@
-use Rattle.std.proofs.Common.{◌≡◌, true, Some, Bor, refl, sym, ap, ◌∙◌, subst}
-use Rattle.std.specs.Option.{is_some, option_map, option_copied, IfSome}
+use Rattle.std.proofs.Common.{◌≡◌, true, Bor, sym, ap, ◌∙◌}
+use Rattle.std.specs.Option.{is_some, option_map}
 use Rattle.hx_levels.specs.declared.order.Order.{Order}
 use Rattle.hx_levels.specs.declared.level_book.linked_orders.Node.{Node}
-use Rattle.hx_levels.specs.Book.{has_key, order_of, is_conditional}
+use Rattle.hx_levels.specs.Book.{has_key}
 use Rattle.hx_levels.specs.LevelBook.{walked}
 use Rattle.hx_levels.proofs.Lists.{is_some-map}
 use Rattle.hx_levels.proofs.LevelNext.{node_found}

@@ -1,14 +1,11 @@
-use Rattle.std.proofs.Common.{◌≡◌, ℕ, ◌≤◌, ◌<◌, true, List, Option, Some, None, refl, sym, ap, ◌∙◌, subst, arith}
+use Rattle.std.proofs.Common.{◌≡◌, ◌≤◌, ◌<◌, Some, None, sym, ap, ◌∙◌, subst}
 use Rattle.std.specs.List.{find}
 use Rattle.std.specs.Option.{IfSome, option_map}
-use Rattle.hx_levels.specs.declared.order.Key.{Key}
-use Rattle.hx_levels.specs.declared.order.Live.{Live}
 use Rattle.hx_levels.specs.declared.level_book.LevelBook.TheInside.{Inside}
-use Rattle.hx_levels.specs.LevelBook.{walked, number_in, entry_of, rank_of, last_rank, limit_of, IsBook}
-use Rattle.hx_levels.specs.Book.{has_key, ranked, rest_after, IsRanked, is_conditional, KeysDiffer}
+use Rattle.hx_levels.specs.LevelBook.{walked, number_in, entry_of, IsBook}
+use Rattle.hx_levels.specs.Book.{ranked, rest_after, IsRanked, is_conditional, KeysDiffer}
 use Rattle.hx_levels.specs.Walks.{rank_after}
 use Rattle.hx_levels.proofs.Walks.{Facts, facts, if_ranked, conditional_found, conditional_past, conditional_none}
-use Rattle.hx_ranked.specs.declared.entry.Entry.{Entry}
 use Rattle.hx_ranked.specs.Ranked.{is_from}
 use Rattle.hx_levels.proofs.level_book.LevelBook.next_conditional.Goals as goal
 

@@ -1,12 +1,11 @@
-use Rattle.std.proofs.Common.{◌≡◌, ℕ, ◌+◌, Bool, true, false, List, Option, Some, None, refl, sym, ap, ◌∙◌, subst}
+use Rattle.std.proofs.Common.{◌≡◌, ◌+◌, Bool, false, List, Option, Some, None, refl, sym, ap, ◌∙◌, subst}
 use Rattle.std.specs.List.{find}
 use Rattle.std.specs.Option.{IfSome, option_map}
 use Rattle.hx_levels.specs.declared.order.Key.{Key}
 use Rattle.hx_levels.specs.declared.order.Live.{Live}
-use Rattle.hx_levels.specs.declared.order.Order.{Order}
 use Rattle.hx_levels.specs.declared.level_book.LevelBook.TheInside.{Inside}
-use Rattle.hx_levels.specs.LevelBook.{walked, number_in, entry_of, rank_of, IsBook}
-use Rattle.hx_levels.specs.Book.{has_key, is_under, order_of, ranked, rest_after, IsRanked, is_conditional, KeysDiffer, next_ready, unconditional}
+use Rattle.hx_levels.specs.LevelBook.{walked, number_in, rank_of, IsBook}
+use Rattle.hx_levels.specs.Book.{is_under, order_of, ranked, rest_after, IsRanked, is_conditional, KeysDiffer, next_ready, unconditional}
 use Rattle.hx_levels.specs.Walks.{is_from}
 use Rattle.hx_levels.proofs.Walks.{Facts, facts, has_ranked, ready_conditional, ready_plain, plain_start}
 use Rattle.hx_levels.proofs.level_book.LevelBook.next_ready.Goals as goal

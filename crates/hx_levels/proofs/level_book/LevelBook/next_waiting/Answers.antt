@@ -1,11 +1,9 @@
-use Rattle.std.proofs.Common.{◌≡◌, ℕ, ◌&&◌, leb, true, false, length, List, [], ◌∷◌, Option, Some, None, refl, sym, ap, ◌∙◌, subst, arith}
+use Rattle.std.proofs.Common.{◌≡◌, ◌&&◌, leb, length, List, [], ◌∷◌, None, refl, sym, ap, ◌∙◌, subst, arith}
 use Rattle.std.specs.List.{find}
 use Rattle.std.specs.Option.{IfSome, option_map}
-use Rattle.hx_levels.specs.declared.order.Key.{Key}
-use Rattle.hx_levels.specs.declared.order.Live.{Live}
 use Rattle.hx_levels.specs.declared.level_book.LevelBook.TheInside.{Inside}
 use Rattle.hx_levels.specs.LevelBook.{walked, number_in, entry_of, least_of, IsBook}
-use Rattle.hx_levels.specs.Book.{has_key, ranked, rest_after, IsRanked, is_conditional, KeysDiffer}
+use Rattle.hx_levels.specs.Book.{ranked, rest_after, IsRanked, KeysDiffer}
 use Rattle.hx_levels.specs.Walks.{rank_after, is_waiting}
 use Rattle.hx_levels.proofs.Walks.{Facts, facts, if_ranked, waiting_found, none_waits}
 use Rattle.hx_ranked.specs.declared.entry.Entry.{Entry}

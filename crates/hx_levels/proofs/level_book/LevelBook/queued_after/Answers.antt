@@ -1,12 +1,11 @@
 use Rattle.std.proofs.Common.{◌≡◌, ℕ, ◌≤◌, ◌+◌, Bool, true, false, not, Some, None, Bor, sym, ap, ◌∙◌, subst}
-use Rattle.std.specs.Option.{is_some, option_map, option_copied}
+use Rattle.std.specs.Option.{is_some, option_copied}
 use Rattle.hx_levels.proofs.Lists.{is_some-map}
 use Rattle.hx_levels.proofs.Joined.{node_by_parts}
 use Rattle.hx_levels.proofs.Next.{next-some, Ranked}
 use Rattle.std.proofs.lemmas.Bool.{true≢false}
 use Rattle.slab.specs.Slab.{get}
 use Rattle.hx_levels.specs.declared.order.Order.{Order}
-use Rattle.hx_levels.specs.declared.order.Live.{Live}
 use Rattle.hx_levels.specs.declared.level_book.linked_orders.Node.{Node}
 use Rattle.hx_levels.specs.declared.level_book.linked_orders.Ends.{Ends}
 use Rattle.hx_levels.specs.Rung.{LevelKey}

@@ -1,17 +1,14 @@
-use Rattle.std.proofs.Common.{◌≡◌, ◌<◌, ◌^◌, true, Some, Bor, refl, sym, ap, ◌∙◌, subst}
+use Rattle.std.proofs.Common.{◌≡◌, ◌<◌, ◌^◌, true, Some, Bor, sym, ap, ◌∙◌, subst}
 use Rattle.std.specs.List.{find}
 use Rattle.std.specs.Option.{is_some, option_map, option_copied, IfSome}
 use Rattle.hx_levels.specs.declared.order.Order.{Order}
-use Rattle.hx_levels.specs.declared.order.Live.{Live}
 use Rattle.hx_levels.specs.declared.level_book.linked_orders.Node.{Node}
 use Rattle.hx_levels.specs.Book.{has_key, is_under, terms_of}
-use Rattle.hx_levels.specs.LevelBook.{walked, rank_at, rank_of, rung_of, number_in, IsBook}
+use Rattle.hx_levels.specs.LevelBook.{walked, rank_at, rank_of, rung_of, number_in}
 use Rattle.hx_levels.proofs.Lists.{is_some-map}
 use Rattle.hx_levels.proofs.LevelNext.{node_found}
 use Rattle.hx_levels.proofs.Numbers.{number-is}
 use Rattle.hx_levels.proofs.Removed.{number_small, not_under}
-use Rattle.hx_levels.proofs.Rising.{find-same}
-use Rattle.hx_levels.proofs.Ranking.{kept_by_rank}
 use Rattle.hx_levels.proofs.level_book.LevelBook.rank.Goals as goal
 
 same_some : {A : Type 0} {x y : A} → Some x ≡ Some y → x ≡ y

@@ -1,12 +1,8 @@
-use Rattle.std.proofs.Common.{◌≡◌, ℕ, ◌+◌, true, Option, Some, List, sym, ap, ◌∙◌, subst}
-use Rattle.std.specs.List.{find}
+use Rattle.std.proofs.Common.{◌≡◌, true, sym, ap, ◌∙◌, subst}
 use Rattle.std.specs.Option.{IfSome}
-use Rattle.hx_levels.specs.declared.order.Key.{Key}
-use Rattle.hx_levels.specs.declared.order.Live.{Live}
-use Rattle.hx_levels.specs.declared.order.Terms.{Terms}
-use Rattle.hx_levels.specs.Book.{is_under, has_key}
-use Rattle.hx_levels.specs.LevelBook.{number_in, rank_of}
-use Rattle.hx_levels.specs.Walks.{rank_after, rank_past}
+use Rattle.hx_levels.specs.Book.{has_key}
+use Rattle.hx_levels.specs.LevelBook.{number_in}
+use Rattle.hx_levels.specs.Walks.{rank_after}
 use Rattle.hx_levels.proofs.Walks.{past_found}
 use Rattle.hx_levels.proofs.level_book.LevelBook.rank_after.Goals as goal
 

@@ -4,7 +4,7 @@ use Rattle.std.specs.Option.{IfSome, option_map}
 use Rattle.hx_levels.specs.declared.order.Key.{Key}
 use Rattle.hx_levels.specs.declared.order.Live.{Live}
 use Rattle.hx_levels.specs.declared.order.Terms.{Terms}
-use Rattle.hx_levels.specs.Book.{is_under, has_key, unconditional, is_conditional, KeysDiffer, next_by_rank}
+use Rattle.hx_levels.specs.Book.{is_under, unconditional, is_conditional, KeysDiffer, next_by_rank}
 use Rattle.hx_levels.specs.LevelBook.{number_in}
 use Rattle.hx_levels.specs.Walks.{is_from}
 use Rattle.hx_levels.proofs.Lists.{find-filter}

@@ -1,10 +1,8 @@
-use Rattle.std.proofs.Common.{◌≡◌, ◌<◌, ◌^◌, true, cond, eqb, Some, Bor, refl, sym, ap, ◌∙◌, subst, eq-eqb}
+use Rattle.std.proofs.Common.{◌≡◌, ◌<◌, ◌^◌, true, eqb, Some, refl, sym, ap, ◌∙◌, subst, eq-eqb}
 use Rattle.std.specs.Option.{is_some, option_map, option_copied}
 use Rattle.std.proofs.lemmas.Bool.{cond-true}
-use Rattle.slab.specs.Slab.{get}
-use Rattle.hx_levels.specs.declared.order.Order.{Order}
 use Rattle.hx_levels.specs.declared.level_book.linked_orders.Node.{Node}
-use Rattle.hx_levels.specs.Nodes.{less_at, number_at}
+use Rattle.hx_levels.specs.Nodes.{less_at}
 use Rattle.hx_levels.specs.Book.{has_key, with_less, reduced}
 use Rattle.hx_levels.specs.LevelBook.{walked, rank_at, IsBook}
 use Rattle.hx_levels.proofs.InTime.{walked-is, closed}

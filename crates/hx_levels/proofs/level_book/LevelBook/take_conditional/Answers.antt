@@ -1,4 +1,4 @@
-use Rattle.std.proofs.Common.{◌≡◌, true, refl, sym, ap, ◌∙◌, subst}
+use Rattle.std.proofs.Common.{◌≡◌, true, sym, ap, ◌∙◌, subst}
 use Rattle.std.specs.Option.{is_some, IfSome}
 use Rattle.hx_levels.specs.Book.{has_key, without, order_of, is_conditional}
 use Rattle.hx_levels.specs.LevelBook.{walked, rank_at, IsBook}

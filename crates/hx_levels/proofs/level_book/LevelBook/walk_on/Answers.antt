@@ -1,13 +1,9 @@
-use Rattle.std.proofs.Common.{◌≡◌, ℕ, ◌<◌, ◌≤◌, Bool, true, false, cond, max, List, Option, Some, None, refl, sym, ap, ◌∙◌, subst, arith}
-use Rattle.std.specs.List.{find}
-use Rattle.std.specs.Option.{IfSome, option_map}
+use Rattle.std.proofs.Common.{◌<◌, Some, sym, ap, ◌∙◌, subst}
 use Rattle.std.proofs.lemmas.Bool.{cond-true, cond-false}
-use Rattle.hx_levels.specs.declared.order.Key.{Key}
-use Rattle.hx_levels.specs.declared.order.Live.{Live}
-use Rattle.hx_levels.specs.Book.{is_ready, ranked, rest_after, next_ready, next_qualifying, next_by_rank, IsRanked, IsWalk, has_key}
+use Rattle.hx_levels.specs.Book.{is_ready, next_ready}
 use Rattle.hx_levels.specs.LevelBook.{number_in}
 use Rattle.hx_levels.proofs.Qualifying.{none_for_few}
-use Rattle.hx_levels.proofs.Walks.{Facts, facts_at, if_ranked, next_ranked, entry_ranked, still_ready, walk_none, walk_some, met_walk}
+use Rattle.hx_levels.proofs.Walks.{facts_at, if_ranked, next_ranked, entry_ranked, still_ready, walk_none, walk_some, met_walk}
 use Rattle.hx_levels.specs.Walks.{is_waiting}
 use Rattle.hx_levels.proofs.level_book.LevelBook.walk_on.Goals as goal
 
