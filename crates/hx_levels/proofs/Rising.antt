@@ -184,3 +184,42 @@ module _ (r : Live → ℕ) where
       at true false ih = ih
       at false true ih = second (find (λ y. kind y && test y) xs) refl
       at false false ih = ih
+
+  -- what passes up to a number is the first that passes
+  pub first_until : (m : ℕ) (test : Live → Bool) (a : Live) (xs : List Live) → IsRisingBy xs → find (λ y. leb (r y) m && test y) xs ≡ Some a → find test xs ≡ Some a
+  first_until m test a [] h f = cc
+  first_until m test a (x ∷ xs) h f = at (test x) (leb (r x) m) refl f (first_until m test a xs h.1)
+    where
+      past : (i j : ℕ) → leb i m ≡ false → leb j m ≡ true → i < j → ⊥
+      past i j e g l = absurd (grind (arith, nat_tests))
+
+      at : (b c : Bool) → leb (r x) m ≡ c → cond (c && b) (Some x) (find (λ y. leb (r y) m && test y) xs) ≡ Some a → (find (λ y. leb (r y) m && test y) xs ≡ Some a → find test xs ≡ Some a)
+          → cond b (Some x) (find test xs) ≡ Some a
+      at true true e g ih = g
+      at true false e g ih =
+          let l : r x < r a = found_among (λ y. r x < r y) (λ y. leb (r y) m && test y) a xs h.0 g in
+          let p = and_parts (leb (r a) m) (test a) (found_passes (λ y. leb (r y) m && test y) a xs g) in
+          absurd (past (r x) (r a) e p.0 l)
+      at false true e g ih = ih g
+      at false false e g ih = ih g
+
+  -- two that were found by tests of which one fails the other's have different numbers
+  pub apart : (p q : Live → Bool) (a b : Live) (xs : List Live) → IsRisingBy xs → find p xs ≡ Some a → find q xs ≡ Some b → p b ≡ false → r a ≡ r b → ⊥
+  apart p q a b [] h f g n e = cc
+  apart p q a b (x ∷ xs) h f g n e = at (p x) (q x) refl f g (λ i j. apart p q a b xs h.1 i j n e)
+    where
+      at : (c d : Bool) → p x ≡ c → cond c (Some x) (find p xs) ≡ Some a → cond d (Some x) (find q xs) ≡ Some b → (find p xs ≡ Some a → find q xs ≡ Some b → ⊥) → ⊥
+      at true true k i j ih = let s : x ≡ b = cc in true≢false (sym (subst (λ y. p y ≡ true) s k) ∙ n)
+      at true false k i j ih =
+          let s : x ≡ a = cc in
+          let l : r x < r b = found_among (λ y. r x < r y) q b xs h.0 j in
+          let m : r x ≡ r a = ap r s in
+          let w : r a ≡ r b = e in
+          absurd (omega arith)
+      at false true k i j ih =
+          let s : x ≡ b = cc in
+          let l : r x < r a = found_among (λ y. r x < r y) p a xs h.0 i in
+          let m : r x ≡ r b = ap r s in
+          let w : r a ≡ r b = e in
+          absurd (omega arith)
+      at false false k i j ih = ih i j

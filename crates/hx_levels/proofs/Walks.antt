@@ -17,7 +17,7 @@ use Rattle.hx_levels.specs.Lists.{behind_first}
 use Rattle.hx_levels.specs.Book.{is_under, is_ahead, crosses, ranked, has_key, KeysDiffer, is_conditional, unconditional, rest_after, IsRanked, IsWalk, next_qualifying, is_ready, next_ready, next_by_rank}
 use Rattle.hx_levels.specs.declared.level_book.LevelBook.TheInside.{Inside}
 use Rattle.hx_levels.specs.LevelBook.{LevelContents, walked, AreNumbered, AreIndexed, IsBook, number_in, rank_of, limit_of, first_rank, last_rank, least_of, entry_of, entry_at}
-use Rattle.hx_levels.specs.Walks.{rank_after, rank_past, is_from, is_waiting}
+use Rattle.hx_levels.specs.Walks.{rank_after, rank_past, rank_here, rank_until, is_from, is_waiting, is_waiting_until}
 use Rattle.hx_levels.proofs.Lists.{all_weaker, all_filtered, found_among, find-none}
 use Rattle.hx_levels.proofs.Rank.{all_ranked}
 use Rattle.hx_levels.proofs.Orders.{ahead_asym, ahead_skip}
@@ -26,7 +26,7 @@ use Rattle.hx_levels.proofs.Added.{none_has}
 use Rattle.hx_levels.proofs.Keys.{differ-filtered}
 use Rattle.hx_levels.proofs.Numbers.{numbered-filtered}
 use Rattle.hx_levels.proofs.Next.{next-some}
-use Rattle.hx_levels.proofs.Rising.{IsRisingBy, find-same, found_passes, find-both, from_all, after_is, rising_after, begins_later, sooner, found_by_two}
+use Rattle.hx_levels.proofs.Rising.{IsRisingBy, find-same, found_passes, find-both, from_all, after_is, rising_after, begins_later, sooner, found_by_two, all_fail, first_until, apart}
 use Rattle.hx_levels.proofs.Ranking.{IsCrossing, ranked_rising, ranked_crossing, ranked_found, ranked_own, kept_by_rank}
 use Rattle.hx_levels.proofs.Waiting.{range_crosses, crosses_first, crosses_last, own_entry, Finds, waiting_is, rest_from_rank}
 use Rattle.hx_levels.proofs.Qualifying.{has_found, is_qualifying, next-find}
@@ -71,6 +71,14 @@ past_found n key rank orders h e = at (find (is_under key) orders) refl e
     at None g i = absurd (true≢false (sym h ∙ none_has key orders (sym (ap (option_map (λ (y : Live). y.order)) g))))
     at (Some a) g i = ap (λ m. m + 1) i
 
+-- the rank of a live order
+pub here_found : (n : ℕ → ℕ) (key rank : ℕ) (orders : List Live) → has_key key orders ≡ true → IfSome (find (is_under key) orders) (λ live. rank ≡ rank_of n live) → rank ≡ rank_here n (find (is_under key) orders)
+here_found n key rank orders h e = at (find (is_under key) orders) refl e
+  where
+    at : (o : Option Live) → find (is_under key) orders ≡ o → IfSome o (λ live. rank ≡ rank_of n live) → rank ≡ rank_here n o
+    at None g i = absurd (true≢false (sym h ∙ none_has key orders (sym (ap (option_map (λ (y : Live). y.order)) g))))
+    at (Some a) g i = i
+
 module _ (n : ℕ → ℕ) (entries : List Entry) (orders : List Live) (f : Facts n entries orders) (terms : Terms) where
   line : List Live
   line = ranked terms orders
@@ -104,13 +112,6 @@ module _ (n : ℕ → ℕ) (entries : List Entry) (orders : List Live) (f : Fact
 
   -- conditional orders
 
-  swap : (a b c l : Bool) → l ≡ true → (a && (b && c)) ≡ (b && (a && (l && c)))
-  swap true true c true e = refl
-  swap true false c true e = refl
-  swap false true c true e = refl
-  swap false false c true e = refl
-  swap a b c false e = cc
-
   swap_two : (a b l : Bool) → l ≡ true → (a && b) ≡ (b && (a && l))
   swap_two true true true e = refl
   swap_two true false true e = refl
@@ -124,26 +125,44 @@ module _ (n : ℕ → ℕ) (entries : List Entry) (orders : List Live) (f : Fact
   of_leb : (a b : ℕ) → leb a b ≡ true → a ≤ b
   of_leb a b l = grind (arith, nat_tests)
 
-  pub waiting_found : (after : Option Key) → IfSome after (λ key. IsRanked terms key.0 orders) → limit_of terms < 2 ^ 32 → (left least : ℕ) (result : Option Entry)
-      → result ≡ first_within_of (rank_after n terms after orders) (last_rank terms) left least entries → IsRising entries
-      → result ≡ option_map (entry_of n) (find (is_waiting left least) (rest_after after (ranked terms orders)))
-  waiting_found after r lim left least result e up =
-      waiting_is n f.next terms entries orders f.differ f.priced f.numbered f.small f.indexed (is_within (rank_after n terms after orders) (last_rank terms) left least)
-      (λ y. leb (rank_after n terms after orders) (rank_of n y) && is_waiting left least y)
-      (λ y c. swap (leb (rank_after n terms after orders) (rank_of n y)) (is_conditional y.order) (leb (least_of y.order) left && leb least y.order.shares) (leb (rank_of n y) (last_rank terms))
-      (to_leb (rank_of n y) (last_rank terms) (crosses_last n terms y c)))
+  all_and : (a b c d : Bool) → (a && (b && (c && d))) ≡ (c && (a && (b && d)))
+  all_and true true true d = refl
+  all_and true true false d = refl
+  all_and true false true d = refl
+  all_and true false false d = refl
+  all_and false true true d = refl
+  all_and false true false d = refl
+  all_and false false true d = refl
+  all_and false false false d = refl
+
+  pub waiting_found : (after : Option Key) → IfSome after (λ key. IsRanked terms key.0 orders) → limit_of terms < 2 ^ 32 → (last left least : ℕ) → last ≤ last_rank terms → (result : Option Entry)
+      → result ≡ first_within_of (rank_after n terms after orders) last left least entries → IsRising entries
+      → result ≡ option_map (entry_of n) (find (is_waiting_until n last left least) (rest_after after (ranked terms orders)))
+  waiting_found after r lim last left least end result e up =
+      waiting_is n f.next terms entries orders f.differ f.priced f.numbered f.small f.indexed (is_within (rank_after n terms after orders) last left least)
+      (λ y. leb (rank_after n terms after orders) (rank_of n y) && is_waiting_until n last left least y)
+      (λ y c. all_and (leb (rank_after n terms after orders) (rank_of n y)) (leb (rank_of n y) last) (is_conditional y.order) (leb (least_of y.order) left && leb least y.order.shares))
       (λ y p s t.
-      let q = and_parts (leb (rank_after n terms after orders) (rank_of n y)) (leb (rank_of n y) (last_rank terms) && (leb (least_of y.order) left && leb least y.order.shares)) t in
-      let w = and_parts (leb (rank_of n y) (last_rank terms)) (leb (least_of y.order) left && leb least y.order.shares) q.1 in
+      let q = and_parts (leb (rank_after n terms after orders) (rank_of n y)) (leb (rank_of n y) last && (leb (least_of y.order) left && leb least y.order.shares)) t in
+      let w = and_parts (leb (rank_of n y) last) (leb (least_of y.order) left && leb least y.order.shares) q.1 in
       let a : rank_after n terms after orders ≤ rank_of n y = of_leb (rank_after n terms after orders) (rank_of n y) q.0 in
       let b : first_rank terms ≤ rank_after n terms after orders = first_below after r in
-      range_crosses n terms y p lim s (omega arith) (of_leb (rank_of n y) (last_rank terms) w.0))
+      let d : rank_of n y ≤ last = of_leb (rank_of n y) last w.0 in
+      range_crosses n terms y p lim s (omega arith) (omega arith))
       result (finds result e)
-      ∙ ap (option_map (entry_of n)) (sym (from_rank after (is_waiting left least) r))
+      ∙ ap (option_map (entry_of n)) (sym (from_rank after (is_waiting_until n last left least) r))
     where
-      finds : (o : Option Entry) → o ≡ first_within_of (rank_after n terms after orders) (last_rank terms) left least entries → Finds (is_within (rank_after n terms after orders) (last_rank terms) left least) entries o
-      finds None h = none-of-all (is_within (rank_after n terms after orders) (last_rank terms) left least) entries (sym h)
-      finds (Some x) h = first-of-all (is_within (rank_after n terms after orders) (last_rank terms) left least) x entries up (sym h)
+      finds : (o : Option Entry) → o ≡ first_within_of (rank_after n terms after orders) last left least entries → Finds (is_within (rank_after n terms after orders) last left least) entries o
+      finds None h = none-of-all (is_within (rank_after n terms after orders) last left least) entries (sym h)
+      finds (Some x) h = first-of-all (is_within (rank_after n terms after orders) last left least) x entries up (sym h)
+
+  -- no rank up to an order that crosses is above the last rank
+  pub last_above : (ready : Option Key) → IfSome ready (λ key. IsRanked terms key.0 orders) → rank_until n terms ready orders ≤ last_rank terms
+  last_above None r = omega arith
+  last_above (Some key) r =
+      let s = standing key r in
+      let c : IsCrossing n terms s.0 = found_among (IsCrossing n terms) (is_under key.0) s.0 (ranked terms orders) (ranked_crossing n f.next terms orders f.differ f.priced f.numbered f.small) s.2 in
+      subst (λ (o : Option Live). rank_here n o ≤ last_rank terms) (sym s.1) (crosses_last n terms s.0 c)
 
   abbrev is_in_range : ℕ → ℕ → Entry → Bool
   is_in_range from last e = leb from e.rank && leb e.rank last
@@ -438,19 +457,129 @@ module _ (n : ℕ → ℕ) (entries : List Entry) (orders : List Live) (f : Fact
 
   -- the steps of a walk
 
+  -- all that stand after an order rank up to the last rank
+  all_last : AllByRecursion (λ y. rank_of n y ≤ last_rank terms) (ranked terms orders)
+  all_last = all_weaker (IsCrossing n terms) (λ y. rank_of n y ≤ last_rank terms) (λ y c. crosses_last n terms y c) (ranked terms orders) (ranked_crossing n f.next terms orders f.differ f.priced f.numbered f.small)
+
+  all_until : (after : Option Key) → AllByRecursion (λ y. rank_of n y ≤ last_rank terms) (rest_after after (ranked terms orders))
+  all_until None = all_last
+  all_until (Some key) = behind (ranked terms orders) all_last
+    where
+      behind : (xs : List Live) → AllByRecursion (λ y. rank_of n y ≤ last_rank terms) xs → AllByRecursion (λ y. rank_of n y ≤ last_rank terms) (behind_first (is_under key.0) xs)
+      behind [] h = tt
+      behind (x ∷ xs) h = cond_both (is_under key.0 x) xs (behind_first (is_under key.0) xs) (λ r. AllByRecursion (λ y. rank_of n y ≤ last_rank terms) r) (λ _. h.1) (λ _. behind xs h.1)
+
+  -- the order that is ready next, and where it ranks
+  record ReadyAt (after : Option Key) (least : ℕ) (next : Option Key) (key : Key) : Type 0 where
+    live : Live
+    found : find (is_ready least) (rest_after after (ranked terms orders)) ≡ Some live
+    until : rank_until n terms (Some key) orders ≡ rank_of n live
+    own : find (is_under key.0) orders ≡ Some live
+
+  ready_at : (after : Option Key) (least : ℕ) (next : Option Key) (key : Key) → next ≡ next_ready terms after least orders → next ≡ Some key → ReadyAt after least next key
+  ready_at after least next key g k = at (find (is_ready least) (rest_after after (ranked terms orders))) refl (sym k ∙ g)
+    where
+      at : (o : Option Live) → find (is_ready least) (rest_after after (ranked terms orders)) ≡ o → Some key ≡ option_map (λ (y : Live). y.key) o → ReadyAt after least next key
+      at None h d = cc
+      at (Some y) h d =
+          let s : y.key ≡ key = cc in
+          let own : find (is_under key.0) orders ≡ Some y = ap (λ (v : Key). find (is_under v.0) orders) (sym s) ∙ (in_rest after (is_ready least) y h).1 in
+          record { live = y; found = h; until = ap (rank_here n) own; own = own }
+
+  is_not_waiting : (left least : ℕ) (y : Live) → is_ready least y ≡ true → is_waiting left least y ≡ false
+  is_not_waiting left least y h = at (is_conditional y.order) (leb least y.order.shares) h
+    where
+      at : (a b : Bool) → (not a && b) ≡ true → (a && (leb (least_of y.order) left && b)) ≡ false
+      at true b g = cc
+      at false b g = refl
+
+  -- what waits up to the next that is ready comes before it
+  pub found_before : (after : Option Key) (left least : ℕ) (entry : Entry) (next : Option Key) → next ≡ next_ready terms after least orders
+      → Some entry ≡ option_map (entry_of n) (find (is_waiting_until n (rank_until n terms next orders) left least) (rest_after after (ranked terms orders)))
+      → (Some entry ≡ option_map (entry_of n) (find (is_waiting left least) (rest_after after (ranked terms orders)))) × IsAnswer entry.rank next true
+  found_before after left least entry next g e = at (find (is_waiting_until n (rank_until n terms next orders) left least) (rest_after after (ranked terms orders))) refl e
+    where
+      at : (o : Option Live) → find (is_waiting_until n (rank_until n terms next orders) left least) (rest_after after (ranked terms orders)) ≡ o → Some entry ≡ option_map (entry_of n) o
+          → (Some entry ≡ option_map (entry_of n) (find (is_waiting left least) (rest_after after (ranked terms orders)))) × IsAnswer entry.rank next true
+      at None h d = cc
+      at (Some w) h d =
+          let s : entry ≡ entry_of n w = cc in
+          let first : find (is_waiting left least) (rest_after after (ranked terms orders)) ≡ Some w = first_until (rank_of n) (rank_until n terms next orders) (is_waiting left least) w (rest_after after (ranked terms orders)) (rest_rising after) h in
+          let p = and_parts (leb (rank_of n w) (rank_until n terms next orders)) (is_waiting left least w) (found_passes (is_waiting_until n (rank_until n terms next orders) left least) w (rest_after after (ranked terms orders)) h) in
+          (ap Some s ∙ ap (option_map (entry_of n)) (sym first), record { none = λ _. refl; some = by next refl w s first p.0 })
+        where
+          less : (i j : ℕ) → leb i j ≡ true → (i ≡ j → ⊥) → true ≡ ltb i j
+          less i j l d = grind (arith, nat_tests)
+
+          by : (o : Option Key) → next ≡ o → (w : Live) → entry ≡ entry_of n w → find (is_waiting left least) (rest_after after (ranked terms orders)) ≡ Some w → leb (rank_of n w) (rank_until n terms next orders) ≡ true
+              → IfSome o (λ key. IfSome (find (is_under key.0) orders) (λ live. true ≡ ltb entry.rank (rank_of n live)))
+          by None k w s first l = tt
+          by (Some key) k w s first l =
+              let y = ready_at after least next key g k in
+              let until : leb (rank_of n w) (rank_of n y.live) ≡ true = ap (leb (rank_of n w)) (sym (ap (λ o. rank_until n terms o orders) k ∙ y.until)) ∙ l in
+              subst (λ o. IfSome o (λ live. true ≡ ltb entry.rank (rank_of n live))) (sym y.own)
+              (less (rank_of n w) (rank_of n y.live) until
+              (apart (rank_of n) (is_waiting left least) (is_ready least) w y.live (rest_after after (ranked terms orders)) (rest_rising after) first y.found
+              (is_not_waiting left least y.live (found_passes (is_ready least) y.live (rest_after after (ranked terms orders)) y.found)))
+              ∙ ap (λ (v : Entry). ltb v.rank (rank_of n y.live)) (sym s))
+
+  -- and if none waits up to it, it is the sooner
+  pub none_before : (after : Option Key) (left least : ℕ) (next : Option Key) → next ≡ next_ready terms after least orders
+      → None ≡ option_map (entry_of n) (find (is_waiting_until n (rank_until n terms next orders) left least) (rest_after after (ranked terms orders)))
+      → next ≡ option_map (λ (y : Live). y.key) (sooner (rank_of n) (find (is_waiting left least) (rest_after after (ranked terms orders))) (find (is_ready least) (rest_after after (ranked terms orders))))
+  none_before after left least next g e = at (find (is_waiting left least) (rest_after after (ranked terms orders))) refl
+    where
+      nothing : find (is_waiting_until n (rank_until n terms next orders) left least) (rest_after after (ranked terms orders)) ≡ None
+      nothing = of_none (find (is_waiting_until n (rank_until n terms next orders) left least) (rest_after after (ranked terms orders))) e
+        where
+          of_none : (o : Option Live) → None ≡ option_map (entry_of n) o → o ≡ None
+          of_none None h = refl
+          of_none (Some w) h = cc
+
+      past : (w : Live) → find (is_waiting left least) (rest_after after (ranked terms orders)) ≡ Some w → leb (rank_of n w) (rank_until n terms next orders) ≡ false
+      past w h = none_at (leb (rank_of n w) (rank_until n terms next orders)) (is_waiting left least w) (found_passes (is_waiting left least) w (rest_after after (ranked terms orders)) h)
+          (found_among (λ y. is_waiting_until n (rank_until n terms next orders) left least y ≡ false) (is_waiting left least) w (rest_after after (ranked terms orders))
+          (all_fail (is_waiting_until n (rank_until n terms next orders) left least) (rest_after after (ranked terms orders)) nothing) h)
+        where
+          none_at : (a b : Bool) → b ≡ true → (a && b) ≡ false → a ≡ false
+          none_at true true h' k = k
+          none_at true false h' k = cc
+          none_at false b h' k = refl
+
+      at : (o : Option Live) → find (is_waiting left least) (rest_after after (ranked terms orders)) ≡ o
+          → next ≡ option_map (λ (y : Live). y.key) (sooner (rank_of n) o (find (is_ready least) (rest_after after (ranked terms orders))))
+      at None h = g
+      at (Some w) h = by next refl
+        where
+          later : (i j : ℕ) → leb i j ≡ false → ltb i j ≡ false
+          later i j l = grind (arith, nat_tests)
+
+          beyond : (i j : ℕ) → i ≤ j → leb i j ≡ false → ⊥
+          beyond i j l k = absurd (grind (arith, nat_tests))
+
+          by : (o : Option Key) → next ≡ o → next ≡ option_map (λ (y : Live). y.key) (sooner (rank_of n) (Some w) (find (is_ready least) (rest_after after (ranked terms orders))))
+          by None k =
+              let l : rank_of n w ≤ last_rank terms = found_among (λ y. rank_of n y ≤ last_rank terms) (is_waiting left least) w (rest_after after (ranked terms orders)) (all_until after) h in
+              absurd (beyond (rank_of n w) (last_rank terms) l (sym (ap (λ o. leb (rank_of n w) (rank_until n terms o orders)) k) ∙ past w h))
+          by (Some key) k =
+              let y = ready_at after least next key g k in
+              let l : leb (rank_of n w) (rank_of n y.live) ≡ false = sym (ap (leb (rank_of n w)) (ap (λ o. rank_until n terms o orders) k ∙ y.until)) ∙ past w h in
+              g ∙ ap (option_map (λ (v : Live). v.key)) (y.found ∙ sym (cond-false (ltb (rank_of n w) (rank_of n y.live)) (Some w) (Some y.live) (later (rank_of n w) (rank_of n y.live) l)))
+              ∙ ap (λ p. option_map (λ (v : Live). v.key) (sooner (rank_of n) (Some w) p)) (sym y.found)
+
   pub walk_none : (after : Option Key) (left minimum least : ℕ) (next : Option Key) → least ≡ max 1 minimum → least ≤ left
-      → None ≡ option_map (entry_of n) (find (is_waiting left least) (rest_after after (ranked terms orders))) → next ≡ next_ready terms after least orders
+      → None ≡ option_map (entry_of n) (find (is_waiting_until n (rank_until n terms next orders) left least) (rest_after after (ranked terms orders))) → next ≡ next_ready terms after least orders
       → next ≡ next_qualifying terms after left minimum orders
   walk_none after left minimum least next is enough e g =
-      none_waiting after (is_waiting left (max 1 minimum)) (is_ready (max 1 minimum)) next
-      (subst (λ m. None ≡ option_map (entry_of n) (find (is_waiting left m) (rest_after after (ranked terms orders)))) is e) (subst (λ m. next ≡ next_ready terms after m orders) is g)
+      none_before after left (max 1 minimum) next (subst (λ m. next ≡ next_ready terms after m orders) is g)
+      (subst (λ m. None ≡ option_map (entry_of n) (find (is_waiting_until n (rank_until n terms next orders) left m) (rest_after after (ranked terms orders)))) is e)
       ∙ ap (option_map (λ (y : Live). y.key)) (sym (next_is after left minimum (subst (λ m. m ≤ left) is enough)))
 
-  pub walk_some : (after : Option Key) (left minimum least : ℕ) (entry : Entry) (next : Option Key) (before : Bool) → least ≡ max 1 minimum → least ≤ left
-      → Some entry ≡ option_map (entry_of n) (find (is_waiting left least) (rest_after after (ranked terms orders))) → next ≡ next_ready terms after least orders → IsAnswer entry.rank next before
-      → cond before (Some (record { 0 = entry.key })) next ≡ next_qualifying terms after left minimum orders
-  walk_some after left minimum least entry next before is enough e g answer =
-      chosen after (is_waiting left (max 1 minimum)) (is_ready (max 1 minimum)) entry next before
+  pub walk_some : (after : Option Key) (left minimum least : ℕ) (entry : Entry) (next : Option Key) → least ≡ max 1 minimum → least ≤ left
+      → Some entry ≡ option_map (entry_of n) (find (is_waiting left least) (rest_after after (ranked terms orders))) → next ≡ next_ready terms after least orders → IsAnswer entry.rank next true
+      → Some (record { 0 = entry.key }) ≡ next_qualifying terms after left minimum orders
+  walk_some after left minimum least entry next is enough e g answer =
+      chosen after (is_waiting left (max 1 minimum)) (is_ready (max 1 minimum)) entry next true
       (subst (λ m. Some entry ≡ option_map (entry_of n) (find (is_waiting left m) (rest_after after (ranked terms orders)))) is e) (subst (λ m. next ≡ next_ready terms after m orders) is g) answer
       ∙ ap (option_map (λ (y : Live). y.key)) (sym (next_is after left minimum (subst (λ m. m ≤ left) is enough)))
 

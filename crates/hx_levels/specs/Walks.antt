@@ -5,7 +5,7 @@ use Rattle.hx_levels.specs.declared.order.Key.{Key}
 use Rattle.hx_levels.specs.declared.order.Live.{Live}
 use Rattle.hx_levels.specs.declared.order.Terms.{Terms}
 use Rattle.hx_levels.specs.Book.{is_under, is_conditional}
-use Rattle.hx_levels.specs.LevelBook.{rank_of, least_of, first_rank}
+use Rattle.hx_levels.specs.LevelBook.{rank_of, least_of, first_rank, last_rank}
 
 -- the rank after that of a live order
 abbrev pub rank_past : (number : ℕ → ℕ) → Option Live → ℕ
@@ -17,6 +17,16 @@ abbrev pub rank_after : (number : ℕ → ℕ) → Terms → Option Key → List
 rank_after number terms None orders = first_rank terms
 rank_after number terms (Some key) orders = rank_past number (find (is_under key.0) orders)
 
+-- the rank of a live order
+abbrev pub rank_here : (number : ℕ → ℕ) → Option Live → ℕ
+rank_here number None = 0
+rank_here number (Some live) = rank_of number live
+
+-- the rank of the order with the key, or the greatest of those that cross the terms
+abbrev pub rank_until : (number : ℕ → ℕ) → Terms → Option Key → List Live → ℕ
+rank_until number terms None orders = last_rank terms
+rank_until number terms (Some key) orders = rank_here number (find (is_under key.0) orders)
+
 -- the order ranks at this place or after it, and has as many open shares
 abbrev pub is_from : (number : ℕ → ℕ) → (rank least : ℕ) → Live → Bool
 is_from number rank least live =
@@ -27,3 +37,8 @@ abbrev pub is_waiting : (left least : ℕ) → Live → Bool
 is_waiting left least live =
     is_conditional live.order
     && (nat_le (least_of live.order) left && nat_le least live.order.shares)
+
+-- such an order, and it ranks at this place or before it
+abbrev pub is_waiting_until : (number : ℕ → ℕ) → (rank left least : ℕ) → Live → Bool
+is_waiting_until number rank left least live =
+    nat_le (rank_of number live) rank && is_waiting left least live

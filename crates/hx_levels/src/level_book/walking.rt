@@ -6,7 +6,7 @@ ghost use Rattle.std.specs.List.{find};
 ghost use Rattle.std.specs.Option.{option_map, option_copied, is_some};
 ghost use Rattle.hx_levels.specs.Book.{has_key, order_of, is_under, is_conditional, unconditional, KeysDiffer, IsRanked, IsWalk, ranked, rest_after, next_by_rank, next_ready, next_qualifying};
 ghost use Rattle.hx_levels.specs.LevelBook.{above_prices, contra, limit_of, number_in, rank_at, rank_of, least_of, entry_of, first_rank, last_rank, to_key};
-ghost use Rattle.hx_levels.specs.Walks.{rank_after, is_from, is_waiting};
+ghost use Rattle.hx_levels.specs.Walks.{rank_after, rank_until, is_from, is_waiting_until};
 
 use crate::level_book::level_key::LevelKey;
 use crate::level_book::{ABOVE_PRICES, LAST_NUMBER, LevelBook, rung_of};
@@ -206,26 +206,45 @@ impl LevelBook {
         self.ready_from(terms, after, 0, least)
     }
 
-    // The entry of the next conditional order for which `left` shares are enough and that has `least` open shares.
+    // The greatest rank of the orders up to the one with the key, or of all that cross the terms.
+    #[inline(always)]
+    fn rank_until(&self, terms: &Terms, key: Option<Key>) -> u128
+        requires { IfSome key (λ key. has_key key.0 self.now.orders ≡ true) }
+        ensures rank { result
+            ≡ rank_until (number_in self.now.nodes) terms.now key self.now.orders }
+        ensures small { limit_of terms.now < 2 ^ 32 }
+    {
+        let last = last_rank(terms);
+        match key {
+            Some(key) => self.rank(key),
+            None => last,
+        }
+    }
+
+    // The entry of the next conditional order for which `left` shares are enough and that has `least` open shares, of
+    // those that rank before the order with the key `ready`, if there is one: what ranks after it need not be looked at.
     #[inline(always)]
     fn next_waiting(
         &self,
         terms: &Terms,
         after: Option<Key>,
+        ready: Option<Key>,
         left: u32,
         least: u32,
     ) -> Option<Entry>
-        requires { IfSome after (λ key. IsRanked terms.now key.0 self.now.orders) }
+        requires after { IfSome after (λ key. IsRanked terms.now key.0 self.now.orders) }
+        requires ready { IfSome ready (λ key. IsRanked terms.now key.0 self.now.orders) }
         ensures { result ≡ option_map (entry_of (number_in self.now.nodes))
-            (find (is_waiting left least)
+            (find (is_waiting_until (number_in self.now.nodes)
+            (rank_until (number_in self.now.nodes) terms.now ready self.now.orders) left least)
             (rest_after after (ranked terms.now self.now.orders))) }
     {
         if self.conditional.len() == 0 {
             return None;
         }
         let from = self.rank_after(terms, after);
-        self.conditional
-            .first_within(from, last_rank(terms), left, least)
+        let last = self.rank_until(terms, ready);
+        self.conditional.first_within(from, last, left, least)
     }
 
     // The entry of the next conditional order.
@@ -291,12 +310,9 @@ impl LevelBook {
             return None;
         }
         let ready = self.known_ready(terms, walk, least);
-        let Some(entry) = self.next_waiting(terms, walk.after, left, least) else {
+        let Some(entry) = self.next_waiting(terms, walk.after, ready, left, least) else {
             return meet(walk, ready);
         };
-        if !self.is_before(entry.rank, ready) {
-            return meet(walk, ready);
-        }
         let met = Some(Key(entry.key));
         *walk = Walk {
             after: met,
