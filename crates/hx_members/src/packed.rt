@@ -79,28 +79,6 @@ const TWOS: u64 = 0x00ff_00ff_00ff_00ff;
 
 const FOURS: u64 = 0x0000_ffff_0000_ffff;
 
-// Where quotients by 100 stand, and by 10, and the letter 0 in each place.
-const HUNDREDS: u64 = 0x0000_007f_0000_007f;
-
-const TENS: u64 = 0x000f_000f_000f_000f;
-
-const ZEROS: u64 = 0x3030_3030_3030_3030;
-
-// The eight digits of a number, the first in the lowest byte.
-#[inline(always)]
-fn spelled(number: u64) -> u64 {
-    let fours = number / 10_000 % 10_000 + number % 10_000 * 0x1_0000_0000;
-    let hundreds = fours.wrapping_mul(0x147b) / 0x8_0000 & HUNDREDS;
-    let twos = hundreds.wrapping_add(
-        fours
-            .wrapping_sub(hundreds.wrapping_mul(100))
-            .wrapping_mul(0x1_0000),
-    );
-    let tens = twos.wrapping_mul(0x67) / 0x400 & TENS;
-    let digits = tens.wrapping_add(twos.wrapping_sub(tens.wrapping_mul(10)).wrapping_mul(0x100));
-    digits | ZEROS
-}
-
 impl PackedName {
     /// A member's token in two words. Its letters are read four, two and eight at once.
     #[inline(always)]
@@ -138,16 +116,6 @@ impl PackedName {
             .wrapping_mul(10_000)
             .wrapping_add(fours / 0x1_0000_0000)
             % 0x1_0000_0000
-    }
-
-    /// A name of the same member and the same first six letters, whose last eight are the digits of a number. Nothing is
-    /// promised of it.
-    #[inline(always)]
-    pub(crate) fn with_number(self, number: u64) -> PackedName {
-        PackedName {
-            low: self.low,
-            high: spelled(number),
-        }
     }
 
     /// The name in its usual form.

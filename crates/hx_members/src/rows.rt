@@ -342,28 +342,15 @@ impl Rows {
         note_at(&mut self.tokens, chain, shares, displayed);
     }
 
-    /// Looks at the cells to which hints lead, and where one is empty in the map, for the name that it probably stands for, so
-    /// that they are waited for together. Nothing is promised of the answer.
+    /// Looks at the cells to which hints lead, and at nothing else in between, so that they are waited for together. Nothing
+    /// is promised of the answer.
     #[inline(always)]
     pub(crate) fn sum_of_cells(&self, hints: &[u64]) -> u64 {
         let mut sum: u64 = 0;
         for hint in hints {
-            sum = sum.wrapping_add(self.seen(*hint));
+            sum = sum.wrapping_add(u64::from(self.series.guess(*hint)));
         }
         sum
-    }
-
-    // What is found by a hint.
-    #[inline(always)]
-    fn seen(&self, hint: u64) -> u64 {
-        let cell = self.series.guess(hint);
-        if cell != 0 {
-            return u64::from(cell);
-        }
-        match self.series.likely_name(hint) {
-            Some(name) => self.tokens.get_index_of(&name).unwrap_or(0) as u64,
-            None => 0,
-        }
     }
 
     // For each hint what is in the cell to which it leads: one more than a place, or 0.

@@ -21,8 +21,6 @@ pub(crate) struct Series {
     // How many cells have an index.
     used: usize,
     cells: Vec<u32>,
-    // The name that was noted last.
-    last: PackedName,
 }
 
 /// The series of all members, by their numbers. Members count their orders, so the numbers of their tokens go up by small
@@ -35,12 +33,11 @@ pub(crate) struct AllSeries {
 
 impl Series {
     // A member's series without cells.
-    fn new(alloc: Global, name: PackedName) -> Series {
+    fn new(alloc: Global) -> Series {
         Series {
             from: 0,
             used: 0,
             cells: Vec::new(alloc),
-            last: name,
         }
     }
 
@@ -109,7 +106,7 @@ impl AllSeries {
     fn extend(&mut self, alloc: Global, name: PackedName) -> Result<(), NoMemory> {
         let member = name.member();
         while self.members.len() <= member {
-            self.members.push(Series::new(alloc, name))?;
+            self.members.push(Series::new(alloc))?;
         }
         match self.members.get_mut(member) {
             Some(series) => series.grow(name.number()),
@@ -123,23 +120,12 @@ impl AllSeries {
         let Some(series) = self.members.get_mut(name.member()) else {
             return;
         };
-        series.last = name;
         let at = series.cell(name.number());
         if let Some(cell) = series.cells.get_mut(at) {
             if *cell == 0 {
                 series.used = series.used.wrapping_add(1);
             }
             *cell = u32::try_from(index.wrapping_add(1)).unwrap_or(0);
-        }
-    }
-
-    /// The name to which a hint probably leads, as `name_hint` tells it: its first letters are those of the name that the
-    /// member used last.
-    #[inline(always)]
-    pub(crate) fn likely_name(&self, hint: u64) -> Option<PackedName> {
-        match self.members.get((hint / 0x1_0000_0000) as usize) {
-            Some(series) => Some(series.last.with_number(hint % 0x1_0000_0000)),
-            None => None,
         }
     }
 

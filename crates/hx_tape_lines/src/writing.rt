@@ -5,7 +5,6 @@ ghost use Rattle.hx_rules.specs.OperatorMessages.{halt_bytes, break_bytes};
 ghost use Rattle.hx_tape_lines.specs.Text.{line, entry_of_event, is_held, record_of, HasGrown};
 
 use crate::decimal::write_number;
-use crate::hexadecimal::write_bytes;
 use arrayvec::ArrayVec;
 use hx_rules::{Event, letters};
 use hx_units::Symbol;
@@ -30,8 +29,9 @@ fn write_digits(alloc: Global, text: &mut Vec<u8>, bytes: &[u8]) -> Result<(), A
         return text.extend_from_slice(digits.as_bytes());
     }
     let mut digits = [0; 2 * SHORT];
-    let start = write_bytes(bytes, &mut digits, 2 * SHORT);
-    text.extend_from_slice(&digits[start..])
+    let size = 2 * bytes.len();
+    hex::encode_to_slice(bytes, &mut digits[..size]).unwrap();
+    text.extend_from_slice(&digits[..size])
 }
 
 // Appends a line of a member, or of the operator, without its line feed, or a beginning of it.
