@@ -1,4 +1,5 @@
 """A day of `hx_tape serve` on loopback, for the scripts that measure one."""
+import itertools
 import os
 import socket
 import struct
@@ -13,10 +14,13 @@ from etcds import Etcd  # noqa: E402
 HOST = "127.0.0.1"
 # More sessions than that are those of an open day.
 SESSIONS = 63
+# The Enters that fit into one read of a session (4,096 bytes): the most that are submitted under one hold of the lock.
+ONE_READ = 78
 
 
-def setup_text(members):
-    lines = ["session HX00000007", "start open", "stock ABCD 5120000000644e435a20502020314e000000004e"]
+def setup_text(members, stocks=("ABCD",)):
+    lines = ["session HX00000007", "start open"]
+    lines += [f"stock {name} 5120000000644e435a20502020314e000000004e" for name in stocks]
     lines += [f"member {n} F{n:03d} U{n:05d} P{n:09d} 1000000" for n in range(1, members + 1)]
     return "\n".join(lines) + "\n"
 
@@ -46,6 +50,13 @@ def connected(port):
     return socket.create_connection((HOST, port))
 
 
+def pieces(items, size):
+    """Lists of so many of them, and of the rest."""
+    items = iter(items)
+    while some := list(itertools.islice(items, size)):
+        yield some
+
+
 class Member:
     def __init__(self, port, number):
         self.line = connected(port)
@@ -73,13 +84,29 @@ class Member:
             packet = self.packet()
         return packet
 
+    def drain(self):
+        """Takes what comes until the line is closed, and throws it away."""
+        while self.line.recv(1 << 20):
+            pass
+
+    def send(self, messages):
+        self.line.sendall(b"".join(frame(b"U", message) for message in messages))
+
+    def send_all(self, messages, answer=b"A"):
+        """Sends messages, each of which has one reply of this letter. Some are answered before the next are sent."""
+        for some in pieces(messages, ONE_READ):
+            self.send(some)
+            for _ in some:
+                reply = self.reply()
+                assert reply[1:2] == answer, reply
+
 
 class Day:
     """A server with so many members, each logged in."""
 
-    def __init__(self, program, members, capacity=1_000_000, sync=None):
+    def __init__(self, program, members, capacity=1_000_000, sync=None, stocks=("ABCD",)):
         self.setup = tempfile.NamedTemporaryFile("w", suffix=".setup")
-        self.setup.write(setup_text(members))
+        self.setup.write(setup_text(members, stocks))
         self.setup.flush()
         self.folder = tempfile.TemporaryDirectory(dir=".")
         self.is_open = members > SESSIONS
@@ -116,6 +143,11 @@ class Day:
             words += ["--journal", os.path.join(self.folder.name, "day"), "--sync", "group" if sync == "both" else sync]
         return words
 
+    def operate(self, line):
+        """A line of the operator, as on a tape."""
+        self.server.stdin.write(line)
+        self.server.stdin.flush()
+
     def processor_seconds(self):
         """What the server has used, and what of it the kernel, for the server."""
         with open(f"/proc/{self.server.pid}/stat") as file:
@@ -127,14 +159,23 @@ class Day:
         used, kernel = self.processor_seconds()
         print(f"   an order takes {1e6 * used / orders:.1f} us of a processor, {100 * kernel / used:.0f} % of it in the kernel")
 
-    def end(self):
+    def close(self):
+        """Ends the day: what the server wrote, and its status. The server of an open day is killed."""
         if self.is_open:
             self.server.kill()
-            print("   ended, status", self.server.wait())
         else:
             for member in self.members:
                 member.line.sendall(frame(b"O"))
             self.server.stdin.close()
-            print("  ", self.server.stdout.read().decode().strip(), "status", self.server.wait())
+        written = self.server.stdout.read().decode().strip()
+        status = self.server.wait()
         if self.etcd:
             self.etcd.stop()
+        return written, status
+
+    def end(self):
+        written, status = self.close()
+        if self.is_open:
+            print("   ended, status", status)
+        else:
+            print("  ", written, "status", status)
