@@ -12,7 +12,7 @@ use Rattle.hx_market.specs.Markets.{Market}
 use Rattle.hx_market.specs.Steps.{run}
 use Rattle.hx_audit.specs.declared.auditor.Whose.{Whose}
 use Rattle.hx_audit.specs.Recording.{AreRecorded}
-use Rattle.hx_audit.specs.Auditing.{Audit, HasTaken, choice_of, is_borne}
+use Rattle.hx_audit.specs.Auditing.{Audit, HasTaken, IsStranger, choice_of, is_borne}
 use Rattle.hx_audit.specs.declared.bearing.Bearing.{Bearing}
 use Rattle.hx_text.specs.Cuts.{Lacks}
 use Rattle.hx_text.proofs.Splits.{same_split, none_split}
@@ -20,7 +20,7 @@ use Rattle.hx_tape_lines.specs.Text.{Entry, line, tape}
 use Rattle.hx_tape_lines.specs.Events.{event_of, IsKnown}
 use Rattle.hx_replay.specs.Run.{IsFront}
 use Rattle.hx_replay.specs.Struck.{without_chosen, left_by}
-use Rattle.hx_strike.specs.Striking.{counts_of_lines, StrikesAll, StrikesSome}
+use Rattle.hx_strike.specs.Striking.{counts_of_lines, Echoes, StrikesAll, StrikesSome}
 use Rattle.hx_strike.specs.Taking.{AreBearings, IsTape, Takes}
 use Rattle.hx_replay.proofs.OneReading.{line_no_feed, tape-cons}
 use Rattle.hx_replay.proofs.Runs.{tape-append}
@@ -197,3 +197,10 @@ strikes_some setup whose a bs text front r s w v same is t read end begins wrote
       is_front = subst (λ (es : List Entry). IsFront front (tape es)) (left_is setup whose a t.entries same is t.taken) begins;
       wrote = wrote;
     }
+
+-- of one who is not there no line is struck: all that was read is written
+pub echoes : (setup : Setup) (whose : Whose) (a : Audit) (text all : List ℕ) (r s w v : Option (List ℕ)) → a.setup ≡ setup → a.whose ≡ whose → text ≡ all
+    → Consumes r s all → (IsStranger a.setup a.whose → Appends w v text) → IsStranger setup whose → Echoes r s w v
+echoes setup whose a text all r s w v same is whole read wrote stranger =
+    let there = subst (λ (x : Setup). IsStranger x a.whose) (sym same) (subst (IsStranger setup) (sym is) stranger) in
+    (all, read, subst (Appends w v) whole (wrote there))

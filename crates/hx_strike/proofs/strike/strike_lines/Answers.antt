@@ -1,5 +1,5 @@
 use Rattle.std.proofs.lemmas.Result.{err_from_is_err_and}
-use Rattle.hx_strike.proofs.Leaving.{tape_of, strikes_all, strikes_some}
+use Rattle.hx_strike.proofs.Leaving.{tape_of, strikes_all, strikes_some, echoes}
 use Rattle.hx_strike.proofs.strike.strike_lines.Goals as goal
 
 pub returns-in_err-events-clause-err : goal.returns-in_err-events-clause-err
@@ -17,3 +17,9 @@ returns-clause-ok g c =
     let r = c.in_ok-tape.ensures in
     let t = tape_of tape.auditor tape.bearings.items c.deref.result.now tape.text.items c.deref-2.result.now r.taken c.deref.ensures.value c.deref-2.ensures.value in
     strikes_all c.args.setup.now c.args.whose tape.auditor tape.bearings.items tape.text.items c.in_ok-events.events _ _ _ _ r.setup r.whose r.taken r.read r.at_end (c.in_ok-events.ensures.count t) (c.in_ok-events.ensures.ok t)
+
+pub returns-clause-stranger : goal.returns-clause-stranger
+returns-clause-stranger g c =
+    let tape = c.in_ok-tape.tape in
+    let r = c.in_ok-tape.ensures in
+    echoes c.args.setup.now c.args.whose tape.auditor c.deref-2.result.now tape.text.items _ _ _ _ r.setup r.whose c.deref-2.ensures.value r.read c.in_ok-events.ensures.stranger
