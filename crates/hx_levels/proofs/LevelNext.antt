@@ -1,8 +1,8 @@
 -- What the levels and the links lead to is the next order by rank.
 use Rattle.std.proofs.Common.{◌≡◌, ℕ, ◌≤◌, ◌<◌, ◌+◌, ◌-◌, ◌⊎◌, inl, inr, Bool, true, false, not, ◌||◌, ◌&&◌, cond, eqb, ltb, List, [], ◌∷◌, Option, Some, None, refl, sym, ap, ◌∙◌, subst, arith, eqb-true, eq-eqb}
 use Rattle.std.specs.List.{AllByRecursion, find, filter}
-use Rattle.std.specs.Option.{option_map}
-use Rattle.std.proofs.lemmas.Bool.{cond_both, cond-true, cond-false, true≢false, false_from_ne_true, and_parts, or_left, or_right, and_from, cases_order}
+use Rattle.std.specs.Option.{option_map, IfSome}
+use Rattle.std.proofs.lemmas.Bool.{cond_both, cond-true, cond-false, true≢false, false_from_ne_true, and_parts, or_right, and_from, cases_order}
 use Rattle.std.proofs.lemmas.Bool.Decides.{nat_tests}
 use Rattle.slab.specs.Slab.{Slab, get}
 use Rattle.hx_levels.specs.declared.order.Live.{Live}
@@ -17,17 +17,17 @@ use Rattle.hx_levels.specs.Nodes.{queue_links, time_links}
 use Rattle.hx_levels.specs.Rung.{LevelKey}
 use Rattle.hx_levels.specs.Levels.{LevelStore, level_at, ends_in, first_at, IsFirstFrom, IsEmptyLevel}
 use Rattle.hx_units.specs.Side.{is_buy}
-use Rattle.hx_levels.specs.Book.{is_under, is_ahead, crosses, has_key, IsRanked, next_by_rank, next_by_time, is_candidate, is_equal, terms_of, KeysDiffer, is_conditional, unconditional}
+use Rattle.hx_levels.specs.Book.{is_under, is_ahead, crosses, ranked as ranked_line, has_key, IsRanked, next_by_rank, next_by_time, is_candidate, is_equal, terms_of, KeysDiffer, is_conditional, unconditional}
 use Rattle.hx_levels.specs.LevelBook.{keys_of, is_in, queue, rung_of, contra, limit_of, to_key, IsBook}
 use Rattle.hx_ranked.specs.Contents.{Contents as RankedContents}
 use Rattle.hx_levels.proofs.Keys.{differ-filtered}
 use Rattle.hx_levels.proofs.Lists.{or_else, found_among, all_weaker, all_filtered, find-filter}
 use Rattle.hx_levels.proofs.Orders.{once_under}
 use Rattle.hx_levels.proofs.Chains.{chain-after}
-use Rattle.hx_levels.proofs.Next.{next-none, next-some, Ranked, behind-filter}
+use Rattle.hx_levels.proofs.Next.{next-some, Ranked, behind-filter}
 use Rattle.hx_levels.proofs.Added.{is_in_own, is_in_at}
 use Rattle.hx_levels.proofs.Queues.{has-keys}
-use Rattle.hx_levels.proofs.LevelRanks.{InClass, IsPriced, ahead-distance, all_in_class, best_at, both_all, crosses-rung, distance_of, first_none, in_queue, rung-crosses}
+use Rattle.hx_levels.proofs.LevelRanks.{InClass, IsPriced, ahead-distance, all_in_class, best_at, both_all, first_all, crosses-rung, distance_of, first_none, in_queue, rung-crosses}
 
 -- the queues of the levels hold these orders, each where it belongs
 pub record IsQueued (nodes : Slab Node) (levels : LevelStore) (kept : Option LevelKey) (orders : List Live) : Type 0 where
@@ -85,7 +85,7 @@ module _ (nodes : Slab Node) (levels : LevelStore) (kept : Option LevelKey) (ord
   queue_first d s = (book.in_level (contra terms d) s).first
 
   -- no order is where the ends of its queue are empty
-  not_there : (y : Live) (d : ℕ) → rung_of (terms_of y.order) ≡ contra terms d → InClass orders y → first_at levels terms.locate (not (is_buy terms.side)) d y.order.shown ≡ None → ⊥
+  pub not_there : (y : Live) (d : ℕ) → rung_of (terms_of y.order) ≡ contra terms d → InClass orders y → first_at levels terms.locate (not (is_buy terms.side)) d y.order.shown ≡ None → ⊥
   not_there y d e c n = c (no_queue (is_in (rung_of (terms_of y.order)) y.order.shown) orders
       (ap (λ r. head_of (keys_of (filter (is_in r y.order.shown) orders))) e ∙ sym (queue_first d y.order.shown) ∙ n))
 
@@ -143,14 +143,6 @@ module _ (nodes : Slab Node) (levels : LevelStore) (kept : Option LevelKey) (ord
           each zs a.1,
         )
 
-  -- before any order
-  pub next_first : (key : ℕ) → IsFirstFrom levels terms.locate (not (is_buy terms.side)) 0 (limit_of terms) key → Some (record { 0 = key }) ≡ next_by_rank terms None orders
-  next_first key f =
-      best_from (is_candidate terms None) 0 (λ y t. t) (λ y t c p. omega arith) (λ y c p l. c) key f ∙ next-none terms orders
-
-  pub next_nothing : ((d : ℕ) (s : Bool) → 0 ≤ d → d ≤ limit_of terms → first_at levels terms.locate (not (is_buy terms.side)) d s ≡ None) → None ≡ next_by_rank terms None orders
-  next_nothing n = none_from (is_candidate terms None) 0 (λ y t. t) (λ y t c p. omega arith) (λ y c p l. c) n ∙ next-none terms orders
-
 -- behind an order in its queue
 
 pub find-kept : (keep test : Live → Bool) (a : Live) (xs : List Live) → find test xs ≡ Some a → keep a ≡ true → find test (filter keep xs) ≡ Some a
@@ -172,7 +164,7 @@ has-found key a (x ∷ xs) f = at (is_under key x) f (has-found key a xs)
     at true g ih = refl
     at false g ih = ih g
 
-behind-keys : (key : ℕ) (xs : List Live) → behind_first (λ k. eqb k key) (keys_of xs) ≡ keys_of (behind_first (is_under key) xs)
+pub behind-keys : (key : ℕ) (xs : List Live) → behind_first (λ k. eqb k key) (keys_of xs) ≡ keys_of (behind_first (is_under key) xs)
 behind-keys key [] = refl
 behind-keys key (x ∷ xs) = cond_both (is_under key x) xs (behind_first (is_under key) xs) (λ r. cond (is_under key x) (keys_of xs) (behind_first (λ k. eqb k key) (keys_of xs)) ≡ keys_of r)
     (λ e. cond-true (is_under key x) (keys_of xs) (behind_first (λ k. eqb k key) (keys_of xs)) e)
@@ -265,12 +257,12 @@ module _ (nodes : Slab Node) (levels : LevelStore) (kept : Option LevelKey) (ord
       at (Some x) g n = let h : next ≡ x.key.0 = cc in ap (λ (v : ℕ). Some (to_key v)) h ∙ n
 
   -- where its queue ends with it
-  past_queue : node.queue.after ≡ None → option_map (λ (y : Live). y.key) (first_of (is_ahead terms.side) (is_candidate terms (Some rank.live)) orders) ≡ next_by_rank terms (Some (record { 0 = key })) orders
-  past_queue e = at (find (is_equal terms rank.live.order) (behind_first (is_under key) orders)) (sym e ∙ queue_after) rank.next
+  past_queue : node.queue.after ≡ None → first_of (is_ahead terms.side) (is_candidate terms (Some rank.live)) orders ≡ head_of (behind_first (is_under key) (ranked_line terms orders))
+  past_queue e = at (find (is_equal terms rank.live.order) (behind_first (is_under key) orders)) (sym e ∙ queue_after) rank.after
     where
       at : (o : Option Live) → None ≡ option_map (λ (y : Live). y.key.0) o
-          → option_map (λ (y : Live). y.key) (or_else o (first_of (is_ahead terms.side) (is_candidate terms (Some rank.live)) orders)) ≡ next_by_rank terms (Some (record { 0 = key })) orders
-          → option_map (λ (y : Live). y.key) (first_of (is_ahead terms.side) (is_candidate terms (Some rank.live)) orders) ≡ next_by_rank terms (Some (record { 0 = key })) orders
+          → or_else o (first_of (is_ahead terms.side) (is_candidate terms (Some rank.live)) orders) ≡ head_of (behind_first (is_under key) (ranked_line terms orders))
+          → first_of (is_ahead terms.side) (is_candidate terms (Some rank.live)) orders ≡ head_of (behind_first (is_under key) (ranked_line terms orders))
       at None g n = n
       at (Some x) g n = cc
 
@@ -311,7 +303,7 @@ module _ (nodes : Slab Node) (levels : LevelStore) (kept : Option LevelKey) (ord
       let h = has_first (is_in (contra terms (distance_of rank.live)) false) orders next (sym (queue_first nodes levels kept orders book terms (distance_of rank.live) false) ∙ f) in
       ap (λ (n : ℕ). Some (to_key n)) (sym h.key_is)
       ∙ ap (option_map (λ (y : Live). y.key)) (sym (best_at terms (is_candidate terms (Some rank.live)) (distance_of rank.live) false orders book.priced (λ y t. (parts y t).0) inside rest h.live h.found))
-      ∙ past_queue e
+      ∙ ap (option_map (λ (y : Live). y.key)) (past_queue e)
     where
       inside : (y : Live) → is_in (contra terms (distance_of rank.live)) false y ≡ true → IsPriced y → is_candidate terms (Some rank.live) y ≡ true
       inside y q p =
@@ -345,22 +337,18 @@ module _ (nodes : Slab Node) (levels : LevelStore) (kept : Option LevelKey) (ord
               (ap (first_at levels terms.locate (not (is_buy terms.side)) (distance_of rank.live)) w.2 ∙ hidden w.1))
         ]
 
-    within_live : (y : Live) → crosses terms y.order ≡ true → IsPriced y → distance_of rank.live + 1 ≤ distance_of y → is_candidate terms (Some rank.live) y ≡ true
-    within_live y c p l =
-        let r = crosses-rung terms y p c in
-        and_from (crosses terms y.order) (is_ahead terms.side rank.live y) c
-        (ahead-distance terms rank.live y (distance_of rank.live) (distance_of y) priced_live p live_rung.0 r.0
-        ∙ or_left (ltb (distance_of rank.live) (distance_of y)) (eqb (distance_of rank.live) (distance_of y) && rank.live.order.shown && not y.order.shown) (less (distance_of rank.live) (distance_of y) l))
+    -- what comes next is farther
+    pub next_farther : IfSome (head_of (behind_first (is_under key) (ranked_line terms orders))) (λ y. distance_of rank.live + 1 ≤ distance_of y)
+    next_farther =
+        let P : Option Live → Type 0 = λ o. IfSome o (λ y. distance_of rank.live + 1 ≤ distance_of y) in
+        subst P (past_queue e)
+        (first_all (is_ahead terms.side) (is_candidate terms (Some rank.live)) (λ _. false) IsPriced (λ y q p. cc) (λ x y p q a b. cc) (λ y. distance_of rank.live + 1 ≤ distance_of y) orders
+        (each orders (both_all (InClass orders) IsPriced orders (all_in_class orders) book.priced)))
       where
-        less : (m n : ℕ) → m + 1 ≤ n → ltb m n ≡ true
-        less m n g = grind (arith, nat_tests)
-
-    pub next_level : (next : ℕ) → IsFirstFrom levels terms.locate (not (is_buy terms.side)) (distance_of rank.live + 1) (limit_of terms) next → Some (record { 0 = next }) ≡ next_by_rank terms (Some (record { 0 = key })) orders
-    next_level next f =
-        best_from nodes levels kept orders book terms (is_candidate terms (Some rank.live)) (distance_of rank.live + 1) (λ y t. (parts y t).0) after_live within_live next f ∙ past_queue e
-
-    pub next_none : ((d : ℕ) (s : Bool) → distance_of rank.live + 1 ≤ d → d ≤ limit_of terms → first_at levels terms.locate (not (is_buy terms.side)) d s ≡ None) → None ≡ next_by_rank terms (Some (record { 0 = key })) orders
-    next_none n = none_from nodes levels kept orders book terms (is_candidate terms (Some rank.live)) (distance_of rank.live + 1) (λ y t. (parts y t).0) after_live within_live n ∙ past_queue e
+        each : (zs : List Live) → AllByRecursion (λ y. InClass orders y × IsPriced y) zs
+            → AllByRecursion (λ y. is_candidate terms (Some rank.live) y ≡ true → distance_of rank.live + 1 ≤ distance_of y) zs
+        each [] a = tt
+        each (z ∷ zs) a = ((λ t. after_live z t a.0.0 a.0.1), each zs a.1)
 
 -- by time
 
@@ -379,7 +367,7 @@ time_behind nodes levels time place kept next ranked orders b key node h e =
     (chain-after (time_links nodes) key node.time None time.last (keys_of orders) b.in_time.chain (has-keys key orders ∙ h) (ap (option_map (λ (n : Node). n.time)) e)
     ∙ ap head_of (behind-keys key orders) ∙ head-keys (behind_first (is_under key) orders))
 
-some_found : (key : ℕ) (orders : List Live) → has_key key orders ≡ true → (live : Live) × (find (is_under key) orders ≡ Some live)
+pub some_found : (key : ℕ) (orders : List Live) → has_key key orders ≡ true → (live : Live) × (find (is_under key) orders ≡ Some live)
 some_found key [] h = absurd (true≢false (sym h))
 some_found key (x ∷ xs) h = at (is_under key x) h (some_found key xs)
   where

@@ -21,7 +21,7 @@ module _ (ahead : Live → Live → Bool) (T Q : Live → Bool) (P : Live → Ty
   abbrev pub IsBelow : Live → Type 0
   IsBelow y = (x : Live) → Q x ≡ true → P x → (ahead x y ≡ true) × (ahead y x ≡ false)
 
-  first_all : (R : Live → Type 0) (ys : List Live) → AllByRecursion (λ z. T z ≡ true → R z) ys → IfSome (first_of ahead T ys) R
+  pub first_all : (R : Live → Type 0) (ys : List Live) → AllByRecursion (λ z. T z ≡ true → R z) ys → IfSome (first_of ahead T ys) R
   first_all R [] h = tt
   first_all R (z ∷ zs) h = at (T z) refl (first_of ahead T zs) (first_all R zs h.1)
     where

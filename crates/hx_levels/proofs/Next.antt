@@ -97,6 +97,8 @@ pub record Ranked (terms : Terms) (key : ℕ) (xs : List Live) : Type 0 where
   pub found : find (is_under key) xs ≡ Some live
   pub has : has_key key xs ≡ true
   pub crosses : crosses terms live.order ≡ true
+  pub after : or_else (find (is_equal terms live.order) (behind_first (is_under key) xs)) (first_of (is_ahead terms.side) (is_candidate terms (Some live)) xs)
+      ≡ head_of (behind_first (is_under key) (ranked terms xs))
   pub next : option_map (λ x. x.key) (or_else (find (is_equal terms live.order) (behind_first (is_under key) xs)) (first_of (is_ahead terms.side) (is_candidate terms (Some live)) xs))
       ≡ option_map (λ x. x.key) (head_of (behind_first (is_under key) (ranked terms xs)))
 
@@ -109,7 +111,7 @@ found_somewhere test (x ∷ xs) h = at (test x) refl h (found_somewhere test xs)
     at true e g ih = (x, refl)
     at false e g ih = ih g
 
-all_kept : (keep : Live → Bool) (xs : List Live) → AllByRecursion (λ x. keep x ≡ true) (filter keep xs)
+pub all_kept : (keep : Live → Bool) (xs : List Live) → AllByRecursion (λ x. keep x ≡ true) (filter keep xs)
 all_kept keep [] = tt
 all_kept keep (x ∷ xs) = cond_both (keep x) (x ∷ filter keep xs) (filter keep xs) (λ r. AllByRecursion (λ y. keep y ≡ true) r) (λ t. (t, all_kept keep xs)) (λ _. all_kept keep xs)
 
@@ -125,19 +127,21 @@ next-some terms key xs d r =
     let s = found_somewhere (is_under key) (ranked terms xs) r in
     let a = s.0 in
     let fC : find (is_under key) C ≡ Some a = sym (find-by_rank (is_ahead terms.side) (ahead_asym terms.side) (ahead_skip terms.side) (is_under key) C oC) ∙ s.1 in
+    let after : or_else (find (is_equal terms a.order) (behind_first (is_under key) xs)) (first_of (is_ahead terms.side) (is_candidate terms (Some a)) xs) ≡ head_of (behind_first (is_under key) (ranked terms xs)) =
+    ap (λ r. or_else r (first_of (is_ahead terms.side) (is_candidate terms (Some a)) xs))
+    (find-same (is_equal terms a.order) (λ x. keep x && is_level (is_ahead terms.side) (ahead_asym terms.side) (ahead_skip terms.side) a x) (equal_is terms a) (behind_first (is_under key) xs)
+    ∙ find-and keep (is_level (is_ahead terms.side) (ahead_asym terms.side) (ahead_skip terms.side) a) (behind_first (is_under key) xs)
+    ∙ ap (find (is_level (is_ahead terms.side) (ahead_asym terms.side) (ahead_skip terms.side) a)) (sym (behind-filter keep (is_under key) a xs once fC)))
+    ∙ ap (λ r. or_else (find (is_level (is_ahead terms.side) (ahead_asym terms.side) (ahead_skip terms.side) a) (behind_first (is_under key) C)) r)
+    (first_of-filter (is_ahead terms.side) (ahead_asym terms.side) (ahead_skip terms.side) keep (is_ahead terms.side a) xs)
+    ∙ sym (next_by_class (is_ahead terms.side) (ahead_asym terms.side) (ahead_skip terms.side) (is_under key) a C oC fC) in
     record {
       live = a;
       found = find-filter keep (is_under key) xs a once fC;
       has = true_from_ne_false (has_key key xs) (λ n. no_some a (sym (find-none (is_under key) xs (none_under key xs n)) ∙ find-filter keep (is_under key) xs a once fC));
       crosses = found_among (λ y. keep y ≡ true) (is_under key) a C (all_kept keep xs) fC;
-      next =
-          ap (λ r. option_map (λ x. x.key) (or_else r (first_of (is_ahead terms.side) (is_candidate terms (Some a)) xs)))
-          (find-same (is_equal terms a.order) (λ x. keep x && is_level (is_ahead terms.side) (ahead_asym terms.side) (ahead_skip terms.side) a x) (equal_is terms a) (behind_first (is_under key) xs)
-          ∙ find-and keep (is_level (is_ahead terms.side) (ahead_asym terms.side) (ahead_skip terms.side) a) (behind_first (is_under key) xs)
-          ∙ ap (find (is_level (is_ahead terms.side) (ahead_asym terms.side) (ahead_skip terms.side) a)) (sym (behind-filter keep (is_under key) a xs once fC)))
-          ∙ ap (λ r. option_map (λ x. x.key) (or_else (find (is_level (is_ahead terms.side) (ahead_asym terms.side) (ahead_skip terms.side) a) (behind_first (is_under key) C)) r))
-          (first_of-filter (is_ahead terms.side) (ahead_asym terms.side) (ahead_skip terms.side) keep (is_ahead terms.side a) xs)
-          ∙ ap (option_map (λ x. x.key)) (sym (next_by_class (is_ahead terms.side) (ahead_asym terms.side) (ahead_skip terms.side) (is_under key) a C oC fC));
+      after = after;
+      next = ap (option_map (λ x. x.key)) after;
     }
 
 pub standing_at : (terms : Terms) (key place : ℕ) (xs : List Live) (live : Live) (r : Ranked terms key xs) → IsPlace key xs place → live ≡ get_or xs place live → live ≡ r.live

@@ -16,7 +16,7 @@ use Rattle.hx_levels.specs.Levels.{LevelStore}
 use Rattle.hx_levels.specs.Lists.{behind_first}
 use Rattle.hx_levels.specs.Book.{is_under, is_ahead, crosses, ranked, has_key, KeysDiffer, is_conditional, unconditional, rest_after, IsRanked, IsWalk, next_qualifying, is_ready, next_ready, next_by_rank}
 use Rattle.hx_levels.specs.declared.level_book.LevelBook.TheInside.{Inside}
-use Rattle.hx_levels.specs.LevelBook.{LevelContents, walked, AreNumbered, AreIndexed, IsBook, number_in, rank_of, limit_of, first_rank, last_rank, least_of, entry_of, entry_at}
+use Rattle.hx_levels.specs.LevelBook.{with_room, LevelContents, walked, AreNumbered, AreIndexed, IsBook, number_in, rank_of, limit_of, first_rank, last_rank, least_of, entry_of, entry_at}
 use Rattle.hx_levels.specs.Walks.{rank_after, rank_past, rank_here, rank_until, is_from, is_waiting, is_waiting_until}
 use Rattle.hx_levels.proofs.Lists.{all_weaker, all_filtered, found_among, find-none}
 use Rattle.hx_levels.proofs.Rank.{all_ranked}
@@ -50,11 +50,11 @@ facts nodes levels time place kept next ranked orders b =
     record { next = next; differ = b.differ; priced = b.priced; numbered = b.numbered; small = b.small; indexed = b.indexed }
 
 -- the same of what contracts see of it
-pub facts_at : (i : Inside) (now : LevelContents) → IsBook i.nodes i.ladders.levels i.time i.place i.kept i.next i.conditional (walked i.nodes i.time)
+pub facts_at : (i : Inside) (now : LevelContents) → IsBook i.nodes i.ladders.levels i.time i.place i.kept i.next (with_room i.conditional i.ladders.sizes) (walked i.nodes i.time)
     → record { orders = walked i.nodes i.time; place = i.place; nodes = i.nodes } ≡ now → Facts (number_in now.nodes) i.conditional.entries now.orders
 facts_at i now b e =
     subst (λ (v : LevelContents). Facts (number_in v.nodes) i.conditional.entries v.orders) e
-    (facts i.nodes i.ladders.levels i.time i.place i.kept i.next i.conditional (walked i.nodes i.time) b)
+    (facts i.nodes i.ladders.levels i.time i.place i.kept i.next (with_room i.conditional i.ladders.sizes) (walked i.nodes i.time) b)
 
 pub has_ranked : (terms : Terms) (key : ℕ) (orders : List Live) → KeysDiffer orders → IsRanked terms key orders → has_key key orders ≡ true
 has_ranked terms key orders d r = (next-some terms key orders d r).has

@@ -1,7 +1,7 @@
 -- How the nodes, the levels and the links hold a list of live orders.
 use Rattle.std.specs.Prelude.{◌≡◌, ℕ, ◌+◌, ◌*◌, ◌^◌, ◌-◌, ◌<◌, ◌≤◌, ◌==◌, ◌&&◌, not, suc, zero, min, max, Bool, true, false, List, [], ◌∷◌, map, length, Option, Some, None, if◌then◌else◌}
 use Rattle.std.specs.List.{filter, find, AllByRecursion}
-use Rattle.std.specs.Option.{option_map, unwrap_or, IsSome}
+use Rattle.std.specs.Option.{option_map, unwrap_or, IsSome, IfSome}
 use Rattle.slab.specs.Slab.{Slab, get, HasRoomFor}
 use Rattle.hx_levels.specs.declared.order.Key.{Key}
 use Rattle.hx_levels.specs.declared.order.Live.{Live}
@@ -100,12 +100,35 @@ abbrev pub AreIndexed : (number : ℕ → ℕ) → List Entry → List Live → 
 AreIndexed number entries orders =
     (rank : ℕ) → find (has_rank rank) entries ≡ entry_at number rank orders
 
+-- ranked blocks, with room only where others have room, too
+abbrev pub with_room : Ranked → Ranked → Ranked
+with_room ranked others =
+    record { entries = ranked.entries; has_room = ranked.has_room && others.has_room }
+
 -- the numbers rise, and the next is above them all
 abbrev pub AreNumbered : (number : ℕ → ℕ) → (next : ℕ) → List Live → Type 0
 AreNumbered number next [] = Unit {0}
 AreNumbered number next (x ∷ xs) =
     AllByRecursion (λ y. number x.key.0 < number y.key.0) xs × (number x.key.0 < next)
     × AreNumbered number next xs
+
+-- an order that is not conditional has no more shares than its level says, where there is the level
+abbrev pub IsSized : LevelStore → Live → Type 0
+IsSized levels live = is_conditional live.order ≡ false
+    → IfSome (level_at levels (rung_of (terms_of live.order)))
+    (λ level. live.order.shares ≤ level.most)
+
+-- so has each of these
+abbrev pub AreSized : LevelStore → List Live → Type 0
+AreSized levels orders = AllByRecursion (IsSized levels) orders
+
+-- the live orders that stand in a queue of a level, in time order
+abbrev pub line : LevelKey → (shown : Bool) → List Live → List Live
+line at shown orders = filter (is_in at shown) (unconditional orders)
+
+-- none of these has more shares
+abbrev pub HaveAtMost : (most : ℕ) → List Live → Type 0
+HaveAtMost most orders = AllByRecursion (λ live. live.order.shares ≤ most) orders
 
 -- the slab, the levels, the links and the ranked blocks hold these live orders and no others: an order that is not
 -- conditional stands in the queue of its level, a conditional one by its rank
@@ -119,6 +142,7 @@ pub record IsBook (nodes : Slab Node) (levels : LevelStore) (time : Ends)
       → IsLinked (queue_links nodes) (ends_in shown (level_at levels at))
       (queue at shown (unconditional orders))
   pub priced : AllByRecursion (λ live. live.order.price ≤ greatest_price) orders
+  pub sized : AreSized levels orders
   pub numbered : AreNumbered (number_in nodes) next orders
   pub indexed : AreIndexed (number_in nodes) ranked.entries orders
   pub small : next < 2 ^ 63

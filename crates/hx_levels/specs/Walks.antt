@@ -1,10 +1,11 @@
 -- What a walk along the orders of a book by levels looks for.
-use Rattle.std.specs.Prelude.{ℕ, ◌+◌, ◌&&◌, nat_le, Bool, List, Option, Some, None}
-use Rattle.std.specs.List.{find}
+use Rattle.std.specs.Prelude.{◌≡◌, ℕ, ◌+◌, ◌<◌, ◌&&◌, nat_le, Bool, false, List, Option, Some, None}
+use Rattle.std.specs.List.{AllByRecursion, find}
+use Rattle.std.specs.Option.{option_map}
 use Rattle.hx_levels.specs.declared.order.Key.{Key}
 use Rattle.hx_levels.specs.declared.order.Live.{Live}
 use Rattle.hx_levels.specs.declared.order.Terms.{Terms}
-use Rattle.hx_levels.specs.Book.{is_under, is_conditional}
+use Rattle.hx_levels.specs.Book.{is_under, is_conditional, rest_after}
 use Rattle.hx_levels.specs.LevelBook.{rank_of, least_of, first_rank, last_rank}
 
 -- the rank after that of a live order
@@ -42,3 +43,12 @@ is_waiting left least live =
 abbrev pub is_waiting_until : (number : ℕ → ℕ) → (rank left least : ℕ) → Live → Bool
 is_waiting_until number rank left least live =
     nat_le (rank_of number live) rank && is_waiting left least live
+
+-- the next order of a line after the one with the key, or the first, of those that pass a test: all with as many open
+-- shares do
+pub record IsNextLarge (after : Option Key) (least : ℕ) (line : List Live)
+    (result : Option Key) : Type 0 where
+  pub test : Live → Bool
+  pub small : AllByRecursion (λ live. test live ≡ false → live.order.shares < least)
+      (rest_after after line)
+  pub next : result ≡ option_map (λ live. live.key) (find test (rest_after after line))

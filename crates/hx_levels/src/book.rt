@@ -63,6 +63,12 @@ pub trait Book {
             IsRanked (terms_at locate side price) key.0 (orders self.now)) }
         ensures keys { KeysDiffer (orders self.now) };
 
+    /// Makes ready for a walk of an incoming order of these terms, with `left` open shares and this minimum: work is done here
+    /// that each such walk would else do again. Contracts see the same book afterwards.
+    fn prepare_walk(&mut self, terms: &Terms, left: u32, minimum: u32)
+        ensures orders { orders self.new ≡ orders self.old }
+        ensures place { place self.new ≡ place self.old };
+
     /// The next order that an incoming order can be executed against, as a step of a walk: of those that cross its terms,
     /// the next by rank after the last one met that qualifies, if `left` shares of the incoming order are open and each
     /// execution has to have `minimum` shares at least. A walk keeps to its terms and its minimum, and `left` never rises,

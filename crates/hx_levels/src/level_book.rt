@@ -12,6 +12,7 @@ mod levels;
 mod link;
 mod linked_orders;
 mod sides;
+mod tightening;
 mod walking;
 
 use crate::book::Book;
@@ -26,6 +27,7 @@ use crate::order::{Key, Order, Terms, Walk};
 use hx_ranked::{Entry, RankedBlocks};
 use hx_units::{NoMemory, Price, Side};
 use std::alloc::Global;
+use std::cell::Cell;
 use std::marker::Model;
 
 // A number above each price: the distance of a buy's level counts down from it.
@@ -34,8 +36,14 @@ const ABOVE_PRICES: u32 = 2_000_000_000;
 // The last number that an order may have, which leaves a bit of a rank's lower half for whether it is shown.
 const LAST_NUMBER: u64 = 9_223_372_036_854_775_807;
 
+// What it costs to read a block of the conditional orders for nothing, in orders passed over.
+const MISS: u64 = 16;
+
 /// A book by levels of price: the orders in a slab, linked in time order, and in queues by price and by
-/// whether they are shown. A call takes time in proportion to the logarithm of the number of levels at most.
+/// whether they are shown. A call takes time in proportion to the logarithm of the number of levels at most, apart from
+/// walks, and from the entries of one block (256 at most) that move where a level or a conditional order comes or goes. A
+/// walk passes a level without a step if no order of it, those gone included, ever had as many shares as the incoming
+/// order's minimum.
 pub struct LevelBook {
     nodes: LinkedOrders,
     ladders: Sides,
@@ -47,6 +55,8 @@ pub struct LevelBook {
     next: u64,
     // The conditional orders by rank: they stand in no queue of a level.
     conditional: RankedBlocks,
+    // How many orders the walks have passed over one by one.
+    passed: Cell<u64>,
 }
 
 // By hand, so that where a value is dropped its owner's proof sees one call.
@@ -60,12 +70,13 @@ impl Drop for LevelBook {
             kept: _,
             next: _,
             conditional: _,
+            passed: _,
         } = self;
     }
 }
 
 impl Model for LevelBook {
-    ghost use Rattle.hx_levels.specs.LevelBook.{LevelContents, walked, IsBook};
+    ghost use Rattle.hx_levels.specs.LevelBook.{LevelContents, walked, with_room, IsBook};
 
     ghost Value = { LevelContents };
 
@@ -76,7 +87,7 @@ impl Model for LevelBook {
     } };
 
     ghost invariant = { λ b. IsBook b.nodes b.ladders.levels b.time b.place b.kept b.next
-        b.conditional (walked b.nodes b.time) };
+        (with_room b.conditional b.ladders.sizes) (walked b.nodes b.time) };
 }
 
 impl LevelBook {
@@ -93,7 +104,16 @@ impl LevelBook {
             kept: None,
             next: 0,
             conditional: RankedBlocks::new(alloc),
+            passed: Cell::new(0),
         }
+    }
+
+    /// What all walks have cost beside the orders that they met, in orders passed over one by one for their few shares: a
+    /// level that is reached counts as eight, and a block that is read for nothing as sixteen. Contracts promise nothing
+    /// of it.
+    pub fn passed_over(&self) -> u64 {
+        let misses = self.conditional.misses().wrapping_mul(MISS);
+        self.passed.get().wrapping_add(misses)
     }
 }
 
@@ -112,7 +132,9 @@ impl LevelBook {
         let rung = rung_of(&order);
         let number = self.next;
         let key = store(&mut self.nodes, order);
-        let last = self.ladders.join_queue(rung, order.shown, key);
+        let last = self
+            .ladders
+            .join_queue(rung, order.shown, key, order.shares);
         link_last(&mut self.nodes, key, last, self.time.last, number);
         self.time = self.time.with(key);
         self.place = None;
@@ -349,6 +371,14 @@ impl Book for LevelBook {
             price,
         };
         self.next_crossing(&terms, after)
+    }
+
+    #[inline(always)]
+    fn prepare_walk(&mut self, terms: &Terms, left: u32, minimum: u32) {
+        // One share is in each level that is not empty: a walk with no greater minimum does not ask for the bounds.
+        if minimum > 1 && minimum <= left {
+            self.tighten(terms, minimum);
+        }
     }
 
     #[inline(always)]

@@ -275,6 +275,8 @@ impl Book for ListBook {
         next_from(&self.entries, &terms, after)
     }
 
+    fn prepare_walk(&mut self, _terms: &Terms, _left: u32, _minimum: u32) {}
+
     fn next_qualifying(
         &self,
         terms: &Terms,

@@ -5,6 +5,7 @@ ghost use Rattle.hx_ranked.specs.Ranked.{Every, AreBlocks, flat, first_within_of
 
 use crate::block::{Block, CAPACITY};
 use crate::entry::Entry;
+use std::cell::Cell;
 
 // The index of the block to which a rank belongs, by binary search: the entries of the blocks before it rank before the
 // rank, those of the blocks after it after the rank.
@@ -41,9 +42,11 @@ fn start_of(blocks: &[Block], from: u128) -> usize
     locate(blocks, from)
 }
 
-/// The first entry from a rank to another that can trade `left` shares at most and `minimum` at least.
+/// The first entry from a rank to another that can trade `left` shares at most and `minimum` at least. Each block that is
+/// read for nothing, since its summaries do not rule it out, counts as a miss.
 pub fn first_within(
     blocks: &[Block],
+    misses: &Cell<u64>,
     from: u128,
     last: u128,
     left: u32,
@@ -63,6 +66,7 @@ pub fn first_within(
         if let Some(entry) = block.first_within(from, last, left, minimum) {
             return Some(entry);
         }
+        misses.set(misses.get().wrapping_add(1));
     }
     None
 }

@@ -8,6 +8,7 @@ use crate::blocks;
 use crate::entry::Entry;
 use hx_units::NoMemory;
 use std::alloc::Global;
+use std::cell::Cell;
 use std::marker::Model;
 
 /// Entries in the order of their ranks, no two of one rank (`entries`), and whether there is room for one more
@@ -18,6 +19,8 @@ pub struct RankedBlocks {
     blocks: Vec<Block>,
     spare: Option<Vec<Entry>>,
     len: usize,
+    // How many blocks searches have read for nothing.
+    misses: Cell<u64>,
     alloc: Global,
 }
 
@@ -40,6 +43,7 @@ impl RankedBlocks {
             blocks: Vec::new(alloc),
             spare: None,
             len: 0,
+            misses: Cell::new(0),
             alloc,
         }
     }
@@ -67,7 +71,13 @@ impl RankedBlocks {
         if self.len == 0 {
             return None;
         }
-        blocks::first_within(&self.blocks, from, last, left, minimum)
+        blocks::first_within(&self.blocks, &self.misses, from, last, left, minimum)
+    }
+
+    /// How many blocks `first_within` has read for nothing, since their summaries did not rule them out. It says what the
+    /// searches have cost; contracts promise nothing of it.
+    pub fn misses(&self) -> u64 {
+        self.misses.get()
     }
 
     /// The first entry that has a rank or a later one.

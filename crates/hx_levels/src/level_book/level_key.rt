@@ -4,7 +4,7 @@ ghost use Rattle.std.proofs.Common.{rules};
 ghost use Rattle.std.specs.Ordering.{as_partial_cmp, eq_by_cmp};
 ghost use Rattle.std.specs.Cmp.{partial_equiv_from_equiv, partial_order_from_own_ties};
 ghost use Rattle.std.specs.Cmp.Rules.{comparing};
-ghost use Rattle.hx_levels.specs.Rung.{LevelKey, rung_cmp, rung_number, side_number};
+ghost use Rattle.hx_levels.specs.Rung.{LevelKey, rung_cmp, rung_number, rung_of_number, side_number};
 
 use std::cmp::Ordering;
 use std::marker::Model;
@@ -62,7 +62,8 @@ impl LevelKey {
 
     /// The rung as one number: of a stock and side the better price has the smaller one.
     pub fn number(self) -> u64
-        ensures { result ≡ rung_number self }
+        ensures number { result ≡ rung_number self }
+        ensures rung { rung_of_number result ≡ self }
     {
         self.number
     }

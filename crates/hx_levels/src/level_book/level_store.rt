@@ -8,7 +8,7 @@ ghost use Rattle.std.specs.Vec.{vec_len};
 ghost use Rattle.slab.specs.Slab.{get, ContainsKey};
 ghost use Rattle.hx_levels.specs.Nodes.{ends_with, ends_without};
 ghost use Rattle.hx_levels.specs.Rung.{LevelKey, rung_cmp};
-ghost use Rattle.hx_levels.specs.Levels.{slot_of, level_in, level_at, on_level, with_ends, ends_in};
+ghost use Rattle.hx_levels.specs.Levels.{slot_of, level_in, level_at, on_level, with_ends, joined, with_most, or_empty, ends_in};
 
 use crate::level_book::level_key::LevelKey;
 use crate::level_book::levels::Level;
@@ -116,19 +116,22 @@ impl LevelStore {
         }
     }
 
-    /// Puts a key last in a queue of a level that is there, and gives the key that was last.
+    /// Puts the key of an order with as many shares last in a queue of a level that is there. It gives the key that was
+    /// last, and the most shares of the level before.
     #[inline(always)]
-    pub fn join_queue(&mut self, at: LevelKey, shown: bool, key: usize) -> Link
+    pub fn join_queue(&mut self, at: LevelKey, shown: bool, key: usize, shares: u32) -> (Link, u32)
         requires level { IsSome (level_at self.old at) }
         requires small { key + 1 < 2 ^ 64 }
-        ensures last { result ≡ (ends_in shown (level_at self.old at)).last }
+        ensures last { result.0 ≡ (ends_in shown (level_at self.old at)).last }
+        ensures most { IfSome (level_at self.old at) (λ level. result.1 ≡ level.most) }
         ensures changed { level_at self.new at
-            ≡ option_map (with_ends shown (ends_with key (ends_in shown (level_at self.old at))))
+            ≡ option_map
+            (joined shown (ends_with key (ends_in shown (level_at self.old at))) shares)
             (level_at self.old at) }
         ensures others { (q : LevelKey) → (q ≡ at → ⊥) → level_at self.new q ≡ level_at self.old q }
     {
         let slot = self.look(at).unwrap();
-        join_in(&mut self.slab, slot, shown, key)
+        join_in(&mut self.slab, slot, shown, key, shares)
     }
 
     /// Takes the order of these links out of a queue of a level that is there, and gives the ends that are left.
@@ -144,9 +147,22 @@ impl LevelStore {
         leave_in(&mut self.slab, slot, shown, links)
     }
 
+    /// Gives the level of a rung, if there is one, another bound on the shares of its orders.
+    pub fn lower(&mut self, at: LevelKey, most: u32)
+        ensures changed { level_at self.new at
+            ≡ option_map (with_most most) (level_at self.old at) }
+        ensures others { (q : LevelKey) → (q ≡ at → ⊥) → level_at self.new q ≡ level_at self.old q }
+    {
+        let Some(slot) = self.look(at) else {
+            return;
+        };
+        lower_in(&mut self.slab, slot, most);
+    }
+
     /// Makes an empty level, where there is none.
     pub fn make_level(&mut self, at: LevelKey) -> Result<(), NoMemory>
         ensures there { OnOk result (IsSome (level_at self.new at)) }
+        ensures made { OnOk result (level_at self.new at ≡ or_empty (level_at self.old at)) }
         ensures ends { (s : Bool) → ends_in s (level_at self.new at)
             ≡ ends_in s (level_at self.old at) }
         ensures others { (q : LevelKey) → (q ≡ at → ⊥) → level_at self.new q ≡ level_at self.old q }
@@ -165,6 +181,7 @@ impl LevelStore {
                 at,
                 level: Level::empty(),
             });
+            return Ok(());
         }
         Ok(())
     }
@@ -226,25 +243,30 @@ fn note(hints: &mut Vec<usize>, at: LevelKey, slot: usize) {
     }
 }
 
-// Puts a key last in a queue of the level in a slot, and gives the key that was last.
-fn join_in(slab: &mut Slab<Tier>, slot: usize, shown: bool, key: usize) -> Link
+// Puts the key of an order with as many shares last in a queue of the level in a slot. It gives the key that was last, and
+// the most shares of the level before.
+fn join_in(slab: &mut Slab<Tier>, slot: usize, shown: bool, key: usize, shares: u32) -> (Link, u32)
     requires level { ContainsKey slab.old slot }
     requires small { key + 1 < 2 ^ 64 }
-    ensures last { result ≡ (ends_in shown (level_in slab.old (Some slot))).last }
+    ensures last { result.0 ≡ (ends_in shown (level_in slab.old (Some slot))).last }
+    ensures most { IfSome (get slab.old slot) (λ tier. result.1 ≡ tier.level.most) }
     ensures changed { get slab.new slot ≡ option_map
-        (on_level (with_ends shown (ends_with key (ends_in shown (level_in slab.old (Some slot))))))
+        (on_level
+        (joined shown (ends_with key (ends_in shown (level_in slab.old (Some slot)))) shares))
         (get slab.old slot) }
     ensures others { (k : ℕ) → (k == slot) ≡ false → get slab.new k ≡ get slab.old k }
 {
     let level = &mut slab[slot].level;
+    let most = level.most;
+    level.most = level.most.max(shares);
     if shown {
         let last = level.shown.last;
         level.shown = level.shown.with(key);
-        last
+        (last, most)
     } else {
         let last = level.hidden.last;
         level.hidden = level.hidden.with(key);
-        last
+        (last, most)
     }
 }
 
@@ -263,5 +285,18 @@ fn leave_in(slab: &mut Slab<Tier>, slot: usize, shown: bool, links: Links) -> En
     } else {
         level.hidden = level.hidden.without(links);
         level.hidden
+    }
+}
+
+// Gives the level in a slot another bound on the shares of its orders.
+fn lower_in(slab: &mut Slab<Tier>, slot: usize, most: u32)
+    requires { ContainsKey slab.old slot }
+    ensures changed { get slab.new slot
+        ≡ option_map (on_level (with_most most)) (get slab.old slot) }
+    ensures others { (k : ℕ) → (k == slot) ≡ false → get slab.new k ≡ get slab.old k }
+{
+    let level = &mut slab[slot].level;
+    if level.most > 0 {
+        level.most = most;
     }
 }

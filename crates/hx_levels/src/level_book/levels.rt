@@ -7,18 +7,20 @@ ghost use Rattle.std.specs.declared.ops.Bound.TheVariants.{Unbounded};
 ghost use Rattle.hx_levels.specs.declared.level_book.levels.Level.{Level};
 ghost use Rattle.hx_levels.specs.Nodes.{no_ends};
 ghost use Rattle.hx_levels.specs.Rung.{LevelKey, rung_cmp};
-ghost use Rattle.hx_levels.specs.Levels.{level_at, with_ends, ends_of, ends_in, first_at, IsFirstFrom, IsFirstLevel, IsEmptyAt, IsEmptyLevel};
+ghost use Rattle.hx_levels.specs.Levels.{level_at, with_ends, empty_level, ends_of, ends_in, first_at, IsFirstFrom, IsFirstLevel, IsEmptyAt, IsEmptyLevel};
 
 use crate::level_book::level_key::LevelKey;
 use crate::level_book::level_store::LevelStore;
 use crate::level_book::linked_orders::Ends;
 use std::ops::Bound;
 
-/// The orders of one price: those that are shown, and those that are not.
+/// The orders of one price: those that are shown, and those that are not. No order has more open shares than `most`, which
+/// only rises while the level is there.
 #[derive(Clone, Copy)]
 pub struct Level {
     pub shown: Ends,
     pub hidden: Ends,
+    pub most: u32,
 }
 
 // The ends of a queue, none where there is no level.
@@ -35,11 +37,12 @@ pub fn ends_at(levels: &LevelStore, at: LevelKey, shown: bool) -> Ends
 impl Level {
     // A level without orders.
     pub fn empty() -> Level
-        ensures { result ≡ record { shown = no_ends; hidden = no_ends } }
+        ensures { result ≡ empty_level }
     {
         Level {
             shown: Ends::none(),
             hidden: Ends::none(),
+            most: 0,
         }
     }
 
@@ -53,6 +56,19 @@ impl Level {
             Some(key) => Some(key),
             None => hidden.get(),
         }
+    }
+}
+
+impl Level {
+    // The first order of the level, if an order of it may have as many shares.
+    pub fn first_if(self, least: u32) -> Option<usize>
+        ensures { IfSome result (λ key. MatchOption self.shown.first
+            (self.hidden.first ≡ Some key) (λ first. first ≡ key)) }
+    {
+        if self.most < least {
+            return None;
+        }
+        self.first()
     }
 }
 
@@ -111,6 +127,16 @@ pub fn is_kept(at: LevelKey, kept: Option<LevelKey>) -> bool
     match kept {
         Some(rung) => rung == at,
         None => false,
+    }
+}
+
+// The most shares of the level at a rung, where there is one.
+pub fn most_at(levels: &LevelStore, at: LevelKey) -> u32
+    ensures { IfSome (level_at levels.now at) (λ level. result ≡ level.most) }
+{
+    match levels.level(at) {
+        Some(level) => level.most,
+        None => 0,
     }
 }
 

@@ -1,28 +1,66 @@
 //! The levels of a book, and beside them how near to the best price those of each stock and side begin.
-ghost use Rattle.std.specs.Prelude.{◌≡◌, ◌+◌, ◌≤◌, ◌<◌, ◌^◌, ℕ, Option, Some, None, IsSome, OnOk, OnErr, IfSome, IfNone, Bool, true, false};
+ghost use Rattle.std.specs.Prelude.{◌≡◌, ◌+◌, ◌≤◌, ◌<◌, ◌%◌, ◌^◌, ℕ, Option, Some, None, IsSome, OnOk, OnErr, IfSome, IfNone, Bool, true, false};
 ghost use Rattle.std.specs.Option.{option_map};
 ghost use Rattle.hx_levels.specs.Nodes.{ends_with};
-ghost use Rattle.hx_levels.specs.Rung.{LevelKey};
-ghost use Rattle.hx_levels.specs.Levels.{level_at, with_ends, ends_in, first_at, IsFirstFrom, IsEmptyAt, DropsEmpty, LeavesLevel};
+ghost use Rattle.hx_levels.specs.Rung.{LevelKey, rung_number, rung_of_number};
+ghost use Rattle.hx_levels.specs.Levels.{level_at, with_ends, joined, with_most, or_empty, ends_in, first_at, IsFirstFrom, FindsLarge, IsEmptyAt, DropsEmpty, LeavesLevel};
 ghost use Rattle.hx_levels.specs.Bests.{NoneBetter};
+ghost use Rattle.hx_levels.specs.Sizes.{AreSizes};
+ghost use Rattle.hx_ranked.specs.Ranked.{IsFree, without};
 
 use crate::level_book::best_bounds::{BestBounds, NO_DISTANCE};
 use crate::level_book::level_key::LevelKey;
 use crate::level_book::level_store::LevelStore;
 use crate::level_book::levels::{
-    ends_at, first_from, first_of_level, first_within, is_empty_at, is_kept,
+    ends_at, first_from, first_of_level, first_within, is_empty_at, is_kept, most_at,
 };
 use crate::level_book::link::Link;
 use crate::level_book::linked_orders::{Ends, Links};
+use hx_ranked::{Entry, RankedBlocks};
 use hx_units::NoMemory;
 use std::alloc::Global;
 
-/// The levels of all stocks and sides. Where no level of a side is near enough, that is known without a look for one.
+// How many distances there are on a side of a stock.
+const DISTANCES: u128 = 1 << 32;
+
+/// The levels of all stocks and sides. Where no level of a side is near enough, that is known without a look for one. The
+/// most shares of each level's orders stand in ranked blocks too, so a walk passes levels of small orders by the block.
 #[derive(Drop)]
 pub struct Sides {
     levels: LevelStore,
     bests: BestBounds,
+    // For each level that has had an order an entry under the number of its rung, with the most shares of its orders.
+    sizes: RankedBlocks,
     ghost near: { NoneBetter levels bests },
+    ghost sized: { AreSizes levels sizes.entries },
+}
+
+// The rank of a rung's level among the sizes.
+fn size_rank(at: LevelKey) -> u128
+    ensures number { result ≡ rung_number at }
+    ensures rung { rung_of_number result ≡ at }
+{
+    u128::from(at.number())
+}
+
+// Takes the size of a rung's level out, unless the level has had no shares, and so has no size.
+fn drop_size(sizes: &mut RankedBlocks, at: LevelKey, most: u32)
+    requires { most ≡ 0 → (r : ℕ) → rung_of_number r ≡ at → IsFree r sizes.old.entries }
+    ensures entries { sizes.new.entries ≡ without (rung_number at) sizes.old.entries }
+    ensures room { sizes.old.has_room ≡ true → sizes.new.has_room ≡ true }
+    ensures rung { rung_of_number (rung_number at) ≡ at }
+{
+    let rank = size_rank(at);
+    if most > 0 {
+        sizes.remove(rank);
+    }
+}
+
+// The distance of the level that has a rank among the sizes.
+fn distance_in(rank: u128) -> u32
+    ensures { result ≡ rank % 4294967296 }
+{
+    (rank % DISTANCES) as u32
 }
 
 impl Sides {
@@ -33,6 +71,7 @@ impl Sides {
         Sides {
             levels: LevelStore::new(alloc),
             bests: BestBounds::new(alloc),
+            sizes: RankedBlocks::new(alloc),
         }
     }
 
@@ -67,42 +106,131 @@ impl Sides {
         first_from(&self.levels, from, limit)
     }
 
-    /// Makes an empty level, where there is none.
+    /// The first order of the first level that is not empty, from a rung up to a distance. Levels none of whose orders has
+    /// as many shares are passed over, by the block.
+    #[inline(always)]
+    pub fn first_large(&self, from: LevelKey, limit: u32, least: u32) -> Option<usize>
+        requires single { (a b : LevelKey) → IsEmptyAt self.now.levels a
+            → IsEmptyAt self.now.levels b → a ≡ b }
+        requires limit { limit < 4294967295 }
+        ensures { FindsLarge self.now.levels from limit least result }
+    {
+        // An order has one share at least, so none is passed over: the best is found without a search.
+        if least <= 1 {
+            return self.first_from(from, limit);
+        }
+        // Mostly the next level is large enough: then the sizes are not asked.
+        let Some((_, level)) = first_within(&self.levels, from, limit) else {
+            return None;
+        };
+        if let Some(key) = level.first_if(least) {
+            return Some(key);
+        }
+        self.first_by_size(from, limit, least)
+    }
+
+    // The same, by a search among the sizes.
+    fn first_by_size(&self, from: LevelKey, limit: u32, least: u32) -> Option<usize>
+        requires single { (a b : LevelKey) → IsEmptyAt self.now.levels a
+            → IsEmptyAt self.now.levels b → a ≡ b }
+        requires limit { limit < 4294967295 }
+        requires some { 0 < least }
+        ensures { FindsLarge self.now.levels from limit least result }
+    {
+        let last = size_rank(from.at(limit));
+        let Some(entry) = self
+            .sizes
+            .first_within(size_rank(from), last, u32::MAX, least)
+        else {
+            return None;
+        };
+        self.first_from(from.at(distance_in(entry.rank)), limit)
+    }
+
+    /// Where the next level stands, from a rung up to a distance, whose bound allows an order of as many shares.
+    pub fn next_claim(&self, from: LevelKey, limit: u32, least: u32) -> Option<LevelKey>
+        ensures { IfSome result (λ at. (at.locate ≡ from.locate) × (at.buy ≡ from.buy)) }
+    {
+        let (first, last) = (size_rank(from), size_rank(from.at(limit)));
+        let Some(entry) = self.sizes.first_within(first, last, u32::MAX, least) else {
+            return None;
+        };
+        Some(from.at(distance_in(entry.rank)))
+    }
+
+    /// Gives the level of a rung another bound on the shares of its orders, if it has one.
+    pub fn lower(&mut self, at: LevelKey, most: u32)
+        requires { 0 < most }
+        ensures room { self.new.sizes.has_room ≡ self.old.sizes.has_room }
+        ensures changed { level_at self.new.levels at
+            ≡ option_map (with_most most) (level_at self.old.levels at) }
+        ensures others { (q : LevelKey) → (q ≡ at → ⊥)
+            → level_at self.new.levels q ≡ level_at self.old.levels q }
+    {
+        self.levels.lower(at, most);
+        self.sizes.renew(size_rank(at), 1, most);
+    }
+
+    /// Makes an empty level, where there is none, and room for the size of one.
     #[inline(always)]
     pub fn make_level(&mut self, at: LevelKey) -> Result<(), NoMemory>
         ensures there { OnOk result (IsSome (level_at self.new.levels at)) }
+        ensures made { OnOk result (level_at self.new.levels at
+            ≡ or_empty (level_at self.old.levels at)) }
         ensures ends { (s : Bool) → ends_in s (level_at self.new.levels at)
             ≡ ends_in s (level_at self.old.levels at) }
         ensures others { (q : LevelKey) → (q ≡ at → ⊥)
             → level_at self.new.levels q ≡ level_at self.old.levels q }
         ensures err { OnErr result ((q : LevelKey)
             → level_at self.new.levels q ≡ level_at self.old.levels q) }
+        ensures room { OnOk result (self.new.sizes.has_room ≡ true) }
+        ensures had_room { self.old.sizes.has_room ≡ true → self.new.sizes.has_room ≡ true }
     {
         // Noted before it is made: where it is then refused, what is kept is nearer than it need be.
         self.bests.include(at)?;
-        self.levels.make_level(at)
+        self.sizes.reserve()?;
+        self.levels.make_level(at)?;
+        Ok(())
     }
 
-    /// Puts a key last in a queue of a level that is there, and gives the key that was last.
+    /// Puts the key of an order with as many shares last in a queue of a level that is there, and gives the key that was
+    /// last.
     #[inline(always)]
-    pub fn join_queue(&mut self, at: LevelKey, shown: bool, key: usize) -> Link
+    pub fn join_queue(&mut self, at: LevelKey, shown: bool, key: usize, shares: u32) -> Link
         requires level { IsSome (level_at self.old.levels at) }
         requires small { key + 1 < 2 ^ 64 }
+        requires room { self.old.sizes.has_room ≡ true }
         ensures last { result ≡ (ends_in shown (level_at self.old.levels at)).last }
         ensures changed { level_at self.new.levels at
             ≡ option_map
-            (with_ends shown (ends_with key (ends_in shown (level_at self.old.levels at))))
+            (joined shown (ends_with key (ends_in shown (level_at self.old.levels at))) shares)
             (level_at self.old.levels at) }
         ensures others { (q : LevelKey) → (q ≡ at → ⊥)
             → level_at self.new.levels q ≡ level_at self.old.levels q }
     {
-        self.levels.join_queue(at, shown, key)
+        let (last, most) = self.levels.join_queue(at, shown, key, shares);
+        if shares <= most {
+            return last;
+        }
+        let rank = size_rank(at);
+        if most > 0 {
+            self.sizes.renew(rank, 1, shares);
+            return last;
+        }
+        self.sizes.insert(Entry {
+            rank,
+            key: 0,
+            least: 1,
+            shares,
+        });
+        last
     }
 
     // Looks for the best level of the rung's stock and side, where the rung was the best before its level went out.
     #[inline(always)]
     fn find_best(&mut self, at: LevelKey)
-        ensures { self.new.levels ≡ self.old.levels }
+        ensures levels { self.new.levels ≡ self.old.levels }
+        ensures sizes { self.new.sizes ≡ self.old.sizes }
     {
         if self.bests.is_at_bound(at) {
             let best = match first_within(&self.levels, at.at(0), NO_DISTANCE) {
@@ -116,13 +244,16 @@ impl Sides {
     /// Takes the level out where it is empty, unless it is the one to keep.
     #[inline(always)]
     pub fn drop_empty(&mut self, at: LevelKey, kept: Option<LevelKey>)
-        ensures { DropsEmpty self.old.levels self.new.levels at kept }
+        ensures dropped { DropsEmpty self.old.levels self.new.levels at kept }
+        ensures room { self.old.sizes.has_room ≡ true → self.new.sizes.has_room ≡ true }
     {
         if is_kept(at, kept) {
             return;
         }
         if is_empty_at(&self.levels, at) {
+            let most = most_at(&self.levels, at);
             self.levels.remove(at);
+            drop_size(&mut self.sizes, at, most);
             self.find_best(at);
         }
     }
@@ -131,7 +262,8 @@ impl Sides {
     // an order in the queue the level is not looked for.
     fn drop_if_empty(&mut self, at: LevelKey, kept: Option<LevelKey>, shown: bool, ends: Ends)
         requires { ends ≡ ends_in shown (level_at self.old.levels at) }
-        ensures { DropsEmpty self.old.levels self.new.levels at kept }
+        ensures dropped { DropsEmpty self.old.levels self.new.levels at kept }
+        ensures room { self.old.sizes.has_room ≡ true → self.new.sizes.has_room ≡ true }
     {
         if ends.first.is_some() {
             return;
@@ -144,7 +276,8 @@ impl Sides {
     #[inline(always)]
     pub fn leave_level(&mut self, at: LevelKey, shown: bool, links: Links, kept: Option<LevelKey>)
         requires { IsSome (ends_in shown (level_at self.old.levels at)).first }
-        ensures { LeavesLevel self.old.levels self.new.levels at shown links kept }
+        ensures left { LeavesLevel self.old.levels self.new.levels at shown links kept }
+        ensures room { self.old.sizes.has_room ≡ true → self.new.sizes.has_room ≡ true }
     {
         if links.is_inside() {
             return;

@@ -1,12 +1,13 @@
 //! Walks along the orders of a book that cross incoming terms, by rank. An order that is not conditional stands in the
 //! queue of its level; a conditional one is found by its rank, so that those that an incoming order is too small for cost
-//! no step each.
+//! no step each. Levels of orders that are all smaller than the incoming order's minimum are passed over by the block, too:
+//! the sides know the most shares that an order of each level ever had.
 ghost use Rattle.std.specs.Prelude.{◌≡◌, ◌+◌, ◌<◌, nat_lt, ◌≤◌, ◌^◌, ◌&&◌, Option, Some, None, IfSome, IfNone, true, false, max};
 ghost use Rattle.std.specs.List.{find};
 ghost use Rattle.std.specs.Option.{option_map, option_copied, is_some};
 ghost use Rattle.hx_levels.specs.Book.{has_key, order_of, is_under, is_conditional, unconditional, KeysDiffer, IsRanked, IsWalk, ranked, rest_after, next_by_rank, next_ready, next_qualifying};
 ghost use Rattle.hx_levels.specs.LevelBook.{above_prices, contra, limit_of, number_in, rank_at, rank_of, least_of, entry_of, first_rank, last_rank, to_key};
-ghost use Rattle.hx_levels.specs.Walks.{rank_after, rank_until, is_from, is_waiting_until};
+ghost use Rattle.hx_levels.specs.Walks.{rank_after, rank_until, is_from, is_waiting_until, IsNextLarge};
 
 use crate::level_book::level_key::LevelKey;
 use crate::level_book::{ABOVE_PRICES, LAST_NUMBER, LevelBook, rung_of};
@@ -17,6 +18,9 @@ use hx_ranked::Entry;
 const LEVEL: u128 = 1 << 64;
 
 const HIDDEN: u64 = 1 << 63;
+
+// What it costs to reach another level behind one that was passed over, in orders passed over.
+const REACHED: u64 = 8;
 
 /// The rank of an order at a level, shown or not, with its number.
 pub fn rank_at(at: LevelKey, shown: bool, number: u64) -> u128
@@ -36,7 +40,7 @@ pub fn least_of(order: &Order) -> u32
 }
 
 // The contra side of the terms: its rungs begin at this one, and go up to the distance.
-fn contra_of(terms: &Terms) -> (LevelKey, u32)
+pub fn contra_of(terms: &Terms) -> (LevelKey, u32)
     ensures rung { result.0 ≡ contra terms.now 0 }
     ensures limit { result.1 ≡ limit_of terms.now }
     ensures small { result.1 ≤ above_prices }
@@ -45,6 +49,17 @@ fn contra_of(terms: &Terms) -> (LevelKey, u32)
     let price = terms.price.get();
     let rung = LevelKey::of(terms.locate, !buy, 0);
     (rung, if buy { price } else { ABOVE_PRICES - price })
+}
+
+// The number of a key as the key.
+#[inline(always)]
+fn as_key(number: Option<usize>) -> Option<Key>
+    ensures { result ≡ option_map to_key number }
+{
+    match number {
+        Some(key) => Some(Key(key)),
+        None => None,
+    }
 }
 
 // The greatest rank that an order may have that crosses the terms.
@@ -66,22 +81,19 @@ fn first_rank(terms: &Terms) -> u128
 
 impl LevelBook {
     #[inline(always)]
-    fn first_queued(&self, terms: &Terms) -> Option<Key>
-        ensures exact { result
-            ≡ next_by_rank terms.now None (unconditional self.now.orders) }
+    fn first_queued(&self, terms: &Terms, least: u32) -> Option<Key>
+        ensures next { IsNextLarge None least
+            (ranked terms.now (unconditional self.now.orders)) result }
         ensures keys { KeysDiffer self.now.orders }
     {
         let (rung, limit) = contra_of(terms);
-        match self.ladders.first_from(rung, limit) {
-            Some(key) => Some(Key(key)),
-            None => None,
-        }
+        as_key(self.ladders.first_large(rung, limit, least))
     }
 
-    fn queued_after(&self, terms: &Terms, key: Key) -> Option<Key>
+    fn queued_after(&self, terms: &Terms, key: Key, least: u32) -> Option<Key>
         requires { IsRanked terms.now key.0 (unconditional self.now.orders) }
-        ensures exact { result
-            ≡ next_by_rank terms.now (Some key) (unconditional self.now.orders) }
+        ensures next { IsNextLarge (Some key) least
+            (ranked terms.now (unconditional self.now.orders)) result }
         ensures keys { KeysDiffer self.now.orders }
     {
         let order = self.nodes.order(key.0).unwrap();
@@ -93,30 +105,29 @@ impl LevelBook {
         match hidden {
             Some(next) if order.shown => Some(Key(next)),
             _ => {
+                self.note_reached(least);
                 let (_, limit) = contra_of(terms);
                 let from = rung.at(rung.distance() + 1);
-                match self.ladders.first_from(from, limit) {
-                    Some(next) => Some(Key(next)),
-                    None => None,
-                }
+                as_key(self.ladders.first_large(from, limit, least))
             }
         }
     }
 }
 
 impl LevelBook {
-    // The next order in the queues, after the one with the key, or the first.
+    // The next order in the queues, after the one with the key, or the first. Levels none of whose orders has `least` open
+    // shares are passed over.
     #[inline(always)]
-    fn next_queued(&self, terms: &Terms, after: Option<Key>) -> Option<Key>
+    fn next_large(&self, terms: &Terms, after: Option<Key>, least: u32) -> Option<Key>
         requires { IfSome after (λ key.
             IsRanked terms.now key.0 (unconditional self.now.orders)) }
-        ensures exact { result
-            ≡ next_by_rank terms.now after (unconditional self.now.orders) }
+        ensures next { IsNextLarge after least
+            (ranked terms.now (unconditional self.now.orders)) result }
         ensures keys { KeysDiffer self.now.orders }
     {
         match after {
-            None => self.first_queued(terms),
-            Some(key) => self.queued_after(terms, key),
+            None => self.first_queued(terms, least),
+            Some(key) => self.queued_after(terms, key, least),
         }
     }
 
@@ -181,13 +192,28 @@ impl LevelBook {
             (rest_after start (ranked terms.now (unconditional self.now.orders)))) }
     {
         let mut last = start;
-        'walk: while let Some(key) = self.next_queued(terms, last) {
+        'walk: while let Some(key) = self.next_large(terms, last, least) {
             if self.is_from(key, from, least) {
                 return Some(key);
             }
+            self.note_passed(1);
             last = Some(key);
         }
         None
+    }
+
+    // Counts what a walk has cost, in orders passed over.
+    #[inline(always)]
+    pub fn note_passed(&self, orders: u64) {
+        self.passed.set(self.passed.get().wrapping_add(orders));
+    }
+
+    // Counts that a walk that passes over small orders has reached another level.
+    #[inline(always)]
+    pub fn note_reached(&self, least: u32) {
+        if least > 1 {
+            self.note_passed(REACHED);
+        }
     }
 
     // The next order that is not conditional and has `least` open shares.

@@ -1,3 +1,4 @@
+use Rattle.std.proofs.lemmas.Bool.{and_parts}
 use Rattle.std.proofs.Common.{Option, ◌≡◌, ℕ, false, eqb, ◌+◌, ◌++◌, ◌∷◌, [], Some, None, refl, sym, ap, ◌∙◌, subst}
 use Rattle.std.specs.Option.{option_map}
 use Rattle.slab.specs.Slab.{get}
@@ -8,7 +9,7 @@ use Rattle.hx_levels.specs.declared.level_book.linked_orders.Node.{Node}
 use Rattle.hx_ranked.specs.declared.entry.Entry.{Entry}
 use Rattle.hx_ranked.specs.Ranked.{IsFree, inserted}
 use Rattle.hx_levels.specs.Book.{terms_of, has_key}
-use Rattle.hx_levels.specs.LevelBook.{walked, IsBook, number_in, entry_of, rank_at, rung_of}
+use Rattle.hx_levels.specs.LevelBook.{with_room, walked, IsBook, number_in, entry_of, rank_at, rung_of}
 use Rattle.hx_levels.proofs.Numbers.{AreSame, number-is, number-kept, numbered-same, all-other}
 use Rattle.hx_levels.proofs.Indexed.{free-last, indexed-same}
 use Rattle.hx_levels.proofs.Added.{waits_at, none_has}
@@ -33,11 +34,12 @@ free c rank e =
     let same : AreSame (number_in i.nodes) (number_in c.link_last.new.nodes) orders = all-other (λ k. number_in c.link_last.new.nodes k ≡ number_in i.nodes k) c.store-key.result orders absent
     (λ k n. number-kept (with_next c.none.result i.time.last c.store-key.result k) (λ node. refl) i.nodes c.link_last.new.nodes k (others k n)) in
     subst (λ v. IsFree v i.conditional.entries) (sym (e ∙ ap (rank_at (rung_of (terms_of c.args.order)) c.args.order.shown) (sym (numbered-last c))))
-    (free-last (number_in c.link_last.new.nodes) i.next i.conditional.entries orders live (numbered-same (number_in i.nodes) (number_in c.link_last.new.nodes) i.next orders same c.self.invariant.numbered)
+    (free-last (number_in c.link_last.new.nodes) i.next (with_room i.conditional i.ladders.sizes).entries orders live (numbered-same (number_in i.nodes) (number_in c.link_last.new.nodes) i.next orders same c.self.invariant.numbered)
     (numbered-last c) c.self.invariant.small (indexed-same (number_in i.nodes) (number_in c.link_last.new.nodes) i.conditional.entries orders same c.self.invariant.indexed))
 
 pub insert-requires-clause-room : goal.insert-requires-clause-room
-insert-requires-clause-room c = (c.self.invariant.room (terms_of c.args.order) (ap (λ v. v.place) c.self.view_is ∙ c.requires.place)).3
+insert-requires-clause-room c =
+    (and_parts c.self.inside.conditional.has_room c.self.inside.ladders.sizes.has_room (c.self.invariant.room (terms_of c.args.order) (ap (λ v. v.place) c.self.view_is ∙ c.requires.place)).3).0
 
 pub insert-requires-clause-free : goal.insert-requires-clause-free
 insert-requires-clause-free c = free c c.rank_at.result (c.rank_at.ensures.rank ∙ ap (λ r. rank_at r c.args.order.shown c.self.inside.next) c.rung_of-rung.ensures.rung)
@@ -46,13 +48,13 @@ numbered : (c : goal.After-self-3-1) → number_in c.link_last.new.nodes c.store
 numbered c = number-is c.link_last.new.nodes c.store-key.result _
     (c.link_last.ensures.own ∙ ap (option_map (linked_last c.none.result c.self.inside.time.last c.self.inside.next)) c.store-key.ensures.own)
 
-after : (c : goal.After-self-3-1) → IsBook c.link_last.new.nodes c.self.inside.ladders.levels c.with-self-inside.result None c.self.inside.kept (c.self.inside.next + 1) c.insert.new.self
+after : (c : goal.After-self-3-1) → IsBook c.link_last.new.nodes c.self.inside.ladders.levels c.with-self-inside.result None c.self.inside.kept (c.self.inside.next + 1) (with_room c.insert.new.self c.self.inside.ladders.sizes)
     (walked c.self.inside.nodes c.self.inside.time ++ record { key = record { 0 = c.store-key.result }; order = c.args.order } ∷ [])
 after c =
     let i = c.self.inside in
     let key = c.store-key.result in
     let live : Live = record { key = record { 0 = key }; order = c.args.order } in
-    waits_at i.nodes c.link_last.new.nodes i.ladders.levels i.time c.with-self-inside.result i.place i.kept i.next i.conditional c.insert.new.self (walked i.nodes i.time) live
+    waits_at i.nodes c.link_last.new.nodes i.ladders.levels i.time c.with-self-inside.result i.place i.kept i.next (with_room i.conditional i.ladders.sizes) (with_room c.insert.new.self i.ladders.sizes) (walked i.nodes i.time) live
     c.with-self-inside.ensures c.self.invariant c.requires.conditional (ap (λ v. v.place) c.self.view_is ∙ c.requires.place) c.store-key.ensures.fresh c.rung_of-rung.ensures.priced
     (c.link_last.ensures.own ∙ ap (option_map (linked_last c.none.result i.time.last i.next)) c.store-key.ensures.own
     ∙ ap (λ (l : Option ℕ). Some (record { order = c.args.order; time = links_to i.time.last None; queue = links_to l None; number = i.next })) c.none.ensures)

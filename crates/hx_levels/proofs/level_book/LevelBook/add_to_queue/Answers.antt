@@ -1,3 +1,4 @@
+use Rattle.std.proofs.lemmas.Bool.{and_parts}
 use Rattle.std.proofs.Common.{◌+◌, ◌++◌, ◌∷◌, [], Some, None, refl, sym, ap, ◌∙◌, subst}
 use Rattle.std.specs.Option.{IsSome, option_map}
 use Rattle.slab.specs.Slab.{get}
@@ -8,7 +9,7 @@ use Rattle.hx_levels.specs.declared.order.Live.{Live}
 use Rattle.hx_levels.specs.declared.level_book.linked_orders.Node.{Node}
 use Rattle.hx_levels.specs.Levels.{level_at, ends_in}
 use Rattle.hx_levels.specs.Book.{terms_of, has_key}
-use Rattle.hx_levels.specs.LevelBook.{walked, IsBook}
+use Rattle.hx_levels.specs.LevelBook.{with_room, walked, IsBook}
 use Rattle.hx_levels.proofs.Added.{added_at, none_has}
 use Rattle.hx_levels.proofs.InTime.{walked-is, closed}
 use Rattle.hx_levels.proofs.level_book.LevelBook.add_to_queue.Goals as goal
@@ -21,7 +22,11 @@ join_queue-last-requires-clause-level c =
     subst (λ r. IsSome (level_at c.self.inside.ladders.levels r)) (sym c.rung_of-rung.ensures.rung)
     (c.self.invariant.room (terms_of c.args.order) (ap (λ v. v.place) c.self.view_is ∙ c.requires.place)).1
 
-after : (c : goal.After-self-4-1) → IsBook c.link_last.new.nodes c.join_queue-last.new.self.levels c.with-self-inside.result None None (c.self.inside.next + 1) c.self.inside.conditional
+pub join_queue-last-requires-clause-room : goal.join_queue-last-requires-clause-room
+join_queue-last-requires-clause-room c =
+    (and_parts c.self.inside.conditional.has_room c.self.inside.ladders.sizes.has_room (c.self.invariant.room (terms_of c.args.order) (ap (λ v. v.place) c.self.view_is ∙ c.requires.place)).3).1
+
+after : (c : goal.After-self-4-1) → IsBook c.link_last.new.nodes c.join_queue-last.new.self.levels c.with-self-inside.result None None (c.self.inside.next + 1) (with_room c.self.inside.conditional c.join_queue-last.new.self.sizes)
     (walked c.self.inside.nodes c.self.inside.time ++ record { key = record { 0 = c.store-key.result }; order = c.args.order } ∷ [])
 after c =
     let key = c.store-key.result in
@@ -34,7 +39,7 @@ after c =
     let last = c.join_queue-last.ensures.last in
     let time_last = c.self.inside.time.last in
     added_at c.self.inside.nodes c.link_last.new.nodes c.self.inside.ladders.levels c.join_queue-last.new.self.levels c.self.inside.time c.with-self-inside.result
-    c.self.inside.place c.self.inside.kept c.self.inside.next c.self.inside.conditional (walked c.self.inside.nodes c.self.inside.time) live rung ends (ends_with key ends)
+    c.self.inside.place c.self.inside.kept c.self.inside.next (with_room c.self.inside.conditional c.self.inside.ladders.sizes) (with_room c.self.inside.conditional c.join_queue-last.new.self.sizes) (walked c.self.inside.nodes c.self.inside.time) live rung ends (ends_with key ends)
     c.rung_of-rung.ensures.rung refl refl c.with-self-inside.ensures
     c.self.invariant c.requires.queued (ap (λ v. v.place) c.self.view_is ∙ c.requires.place) c.store-key.ensures.fresh there c.rung_of-rung.ensures.priced
     (c.link_last.ensures.own ∙ ap (option_map (linked_last c.join_queue-last.result time_last c.self.inside.next)) c.store-key.ensures.own
@@ -42,7 +47,7 @@ after c =
     (λ k n. c.link_last.ensures.others k n ∙ ap (option_map (with_next c.join_queue-last.result time_last key k)) (c.store-key.ensures.others k n)
     ∙ ap (λ l. option_map (with_next l time_last key k) (get c.self.inside.nodes k)) last)
     c.join_queue-last.ensures.changed
-    c.join_queue-last.ensures.others
+    c.join_queue-last.ensures.others refl
 
 pub invariant_of-self : goal.invariant_of-self
 invariant_of-self c = closed _ _ _ _ _ _ _ _ (after c)

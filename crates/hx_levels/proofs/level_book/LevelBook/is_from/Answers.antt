@@ -5,7 +5,7 @@ use Rattle.std.proofs.lemmas.Bool.Decides.{nat_tests}
 use Rattle.hx_levels.specs.declared.order.Order.{Order}
 use Rattle.hx_levels.specs.declared.level_book.linked_orders.Node.{Node}
 use Rattle.hx_levels.specs.Book.{has_key, is_under}
-use Rattle.hx_levels.specs.LevelBook.{walked, rank_of, number_in}
+use Rattle.hx_levels.specs.LevelBook.{with_room, walked, rank_of, number_in}
 use Rattle.hx_levels.specs.Walks.{is_from}
 use Rattle.hx_levels.proofs.Lists.{is_some-map}
 use Rattle.hx_levels.proofs.LevelNext.{node_found}
@@ -18,7 +18,7 @@ pub unwrap-order-requires : goal.unwrap-order-requires
 unwrap-order-requires c =
     let i = c.self.inside in
     let h : has_key c.args.key.0 (walked i.nodes i.time) ≡ true = ap (λ v. has_key c.args.key.0 v.orders) c.self.view_is ∙ c.requires in
-    let f = node_found i.nodes i.ladders.levels i.time i.place i.kept i.next i.conditional (walked i.nodes i.time) c.self.invariant c.args.key.0 h in
+    let f = node_found i.nodes i.ladders.levels i.time i.place i.kept i.next (with_room i.conditional i.ladders.sizes) (walked i.nodes i.time) c.self.invariant c.args.key.0 h in
     sym (is_some-map (λ (x : Bor Order). x.now) c.order.result) ∙ ap is_some (c.order.ensures ∙ ap (option_map (λ (n : Node). n.order)) f.stored)
 
 pub returns : goal.returns
@@ -26,7 +26,7 @@ returns c =
     let i = c.self.inside in
     let key = c.args.key.0 in
     let h : has_key key (walked i.nodes i.time) ≡ true = ap (λ v. has_key key v.orders) c.self.view_is ∙ c.requires in
-    let f = node_found i.nodes i.ladders.levels i.time i.place i.kept i.next i.conditional (walked i.nodes i.time) c.self.invariant key h in
+    let f = node_found i.nodes i.ladders.levels i.time i.place i.kept i.next (with_room i.conditional i.ladders.sizes) (walked i.nodes i.time) c.self.invariant key h in
     let order : c.unwrap-order.result.now ≡ f.live.order =
     same_some (sym (ap option_copied c.unwrap-order.ensures) ∙ c.order.ensures ∙ ap (option_map (λ (n : Node). n.order)) f.stored) ∙ f.order in
     let rank : c.rank.result ≡ rank_of (number_in i.nodes) f.live =

@@ -2,15 +2,15 @@ use Rattle.std.proofs.Common.{◌≡◌, ◌≤◌, ◌<◌, Some, None, sym, ap
 use Rattle.std.specs.List.{find}
 use Rattle.std.specs.Option.{IfSome, option_map}
 use Rattle.hx_levels.specs.declared.level_book.LevelBook.TheInside.{Inside}
-use Rattle.hx_levels.specs.LevelBook.{walked, number_in, entry_of, IsBook}
+use Rattle.hx_levels.specs.LevelBook.{with_room, walked, number_in, entry_of, IsBook}
 use Rattle.hx_levels.specs.Book.{ranked, rest_after, IsRanked, is_conditional, KeysDiffer}
 use Rattle.hx_levels.specs.Walks.{rank_after}
 use Rattle.hx_levels.proofs.Walks.{Facts, facts, if_ranked, conditional_found, conditional_past, conditional_none}
 use Rattle.hx_ranked.specs.Ranked.{is_from}
 use Rattle.hx_levels.proofs.level_book.LevelBook.next_conditional.Goals as goal
 
-facts_of : (i : Inside) → IsBook i.nodes i.ladders.levels i.time i.place i.kept i.next i.conditional (walked i.nodes i.time) → Facts (number_in i.nodes) i.conditional.entries (walked i.nodes i.time)
-facts_of i b = facts i.nodes i.ladders.levels i.time i.place i.kept i.next i.conditional (walked i.nodes i.time) b
+facts_of : (i : Inside) → IsBook i.nodes i.ladders.levels i.time i.place i.kept i.next (with_room i.conditional i.ladders.sizes) (walked i.nodes i.time) → Facts (number_in i.nodes) i.conditional.entries (walked i.nodes i.time)
+facts_of i b = facts i.nodes i.ladders.levels i.time i.place i.kept i.next (with_room i.conditional i.ladders.sizes) (walked i.nodes i.time) b
 
 pub rank_after-from-requires : goal.rank_after-from-requires
 rank_after-from-requires c =

@@ -4,16 +4,16 @@ use Rattle.std.specs.Option.{IfSome, option_map}
 use Rattle.hx_levels.specs.declared.order.Key.{Key}
 use Rattle.hx_levels.specs.declared.order.Live.{Live}
 use Rattle.hx_levels.specs.declared.level_book.LevelBook.TheInside.{Inside}
-use Rattle.hx_levels.specs.LevelBook.{walked, number_in, rank_of, IsBook}
+use Rattle.hx_levels.specs.LevelBook.{with_room, walked, number_in, rank_of, IsBook}
 use Rattle.hx_levels.specs.Book.{is_under, order_of, ranked, rest_after, IsRanked, is_conditional, KeysDiffer, next_ready, unconditional}
 use Rattle.hx_levels.specs.Walks.{is_from}
 use Rattle.hx_levels.proofs.Walks.{Facts, facts, has_ranked, ready_conditional, ready_plain, plain_start}
 use Rattle.hx_levels.proofs.level_book.LevelBook.next_ready.Goals as goal
 
-facts_of : (i : Inside) → IsBook i.nodes i.ladders.levels i.time i.place i.kept i.next i.conditional (walked i.nodes i.time) → Facts (number_in i.nodes) i.conditional.entries (walked i.nodes i.time)
-facts_of i b = facts i.nodes i.ladders.levels i.time i.place i.kept i.next i.conditional (walked i.nodes i.time) b
+facts_of : (i : Inside) → IsBook i.nodes i.ladders.levels i.time i.place i.kept i.next (with_room i.conditional i.ladders.sizes) (walked i.nodes i.time) → Facts (number_in i.nodes) i.conditional.entries (walked i.nodes i.time)
+facts_of i b = facts i.nodes i.ladders.levels i.time i.place i.kept i.next (with_room i.conditional i.ladders.sizes) (walked i.nodes i.time) b
 
-has : (i : Inside) (orders : List Live) → IsBook i.nodes i.ladders.levels i.time i.place i.kept i.next i.conditional (walked i.nodes i.time) → walked i.nodes i.time ≡ orders → KeysDiffer orders
+has : (i : Inside) (orders : List Live) → IsBook i.nodes i.ladders.levels i.time i.place i.kept i.next (with_room i.conditional i.ladders.sizes) (walked i.nodes i.time) → walked i.nodes i.time ≡ orders → KeysDiffer orders
 has i orders b e = subst KeysDiffer e b.differ
 
 at_key : (after : Option Key) (key : Key) (P : Key → Type 0) → after ≡ Some key → IfSome after P → P key

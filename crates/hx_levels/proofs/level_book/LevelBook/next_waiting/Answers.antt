@@ -2,7 +2,7 @@ use Rattle.std.proofs.Common.{true, false, Bool, ◌≡◌, ◌&&◌, leb, lengt
 use Rattle.std.specs.List.{find}
 use Rattle.std.specs.Option.{IfSome, option_map}
 use Rattle.hx_levels.specs.declared.level_book.LevelBook.TheInside.{Inside}
-use Rattle.hx_levels.specs.LevelBook.{walked, number_in, entry_of, least_of, rank_of, IsBook}
+use Rattle.hx_levels.specs.LevelBook.{with_room, walked, number_in, entry_of, least_of, rank_of, IsBook}
 use Rattle.hx_levels.specs.Book.{is_conditional, ranked, rest_after, IsRanked, KeysDiffer}
 use Rattle.hx_levels.specs.Walks.{rank_after, rank_until, is_waiting_until}
 use Rattle.hx_levels.proofs.Walks.{Facts, facts, if_ranked, waiting_found, last_above, none_waits}
@@ -10,8 +10,8 @@ use Rattle.hx_ranked.specs.declared.entry.Entry.{Entry}
 use Rattle.hx_ranked.specs.Ranked.{first_within_of}
 use Rattle.hx_levels.proofs.level_book.LevelBook.next_waiting.Goals as goal
 
-facts_of : (i : Inside) → IsBook i.nodes i.ladders.levels i.time i.place i.kept i.next i.conditional (walked i.nodes i.time) → Facts (number_in i.nodes) i.conditional.entries (walked i.nodes i.time)
-facts_of i b = facts i.nodes i.ladders.levels i.time i.place i.kept i.next i.conditional (walked i.nodes i.time) b
+facts_of : (i : Inside) → IsBook i.nodes i.ladders.levels i.time i.place i.kept i.next (with_room i.conditional i.ladders.sizes) (walked i.nodes i.time) → Facts (number_in i.nodes) i.conditional.entries (walked i.nodes i.time)
+facts_of i b = facts i.nodes i.ladders.levels i.time i.place i.kept i.next (with_room i.conditional i.ladders.sizes) (walked i.nodes i.time) b
 
 no_entries : (xs : List Entry) → length xs ≡ 0 → xs ≡ []
 no_entries [] e = refl

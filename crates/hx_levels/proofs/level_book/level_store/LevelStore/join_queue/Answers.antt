@@ -1,6 +1,6 @@
 use Rattle.std.proofs.Common.{◌≡◌, Some, refl, sym, ap, ◌∙◌}
 use Rattle.hx_levels.specs.Nodes.{ends_with}
-use Rattle.hx_levels.specs.Levels.{slot_of, level_at, ends_in, level_in, with_ends}
+use Rattle.hx_levels.specs.Levels.{slot_of, level_at, ends_in, level_in, joined}
 use Rattle.hx_levels.proofs.InPlace.{written, written_others}
 use Rattle.hx_levels.proofs.level_book.level_store.LevelStore.join_queue.Goals as goal
 
@@ -10,11 +10,11 @@ here c = ap (λ v. slot_of v c.args.at) (c.self.view_is ∙ c.look.ensures.same)
 pub invariant_of-self : goal.invariant_of-self
 invariant_of-self c =
     written (record { slots = c.self.inside.slots.entries; slab = c.self.inside.slab }) (record { slots = c.self.inside.slots.entries; slab = c.join_in.new.slab })
-    c.args.at c.unwrap-slot.result (with_ends c.args.shown (ends_with c.args.key (ends_in c.args.shown (level_in c.self.inside.slab (Some c.unwrap-slot.result))))) c.self.invariant (here c) refl c.join_in.ensures.changed c.join_in.ensures.others
+    c.args.at c.unwrap-slot.result (joined c.args.shown (ends_with c.args.key (ends_in c.args.shown (level_in c.self.inside.slab (Some c.unwrap-slot.result)))) c.args.shares) c.self.invariant (here c) refl c.join_in.ensures.changed c.join_in.ensures.others
 
 pub returns-clause-others : goal.returns-clause-others
 returns-clause-others c = λ q n.
     written_others (record { slots = c.self.inside.slots.entries; slab = c.self.inside.slab }) (record { slots = c.self.inside.slots.entries; slab = c.join_in.new.slab })
-    c.args.at c.unwrap-slot.result (with_ends c.args.shown (ends_with c.args.key (ends_in c.args.shown (level_in c.self.inside.slab (Some c.unwrap-slot.result))))) c.self.invariant (here c) refl c.join_in.ensures.changed c.join_in.ensures.others
+    c.args.at c.unwrap-slot.result (joined c.args.shown (ends_with c.args.key (ends_in c.args.shown (level_in c.self.inside.slab (Some c.unwrap-slot.result)))) c.args.shares) c.self.invariant (here c) refl c.join_in.ensures.changed c.join_in.ensures.others
     q n
     ∙ ap (λ v. level_at v q) (c.self.view_is ∙ c.look.ensures.same)

@@ -1,8 +1,10 @@
 use Rattle.std.proofs.Common.{◌≡◌, ℕ, true, Option, Some, None, refl, sym, ap, ◌∙◌, subst}
 use Rattle.std.specs.Option.{IsSome, IfSome, is_some, option_map}
+use Rattle.std.proofs.lemmas.Bool.{true≢false}
 use Rattle.slab.specs.Slab.{get}
+use Rattle.hx_levels.specs.declared.level_book.levels.Level.{Level}
 use Rattle.hx_levels.specs.declared.level_book.level_store.Tier.{Tier}
-use Rattle.hx_levels.specs.Levels.{LevelStore, slot_of, level_in, level_at}
+use Rattle.hx_levels.specs.Levels.{LevelStore, slot_of, level_in, level_at, or_empty}
 use Rattle.hx_levels.proofs.InPlace.{has_level, is_vacant, is_taken, inserted, inserted_others}
 use Rattle.hx_levels.proofs.level_book.level_store.LevelStore.make_level.Goals as goal
 
@@ -47,12 +49,40 @@ returns-then-slot-vacant-clause-others c = λ q n.
     (ap (get c.insert_reserved.new.self) (same_slot c) ∙ c.insert_reserved.ensures.updates.changed) (others c) q n
     ∙ ap (λ v. level_at v q) c.self.view_is
 
-pub returns-else-slot-vacant-clause-there : goal.returns-else-slot-vacant-clause-there
-returns-else-slot-vacant-clause-there c =
+-- a level that is there stays
+
+present : (o : Option Level) → IsSome o → o ≡ or_empty o
+present None h = absurd (true≢false (sym h))
+present (Some level) h = refl
+
+was_there : (c : goal.Then-is_some) → IsSome (level_at (record { slots = c.self.inside.slots.entries; slab = c.self.inside.slab }) c.args.at)
+was_there c =
     let tiers : LevelStore = record { slots = c.self.inside.slots.entries; slab = c.self.inside.slab } in
-    let slot = c.in_ok-slot.slot in
-    let taken : slot_of tiers c.args.at ≡ Some slot = is_taken tiers c.args.at slot c.vacant_key-vacant.result c.in_ok-slot.ensures.slot c.if-slot-vacant.false in
-    subst IsSome
-    (ap (level_in tiers.slab) taken ∙ sym (ap (λ s. option_map (λ (t : Tier). t.level) (get s slot)) c.reserve.ensures.rest_kept)
-    ∙ sym (ap (level_in c.reserve.new.self) c.in_ok-slot.ensures.updates.1))
-    (has_level tiers c.self.invariant c.args.at (ap is_some taken))
+    has_level tiers c.self.invariant c.args.at
+    (some_slot c.hinted.result (slot_of tiers c.args.at) c.hinted.ensures (sym c.is_some.ensures ∙ c.if-is_some.true))
+
+pub returns-then-is_some-clause-made : goal.returns-then-is_some-clause-made
+returns-then-is_some-clause-made c =
+    let tiers : LevelStore = record { slots = c.self.inside.slots.entries; slab = c.self.inside.slab } in
+    present (level_at tiers c.args.at) (was_there c) ∙ ap (λ v. or_empty (level_at v c.args.at)) c.self.view_is
+
+taken : (c : goal.Else-slot-vacant) → slot_of (record { slots = c.self.inside.slots.entries; slab = c.self.inside.slab }) c.args.at ≡ Some c.in_ok-slot.slot
+taken c = is_taken (record { slots = c.self.inside.slots.entries; slab = c.self.inside.slab }) c.args.at c.in_ok-slot.slot c.vacant_key-vacant.result c.in_ok-slot.ensures.slot c.if-slot-vacant.false
+
+same_level : (c : goal.Else-slot-vacant) → level_at (record { slots = c.slot_or.new.slots.entries; slab = c.reserve.new.self }) c.args.at
+    ≡ level_at (record { slots = c.self.inside.slots.entries; slab = c.self.inside.slab }) c.args.at
+same_level c =
+    ap (level_in c.reserve.new.self) c.in_ok-slot.ensures.updates.1
+    ∙ ap (λ s. option_map (λ (t : Tier). t.level) (get s c.in_ok-slot.slot)) c.reserve.ensures.rest_kept
+    ∙ sym (ap (level_in c.self.inside.slab) (taken c))
+
+stood : (c : goal.Else-slot-vacant) → IsSome (level_at (record { slots = c.self.inside.slots.entries; slab = c.self.inside.slab }) c.args.at)
+stood c = has_level (record { slots = c.self.inside.slots.entries; slab = c.self.inside.slab }) c.self.invariant c.args.at (ap is_some (taken c))
+
+pub returns-clause-there : goal.returns-clause-there
+returns-clause-there c = subst IsSome (sym (same_level c)) (stood c)
+
+pub returns-clause-made : goal.returns-clause-made
+returns-clause-made c =
+    same_level c ∙ present (level_at (record { slots = c.self.inside.slots.entries; slab = c.self.inside.slab }) c.args.at) (stood c)
+    ∙ ap (λ v. or_empty (level_at v c.args.at)) c.self.view_is

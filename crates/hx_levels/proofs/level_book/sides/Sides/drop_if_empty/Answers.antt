@@ -16,8 +16,8 @@ not_empty false ends level e h m = clash (sym h ∙ ap (λ (v : Ends). is_some v
     clash : true ≡ false → ⊥
     clash e = cc
 
-pub returns-then-is_some : goal.returns-then-is_some
-returns-then-is_some c =
+pub returns-then-is_some-clause-dropped : goal.returns-then-is_some-clause-dropped
+returns-then-is_some-clause-dropped c =
     record {
       others = λ q h. refl;
       outcome = inl refl;

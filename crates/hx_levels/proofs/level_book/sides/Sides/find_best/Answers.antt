@@ -17,6 +17,7 @@ none_nearer c d l =
 
 pub invariant_of-self : goal.invariant_of-self
 invariant_of-self c = record {
+  sized = c.args.self.now.sized;
   near = subst (NoneBetter c.args.self.now.levels) (sym c.renew.ensures)
       (renewed c.args.self.now.levels c.args.self.now.bests c.args.at c.match-first_within.best (c.if-is_at_bound.ensures.0 refl).0 (none_nearer c) c.args.self.now.near);
 }
