@@ -21,6 +21,7 @@ pub const SERVE: Subcommand = Subcommand {
         TURNS,
         HISTORY,
         ANSWERS,
+        SHARE,
         OPEN,
         LOGIN_LIMIT,
         END,
@@ -133,6 +134,15 @@ const ANSWERS: Argument = Argument {
     takes: ValueParser::Signed(1, 1_000_000),
     usual: Some("1000"),
     help: "How many requests of one source are answered a second; in all it is eight times as many",
+    ..OPTION
+};
+
+const SHARE: Argument = Argument {
+    name: "share",
+    value: "PERCENT",
+    takes: ValueParser::Signed(1, 100),
+    usual: Some("10"),
+    help: "For how much of the time the market may pass over orders for one session's minimums",
     ..OPTION
 };
 

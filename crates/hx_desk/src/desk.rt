@@ -174,6 +174,12 @@ impl Desk {
         self.market.glance(events)
     }
 
+    /// How many orders the market has passed over one by one (`Market::passed_over`): what incoming orders with a minimum
+    /// have cost beside their executions. Nothing is promised of it.
+    pub fn passed_over(&self) -> u64 {
+        self.market.passed_over()
+    }
+
     // Records an event: all growths are made before anything changes.
     fn record(&mut self, log: &Log<Entry>, pass: u16, event: &Event) -> Result<Done, DeskError>
         requires { self.old.log ≡ log.now }

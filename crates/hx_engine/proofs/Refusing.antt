@@ -135,11 +135,11 @@ refused_at setup events i event error l is all r = (l, all, λ other g. subst (�
 
 -- none is told
 pub none_told : (setup : Setup) (events : List Event) (count : ℕ) (refused : Option SubmitError) → 0 < count → AreAdmittedUpTo setup events count refused → AreAdmittedUpTo setup events 0 (Some Stopped)
-none_told setup [] count None l h = absurd (omega (arith, h.0))
+none_told setup [] count None l h = absurd (omega (arith, h.1))
 none_told setup [] count (Some e) l h = absurd (omega (arith, h.0))
 none_told setup (x ∷ events) zero None l h = absurd (omega arith)
 none_told setup (x ∷ events) zero (Some e) l h = absurd (omega arith)
-none_told setup (x ∷ events) (suc n) None l h = (omega arith, tt, λ other g. subst (λ (y : Event). IsRefusedOutright setup y (Err Stopped)) (let z : Some x ≡ Some other = g in cc) (stopped setup x h.1.0))
+none_told setup (x ∷ events) (suc n) None l h = (omega arith, tt, λ other g. subst (λ (y : Event). IsRefusedOutright setup y (Err Stopped)) (let z : Some x ≡ Some other = g in cc) (stopped setup x h.2.0))
 none_told setup (x ∷ events) (suc n) (Some e) l h = (omega arith, tt, λ other g. subst (λ (y : Event). IsRefusedOutright setup y (Err Stopped)) (let z : Some x ≡ Some other = g in cc) (stopped setup x h.1.0))
 
 -- An answer that is the same for a bad time and for a stranger.
@@ -171,5 +171,5 @@ answered setup events count refused error answer none is bad stranger h =
     (all.0, all.1, λ event g. still_outright setup event error answer bad stranger (all.2 event g))
 
 pub at_most : (setup : Setup) (events : List Event) (count : ℕ) (refused : Option SubmitError) → AreAdmittedUpTo setup events count refused → count ≤ length events
-at_most setup events count None h = omega (arith, h.0)
+at_most setup events count None h = h.1
 at_most setup events count (Some e) h = omega (arith, h.0)

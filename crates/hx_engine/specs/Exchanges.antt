@@ -130,12 +130,23 @@ abbrev pub IsInOrder : Setup → Event → Type 0
 IsInOrder setup event =
     (is_bad_time event ≡ false) × (is_from_stranger setup event ≡ false)
 
--- This many of the events were refused neither for their time nor for their member; they are all, or the
--- one behind them is refused, for these exactly where they are wrong.
+-- Of these events the pass sent the first, one at least, and the rest is left. Those that it sent were refused neither
+-- for their time nor for their member.
+pub record SendsTurn
+    (setup : Setup) (old new : PassState) (events rest : List Event) (done : Done)
+    : Type 0 where
+  pub sent : List Event
+  pub splits : events ≡ sent ++ rest
+  pub some : 0 < length sent
+  pub sends : SendsAll setup old new sent done
+  pub in_order : AllByRecursion (IsInOrder setup) sent
+
+-- This many of the events were refused neither for their time nor for their member. Where none is refused it is one at
+-- least; else the one behind them is refused, for these exactly where they are wrong.
 abbrev pub AreAdmittedUpTo :
     Setup → List Event → (count : ℕ) → (refused : Option SubmitError) → Type 0
 AreAdmittedUpTo setup events count None =
-    (count ≡ length events) × AllByRecursion (IsInOrder setup) events
+    (0 < count) × (count ≤ length events) × AllByRecursion (IsInOrder setup) (take count events)
 AreAdmittedUpTo setup events count (Some error) =
     (count < length events)
     × AllByRecursion (IsInOrder setup) (take count events)

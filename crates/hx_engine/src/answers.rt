@@ -7,8 +7,9 @@ use crate::exchange::Exchange;
 use crate::pass::Pass;
 use crate::venue::Venue;
 use hx_blog::{Log, Writer};
-use hx_desk::{DeskError, Entry};
+use hx_desk::{DeskError, Done, Entry};
 use hx_journal::Journal;
+use hx_market::Event;
 use thiserror::Error;
 
 /// A history, as it was audited.
@@ -51,6 +52,15 @@ pub struct Finished<J: Journal> {
     pub writer: Writer<Entry>,
     /// The journal, where it did not fail.
     pub journal: Option<J>,
+}
+
+/// What one turn at the lock has recorded of some events.
+#[derive(Drop)]
+pub struct Submitted {
+    /// Where the last of them was recorded.
+    pub done: Done,
+    /// The events behind it, which wait for another turn: mostly none.
+    pub rest: Vec<Event>,
 }
 
 /// Why an exchange does not end. It comes back with the passes.

@@ -11,17 +11,58 @@ pub struct Entered {
     pub count: usize,
     pub last: Done,
     pub refused: Option<SubmitError>,
+    /// How many orders the market passed over for them.
+    pub passed: u64,
     /// A receipt for all that is published, if they were told at once.
     pub told: Option<Receipt<Entry>>,
 }
 
 impl Entered {
+    /// So many, the last of them as said, and none was refused.
+    pub fn up_to(count: usize, last: Done, passed: u64) -> Entered
+        ensures { result ≡ record {
+          count = count;
+          last = last;
+          refused = None;
+          passed = passed;
+          told = None;
+        } }
+    {
+        Entered {
+            count,
+            last,
+            refused: None,
+            passed,
+            told: None,
+        }
+    }
+
+    /// So many, the last of them as said; the next one was refused.
+    pub fn but_for(count: usize, last: Done, error: SubmitError, passed: u64) -> Entered
+        ensures { result ≡ record {
+          count = count;
+          last = last;
+          refused = Some error;
+          passed = passed;
+          told = None;
+        } }
+    {
+        Entered {
+            count,
+            last,
+            refused: Some(error),
+            passed,
+            told: None,
+        }
+    }
+
     /// None, since the first of them was refused.
     pub fn none(error: SubmitError) -> Entered
         ensures { result ≡ record {
           count = 0;
           last = record { place = 0; first = 0; count = 0 };
           refused = Some error;
+          passed = 0;
           told = None;
         } }
     {
@@ -33,6 +74,7 @@ impl Entered {
                 count: 0,
             },
             refused: Some(error),
+            passed: 0,
             told: None,
         }
     }

@@ -46,6 +46,8 @@ pub struct Exchange<V: Venue, J: Journal> {
     pub(crate) passes: PassCount<V>,
     // How many events may be admitted and not yet told.
     pub(crate) ahead: u64,
+    // For how many nanoseconds a session rests for each order that the market passed over for it.
+    pub(crate) rest: u64,
     pub(crate) alloc: Global,
     pub ghost named: { log ≡ V.log },
     pub ghost admitted_named: { admitted ≡ V.admitted },
@@ -67,6 +69,7 @@ impl<V: Venue, J: Journal + Drop> Drop for Exchange<V, J> {
             entering: _,
             passes: _,
             ahead: _,
+            rest: _,
             alloc: _,
         } = self;
     }
@@ -142,6 +145,7 @@ impl<V: Venue, J: Journal + Drop> Exchange<V, J> {
             entering: _,
             passes: _,
             ahead: _,
+            rest: _,
             alloc: _,
         } = self;
         let Held {
@@ -186,6 +190,7 @@ impl<V: Venue, J: Journal + Drop> Exchange<V, J> {
             entering: _,
             passes: _,
             ahead: _,
+            rest: _,
             alloc: _,
         } = self;
         let Held {

@@ -23,11 +23,12 @@ mod played;
 mod plays;
 mod replies;
 mod returned_passes;
+mod share;
 mod spelled;
 mod submitting;
 mod venue;
 
-pub use answers::{Audit, Counts, FinishError, Finished, News, SubmitError};
+pub use answers::{Audit, Counts, FinishError, Finished, News, SubmitError, Submitted};
 pub use exchange::Exchange;
 pub use hx_desk::{Desk, DeskError, Done, Entry, laws};
 pub use hx_journal::{Journal, JournalError};

@@ -28,6 +28,9 @@ use std::sync::ledger::{Book, Share};
 // How many events are looked at before the first of them is admitted.
 const AT_ONCE: usize = 16;
 
+// How many orders the market may pass over before the events of one pass give the lock back.
+const TURN: u64 = 4_096;
+
 /// Who has news besides the members that were answered.
 #[derive(Clone, Copy)]
 pub struct ToldNews {
@@ -260,7 +263,13 @@ impl<V: Venue, J: Journal + Drop> Held<V, J> {
         }
     }
 
-    /// Admits events for a pass, with their records, one after another, up to the first that is refused.
+    // How many orders the market has passed over since it had passed over so many.
+    fn passed_since(&self, before: u64) -> u64 {
+        self.desk.passed_over().wrapping_sub(before)
+    }
+
+    /// Admits events for a pass, with their records, one after another, up to the first that is refused, or up to one by
+    /// which the market has passed over so many orders that the turn at the lock ends.
     pub fn enter_all(
         &mut self,
         log: &Log<Entry>,
@@ -270,6 +279,7 @@ impl<V: Venue, J: Journal + Drop> Held<V, J> {
         events: &[Event],
         written: &Records,
     ) -> Entered
+        requires some { 0 < length events.now }
         requires log { log.now ≡ V.log }
         requires admitted { admitted.now ≡ V.admitted }
         requires share { 0 < share.old.parts }
@@ -289,26 +299,22 @@ impl<V: Venue, J: Journal + Drop> Held<V, J> {
             first: 0,
             count: 0,
         };
+        let before = self.desk.passed_over();
         for i in 0..events.len() {
             self.glance(events, i);
             match self.enter(log, admitted, pass, share, &events[i], written.get(i)) {
                 Ok(done) => last = done,
                 Err(error) => {
-                    return Entered {
-                        count: i,
-                        last,
-                        refused: Some(error),
-                        told: None,
-                    };
+                    let passed = self.passed_since(before);
+                    return Entered::but_for(i, last, error, passed);
                 }
             }
+            let passed = self.passed_since(before);
+            if passed >= TURN {
+                return Entered::up_to(i + 1, last, passed);
+            }
         }
-        Entered {
-            count: events.len(),
-            last,
-            refused: None,
-            told: None,
-        }
+        Entered::up_to(events.len(), last, self.passed_since(before))
     }
 
     /// Takes the journal and what is to be kept next, where the journal is there.

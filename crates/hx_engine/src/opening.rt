@@ -196,6 +196,7 @@ impl<V: Venue, J: Journal + Drop> Exchange<V, J> {
             entering: AtomicU64::new(0),
             passes: PassCount::of(passes),
             ahead: u64::MAX,
+            rest: 0,
             alloc,
         };
         Ok((exchange, made))

@@ -10,6 +10,7 @@ use hx_market::Event;
 use hx_units::NoMemory;
 use std::alloc::Global;
 use std::marker::Model;
+use std::mem::replace;
 use std::sync::ledger::Share;
 
 /// What one client of an exchange sent, and what he knows. Contracts see its number, its events with their places, those
@@ -24,6 +25,8 @@ pub struct Pass<V: Venue> {
     // A receipt for the history up to its last event, told or not.
     pub(crate) entered: Receipt<Entry>,
     pub(crate) share: Share<V>,
+    // How many orders the market passed over for its events since that was asked last.
+    pub(crate) passed: u64,
 }
 
 impl<V: Venue> Model for Pass<V> {
@@ -74,6 +77,14 @@ impl<V: Venue> Pass<V> {
         self.sent.len() - self.told
     }
 
+    /// How many orders the market passed over for its events since this was asked last (`Desk::passed_over`). Nothing is
+    /// promised of it.
+    pub fn take_passed(&mut self) -> u64
+        ensures { self.new ≡ self.old }
+    {
+        replace(&mut self.passed, 0)
+    }
+
     /// A receipt for what it knows: a reader that learns it reads at least the feed of all that the pass sent.
     pub fn receipt(&mut self, log: &Log<Entry>) -> Receipt<Entry>
         requires { log.now ≡ V.log }
@@ -119,6 +130,7 @@ pub(crate) fn make_passes<V: Venue>(
             knows,
             entered,
             share,
+            passed: 0,
         })?;
     }
     Ok(passes)

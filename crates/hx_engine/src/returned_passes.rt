@@ -65,6 +65,7 @@ fn take_back<V: Venue>(desk: &mut Desk, log: &Log<Entry>, share: &mut Share<V>, 
         knows,
         entered: _,
         share: own,
+        passed: _,
     } = pass;
     desk.confirm(log, knows);
     share.merge(own);

@@ -1,5 +1,5 @@
 //! How events are recorded: they are admitted under the lock, and told once they are kept.
-ghost use Rattle.std.specs.Prelude.{◌≡◌, ◌≢◌, ◌⊎◌, ◌↔◌, ◌+◌, ◌-◌, ◌<◌, ◌≤◌, [], ◌∷◌, ◌++◌, length, map, take, Some, Err, IfOk, IfErr, IfSome, OnOk, OnErr, MatchBool};
+ghost use Rattle.std.specs.Prelude.{◌≡◌, ◌≢◌, ◌⊎◌, ◌↔◌, ◌+◌, ◌-◌, ◌<◌, ◌≤◌, [], ◌∷◌, ◌++◌, length, map, take, drop, Some, Err, IfOk, IfErr, IfSome, OnOk, OnErr, MatchBool};
 ghost use Rattle.hx_tape_lines.specs.Text.{record_of};
 ghost use Rattle.std.specs.Vec.{vec_len, vec_capacity};
 ghost use Rattle.std.specs.Bool.{OnTrue};
@@ -7,9 +7,9 @@ ghost use Rattle.std.specs.List.{AllByRecursion};
 ghost use Rattle.hx_desk.specs.declared.fault.DeskError.TheVariants.{BadTime, NoMember};
 ghost use Rattle.hx_engine.specs.declared.answers.SubmitError.TheVariants.{Refused, Stopped};
 ghost use Rattle.hx_engine.specs.Passes.{placed};
-ghost use Rattle.hx_engine.specs.Exchanges.{Sends, SendsAll, SendsFirst, Enters, Settles, Stays, IsInOrder, AreAdmittedUpTo, IsRefusedOutright};
+ghost use Rattle.hx_engine.specs.Exchanges.{Sends, SendsFirst, SendsTurn, Enters, Settles, Stays, AreAdmittedUpTo, IsRefusedOutright};
 
-use crate::answers::SubmitError;
+use crate::answers::{SubmitError, Submitted};
 use crate::entered::Entered;
 use crate::exchange::Exchange;
 use crate::flight::Flight;
@@ -67,18 +67,22 @@ fn spell_all(alloc: Global, events: &[Event]) -> Result<Records, NoMemory>
     Ok(written)
 }
 
-// Adds events that were admitted at consecutive places, up to this one.
-fn add_all(sent: &mut Vec<(u64, Event)>, events: Vec<Event>, last: u64)
-    requires room { vec_len sent.old + length events.items ≤ vec_capacity sent.old }
-    requires last { length events.items ≤ last }
-    ensures { sent.new.items ≡ sent.old.items ++ placed (last - length events.items) events.items }
+// Moves the first events, so many, which were admitted at consecutive places, up to this one.
+fn move_first(sent: &mut Vec<(u64, Event)>, events: &mut Vec<Event>, count: usize, last: u64)
+    requires room { vec_len sent.old + count ≤ vec_capacity sent.old }
+    requires inside { count ≤ length events.old.items }
+    requires last { count ≤ last }
+    ensures sent { sent.new.items
+        ≡ sent.old.items ++ placed (last - count) (take count events.old.items) }
+    ensures rest { events.new.items ≡ drop count events.old.items }
 {
-    let mut events = events;
-    let behind = last - events.len() as u64;
-    for i in 0..events.len() {
+    let behind = last - count as u64;
+    for i in 0..count {
         let event = replace(&mut events[i], Event::Tick { time: 0 });
         sent.push_reserved((behind + i as u64 + 1, event));
     }
+    events.rotate_left(count);
+    events.truncate(events.len() - count);
 }
 
 impl<V: Venue, J: Journal + Drop> Exchange<V, J> {
@@ -105,15 +109,16 @@ impl<V: Venue, J: Journal + Drop> Exchange<V, J> {
         let done = self.submit_all(rt, pass, events);
         self.ring_feed();
         match done {
-            Ok(done) => Ok(done),
+            Ok(submitted) => Ok(submitted.done),
             Err((error, _)) => Err(error),
         }
     }
 
     /// Records events for a pass, one after another, and waits until they are kept and told: as that many calls of
     /// `submit`, up to the first that is refused, but with one wait for all. Their records are spelled before the lock.
-    /// An error says why the next one is refused, and how many are recorded before it. Where the journal fails no event is
-    /// told, and they wait for good: such a pass submits nothing more.
+    /// It takes one turn at the lock, which ends early where the market has passed over many orders for the events: what
+    /// is left then waits for another call. An error says why the next one is refused, and how many are recorded before
+    /// it. Where the journal fails no event is told, and they wait for good: such a pass submits nothing more.
     ///
     /// Whoever calls it calls `ring_feed` soon after it, and before he waits for anybody: where the events are told under
     /// the lock, the publisher of the feed is not woken before that, so that a reply may go out first.
@@ -122,10 +127,10 @@ impl<V: Venue, J: Journal + Drop> Exchange<V, J> {
         rt: &impl Wait,
         pass: &mut Pass<V>,
         events: Vec<Event>,
-    ) -> Result<Done, (SubmitError, usize)>
+    ) -> Result<Submitted, (SubmitError, usize)>
         requires { 0 < length events.items }
-        ensures ok { IfOk result (SendsAll V.setup pass.old pass.new events.items) }
-        ensures in_order { OnOk result (AllByRecursion (IsInOrder V.setup) events.items) }
+        ensures ok { IfOk result (λ s.
+            SendsTurn V.setup pass.old pass.new events.items s.rest.items s.done) }
         ensures err { IfErr result (λ e. SendsFirst V.setup pass.old pass.new events.items e.1) }
         ensures waits { IfErr result (λ e.
             (pass.new.waiting ≡ pass.old.waiting) ⊎ (e ≡ (Stopped, 0))) }
@@ -146,6 +151,7 @@ impl<V: Venue, J: Journal + Drop> Exchange<V, J> {
             count,
             last,
             refused,
+            passed,
             told,
         } = self.enter(
             rt,
@@ -156,6 +162,8 @@ impl<V: Venue, J: Journal + Drop> Exchange<V, J> {
             &events,
             written,
         );
+        pass.passed = pass.passed.saturating_add(passed);
+        let mut events = events;
         if count == 0 {
             return match refused {
                 Some(error) => {
@@ -164,19 +172,23 @@ impl<V: Venue, J: Journal + Drop> Exchange<V, J> {
                         0,
                     ))
                 }
-                None => Ok(last),
+                None => Ok(Submitted {
+                    done: last,
+                    rest: events,
+                }),
             };
         }
-        let mut events = events;
-        events.truncate(count);
-        add_all(&mut pass.sent, events, last.place);
+        move_first(&mut pass.sent, &mut events, count, last.place);
         if !self.await_told(rt, &mut pass.knows, &mut pass.entered, last.place, told) {
             return Err((SubmitError::Stopped, 0));
         }
         pass.told = pass.sent.len();
         match refused {
             Some(error) => Err((error, count)),
-            None => Ok(last),
+            None => Ok(Submitted {
+                done: last,
+                rest: events,
+            }),
         }
     }
 

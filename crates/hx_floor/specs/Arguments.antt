@@ -20,6 +20,10 @@ most_turns = 1000000000
 abbrev pub most_answers : ℕ
 most_answers = 1000000
 
+-- the whole of the time, in percent
+abbrev pub whole_share : ℕ
+whole_share = 100
+
 -- from 1 to this
 abbrev pub IsWithin : (most number : ℕ) → Type 0
 IsWithin most number = (1 ≤ number) × (number ≤ most)

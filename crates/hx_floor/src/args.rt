@@ -2,7 +2,7 @@
 ghost use Rattle.std.specs.Prelude.{◌↔◌, ◌≡◌, IfOk, IfSome, IsSome};
 ghost use Rattle.std.specs.Net.Socket.{socket_port};
 ghost use Rattle.hx_doors.specs.Addresses.{AreLoopback, IsLoopback};
-ghost use Rattle.hx_floor.specs.Arguments.{AreInRange, AreWithin, IsWithin, most_answers, most_places};
+ghost use Rattle.hx_floor.specs.Arguments.{AreInRange, AreWithin, IsWithin, most_answers, most_places, whole_share};
 
 use hx_doors::Addresses;
 use std::alloc::{AllocError, Global};
@@ -26,6 +26,8 @@ pub struct ServeArgs {
     pub turns: u64,
     /// How many requests of one source are answered a second, 1 to 1,000,000; eight times as many are in all.
     pub answers: u32,
+    /// For how much of the time, in percent, the market may pass over orders for one session, 1 to 100.
+    pub share: u32,
     pub ghost in_range: { AreWithin most_places port feed requests sessions capacity turns },
 }
 
@@ -41,10 +43,11 @@ pub struct OpenArgs {
 }
 
 impl ServeArgs {
-    ghost use Rattle.hx_floor.specs.Given.{AreAtPorts, AreThese, usual_answers};
+    ghost use Rattle.hx_floor.specs.Given.{AreAtPorts, AreThese, usual_answers, usual_share};
 
     /// These arguments, or none where one of the numbers is out of its range, or the feed would go to the port of
-    /// requests. 1,000 requests of a source are answered a second.
+    /// requests. 1,000 requests of a source are answered a second, and the market may pass over orders for one session for
+    /// a tenth of the time.
     pub fn of(
         port: u16,
         feed: u16,
@@ -55,7 +58,7 @@ impl ServeArgs {
     ) -> Option<ServeArgs>
         ensures fits { IsSome result ↔ AreInRange port feed requests sessions capacity turns }
         ensures same { IfSome result
-            (AreThese port feed requests sessions capacity turns usual_answers) }
+            (AreThese port feed requests sessions capacity turns usual_answers usual_share) }
     {
         if port == 0 || feed == 0 || requests == 0 || feed == requests {
             return None;
@@ -74,6 +77,7 @@ impl ServeArgs {
             capacity,
             turns,
             answers: 1_000,
+            share: 10,
         })
     }
 
@@ -81,7 +85,7 @@ impl ServeArgs {
     pub fn with_answers(self, answers: u32) -> Option<ServeArgs>
         ensures fits { IsSome result ↔ IsWithin most_answers answers }
         ensures same { IfSome result (AreThese self.port self.feed self.requests self.sessions
-            self.capacity self.turns answers) }
+            self.capacity self.turns answers self.share) }
     {
         if answers == 0 || answers > 1_000_000 {
             return None;
@@ -94,6 +98,29 @@ impl ServeArgs {
             capacity: self.capacity,
             turns: self.turns,
             answers,
+            share: self.share,
+        })
+    }
+
+    /// The same, but for how much of the time the market may pass over orders for one session; none where that is out of its
+    /// range.
+    pub fn with_share(self, share: u32) -> Option<ServeArgs>
+        ensures fits { IsSome result ↔ IsWithin whole_share share }
+        ensures same { IfSome result (AreThese self.port self.feed self.requests self.sessions
+            self.capacity self.turns self.answers share) }
+    {
+        if share == 0 || share > 100 {
+            return None;
+        }
+        Some(ServeArgs {
+            port: self.port,
+            feed: self.feed,
+            requests: self.requests,
+            sessions: self.sessions,
+            capacity: self.capacity,
+            turns: self.turns,
+            answers: self.answers,
+            share,
         })
     }
 
@@ -101,7 +128,7 @@ impl ServeArgs {
     pub fn with_places(self, places: u16) -> Option<ServeArgs>
         ensures fits { IsSome result ↔ IsWithin most_places places }
         ensures same { IfSome result (AreThese self.port self.feed self.requests places
-            self.capacity self.turns self.answers) }
+            self.capacity self.turns self.answers self.share) }
     {
         if places == 0 || places > 1_000 {
             return None;
@@ -114,6 +141,7 @@ impl ServeArgs {
             capacity: self.capacity,
             turns: self.turns,
             answers: self.answers,
+            share: self.share,
         })
     }
 

@@ -14,7 +14,7 @@ use crate::next_step::{NextStep, make_room, no_output};
 use crate::prepare::{Prepared, make, plan_step};
 use crate::state::{State, used};
 use hx_day::Ends;
-use hx_levels::{Book, Order};
+use hx_levels::{Book, LevelBook, Order};
 use hx_members::{ChainFacts, Seed, Setup};
 use hx_rules::{Event, Output, PrepareError};
 use hx_units::{Known, MemberNo, NoMemory, Token};
@@ -261,5 +261,14 @@ impl<B: Book + Drop> Market<B> {
     {
         let state = &self.state;
         list_orders(self.alloc, &state.book)
+    }
+}
+
+impl Market<LevelBook> {
+    /// How many orders the market has passed over one by one, for having fewer shares than an incoming order's minimum
+    /// (`LevelBook::passed_over`). Nothing is promised of it.
+    pub fn passed_over(&self) -> u64 {
+        let state = &self.state;
+        state.book.passed_over()
     }
 }

@@ -19,6 +19,27 @@ pub struct Sender<V: Venue> {
 }
 
 impl<V: Venue> Sender<V> {
+    // Submits several events, in as many turns at the lock as they take; whether they are recorded.
+    fn call_all<R: Wait, J: Journal + Drop>(
+        &mut self,
+        rt: &R,
+        exchange: &Exchange<V, J>,
+        events: Vec<Event>,
+    ) -> bool {
+        let mut left = events;
+        for _ in 0..left.len() {
+            if left.is_empty() {
+                break;
+            }
+            match exchange.submit_all(rt, &mut self.pass, left) {
+                Ok(submitted) => left = submitted.rest,
+                Err(_) => return false,
+            }
+            exchange.ring_feed();
+        }
+        true
+    }
+
     // Submits the events of one call; whether they are recorded. One event is a `submit`, more are a `submit_all`.
     fn call<R: Wait, J: Journal + Drop>(
         &mut self,
@@ -29,11 +50,7 @@ impl<V: Venue> Sender<V> {
         match events.as_slice() {
             [] => true,
             [event] => exchange.submit(rt, &mut self.pass, event).is_ok(),
-            _ => {
-                let done = exchange.submit_all(rt, &mut self.pass, events).is_ok();
-                exchange.ring_feed();
-                done
-            }
+            _ => self.call_all(rt, exchange, events),
         }
     }
 

@@ -99,7 +99,9 @@ impl<J: Journal + Drop> Founding<'_, J> {
         let (exchange, mut passes) = Exchange::<V, J>::open(
             alloc, played, admitted, kept, journal, blank, count,
         )?;
-        let exchange = exchange.at_most_ahead(ahead);
+        let exchange = exchange
+            .at_most_ahead(ahead)
+            .with_share(u64::from(hosting.args.share));
         let Some(own) = passes.pop() else {
             return Err(ServeError::NoMemory);
         };

@@ -57,7 +57,7 @@ sends_none sent = record { more = []; sent = sym (append-nil sent); are = refl }
 pub sends_placed : (old new : List (ℕ × Event)) (n : ℕ) (events : List Event) → new ≡ old ++ placed n events → SendsOn old new events
 sends_placed old new n events is = record { more = placed n events; sent = is; are = events_of_placed n events }
 
-sends_join : (a b c : List (ℕ × Event)) (xs ys : List Event) → SendsOn a b xs → SendsOn b c ys → SendsOn a c (xs ++ ys)
+pub sends_join : (a b c : List (ℕ × Event)) (xs ys : List Event) → SendsOn a b xs → SendsOn b c ys → SendsOn a c (xs ++ ys)
 sends_join a b c xs ys s t = record {
   more = s.more ++ t.more;
   sent = t.sent ∙ (ap (λ l. l ++ t.more) s.sent ∙ append_assoc a s.more t.more);

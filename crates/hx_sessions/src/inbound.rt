@@ -1,5 +1,5 @@
 //! The direction of a session that takes messages in.
-ghost use Rattle.std.specs.Prelude.{ℕ, List, ◌≡◌, ◌⊎◌, ◌<◌, ◌+◌, ◌++◌, [], ◌∷◌, OnOk, OnErr, Some, IsSome, false, length};
+ghost use Rattle.std.specs.Prelude.{ℕ, List, ◌≡◌, ◌⊎◌, ◌<◌, ◌+◌, ◌++◌, [], ◌∷◌, OnOk, OnErr, Some, IsSome, true, false, length};
 ghost use Rattle.hx_session_core.specs.declared.intake.Intake.TheVariants as intakes;
 ghost use Rattle.hx_rules.specs.declared.event.Event.TheVariants.{Message};
 ghost use Rattle.hx_sessions.specs.Asked.{CarriesOn, Submits, SendsOn, SendsSome};
@@ -8,9 +8,10 @@ ghost use Rattle.hx_sessions.specs.declared.ending.Fault.TheVariants as faults;
 ghost use Rattle.hx_sessions.specs.declared.ending.Stop.TheVariants as stops;
 
 use crate::clock_and_gate::{Clock, Gate};
+use crate::debt::Debt;
 use crate::ending::{Ended, Fault, Stop};
 use arrayvec::ArrayVec;
-use hx_bells::Source;
+use hx_bells::{Bell, Source};
 use hx_engine::{DeskError, Exchange, Journal, Pass, SubmitError, Venue};
 use hx_market::{Bytes, Event};
 use hx_session_core::{Action, Intake};
@@ -29,6 +30,9 @@ const PIECE: usize = 4096;
 // much and the exchange work at the same time.
 const SHORT_PIECE: usize = 2048;
 
+// How long a session rests at a time, in nanoseconds.
+const SLICE: u64 = 5_000_000;
+
 /// Who is logged in: the exchange that his messages go to, who is called round each of them, whose replies he gets, and
 /// whether he may send messages. A drop copy may not.
 #[derive(Drop)]
@@ -39,12 +43,33 @@ pub struct Trader<'a, V: Venue, J: Journal + Drop, G> {
     pub may_send: bool,
 }
 
-/// What submits his messages: his pass, the clock of their times, and the number of the last one in this session.
+/// What submits his messages: his pass, the clock of their times, the number of the last one in this session, and what the
+/// session owes for them.
 #[derive(Drop)]
 pub struct Sender<V: Venue, C> {
     pub pass: Pass<V>,
     pub clock: C,
     pub number: u64,
+    pub debt: Debt,
+}
+
+impl<V: Venue, C> Sender<V, C> {
+    // Owes for the orders that the market has passed over for his events since the last time.
+    fn owe<J: Journal + Drop>(&mut self, exchange: &Exchange<V, J>)
+        ensures { self.new.pass ≡ self.old.pass }
+    {
+        self.debt.grow(exchange.rest_for(self.pass.take_passed()));
+    }
+
+    // Sleeps for what the session owes, or for so long at most: a few milliseconds, since its replies wait meanwhile.
+    fn rest(&mut self, limit: Duration)
+        ensures { self.new.pass ≡ self.old.pass }
+    {
+        let slice = Duration::from_nanos(self.debt.nanos.min(SLICE)).min(limit);
+        // Nobody rings this one.
+        Bell::new().sleep(slice);
+        self.debt.pay(u64::from(slice.subsec_nanos()));
+    }
 }
 
 /// What it has, and gives back.
@@ -154,7 +179,34 @@ fn close_gate<G: Gate>(gate: &G, member: MemberNo, behind: u64, last: u64) {
     }
 }
 
-// Submits messages of the member, all at once.
+// Submits events, in as many turns at the lock as they take. Between two of them the session rests a little, so that others
+// come to the lock, whoever it would let in first.
+fn submit_all<V: Venue, J: Journal + Drop, C, T: Wait>(
+    rt: &T,
+    exchange: &Exchange<V, J>,
+    sender: &mut Sender<V, C>,
+    events: Vec<Event>,
+) -> Result<(), Fault>
+    ensures pass { CarriesOn true sender.old.pass sender.new.pass }
+    ensures ok { OnOk result (SendsOn sender.old.pass.sent sender.new.pass.sent events.items) }
+    ensures err { OnErr result (SendsSome sender.old.pass.sent sender.new.pass.sent events.items) }
+{
+    let mut left = events;
+    'turns: while !left.is_empty() {
+        let done = exchange.submit_all(rt, &mut sender.pass, left);
+        sender.owe(exchange);
+        match done {
+            Ok(submitted) => left = submitted.rest,
+            Err((error, _)) => return Err(fault_of(error)),
+        }
+        if !left.is_empty() {
+            sender.rest(Duration::from_nanos(SLICE));
+        }
+    }
+    Ok(())
+}
+
+// Submits messages of the member.
 fn submit<V: Venue, J: Journal + Drop, C: Clock, G: Gate, T: Wait>(
     rt: &T,
     trader: &Trader<'_, V, J, G>,
@@ -172,12 +224,9 @@ fn submit<V: Venue, J: Journal + Drop, C: Clock, G: Gate, T: Wait>(
     let behind = sender.number;
     sender.number = behind.saturating_add(events.len() as u64);
     open_gate(trader.gate, trader.member, behind, sender.number);
-    let done = trader.exchange.submit_all(rt, &mut sender.pass, events);
+    let done = submit_all(rt, trader.exchange, sender, events);
     close_gate(trader.gate, trader.member, behind, sender.number);
-    match done {
-        Ok(_) => Ok(()),
-        Err((error, _)) => Err(fault_of(error)),
-    }
+    done
 }
 
 // Acts on packets behind the login, up to a logout or a fault.
@@ -297,7 +346,7 @@ fn read_piece<V: Venue, J: Journal + Drop, R: Read, C: Clock, G: Gate, T: Wait>(
 }
 
 /// Sleeps until there is something to do, for so long at most, and takes a piece of the stream in where one has come:
-/// the packets that are whole with it are acted on.
+/// the packets that are whole with it are acted on. A session that owes a rest takes nothing in before that is over.
 pub fn receive<V: Venue, J: Journal + Drop, R: Read + Source, C: Clock, G: Gate, T: Wait>(
     rt: &T,
     alloc: Global,
@@ -313,6 +362,10 @@ pub fn receive<V: Venue, J: Journal + Drop, R: Read + Source, C: Clock, G: Gate,
         inbox.old.sender.pass.sent inbox.new.sender.pass.sent result }
 {
     let bell = trader.exchange.bell(&inbox.sender.pass);
+    if inbox.sender.debt.is_due() {
+        inbox.sender.rest(limit);
+        return Ok(());
+    }
     if !inbox.input.wait(bell, limit) {
         if trader.exchange.failure(rt).is_some() {
             return Err(Stop::Faulted(Fault::Stopped));

@@ -4,6 +4,7 @@
 
 mod clock_and_gate;
 mod copies;
+mod debt;
 mod ending;
 mod inbound;
 pub mod laws;

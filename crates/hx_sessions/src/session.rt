@@ -9,6 +9,7 @@ ghost use Rattle.hx_sessions.specs.Served.{Converses, Serves};
 
 use crate::clock_and_gate::{Clock, Gate};
 use crate::copies::{Logins, may_send, read_by};
+use crate::debt::Debt;
 use crate::ending::{Ended, Fault, Stop};
 use crate::inbound::{Inbox, Sender, Trader};
 use crate::opening::{Line, admit};
@@ -117,6 +118,7 @@ impl Session {
                         pass,
                         clock: inbound,
                         number: 0,
+                        debt: Debt::none(),
                     },
                 };
                 let outbox = Outbox {

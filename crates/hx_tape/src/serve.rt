@@ -40,7 +40,9 @@ fn args_of(matches: &ArgMatches<'_>, addresses: &Addresses) -> Option<ServeArgs>
         matches.get_one::<u64>("capacity")?,
         matches.get_one::<u64>("turns")?,
     )?;
-    let args = args.with_answers(matches.get_one::<u32>("answers")?)?;
+    let args = args
+        .with_answers(matches.get_one::<u32>("answers")?)?
+        .with_share(matches.get_one::<u32>("share")?)?;
     if sessions > SESSIONS {
         return args.with_places(sessions);
     }

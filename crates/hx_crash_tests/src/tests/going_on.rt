@@ -152,7 +152,9 @@ fn send_from<V: Venue, J: Journal + Drop, R: Wait + Abort>(
         let done = exchange.submit_all(rt, pass, batch);
         exchange.ring_feed();
         match done {
-            Ok(_) => answered = answered.saturating_add(count),
+            Ok(submitted) => {
+                answered = answered.saturating_add(count.saturating_sub(submitted.rest.len()));
+            }
             Err((SubmitError::Stopped, 0)) => return (answered, true),
             Err(_) => panic!(rt; "an event is refused"),
         }

@@ -9,7 +9,7 @@ ghost use Rattle.hx_market.specs.Effects.{IsReplacement, IsInRange, IsAbout, inc
 ghost use Rattle.hx_market.specs.Prepared.{HasPlaces};
 
 use crate::effect::{AcceptedEnter, Effect, Replacement};
-use hx_levels::Book;
+use hx_levels::{Book, Terms};
 use hx_match::{Fill, Incoming, plan_into};
 use hx_members::Tokens;
 use hx_units::NoMemory;
@@ -61,6 +61,12 @@ fn plan_order<B: Book>(
     if !immediate {
         book.reserve(incoming.locate, incoming.side, incoming.price)?;
     }
+    let terms = Terms {
+        locate: incoming.locate,
+        side: incoming.side,
+        price: incoming.price,
+    };
+    book.prepare_walk(&terms, incoming.shares, incoming.minimum);
     plan_into(fills, book, incoming)
 }
 

@@ -1,8 +1,9 @@
-use Rattle.std.proofs.Common.{◌≡◌, ◌∙◌, ◌<◌, ℕ, List, [], ◌∷◌, ◌++◌, length, take, get_or, ap, subst, arith, length-append}
+use Rattle.std.proofs.Common.{◌≡◌, ◌∙◌, ◌<◌, ℕ, List, [], ◌∷◌, ◌++◌, length, take, get_or, ap, sym, subst, arith, length-append}
 use Rattle.std.proofs.lemmas.List.{length-map, length-take-le}
 use Rattle.hx_desk.specs.Entries.{entry_of}
 use Rattle.hx_engine.specs.Passes.{sent_by}
-use Rattle.hx_engine.specs.Exchanges.{DoneAt}
+use Rattle.hx_engine.specs.Exchanges.{DoneAt, AreAdmittedUpTo}
+use Rattle.hx_engine.specs.declared.entered.Entered.{Entered}
 use Rattle.hx_rules.specs.declared.event.Event.{Event}
 use Rattle.hx_desk.specs.declared.entry.Entry.{Entry}
 use Rattle.hx_engine.proofs.Refusing.{text_at, one_last, one_history, in_order, all_one_more, refused_at}
@@ -21,7 +22,8 @@ enter-requires-clause-written g c =
 pub returns-in-Err-clause-outright : goal.returns-in-Err-clause-outright
 returns-in-Err-clause-outright g c =
     let inv = c.loop-i.invariant in
-    refused_at g.V.Venue.setup c.args.events.now c.loop-i.i c.index-events-i.result c.in-Err.error (omega arith) c.index-events-i.is inv.in_order c.in-Err.ensures.outright
+    subst (λ (e : Entered). AreAdmittedUpTo g.V.Venue.setup c.args.events.now e.count e.refused) (sym c.but_for.ensures)
+    (refused_at g.V.Venue.setup c.args.events.now c.loop-i.i c.index-events-i.result c.in-Err.error (omega arith) c.index-events-i.is inv.in_order c.in-Err.ensures.outright)
 
 pub loop-i-preserved : goal.loop-i-preserved
 loop-i-preserved g c =

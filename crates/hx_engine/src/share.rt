@@ -1,0 +1,25 @@
+//! How much of the lock's time may go by passing over orders for one session.
+ghost use Rattle.std.specs.Prelude.{◌*◌, ◌≡◌, min};
+
+use crate::exchange::Exchange;
+use crate::venue::Venue;
+use hx_journal::Journal;
+
+// How long the market takes to pass over one order, in nanoseconds, where the order is far from the one before it in memory.
+const PASSING: u64 = 40;
+
+impl<V: Venue, J: Journal + Drop> Exchange<V, J> {
+    /// The same, but the market passes over orders for one session for this part of the time at most, in percent, 1 to 100:
+    /// a session whose messages took more of it rests for as long as brings them down to it. Of a new exchange it is 100.
+    pub fn with_share(self, percent: u64) -> Self {
+        let percent = percent.clamp(1, 100);
+        let mut exchange = self;
+        exchange.rest = PASSING * (100 - percent) / percent;
+        exchange
+    }
+
+    /// For how many nanoseconds a session rests, for whose messages the market passed over so many orders.
+    pub fn rest_for(&self, passed: u64) -> u64 {
+        passed.saturating_mul(self.rest)
+    }
+}
