@@ -6,6 +6,7 @@ mod desks;
 mod exchanges;
 mod refusing;
 mod scenario;
+mod turns;
 mod two_sessions;
 mod waking;
 

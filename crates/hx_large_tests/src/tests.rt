@@ -6,6 +6,7 @@ mod day;
 mod desk;
 mod ending;
 mod framing;
+mod minimums;
 mod packets;
 mod refusals;
 mod replaying;

@@ -235,8 +235,14 @@ fn agree<A: Book, B: Book>(rt: &impl Abort, one: &A, two: &B) -> bool {
     agree_in_time(one, two)
 }
 
-// The same of the orders that qualify for this many shares and this minimum.
-fn agree_for<A: Book, B: Book>(rt: &impl Abort, one: &A, two: &B, left: u32, minimum: u32) -> bool {
+// The same of the orders that qualify for this many shares and this minimum, once both are made ready for the walks.
+fn agree_for<A: Book, B: Book>(
+    rt: &impl Abort,
+    one: &mut A,
+    two: &mut B,
+    left: u32,
+    minimum: u32,
+) -> bool {
     let low = price(rt, 1);
     let high = price(rt, 1000000);
     for locate in [1, 2] {
@@ -246,6 +252,8 @@ fn agree_for<A: Book, B: Book>(rt: &impl Abort, one: &A, two: &B, left: u32, min
                 side,
                 price,
             };
+            one.prepare_walk(&terms, left, minimum);
+            two.prepare_walk(&terms, left, minimum);
             if !agree_by_minimum(one, two, &terms, left, minimum) {
                 return false;
             }
