@@ -104,7 +104,7 @@ class Member:
 class Day:
     """A server with so many members, each logged in."""
 
-    def __init__(self, program, members, capacity=1_000_000, sync=None, stocks=("ABCD",)):
+    def __init__(self, program, members, capacity=1_000_000, sync=None, stocks=("ABCD",), words=()):
         self.setup = tempfile.NamedTemporaryFile("w", suffix=".setup")
         self.setup.write(setup_text(members, stocks))
         self.setup.flush()
@@ -118,7 +118,8 @@ class Day:
         port, requests = free_port(socket.SOCK_STREAM), free_port(socket.SOCK_DGRAM)
         self.server = subprocess.Popen(
             [program, "serve", "--port", str(port), "--feed", str(self.feed.getsockname()[1]), "--requests",
-             str(requests), "--sessions", str(members), "--setup", self.setup.name, "--capacity", str(capacity), *kept],
+             str(requests), "--sessions", str(members), "--setup", self.setup.name, "--capacity", str(capacity), *kept,
+             *words],
             stdin=subprocess.PIPE, stdout=subprocess.PIPE, stderr=subprocess.DEVNULL)
         time.sleep(0.3)
         self.members = []
