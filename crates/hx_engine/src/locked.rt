@@ -268,8 +268,8 @@ impl<V: Venue, J: Journal + Drop> Held<V, J> {
         self.desk.passed_over().wrapping_sub(before)
     }
 
-    /// Admits events for a pass, with their records, one after another, up to the first that is refused, or up to one by
-    /// which the market has passed over so many orders that the turn at the lock ends.
+    /// Admits events for a pass, with their records, one after another, up to the first that is refused. It stops early
+    /// after an event by which the market has passed over `TURN` orders or more.
     pub fn enter_all(
         &mut self,
         log: &Log<Entry>,

@@ -18,7 +18,7 @@ impl<V: Venue, J: Journal + Drop> Exchange<V, J> {
         exchange
     }
 
-    /// For how many nanoseconds a session rests, for whose messages the market passed over so many orders.
+    /// For how many nanoseconds a session rests if the market has passed over `passed` orders for its messages.
     pub fn rest_for(&self, passed: u64) -> u64 {
         passed.saturating_mul(self.rest)
     }

@@ -42,8 +42,7 @@ const MISS: u64 = 16;
 /// A book by levels of price: the orders in a slab, linked in time order, and in queues by price and by
 /// whether they are shown. A call takes time in proportion to the logarithm of the number of levels at most, apart from
 /// walks, and from the entries of one block (256 at most) that move where a level or a conditional order comes or goes. A
-/// walk passes a level without a step if no order of it, those gone included, ever had as many shares as the incoming
-/// order's minimum.
+/// walk passes a level without a step if the bound on its orders' shares is below the incoming order's minimum.
 pub struct LevelBook {
     nodes: LinkedOrders,
     ladders: Sides,

@@ -15,7 +15,7 @@ use crate::level_book::linked_orders::Ends;
 use std::ops::Bound;
 
 /// The orders of one price: those that are shown, and those that are not. No order has more open shares than `most`, which
-/// only rises while the level is there.
+/// rises as orders join, and is lowered before a walk.
 #[derive(Clone, Copy)]
 pub struct Level {
     pub shown: Ends,

@@ -171,7 +171,7 @@ impl Sides {
         self.sizes.renew(size_rank(at), 1, most);
     }
 
-    /// Makes an empty level, where there is none, and room for the size of one.
+    /// Makes an empty level, if there is none, and room for the size of one.
     #[inline(always)]
     pub fn make_level(&mut self, at: LevelKey) -> Result<(), NoMemory>
         ensures there { OnOk result (IsSome (level_at self.new.levels at)) }

@@ -101,8 +101,8 @@ impl LevelBook {
     }
 
     /// Makes the bounds of the levels tight that a walk of these terms with this minimum would reach, up to the first that
-    /// has an order of as many shares, or up to so many levels. A level costs a look at its orders once: it is then passed
-    /// over by the block.
+    /// has an order of as many shares, `LEVELS` at most. A level costs a look at its orders once: it is then passed over
+    /// by the block.
     pub fn tighten(&mut self, terms: &Terms, minimum: u32)
         ensures orders { self.new.orders ≡ self.old.orders }
         ensures place { self.new.place ≡ self.old.place }
