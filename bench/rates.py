@@ -50,5 +50,5 @@ def tell(runs, name=None):
 
 
 def show(program, words, runs, tape=b'', name=None):
-    """Measures so often, and prints a line for each thing."""
+    """Measures in `runs` runs, and prints a line for each thing."""
     tell([run(program, words, tape) for _ in range(runs)], name)

@@ -51,7 +51,7 @@ def connected(port):
 
 
 def pieces(items, size):
-    """Lists of so many of them, and of the rest."""
+    """Lists of `size` of them, and of the rest."""
     items = iter(items)
     while some := list(itertools.islice(items, size)):
         yield some
@@ -61,7 +61,7 @@ class Member:
     def __init__(self, port, number):
         self.line = connected(port)
         self.line.setsockopt(socket.IPPROTO_TCP, socket.TCP_NODELAY, 1)
-        self.kept = b""
+        self.rest = b""
         self.number = number
 
     def log_in(self):
@@ -70,12 +70,12 @@ class Member:
         assert self.packet()[:1] == b"A"
 
     def packet(self):
-        while len(self.kept) < 2 or len(self.kept) < 2 + struct.unpack_from(">H", self.kept)[0]:
+        while len(self.rest) < 2 or len(self.rest) < 2 + struct.unpack_from(">H", self.rest)[0]:
             more = self.line.recv(1 << 16)
             assert more, "closed"
-            self.kept += more
-        size, = struct.unpack_from(">H", self.kept)
-        packet, self.kept = self.kept[2:2 + size], self.kept[2 + size:]
+            self.rest += more
+        size, = struct.unpack_from(">H", self.rest)
+        packet, self.rest = self.rest[2:2 + size], self.rest[2 + size:]
         return packet
 
     def reply(self):
@@ -102,7 +102,7 @@ class Member:
 
 
 class Day:
-    """A server with so many members, each logged in."""
+    """A server with `members` members, each logged in."""
 
     def __init__(self, program, members, capacity=1_000_000, sync=None, stocks=("ABCD",), words=()):
         self.setup = tempfile.NamedTemporaryFile("w", suffix=".setup")
@@ -110,15 +110,15 @@ class Day:
         self.setup.flush()
         self.folder = tempfile.TemporaryDirectory(dir=".")
         self.is_open = members > SESSIONS
-        kept = ["--open", "--connections-per-address", str(members)] if self.is_open else []
-        kept += self.kept_by(sync)
+        options = ["--open", "--connections-per-address", str(members)] if self.is_open else []
+        options += self.journal_words(sync)
         self.feed = socket.socket(socket.AF_INET, socket.SOCK_DGRAM)
         self.feed.setsockopt(socket.SOL_SOCKET, socket.SO_RCVBUF, 1 << 22)
         self.feed.bind((HOST, 0))
         port, requests = free_port(socket.SOCK_STREAM), free_port(socket.SOCK_DGRAM)
         self.server = subprocess.Popen(
             [program, "serve", "--port", str(port), "--feed", str(self.feed.getsockname()[1]), "--requests",
-             str(requests), "--sessions", str(members), "--setup", self.setup.name, "--capacity", str(capacity), *kept,
+             str(requests), "--sessions", str(members), "--setup", self.setup.name, "--capacity", str(capacity), *options,
              *words],
             stdin=subprocess.PIPE, stdout=subprocess.PIPE, stderr=subprocess.DEVNULL)
         time.sleep(0.3)
@@ -132,8 +132,8 @@ class Day:
             for member in self.members:
                 member.log_in()
 
-    def kept_by(self, sync):
-        """The words of what keeps the day: a journal, which is brought to the disk so, or the log of an etcd, or both."""
+    def journal_words(self, sync):
+        """The words of what makes the day durable: a journal, synced as said, or the log of an etcd, or both."""
         self.etcd = None
         words = []
         if sync in ("log", "both"):

@@ -5,7 +5,7 @@ One terminal serves an open day, whose end is the end of the operator's lines (C
 
     ./hx_tape serve --open --port 9001 --feed 9002 --requests 9003 --sessions 2 --setup examples/served_day.setup
 
-Another one runs this client, which plays both members and a vendor who listens to the feed:
+Another one runs this client, which acts as both members and a vendor who listens to the feed:
 
     examples/client.py --port 9001 --feed 9002 --requests 9003 --pcap day.pcap
 
@@ -159,7 +159,7 @@ class Member:
         self.line = socket.create_connection((HOST, port))
         self.line.setsockopt(socket.IPPROTO_TCP, socket.TCP_NODELAY, 1)
         self.own = self.line.getsockname()[1]
-        self.kept = b""
+        self.rest = b""
         self.login = user.ljust(6).encode() + password.ljust(10).encode() + b" " * 10 + b"1".rjust(20)
 
     def send(self, kind, payload=b""):
@@ -168,19 +168,19 @@ class Member:
         self.line.sendall(frame)
 
     def receive(self):
-        """The next packet: its type and its payload. None where the line is closed."""
+        """The next packet: its type and its payload. None if the line is closed."""
         while True:
-            if len(self.kept) >= 2 and len(self.kept) >= 2 + (size := struct.unpack(">H", self.kept[:2])[0]):
-                packet, self.kept = self.kept[2:2 + size], self.kept[2 + size:]
+            if len(self.rest) >= 2 and len(self.rest) >= 2 + (size := struct.unpack(">H", self.rest[:2])[0]):
+                packet, self.rest = self.rest[2:2 + size], self.rest[2 + size:]
                 return packet[:1], packet[1:]
             more = self.line.recv(65536)
             if not more:
                 return None
             self.capture.stream(self.port, self.own, more)
-            self.kept += more
+            self.rest += more
 
     def receive_packet(self):
-        """The next packet; the program ends where the line is closed."""
+        """The next packet; the program ends if the line is closed."""
         packet = self.receive()
         if packet is None:
             sys.exit(f"{self.user}: the server has closed the line")
@@ -194,7 +194,7 @@ class Member:
         print(f"{self.user}: logged in to session {text(payload[:10])}, next reply {int(payload[10:])}")
 
     def replies(self, count):
-        """Prints so many replies, past heartbeats."""
+        """Prints `count` replies, past heartbeats."""
         while count:
             kind, payload = self.receive_packet()
             if kind == b"S":

@@ -58,7 +58,7 @@ def module_of(file):
 
 
 def type_at(text, at):
-    """The type in whose own impl a place of a text stands, or none."""
+    """The type in whose own impl an offset of a text is, or none."""
     heads = HEAD.findall(text[:at])
     return (heads[-1] or None) if heads else None
 
@@ -79,20 +79,20 @@ def files_of(crate):
 
 
 def function_at(text, at, length):
-    """The name of the function whose body holds all of a text, or none. A body begins behind its contract, and ends with a
+    """The name of the function whose body holds all of a text, or none. A body begins after its contract, and ends with a
     brace that stands as far to the right as the function."""
     begun = list(re.finditer(r'^( *)(?:pub(?:\([a-z]+\))? )?(?:const )?fn (\w+)', text[:at], re.M))
     if not begun:
         return None
     indent, name = begun[-1].groups()
-    place, lines = begun[-1].start(), text[begun[-1].start():].split('\n')
+    start, lines = begun[-1].start(), text[begun[-1].start():].split('\n')
     body = None
     for line in lines:
         if body is None and line.endswith('{') and not re.match(r' *(requires|ensures)\b', line):
-            body = place + len(line)
+            body = start + len(line)
         if line == indent + '}':
-            return name if body is not None and body < at and at + length <= place else None
-        place += len(line) + 1
+            return name if body is not None and body < at and at + length <= start else None
+        start += len(line) + 1
     return None
 
 
@@ -127,7 +127,7 @@ def is_by_another(name, reason):
 
 
 def is_open(name, why):
-    """Whether a function is not proved itself, by what the prover says behind its name."""
+    """Whether a function is not proved itself, by what the prover says after its name."""
     reasons = [it for it in why.removeprefix(':').strip().removeprefix(';').strip().split('; ') if it]
     return not reasons or not all(is_by_another(name, it) for it in reasons)
 

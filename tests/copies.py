@@ -23,13 +23,13 @@ def with_those_below(names, lines):
 
 
 def copy_crates(names, folder):
-    """Copies the crates and those below them, with what earlier checks kept of them, into a folder of their own."""
+    """Copies the crates and those below them, with what earlier checks stored of them, into a folder of their own."""
     lines = lines_of_crates()
     wanted = with_those_below(names, lines)
-    kept = [name for name in lines if name in wanted]
-    for name in kept:
+    needed = [name for name in lines if name in wanted]
+    for name in needed:
         crate = os.path.join('crates', name)
         shutil.copytree(os.path.join(TOP, crate), os.path.join(folder, crate), symlinks=True)
     with open(os.path.join(folder, 'crates.txt'), 'w') as file:
-        file.writelines(lines[name] for name in kept)
+        file.writelines(lines[name] for name in needed)
     shutil.copy(os.path.join(TOP, 'HANDLES'), folder)

@@ -16,7 +16,7 @@ SECONDS = 60
 class Etcd:
     """An etcd of three nodes on loopback, each with its data in a folder.
 
-    Clients come to the address `clients_at`, where it is not 127.0.0.1: 0.0.0.0 for each address of the machine."""
+    Clients come to the address `clients_at`, if it is not 127.0.0.1: 0.0.0.0 for each address of the machine."""
 
     def __init__(self, folder, clients_at=HOST):
         self.folder, self.clients_at = folder, clients_at
@@ -65,8 +65,8 @@ class Etcd:
 
     def leads(self, node):
         """Whether a node says that it leads."""
-        told = json.loads(self.ask(node, "POST", "/v3/maintenance/status", "{}") or "{}")
-        return "leader" in told and told["leader"] == told["header"]["member_id"]
+        status = json.loads(self.ask(node, "POST", "/v3/maintenance/status", "{}") or "{}")
+        return "leader" in status and status["leader"] == status["header"]["member_id"]
 
     def leaders(self):
         """The nodes that say that they lead: one, or for a moment none, or two."""
@@ -111,7 +111,7 @@ class LoggedServer(Server):
     """A server over the log of an etcd: each that starts is a writer of its own, and has a history of its own.
 
     Several servers over one etcd share `writers`, from which each start takes the next number. `within` are the words
-    in front of the program, where it runs in a place of its own, from which the etcd is at `nodes`."""
+    in front of the program, if it runs in a namespace of its own, from which the etcd is at `nodes`."""
 
     def __init__(self, program, folder, etcd, members, writers=None, within=(), nodes=None, **more):
         super().__init__(program, folder, None, members, **more)
@@ -126,5 +126,5 @@ class LoggedServer(Server):
         super().start()
 
     def says(self, words):
-        """Whether it has told this since it was started last."""
+        """Whether it has written this since it was started last."""
         return any(words in it for it in self.notices)

@@ -7,12 +7,12 @@ from venue import STOCKS, frame, login
 
 # The bytes of the packets with the replies to an order and to its cancel (OUCH 4.2, Accepted and Canceled).
 REPLIES = 3 + 66 + 3 + 28
-# So many orders are made at a time.
+# The number of orders that are made at a time.
 PIECE = 1_000
 
 
 class Flooder:
-    """A member with this many orders to send, each with its cancel, who counts the bytes of what comes."""
+    """A member with `orders` orders to send, each with its cancel, who counts the bytes of what comes."""
 
     def __init__(self, server, number, orders):
         self.number, self.orders, self.sent, self.left = number, orders, 0, orders * REPLIES

@@ -1,4 +1,4 @@
-"""Network namespaces for scripts: a place of its own for a server, whose wire to the log can be cut."""
+"""Network namespaces for scripts: one for each server, whose wire to the log can be cut."""
 import os
 import subprocess
 
@@ -50,7 +50,7 @@ class Namespace:
         return ["ip", "netns", "exec", self.name]
 
     def cut(self, wire):
-        """From now on nothing passes, in either direction, and nobody is told so."""
+        """From now on nothing passes, in either direction, and nobody is notified."""
         say("ip", "link", "set", self.ends[wire], "down")
 
     def mend(self, wire):
@@ -61,7 +61,7 @@ class Namespace:
 
 
 def namespaces(count):
-    """As many namespaces; none where none can be made."""
+    """`count` namespaces; none if none can be made."""
     made = []
     try:
         for number in range(count):

@@ -1,7 +1,7 @@
 // Stands before the C library of a program (LD_PRELOAD) and lets one call go wrong: the REFUSE_AT-th of its allocations
 // (REFUSE_WHAT=alloc), of its threads (thread), of its reads (read), or of its writes but those to standard error (write).
-// An allocation answers that there is no memory, a thread is not started. A read or write fails with the number REFUSE_AS, or where that is `none` gives or takes
-// nothing, or where it is `short` moves one byte. Once that call is made there is a file REFUSE_TOLD.
+// An allocation answers that there is no memory, a thread is not started. A read or write fails with the number REFUSE_AS, or if that is `none` gives or takes
+// nothing, or if it is `short` moves one byte. Once that call is made there is a file REFUSE_TOLD.
 #define _GNU_SOURCE
 #include <dlfcn.h>
 #include <errno.h>
@@ -19,7 +19,7 @@ extern void *__libc_calloc(size_t count, size_t size);
 extern void *__libc_realloc(void *old, size_t size);
 extern void *__libc_memalign(size_t align, size_t size);
 
-static const char *what = "", *as = "", *told = "";
+static const char *what = "", *as = "", *marker = "";
 static long at;
 static atomic_long calls;
 static atomic_int started;
@@ -30,16 +30,16 @@ __attribute__((constructor)) static void start(void) {
         return;
     what = word;
     as = getenv("REFUSE_AS") ? getenv("REFUSE_AS") : "";
-    told = getenv("REFUSE_TOLD");
+    marker = getenv("REFUSE_TOLD");
     at = atol(getenv("REFUSE_AT"));
     started = 1;
 }
 
-// Whether this is the call that goes wrong; if so, that it was made is told.
+// Whether this is the call that goes wrong; if so, the file is made that says so.
 static int is_refused(const char *kind) {
     if (!started || strcmp(what, kind) || atomic_fetch_add(&calls, 1) + 1 != at)
         return 0;
-    close(open(told, O_WRONLY | O_CREAT, 0600));
+    close(open(marker, O_WRONLY | O_CREAT, 0600));
     return 1;
 }
 
@@ -64,11 +64,11 @@ void *aligned_alloc(size_t align, size_t size) {
     return is_refused("alloc") ? no_memory() : __libc_memalign(align, size);
 }
 
-int posix_memalign(void **place, size_t align, size_t size) {
+int posix_memalign(void **result, size_t align, size_t size) {
     if (is_refused("alloc"))
         return ENOMEM;
-    *place = __libc_memalign(align, size);
-    return *place ? 0 : ENOMEM;
+    *result = __libc_memalign(align, size);
+    return *result ? 0 : ENOMEM;
 }
 
 int pthread_create(pthread_t *thread, const pthread_attr_t *how, void *(*start)(void *), void *given) {
@@ -76,7 +76,7 @@ int pthread_create(pthread_t *thread, const pthread_attr_t *how, void *(*start)(
     return is_refused("thread") ? EAGAIN : create(thread, how, start, given);
 }
 
-// What a call that goes wrong answers, where it does not move one byte.
+// What a call that goes wrong answers, if it does not move one byte.
 static ssize_t wrong(void) {
     if (!strcmp(as, "none"))
         return 0;

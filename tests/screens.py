@@ -37,8 +37,8 @@ class Day:
         self.server = Server(program, folder, self.journal, MEMBERS, more=("--operator", self.operator))
         with open(self.server.setup, encoding="ascii") as file:
             lines = file.read().splitlines()
-        place = next(at for at, line in enumerate(lines) if line.startswith("stock"))
-        lines[place:place + 1] = [f"stock {name} {DIRECTORY}" for name in STOCKS]
+        index = next(at for at, line in enumerate(lines) if line.startswith("stock"))
+        lines[index:index + 1] = [f"stock {name} {DIRECTORY}" for name in STOCKS]
         with open(self.server.setup, "w", encoding="ascii") as file:
             file.write("\n".join(lines) + "\n")
         self.web = free_port(socket.SOCK_STREAM)
@@ -75,22 +75,22 @@ class Day:
     def history(self):
         return history_of(self.journal)
 
-    def told(self):
+    def published(self):
         """How many messages the feed has, and the live orders, by a replay of the day so far."""
         feed, replies = replayed(self.program, self.server.setup, self.history())
         return len(feed), live_orders(replies)
 
-    def told_all(self, count):
-        """How many messages the feed has, once as many events of members are in the history."""
+    def published_all(self, count):
+        """How many messages the feed has, once `count` events of members are in the history."""
         wait_for("all events", lambda: self.history().count(b" 1 ") >= count, 60)
-        return self.told()[0]
+        return self.published()[0]
 
     def end(self):
         output, status = self.server.end()
         assert status == 0, (output, status)
-        told, fault = self.screen.communicate(timeout=30)
+        text, fault = self.screen.communicate(timeout=30)
         assert self.screen.returncode == 0, (self.screen.returncode, fault)
-        return told
+        return text
 
     def stop(self):
         for process in (self.server.process, self.screen):
@@ -145,7 +145,7 @@ def depth(orders, stock, side):
 # ---- HTTP and WebSockets, with nothing but sockets
 
 def get(port, path, method="GET", headers=()):
-    """The status, the headers and the body of an answer; None where nobody answers."""
+    """The status, the headers and the body of an answer; None if nobody answers."""
     request = urllib.request.Request(f"http://{HOST}:{port}{path}", method=method, headers=dict(headers))
     try:
         with urllib.request.urlopen(request, timeout=10) as answer:
@@ -172,10 +172,10 @@ class Browser:
         key = base64.b64encode(os.urandom(16)).decode()
         self.line.sendall((f"GET /live HTTP/1.1\r\nHost: {HOST}:{port}\r\nUpgrade: websocket\r\nConnection: Upgrade\r\n"
                            f"Sec-WebSocket-Key: {key}\r\nSec-WebSocket-Version: 13\r\n{more}\r\n").encode())
-        self.kept = b""
-        while b"\r\n\r\n" not in self.kept:
-            self.kept += self.more()
-        head, self.kept = self.kept.split(b"\r\n\r\n", 1)
+        self.rest = b""
+        while b"\r\n\r\n" not in self.rest:
+            self.rest += self.more()
+        head, self.rest = self.rest.split(b"\r\n\r\n", 1)
         self.status = int(head.split()[1])
         self.feed, self.stocks, self.times, self.is_closed = None, {}, [], False
 
@@ -185,9 +185,9 @@ class Browser:
         return more
 
     def take(self, count):
-        while len(self.kept) < count:
-            self.kept += self.more()
-        taken, self.kept = self.kept[:count], self.kept[count:]
+        while len(self.rest) < count:
+            self.rest += self.more()
+        taken, self.rest = self.rest[:count], self.rest[count:]
         return taken
 
     def read(self):
@@ -203,12 +203,12 @@ class Browser:
         elif first == 0x89:
             self.line.sendall(bytes([0x8a, 0x80 + len(body)]) + bytes(4) + body)
         elif first == 0x81:
-            told = json.loads(body)
-            if "session" in told:
-                self.feed = told
+            update = json.loads(body)
+            if "session" in update:
+                self.feed = update
                 self.times.append(time.monotonic())
             else:
-                self.stocks[told["stock"]] = told
+                self.stocks[update["stock"]] = update
 
     def read_until(self, messages):
         while not self.is_closed and (self.feed is None or self.feed["messages"] < messages):

@@ -1,4 +1,4 @@
-"""An open day on loopback, its members, and strangers of other addresses of 127.0.0.0/8 who come to its door."""
+"""An open day on loopback, its members, and strangers that connect from other addresses of 127.0.0.0/8."""
 import multiprocessing, os, resource, selectors, socket, struct, subprocess, tempfile, time
 
 TOP = os.path.dirname(os.path.dirname(os.path.abspath(__file__)))
@@ -16,7 +16,7 @@ def free_port(kind, host=HOST):
 
 
 def stranger(number):
-    """The address of a stranger, who is none of the members: 127.1.0.0 and those behind it."""
+    """The address of a stranger, who is none of the members: 127.1.0.0 and those after it."""
     return f'127.{1 + number // 65536}.{number // 256 % 256}.{number % 256}'
 
 
@@ -76,15 +76,15 @@ class Day:
 
     def __init__(self, sessions=2, more=(), feeds=None, listen=HOST, requests=HOST):
         self.port, self.requests = free_port(socket.SOCK_STREAM, listen), free_port(socket.SOCK_DGRAM, requests)
-        self.told = tempfile.TemporaryFile('w+')
+        self.errors = tempfile.TemporaryFile('w+')
         feeds = feeds or [f'{HOST}:{free_port(socket.SOCK_DGRAM)}']
         words = [PROGRAM, 'serve', '--open', '--end', '1', '--tick', '0', '--listen', self.at(listen, self.port),
                  '--requests', self.at(requests, self.requests), '--sessions', str(sessions), '--setup', SETUP]
         words += [word for feed in feeds for word in ('--feed', feed)] + list(more)
-        self.server = subprocess.Popen(words, stdin=subprocess.PIPE, stdout=subprocess.PIPE, stderr=self.told)
-        self.await_door(listen)
+        self.server = subprocess.Popen(words, stdin=subprocess.PIPE, stdout=subprocess.PIPE, stderr=self.errors)
+        self.await_listener(listen)
 
-    def await_door(self, listen):
+    def await_listener(self, listen):
         """A member logs in, which takes until the exchange is there, and out again."""
         for _ in range(500):
             try:
@@ -102,8 +102,8 @@ class Day:
         return f'[{host}]:{port}' if ':' in host else f'{host}:{port}'
 
     def notices(self):
-        self.told.seek(0)
-        return [line.strip().split('] ', 1)[-1] for line in self.told]
+        self.errors.seek(0)
+        return [line.strip().split('] ', 1)[-1] for line in self.errors]
 
     def end(self):
         """Ends the day, and gives its last line and its status."""
@@ -115,14 +115,14 @@ class Day:
     def stop(self):
         self.server.kill()
         self.server.wait()
-        for stream in (self.server.stdin, self.server.stdout, self.told):
+        for stream in (self.server.stdin, self.server.stdout, self.errors):
             stream.close()
 
 
 # What strangers do, each in a process of its own.
 
 def come_and_go(port, count, addresses, begun, done):
-    """So many connections, from so many addresses, each closed as soon as it is there."""
+    """`count` connections, from `addresses` addresses, each closed as soon as it is there."""
     begun.set()
     for number in range(count):
         try:
@@ -133,7 +133,7 @@ def come_and_go(port, count, addresses, begun, done):
 
 
 def say_nothing(port, count, addresses, begun, done):
-    """So many connections that are there at once, each of which comes again when it is closed."""
+    """`count` connections that are there at once, each of which comes again when it is closed."""
     most = resource.getrlimit(resource.RLIMIT_NOFILE)[1]
     resource.setrlimit(resource.RLIMIT_NOFILE, (most, most))
     lines = selectors.DefaultSelector()
@@ -160,9 +160,9 @@ def say_nothing(port, count, addresses, begun, done):
 def drip(port, begun, done):
     """A login of which a byte comes each second."""
     with connect(port, stranger(60_000)) as line:
-        for place in range(len(ALPHA)):
+        for at in range(len(ALPHA)):
             try:
-                line.sendall(ALPHA[place:place + 1])
+                line.sendall(ALPHA[at:at + 1])
             except OSError:
                 break
             begun.set()
@@ -171,7 +171,7 @@ def drip(port, begun, done):
 
 
 def guess(port, addresses, begun, done):
-    """Logins of nobody, one after the other, from so many addresses."""
+    """Logins of nobody, one after the other, from `addresses` addresses."""
     number = 0
     lines = []
     while not done.is_set():

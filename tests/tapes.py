@@ -102,7 +102,7 @@ class Walker:
         return 100 * self.rng.randrange(1, 10)
 
     def away(self, stock, buys):
-        """A price behind the middle, mostly by a few cents."""
+        """A price away from the middle, mostly by a few cents."""
         distance = 100 * (1 + min(int(self.rng.expovariate(0.08)), 400))
         return self.middle[stock] - distance if buys else self.middle[stock] + distance
 
@@ -127,14 +127,14 @@ class Walker:
         """A cancel or a replace of an order that was at rest, unless it has traded since; mostly of a new one."""
         orders, rng = self.resting[member], self.rng
         newest = len(orders) - 1
-        place = rng.randrange(len(orders)) if rng.random() < 0.5 else max(0, newest - int(rng.expovariate(0.2)))
-        token, stock, buys = orders[place]
+        index = rng.randrange(len(orders)) if rng.random() < 0.5 else max(0, newest - int(rng.expovariate(0.2)))
+        token, stock, buys = orders[index]
         if is_cancel:
-            orders[place] = orders[newest]
+            orders[index] = orders[newest]
             orders.pop()
             return cancel(token)
         new = self.token()
-        orders[place] = (new, stock, buys)
+        orders[index] = (new, stock, buys)
         return replace(token, new, self.shares(), self.away(stock, buys))
 
 

@@ -48,7 +48,7 @@ class Server:
     Its setup has this session and these stocks. It is at `host`, and its feed goes to `vendors`, where those are not at
     127.0.0.1."""
 
-    def __init__(self, program, folder, journal, members, places=None, more=(), ticks=0, end=1, session=SESSION,
+    def __init__(self, program, folder, journal, members, slots=None, more=(), ticks=0, end=1, session=SESSION,
                  stocks=STOCKS, host=HOST, vendors=HOST, feed=None):
         self.program, self.journal, self.session, self.stocks, self.host = program, journal, session, stocks, host
         self.setup = os.path.join(folder, "setup")
@@ -56,14 +56,14 @@ class Server:
             file.write(setup_text(members, session, stocks))
         self.port, self.requests = free_port(socket.SOCK_STREAM), free_port(socket.SOCK_DGRAM)
         self.feed = feed or free_port(socket.SOCK_DGRAM)
-        self.words = [program, "serve", "--open", "--end", str(end), *self.doors(vendors),
-                      "--sessions", str(places or members), "--setup", self.setup,
+        self.words = [program, "serve", "--open", "--end", str(end), *self.addresses(vendors),
+                      "--sessions", str(slots or members), "--setup", self.setup,
                       "--capacity", "1000000", "--answers", "100000", "--connections-per-address", "1000",
                       "--tick", str(ticks), *(["--journal", journal] if journal else []), *more]
         self.notices = []
         self.process = None
 
-    def doors(self, vendors):
+    def addresses(self, vendors):
         """The words of where it listens, and where its feed goes."""
         if self.host == HOST == vendors:
             return ["--port", str(self.port), "--feed", str(self.feed), "--requests", str(self.requests)]
@@ -93,7 +93,7 @@ class Server:
 
 
 def wait_for(what, holds, seconds=PATIENCE):
-    """Waits until it holds, and fails where it does not in time."""
+    """Waits until it holds, and fails if it does not in time."""
     limit = time.monotonic() + seconds
     while not (found := holds()):
         assert time.monotonic() < limit, f"not in {seconds} seconds: {what}"
@@ -102,11 +102,11 @@ def wait_for(what, holds, seconds=PATIENCE):
 
 
 def packets_of(line):
-    """The packets that come on a line; None where for a while none came."""
-    kept = b""
+    """The packets that come on a line; None if for a while none came."""
+    rest = b""
     while True:
-        while len(kept) >= 2 and len(kept) >= 2 + (size := struct.unpack(">H", kept[:2])[0]):
-            packet, kept = kept[2:2 + size], kept[2 + size:]
+        while len(rest) >= 2 and len(rest) >= 2 + (size := struct.unpack(">H", rest[:2])[0]):
+            packet, rest = rest[2:2 + size], rest[2 + size:]
             yield packet
         try:
             more = line.recv(65536)
@@ -117,7 +117,7 @@ def packets_of(line):
             return
         if not more:
             return
-        kept += more
+        rest += more
 
 
 def login(number, first, session=""):
@@ -152,29 +152,29 @@ class Orders:
 class Member(threading.Thread):
     """A member who trades at random while the server is there, and comes again when it is not.
 
-    Where there are other servers he tries one after the other. A line on which he is told nothing for `patience` times 50
-    milliseconds he gives up, and one to a server that knows less than he was told."""
+    If there are other servers he tries one after the other. A line on which he receives nothing for `patience` times 50
+    milliseconds he gives up, and one to a server that knows less than he has received."""
 
     def __init__(self, server, number, seed, others=(), patience=None):
         super().__init__(daemon=True)
         self.servers, self.patience = (server, *others), patience
         self.number, self.random = number, random.Random(seed)
         self.orders = Orders(f"M{number}", seed, server.stocks)
-        # (when he logged in, and where; where he was told less than he had, and as which writer)
-        self.logins, self.behind = [], []
-        self.told = []
+        # (when he logged in, and at which server; which server knew less than he had, and as which writer)
+        self.logins, self.outdated = [], []
+        self.received = []
         self.stop, self.quiet, self.failure, self.again = False, threading.Event(), None, 0
 
     def take(self, number, message):
-        """A reply: it is new, or as it was told before."""
-        if number <= len(self.told):
-            if self.told[number - 1] != message:
-                self.failure = f"member {self.number}: reply {number} was told otherwise before"
+        """A reply: it is new, or as it was before."""
+        if number <= len(self.received):
+            if self.received[number - 1] != message:
+                self.failure = f"member {self.number}: reply {number} was different before"
         else:
-            self.told.append(message)
+            self.received.append(message)
 
     def answer(self, packets):
-        """The first packet; none where he gives the line up, or it has ended."""
+        """The first packet; none if he gives the line up, or it has ended."""
         for idle, packet in enumerate(packets):
             if packet is not None or idle == self.patience:
                 return packet
@@ -182,7 +182,7 @@ class Member(threading.Thread):
 
     def talk(self, line, server):
         from_the_start = self.random.random() < 0.2
-        first = 1 if from_the_start else len(self.told) + 1
+        first = 1 if from_the_start else len(self.received) + 1
         line.sendall(login(self.number, first))
         line.settimeout(0.05)
         packets = packets_of(line)
@@ -194,7 +194,7 @@ class Member(threading.Thread):
         self.logins.append((time.monotonic(), server))
         if int(answer[11:31]) < first and len(self.servers) > 1:
             # (it knows less than he does, so another one has taken over from it)
-            self.behind.append((server, server.writer))
+            self.outdated.append((server, server.writer))
             return False
         if int(answer[11:31]) != first:
             self.failure = f"member {self.number}: asked for reply {first}, and got {answer!r}"
@@ -237,7 +237,7 @@ class Stayer(threading.Thread):
     def __init__(self, server, member, name, seed):
         super().__init__(daemon=True)
         self.member, self.orders = member, Orders(name, seed)
-        self.first, self.told = len(member.told) + 1, []
+        self.first, self.received = len(member.received) + 1, []
         self.line = socket.create_connection((server.host, server.port), timeout=PATIENCE)
         self.line.sendall(login(member.number, self.first))
         self.packets = packets_of(self.line)
@@ -252,19 +252,19 @@ class Stayer(threading.Thread):
     def run(self):
         for packet in self.packets:
             if packet is not None and packet[:1] == b"S":
-                self.told.append(packet[1:])
+                self.received.append(packet[1:])
         self.line.close()
 
     def compare(self):
-        """What it was told is what the member was told."""
-        wanted = self.member.told[self.first - 1:][:len(self.told)]
-        assert self.told == wanted, f"a line of member {self.member.number} was told otherwise from {self.first} on"
+        """What it received is what the member received."""
+        wanted = self.member.received[self.first - 1:][:len(self.received)]
+        assert self.received == wanted, f"a line of member {self.member.number} received something else from {self.first} on"
 
 
 class Vendor(threading.Thread):
     """Listens to the feed, and asks for what he misses.
 
-    Where there are other servers he asks the next one when one does not answer. He listens at the server's port of the
+    If there are other servers he asks the next one when one does not answer. He listens at the server's port of the
     feed, or at `feed`, of the address `host`."""
 
     def __init__(self, server, seed, others=(), feed=None, host=HOST):
@@ -278,11 +278,11 @@ class Vendor(threading.Thread):
         self.asking = socket.socket(socket.AF_INET, socket.SOCK_DGRAM)
         self.asking.bind((host, 0))
         self.asking.settimeout(0.05)
-        self.told, self.failure, self.asked = [], None, 0
+        self.received, self.failure, self.asked = [], None, 0
         self.ended = threading.Event()
 
     def take(self, packet):
-        """Takes the messages of a packet: each is new, or as it was told before."""
+        """Takes the messages of a packet: each is new, or as it was before."""
         sequence, count = struct.unpack_from(">QH", packet, 10)
         if count in (0, END_OF_SESSION):
             return
@@ -291,11 +291,11 @@ class Vendor(threading.Thread):
             size, = struct.unpack_from(">H", packet, at)
             message = packet[at + 2:at + 2 + size]
             at += 2 + size
-            if number <= len(self.told):
-                if self.told[number - 1] != message:
-                    self.failure = f"vendor: message {number} was told otherwise before"
-            elif number == len(self.told) + 1:
-                self.told.append(message)
+            if number <= len(self.received):
+                if self.received[number - 1] != message:
+                    self.failure = f"vendor: message {number} was different before"
+            elif number == len(self.received) + 1:
+                self.received.append(message)
             number += 1
 
     def ask(self, first, count):
@@ -318,11 +318,11 @@ class Vendor(threading.Thread):
             if session != self.session:
                 self.failure = f"vendor: another session, {session!r}"
             self.take(packet)
-            while len(self.told) + 1 < sequence and not self.ended.is_set():
-                self.ask(len(self.told) + 1, min(60_000, sequence - len(self.told) - 1))
-            if self.random.random() < 0.002 and self.told:
-                self.ask(self.random.randrange(1, len(self.told) + 1), 100)
-            if count == END_OF_SESSION and len(self.told) + 1 == sequence:
+            while len(self.received) + 1 < sequence and not self.ended.is_set():
+                self.ask(len(self.received) + 1, min(60_000, sequence - len(self.received) - 1))
+            if self.random.random() < 0.002 and self.received:
+                self.ask(self.random.randrange(1, len(self.received) + 1), 100)
+            if count == END_OF_SESSION and len(self.received) + 1 == sequence:
                 self.ended.set()
 
 
@@ -345,13 +345,13 @@ def replayed(program, setup, tape):
     return feed, replies
 
 
-def compare_told(program, setup, tape, members, vendor):
-    """Compares all that was told with one uninterrupted replay of the day's tape: its events, and the feed's messages."""
+def compare_output(program, setup, tape, members, vendor):
+    """Compares all that was received with one uninterrupted replay of the day's tape: its events, and the feed's messages."""
     feed, replies = replayed(program, setup, tape)
     assert vendor.failure is None, vendor.failure
-    assert vendor.told == feed, f"the vendor has {len(vendor.told)} messages, the replay {len(feed)}"
+    assert vendor.received == feed, f"the vendor has {len(vendor.received)} messages, the replay {len(feed)}"
     for member in members:
         assert member.failure is None, member.failure
         wanted = replies.get(member.number, [])
-        assert member.told == wanted, f"member {member.number} has {len(member.told)} replies, the replay {len(wanted)}"
+        assert member.received == wanted, f"member {member.number} has {len(member.received)} replies, the replay {len(wanted)}"
     return tape.count(b"\n"), len(feed)

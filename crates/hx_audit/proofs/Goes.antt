@@ -26,7 +26,7 @@ use Rattle.hx_rules.specs.declared.matches.Match.{Match}
 use Rattle.hx_market.specs.Steps.{receive, happens, with_record, step, market_after, run}
 use Rattle.hx_audit.proofs.Led.{AreLed, led_pushed, led_executions, led_displayed}
 
--- the uses of a replacement token: one where the existing token names a live order, and the new one is not used yet
+-- the uses of a replacement token: one if the existing token names a live order, and the new one is not used yet
 abbrev pub joined_if : Market → ℕ → Change → Option Order → (used halted : Bool) → List Used
 joined_if a m r None used halted = []
 joined_if a m r (Some old) true halted = []
@@ -64,7 +64,7 @@ led_arrival time immediate x a led =
     (led_executions m.fills a.tokens a.chains x.member e led)
 
 enter_goes : (setup : Setup) (a : Market) (m time : ℕ) (e : NewOrder) → Goes a (enter setup a m time e).market (message_uses a m (Some (Enter e)))
-enter_goes setup a m time e = choose (is_used a.tokens m e.token) (rejection setup a.hours a.halted e)
+enter_goes setup a m time e = choose (is_used a.tokens m e.token) (rejection setup a.phase a.halted e)
   where
     choose : (b : Bool) (o : Option ℕ) → Goes a (entered_by setup a m time e b o).market (cond b [] (entered_used m e.token ∷ []))
     choose true o = stays a
@@ -76,7 +76,7 @@ enter_goes setup a m time e = choose (is_used a.tokens m e.token) (rejection set
 replace_goes : (setup : Setup) (a : Market) (m time : ℕ) (r : Change) → Goes a (replace setup a m time r).market (message_uses a m (Some (Replace r)))
 replace_goes setup a m time r =
     choose (find (is_called m r.existing_token) a.live) (is_used a.tokens m r.replacement_token)
-    (is_order_halted a.halted (find (is_called m r.existing_token) a.live)) (replace_fails a.hours (executed_of a m r.existing_token) r)
+    (is_order_halted a.halted (find (is_called m r.existing_token) a.live)) (replace_fails a.phase (executed_of a m r.existing_token) r)
   where
     choose : (o : Option Order) (used halted fails : Bool) → Goes a (replaced_by setup a m time r o used halted fails).market (joined_if a m r o used halted)
     choose None used halted fails = stays a

@@ -18,7 +18,7 @@ token_flip s t = same_bools (is_token s t) (is_token t s) (over s t) (over t s)
     over : (a b : Token) → is_token a b ≡ true → is_token b a ≡ true
     over a b h = subst (λ (x : Token). is_token x a ≡ true) (same_token a b h) (is_token-itself a)
 
--- What each_once keeps.
+-- What each_once retains.
 
 filter_push : (p : Token → Bool) (xs : List Token) (e : Token) → filter p (xs ++ e ∷ []) ≡ filter p xs ++ cond (p e) (e ∷ []) []
 filter_push p [] e = refl

@@ -1,4 +1,5 @@
--- Of the chains of one name the first is loud where a later one is: what is told of it says whether the chain is loud.
+-- Of the chains of one name the first is loud if a later one is: so the facts of the name say whether the chain is
+-- loud.
 use Rattle.std.proofs.Common.{◌≡◌, ℕ, Bool, true, false, cond, refl, sym, ◌∙◌, ltb, ◌||◌, ◌&&◌, List, [], ◌∷◌, ◌++◌}
 use Rattle.std.proofs.lemmas.Bool.{or_right}
 use Rattle.hx_units.specs.declared.names.Token.{Token}
@@ -9,7 +10,7 @@ use Rattle.hx_members.proofs.ChainLaws.{is_same-parts, is_same-flip, is_loud-not
 use Rattle.hx_market.specs.Executions.{chains_after}
 use Rattle.hx_audit.specs.Facts.{are_loud, FactsTell}
 
--- each chain is loud where a later one of its name is
+-- each chain is loud if a later one of its name is
 abbrev pub AreLed : List Chain → Type 0
 AreLed [] = Unit {0}
 AreLed (c ∷ chains) = (is_loud chains c.member c.entered ≡ true → (c.displayed || c.traded) ≡ true) × AreLed chains

@@ -4,7 +4,7 @@ use Rattle.std.proofs.Math.Seq.{drop-cons}
 use Rattle.std.proofs.lemmas.List.{drop_all}
 use Rattle.std.proofs.lemmas.Bool.Decides.{Decides-eqb}
 use Rattle.hx_units.specs.declared.names.Token.{Token}
-use Rattle.hx_members.specs.declared.name.ChainFacts.{ChainFacts}
+use Rattle.hx_members.specs.ChainFacts.{ChainFacts}
 use Rattle.hx_members.specs.Chains.{is_used, entered_of, is_loud}
 use Rattle.hx_members.specs.Tokens.{facts_of}
 use Rattle.hx_ouch.specs.declared.inbound.Inbound.{Inbound}
@@ -44,7 +44,7 @@ differs n k h = at (eqb n k) refl
     at true e = absurd (h ((Decides-eqb n k).0 e))
     at false e = e
 
--- who is no member has no quiet tokens
+-- a number of no member has no quiet tokens
 pub quiet_of_nobody : (a : Market) (n : ℕ) (t : Token) → AreOfMembers a.tokens → (IsMember n → ⊥) → false ≡ is_quiet a n t
 unfolding is_quiet
 quiet_of_nobody a n t members h = at (is_used a.tokens n t) refl
@@ -53,10 +53,10 @@ quiet_of_nobody a n t members h = at (is_used a.tokens n t) refl
     at true used = absurd (h (members n t used))
     at false used = refl
 
--- by what is told of its chain a token is quiet or not
-pub told_quiet : (a : Market) (m : ℕ) (t : Token) (f : ChainFacts) → FactsTell a.chains → Some f ≡ chain_facts a.tokens a.chains m t → not (are_loud f) ≡ is_quiet a m t
+-- by the facts of its chain a token is quiet or not
+pub output_quiet : (a : Market) (m : ℕ) (t : Token) (f : ChainFacts) → FactsTell a.chains → Some f ≡ chain_facts a.tokens a.chains m t → not (are_loud f) ≡ is_quiet a m t
 unfolding is_quiet
-told_quiet a m t f tell h = choose (is_used a.tokens m t) h
+output_quiet a m t f tell h = choose (is_used a.tokens m t) h
   where
     choose : (b : Bool) → Some f ≡ cond b (Some (facts_of a.chains m (entered_of a.tokens m t))) None → not (are_loud f) ≡ (b && not (is_loud a.chains m (entered_of a.tokens m t)))
     choose true h = let same : f ≡ facts_of a.chains m (entered_of a.tokens m t) = cc in ap (λ (g : ChainFacts). not (are_loud g)) same ∙ ap not (sym (tell m (entered_of a.tokens m t)))
@@ -70,24 +70,24 @@ untold_quiet a m t h = choose (is_used a.tokens m t) h
     choose true h = absurd (let z : None ≡ Some (facts_of a.chains m (entered_of a.tokens m t)) = h in cc)
     choose false h = refl
 
--- What is kept so far, and what will be kept of the rest.
+-- The messages retained so far, and those that will be retained of the rest.
 
-pub kept_more : (s : Choice) (xs : List Event) (i : ℕ) (x : Event) (kept all : List Event) → i < length xs → x ≡ get_or xs i x → bears s x ≡ false → kept ++ strike s (drop i xs) ≡ all
-    → (kept ++ x ∷ []) ++ strike s (drop (i + 1) xs) ≡ all
+pub retained_more : (s : Choice) (xs : List Event) (i : ℕ) (x : Event) (retained all : List Event) → i < length xs → x ≡ get_or xs i x → bears s x ≡ false → retained ++ strike s (drop i xs) ≡ all
+    → (retained ++ x ∷ []) ++ strike s (drop (i + 1) xs) ≡ all
 unfolding strike
-kept_more s xs i x kept all h e b p =
+retained_more s xs i x retained all h e b p =
     let rest : drop i xs ≡ x ∷ drop (i + 1) xs = rw (add-one, drop-cons xs i x h) (ap (λ (y : Event). y ∷ drop (suc i) xs) (sym e)) in
-    append_assoc kept (x ∷ []) _ ∙ ap (λ (c : Bool). kept ++ cond (not c) (x ∷ strike s (drop (i + 1) xs)) (strike s (drop (i + 1) xs))) (sym b)
-    ∙ ap (λ (l : List Event). kept ++ strike s l) (sym rest) ∙ p
+    append_assoc retained (x ∷ []) _ ∙ ap (λ (c : Bool). retained ++ cond (not c) (x ∷ strike s (drop (i + 1) xs)) (strike s (drop (i + 1) xs))) (sym b)
+    ∙ ap (λ (l : List Event). retained ++ strike s l) (sym rest) ∙ p
 
-pub left_out : (s : Choice) (xs : List Event) (i : ℕ) (x : Event) (kept all : List Event) → i < length xs → x ≡ get_or xs i x → bears s x ≡ true → kept ++ strike s (drop i xs) ≡ all
-    → kept ++ strike s (drop (i + 1) xs) ≡ all
+pub left_out : (s : Choice) (xs : List Event) (i : ℕ) (x : Event) (retained all : List Event) → i < length xs → x ≡ get_or xs i x → bears s x ≡ true → retained ++ strike s (drop i xs) ≡ all
+    → retained ++ strike s (drop (i + 1) xs) ≡ all
 unfolding strike
-left_out s xs i x kept all h e b p =
+left_out s xs i x retained all h e b p =
     let rest : drop i xs ≡ x ∷ drop (i + 1) xs = rw (add-one, drop-cons xs i x h) (ap (λ (y : Event). y ∷ drop (suc i) xs) (sym e)) in
-    ap (λ (c : Bool). kept ++ cond (not c) (x ∷ strike s (drop (i + 1) xs)) (strike s (drop (i + 1) xs))) (sym b)
-    ∙ ap (λ (l : List Event). kept ++ strike s l) (sym rest) ∙ p
+    ap (λ (c : Bool). retained ++ cond (not c) (x ∷ strike s (drop (i + 1) xs)) (strike s (drop (i + 1) xs))) (sym b)
+    ∙ ap (λ (l : List Event). retained ++ strike s l) (sym rest) ∙ p
 
-pub all_kept : (s : Choice) (xs : List Event) (i : ℕ) (kept all : List Event) → length xs ≤ i → kept ++ strike s (drop i xs) ≡ all → kept ≡ all
+pub all_retained : (s : Choice) (xs : List Event) (i : ℕ) (retained all : List Event) → length xs ≤ i → retained ++ strike s (drop i xs) ≡ all → retained ≡ all
 unfolding strike
-all_kept s xs i kept all h p = sym (append-nil kept) ∙ ap (λ (l : List Event). kept ++ strike s l) (sym (drop_all i xs h)) ∙ p
+all_retained s xs i retained all h p = sym (append-nil retained) ∙ ap (λ (l : List Event). retained ++ strike s l) (sym (drop_all i xs h)) ∙ p

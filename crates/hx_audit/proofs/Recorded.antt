@@ -51,7 +51,7 @@ refused_at setup events i a x h e t error r =
       event = x;
       after = drop (suc i) events;
       split = split_at events i x h ∙ ap (λ (y : Event). take i events ++ y ∷ drop (suc i) events) (sym e);
-      place = simp length-take (omega arith);
+      at_position = simp length-take (omega arith);
       recorded = t.recorded;
       refused = ap (λ (m : Market). refusal setup m.recorded x) (sym t.market) ∙ r;
     }
@@ -87,6 +87,3 @@ one_more setup events a b x r m p s = (
   accepted_push setup (opening setup) events x r (ap (λ (k : Market). refusal setup k.recorded x) (sym m) ∙ p),
   s ∙ ap (λ (k : Market). (step setup k x).market) m ∙ sym (after_push setup (opening setup) events x),
 )
-
-pub next_of : (events : List Event) (i : ℕ) (x : Event) → i < length events → x ≡ get_or events i x → take (i + 1) events ≡ take i events ++ x ∷ []
-next_of events i x h e = taken events i x h e

@@ -4,7 +4,7 @@ use Rattle.std.specs.List.{filter, find, AllByRecursion}
 use Rattle.std.proofs.lemmas.Bool.{or_left}
 use Rattle.std.proofs.lemmas.Bool.Decides.{Decides-eqb}
 use Rattle.hx_units.specs.declared.names.Token.{Token}
-use Rattle.hx_levels.proofs.Lists.{all_weaker, all_filtered}
+use Rattle.hx_book.proofs.Lists.{all_weaker, all_filtered}
 use Rattle.hx_match.proofs.First.{all_append}
 use Rattle.hx_members.specs.Setups.{Setup}
 use Rattle.hx_members.specs.Chains.{Used, is_used, entered_of, entered_used, replacing_used}
@@ -23,7 +23,7 @@ use Rattle.hx_laws.proofs.History.CoherentSteps.{Coherent, used_last}
 use Rattle.hx_laws.proofs.History.EventMoves.{called_used, step_moves, coherent_opening}
 use Rattle.hx_market.specs.Replace.{is_order_halted}
 use Rattle.hx_audit.specs.Listing.{Use, use_of, uses_of, tokens_in, each_once, grouped}
-use Rattle.hx_audit.specs.Finding.{AreTold}
+use Rattle.hx_audit.specs.Finding.{AreOutput}
 use Rattle.hx_audit.proofs.Goes.{joined_if, message_uses, event_uses, step_goes}
 
 record IsRooted (ts : List Used) (u : Used) : Type 0 where
@@ -103,19 +103,19 @@ all_entered a m (u ∷ us) h = at (eqb u.member m) refl (all_entered a m us h.1)
     P : Token → Type 0
     P e = chain_facts a.tokens a.chains m e ≡ Some (facts_of a.chains m e)
 
-    told : u.member ≡ m → P u.entered
-    told e =
+    output : u.member ≡ m → P u.entered
+    output e =
         let used : is_used a.tokens m u.entered ≡ true = ap (λ k. is_used a.tokens k u.entered) (sym e) ∙ h.0.used in
         let own : entered_of a.tokens m u.entered ≡ u.entered = ap (λ k. entered_of a.tokens k u.entered) (sym e) ∙ h.0.own in
         ap (λ (b : Bool). cond b (Some (facts_of a.chains m (entered_of a.tokens m u.entered))) None) used ∙ ap (λ (t : Token). Some (facts_of a.chains m t)) own
 
     at : (b : Bool) → eqb u.member m ≡ b → AllByRecursion P (map (λ (v : Use). v.1) (uses_of us m))
         → AllByRecursion P (map (λ (v : Use). v.1) (map (λ (v : Used). use_of v.token v.entered) (cond b (u ∷ filter (λ v. eqb v.member m) us) (filter (λ v. eqb v.member m) us))))
-    at true e ih = (told ((Decides-eqb u.member m).0 e), ih)
+    at true e ih = (output ((Decides-eqb u.member m).0 e), ih)
     at false e ih = ih
 
-pub told_run : (setup : Setup) (events : List Event) (m : ℕ) → AreTold (run setup events) m (grouped (uses_of (run setup events).tokens m))
-told_run setup events m =
+pub output_run : (setup : Setup) (events : List Event) (m : ℕ) → AreOutput (run setup events) m (grouped (uses_of (run setup events).tokens m))
+output_run setup events m =
     let a : Market = run setup events in
     all_groups (λ e. chain_facts a.tokens a.chains m e ≡ Some (facts_of a.chains m e)) (uses_of a.tokens m) _
     (all_once _ (map (λ (u : Use). u.1) (uses_of a.tokens m)) (all_entered a m a.tokens (rooted_run setup events)))

@@ -15,7 +15,7 @@ use Rattle.hx_market.specs.Refusals.{known_member, refusal}
 use Rattle.hx_market.specs.Markets.{Market, opening}
 use Rattle.hx_market.specs.Steps.{step, market_after, run}
 use Rattle.hx_market.specs.QuietChains.{is_quiet, quiet_of_one, bears, strike, strike_one}
-use Rattle.hx_audit.specs.Listing.{Use, uses_of, chains_of, grouped, told_chain}
+use Rattle.hx_audit.specs.Listing.{Use, uses_of, chains_of, grouped, output_chain}
 use Rattle.hx_audit.specs.Finding.{named}
 use Rattle.hx_audit.specs.Recording.{AreAccepted, AreRecorded}
 use Rattle.hx_audit.specs.Auditing.{Audit, HasTaken, IsStranger, choice_of, is_chosen, is_borne}
@@ -91,9 +91,9 @@ uses_none setup m h a (event ∷ events) r e =
 pub no_chains : (setup : Setup) (m : ℕ) (events : List Event) → AreRecorded setup events → member_of setup m ≡ None → chains_of (run setup events) m ≡ []
 unfolding run
 no_chains setup m events r h =
-    ap (λ (us : List Use). map (told_chain (run setup events).chains m) (grouped us)) (uses_none setup m (unknown setup m h) (opening setup) events r (none_listed setup (opening setup) m refl))
+    ap (λ (us : List Use). map (output_chain (run setup events).chains m) (grouped us)) (uses_none setup m (unknown setup m h) (opening setup) events r (none_listed setup (opening setup) m refl))
 
--- who has used a token is a member
+-- a number that has used a token is a member's
 
 known_in_range : (setup : Setup) (m : ℕ) → is_none (known_member setup m) ≡ false → IsMember m
 known_in_range setup m h = at (leb 1 m) refl (leb m 4095) refl h

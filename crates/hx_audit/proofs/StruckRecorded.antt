@@ -12,7 +12,7 @@ use Rattle.hx_ouch.specs.Inbound.{inbound_of}
 use Rattle.hx_rules.specs.declared.event.Event.{Event}
 use Rattle.hx_rules.specs.declared.event.Event.TheVariants as event
 use Rattle.hx_rules.specs.declared.fault.PrepareError.TheVariants.{Limit, NoMember, BadTime}
-use Rattle.hx_levels.specs.declared.order.Order.{Order}
+use Rattle.hx_book.specs.declared.order.Order.{Order}
 use Rattle.hx_rules.specs.Orders.{is_called}
 use Rattle.hx_rules.specs.Markets.{Market, opening}
 use Rattle.hx_rules.specs.Enter.{entered_by, rejection}
@@ -90,10 +90,10 @@ hours_counts setup a time code false = refl
 
 received_counts : (setup : Setup) (a : Market) (m time : ℕ) (message : Option Inbound) → (receive setup a m time message).market.recorded ≡ a.recorded
 received_counts setup a m time None = refl
-received_counts setup a m time (Some (inbound.Enter e)) = entered_counts setup a m time e (is_used a.tokens m e.token) (rejection setup a.hours a.halted e)
+received_counts setup a m time (Some (inbound.Enter e)) = entered_counts setup a m time e (is_used a.tokens m e.token) (rejection setup a.phase a.halted e)
 received_counts setup a m time (Some (inbound.Replace r)) =
     let old = find (is_called m r.existing_token) a.live in
-    replaced_counts setup a m time r old (is_used a.tokens m r.replacement_token) (is_order_halted a.halted old) (replace_fails a.hours (executed_of a m r.existing_token) r)
+    replaced_counts setup a m time r old (is_used a.tokens m r.replacement_token) (is_order_halted a.halted old) (replace_fails a.phase (executed_of a m r.existing_token) r)
 received_counts setup a m time (Some (inbound.Cancel c)) =
     let order = find (is_called m c.token) a.live in
     cancelled_counts a m time c (is_idle (executed_of a m c.token) c order) order
@@ -114,7 +114,7 @@ broken_counts a time number (Some e) = at e.broken
 happens_counts : (setup : Setup) (a : Market) (v : Event) → (happens setup a v).market.recorded ≡ a.recorded
 happens_counts setup a (event.Message m time bytes) = received_counts setup a m time (inbound_of bytes)
 happens_counts setup a (event.Tick time) = refl
-happens_counts setup a (event.Hours time code) = hours_counts setup a time code (is_next a.hours code)
+happens_counts setup a (event.Hours time code) = hours_counts setup a time code (is_next a.phase code)
 happens_counts setup a (event.Halt time stock state reason) = halted_counts a time stock state reason (locate_of setup stock) (is_trading_state state)
 happens_counts setup a (event.Break time number) = broken_counts a time number (execution_of a.executions number)
 
@@ -122,7 +122,7 @@ step_counts : (setup : Setup) (a : Market) (v : Event) → (step setup a v).mark
 unfolding step
 step_counts setup a v = happens_counts setup (with_record v a) v
 
--- Where fewer events count, no more are refused.
+-- If fewer events count, no more are refused.
 
 passes_below : (setup : Setup) (xs ys : List ℕ) (v : Event) → AreBelow xs ys → refusal setup ys v ≡ None → refusal setup xs v ≡ None
 passes_below setup xs ys v low h = at (nat_le day (time_of v)) (is_from_stranger setup v) (limit_of setup v) (slice_index xs (sender v)) (slice_index ys (sender v)) (below_at xs ys (sender v) low) h
@@ -144,7 +144,7 @@ struck_accepted : (setup : Setup) (s : Choice) (a b : Market) (events : List Eve
     → AreAccepted setup b (filter (λ e. not (bears s e)) events)
 struck_accepted setup s a b [] low h = tt
 struck_accepted setup s a b (v ∷ events) low h =
-    at (bears s v) (struck_accepted setup s after b events gone h.1) (struck_accepted setup s after (step setup b v).market events kept h.1)
+    at (bears s v) (struck_accepted setup s after b events gone h.1) (struck_accepted setup s after (step setup b v).market events retained h.1)
   where
     after : Market
     after = (step setup a v).market
@@ -152,8 +152,8 @@ struck_accepted setup s a b (v ∷ events) low h =
     gone : AreBelow b.recorded after.recorded
     gone = subst (λ (xs : List ℕ). AreBelow b.recorded xs) (sym (step_counts setup a v)) (below_raised b.recorded a.recorded (sender v) low)
 
-    kept : AreBelow (step setup b v).market.recorded after.recorded
-    kept =
+    retained : AreBelow (step setup b v).market.recorded after.recorded
+    retained =
         subst (λ (xs : List ℕ). AreBelow xs after.recorded) (sym (step_counts setup b v))
         (subst (λ (xs : List ℕ). AreBelow (raised b.recorded (sender v)) xs) (sym (step_counts setup a v)) (both_raised b.recorded a.recorded (sender v) low))
 

@@ -34,12 +34,12 @@ takes_ok (Err e) a b x same passes next = tt
 -- there is a history that it has taken
 pub has_some : (result : Result Unit PrepareError) (a b : Audit) (x : Event) → b.setup ≡ a.setup → OnOk result (refusal a.setup a.market.recorded x ≡ None) → OnOk result (b.market ≡ (step a.setup a.market x).market) → OnErr result (b.market ≡ a.market)
     → ((events : List Event) × HasTaken a events) → (events : List Event) × HasTaken b events
-has_some (Ok u) a b x same passes next kept h = (h.0 ++ x ∷ [], has_more a b x same passes next h.0 h.1)
-has_some (Err e) a b x same passes next kept h = (
+has_some (Ok u) a b x same passes next retained h = (h.0 ++ x ∷ [], has_more a b x same passes next h.0 h.1)
+has_some (Err e) a b x same passes next retained h = (
   h.0,
   record {
     recorded = subst (λ (s : Setup). AreRecorded s h.0) (sym same) h.1.recorded;
-    market_is = kept ∙ h.1.market_is ∙ ap (λ (s : Setup). run s h.0) (sym same);
+    market_is = retained ∙ h.1.market_is ∙ ap (λ (s : Setup). run s h.0) (sym same);
   },
 )
 

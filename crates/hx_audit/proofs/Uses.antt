@@ -37,7 +37,7 @@ uses_push (u ∷ ts) us m = at (eqb u.member m) (uses_push ts us m)
     at true ih = ap (λ (l : List Use). use_of u.token u.entered ∷ l) ih
     at false ih = ih
 
--- what the list tells of a token
+-- what the list says of a token
 pub lookup_uses : (ts : List Used) (m : ℕ) (t : Token) → lookup (is_token t) (uses_of ts m) ≡ cond (is_used ts m t) (Some (entered_of ts m t)) None
 lookup_uses [] m t = refl
 lookup_uses (u ∷ ts) m t = at (eqb u.member m) (is_token u.token t) (token_flip t u.token) (lookup_uses ts m t)
@@ -63,11 +63,8 @@ entered_listed ts m t = ap (λ (o : Option Token). unwrap_or o t) (lookup_uses t
     at true h = refl
     at false h = sym (entered_of-unused ts m t h)
 
-pub unlisted : (ts : List Used) (m : ℕ) (t : Token) → is_used ts m t ≡ false → lookup (is_token t) (uses_of ts m) ≡ None
-unlisted ts m t h = lookup_uses ts m t ∙ ap (λ (b : Bool). cond b (Some (entered_of ts m t)) None) h
-
-pub some_told : (ts : List Used) (cs : List Chain) (m : ℕ) (t : Token) → is_some (chain_facts ts cs m t) ≡ is_used ts m t
-some_told ts cs m t = at (is_used ts m t)
+pub some_output : (ts : List Used) (cs : List Chain) (m : ℕ) (t : Token) → is_some (chain_facts ts cs m t) ≡ is_used ts m t
+some_output ts cs m t = at (is_used ts m t)
   where
     at : (b : Bool) → is_some (cond b (Some (facts_of cs m (entered_of ts m t))) None) ≡ b
     at true = refl
@@ -111,8 +108,8 @@ lists_own : (a b : Market) (m : ℕ) (o : Option Naming) (us : List Used) → b.
 lists_own a b m None us t e = ap (λ (l : List Used). uses_of l m) (no_uses a b us t e)
 lists_own a b m (Some n) us t (inl e) =
     let same = no_uses a b us t e in
-    let kept : uses_of b.tokens m ≡ uses_of a.tokens m = ap (λ (l : List Used). uses_of l m) same in
-    ((λ _. kept), (λ _. kept), (λ f g. absurd (true≢false (sym g ∙ ap (λ (l : List Used). is_used l m n.token) same ∙ f))))
+    let retained : uses_of b.tokens m ≡ uses_of a.tokens m = ap (λ (l : List Used). uses_of l m) same in
+    ((λ _. retained), (λ _. retained), (λ f g. absurd (true≢false (sym g ∙ ap (λ (l : List Used). is_used l m n.token) same ∙ f))))
 lists_own a b m (Some n) us t (inr p) =
     let u : Used = replacing_used m n.token (entered_of a.tokens m n.existing) in
     let more : b.tokens ≡ a.tokens ++ u ∷ [] = t ∙ ap (λ (l : List Used). a.tokens ++ l) p.1 in
@@ -152,7 +149,7 @@ step_lists setup a (Halt time stock state reason) m =
     lists_own a (step setup a (Halt time stock state reason)).market m None [] (step_goes setup a (Halt time stock state reason)).tokens refl
 step_lists setup a (Break time number) m = lists_own a (step setup a (Break time number)).market m None [] (step_goes setup a (Break time number)).tokens refl
 
--- the list stays but for a new use, which it gets
+-- the list stays except for a new use, which it gets
 pub stays_listed : (a b : Market) (m : ℕ) (n : Naming) → Lists a b m (Some n) → (is_used b.tokens m n.token && not (is_used a.tokens m n.token)) ≡ false → uses_of b.tokens m ≡ uses_of a.tokens m
 stays_listed a b m n l h = choose (is_used b.tokens m n.token) refl (is_used a.tokens m n.token) refl h
   where

@@ -21,7 +21,7 @@ abbrev pub IsStranger : Setup → Whose → Type 0
 IsStranger setup (Of m) = member_of setup m ≡ None
 IsStranger setup OfAll = ⊥
 
--- the token, where there is one, is the member's and chosen
+-- the token, if there is one, is the member's and chosen
 abbrev pub is_chosen : Choice → (member : ℕ) → Option Token → Bool
 is_chosen choice member None = false
 is_chosen choice member (Some token) = choice member token

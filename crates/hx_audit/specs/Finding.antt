@@ -25,7 +25,7 @@ named_by (Some (Replace r)) =
     Some (record { token = r.replacement_token; existing = r.existing_token })
 named_by (Some (Cancel c)) = None
 
--- the same of an event, where it is a message of the member
+-- the same of an event, if it is a message of the member
 abbrev pub named : ℕ → Event → Option Naming
 named member (Message sender time bytes) =
     if sender == member then named_by (inbound_of bytes) else None
@@ -42,8 +42,8 @@ with_use (g ∷ groups) entered token =
     ∷ with_use groups entered token
 
 -- what is asked of each of these chains is there
-abbrev pub AreTold : Market → ℕ → List (Token × List Token) → Type 0
-AreTold market member groups =
+abbrev pub AreOutput : Market → ℕ → List (Token × List Token) → Type 0
+AreOutput market member groups =
     AllByRecursion (λ g. chain_facts market.tokens market.chains member g.0
     ≡ Some (facts_of market.chains member g.0)) groups
 

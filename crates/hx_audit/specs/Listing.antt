@@ -24,7 +24,7 @@ uses_of tokens member =
 abbrev pub tokens_in : List Use → Token → List Token
 tokens_in uses entered = map (λ u. u.0) (filter (λ u. is_token u.1 entered) uses)
 
--- each token once, at its first place
+-- each token once, at its first index
 abbrev pub each_once : List Token → List Token
 each_once [] = []
 each_once (t ∷ tokens) = t ∷ filter (λ u. not (is_token u t)) (each_once tokens)
@@ -38,10 +38,10 @@ abbrev pub grouped : List Use → List (Token × List Token)
 grouped uses = map (λ entered. (entered, tokens_in uses entered)) (entered_in uses)
 
 -- a chain with what it has done
-abbrev pub told_chain : List ChainDone → ℕ → Token × List Token → Chain
-told_chain chains member group = record { tokens = group.1; facts = facts_of chains member group.0 }
+abbrev pub output_chain : List ChainDone → ℕ → Token × List Token → Chain
+output_chain chains member group = record { tokens = group.1; facts = facts_of chains member group.0 }
 
 -- the chains of a member, by first use
 abbrev pub chains_of : Market → ℕ → List Chain
 chains_of market member =
-    map (told_chain market.chains member) (grouped (uses_of market.tokens member))
+    map (output_chain market.chains member) (grouped (uses_of market.tokens member))

@@ -21,7 +21,7 @@ pub record IsRefusedAt (setup : Setup) (events : List Event) (index : ℕ)
   pub event : Event
   pub after : List Event
   pub split : events ≡ before ++ event ∷ after
-  pub place : length before ≡ index
+  pub at_position : length before ≡ index
   pub recorded : AreRecorded setup before
   pub refused : refusal setup (run setup before).recorded event ≡ Some error
 
@@ -56,6 +56,6 @@ error_at index (Limit member) = Refused index (Limit member)
 error_at index NoMember = Refused index NoMember
 error_at index BadTime = Refused index BadTime
 
--- want of memory, or the error of a refusal at an index where there is one
+-- want of memory, or the error of a refusal at an index if there is one
 abbrev pub IsErrorAt : ℕ → Option PrepareError → StrikeError → Type 0
 IsErrorAt index reason error = (error ≡ NoMemory) ⊎ (error ≡ error_at index (or_no_memory reason))

@@ -1,13 +1,13 @@
-//! A market that takes a history event by event, and then tells what of it is struck.
+//! A market that takes a history event by event, and then says which messages of it are struck.
 ghost use Rattle.std.specs.Prelude.{◌≡◌, ◌++◌, ◌∷◌, [], List, false, IfOk, OnOk, IfErr, OnErr};
 ghost use Rattle.hx_rules.specs.declared.event.Event.{Event as Happening};
 ghost use Rattle.hx_market.specs.Refusals.{refusal, or_no_memory};
 ghost use Rattle.hx_audit.specs.Auditing.{choice_of, IsStranger, is_borne, HasTaken};
 ghost use Rattle.hx_audit.specs.Recording.{Explains};
 
+use crate::applying::{error_at, open, take};
 use crate::bearing::Bearing;
 use crate::fault::StrikeError;
-use crate::playing::{error_at, open, take};
 use crate::selection::{Selection, is_borne, is_quiet_of};
 use hx_levels::LevelBook;
 use hx_market::{Event, Market, PrepareError};
@@ -25,8 +25,8 @@ pub enum Whose {
     OfAll,
 }
 
-/// A market that takes a history event by event, and then tells what of it is struck. Contracts see the setup, the
-/// market, and whose quiet chains are struck.
+/// A market that takes a history event by event, and then says which messages of it are struck. Contracts see the
+/// setup, the market, and whose quiet chains are struck.
 #[derive(Drop)]
 pub struct Auditor {
     market: Market<LevelBook>,
@@ -78,7 +78,7 @@ impl Auditor {
         ensures whose { self.new.whose ≡ self.old.whose }
         ensures taken { OnOk result ((events : List Happening) → HasTaken self.old events
             → HasTaken self.new (events ++ event.now ∷ [])) }
-        ensures kept { OnErr result (self.new ≡ self.old) }
+        ensures retained { OnErr result (self.new ≡ self.old) }
         ensures refused { IfErr result (λ e. e
             ≡ or_no_memory (refusal self.old.setup self.old.market.recorded event.now)) }
     {
@@ -106,9 +106,9 @@ impl Auditor {
         Ok(auditor)
     }
 
-    /// Whether an event that bears these tokens is struck: whether one of them is of a chain of its own member's
-    /// that was never displayed and never traded in the history so far, where that member's chains are struck.
-    /// Nothing is struck for a number that the setup has not.
+    /// Whether an event that bears these tokens is struck: whether one of them is of a chain of its own member's that
+    /// was never displayed and never traded in the history so far, if that member's chains are struck. Nothing is
+    /// struck for a number that the setup has not.
     pub fn strikes(&self, bearing: &Bearing) -> bool
         ensures chosen { result ≡ is_borne (choice_of self.now.whose self.now.market) bearing.now }
         ensures stranger { IsStranger self.now.setup self.now.whose

@@ -7,14 +7,14 @@ ghost use Rattle.hx_members.specs.Setups.{member_of};
 ghost use Rattle.hx_market.specs.Refusals.{refusal};
 ghost use Rattle.hx_market.specs.Markets.{opening};
 ghost use Rattle.hx_market.specs.Steps.{step, run};
-ghost use Rattle.hx_audit.specs.Listing.{uses_of, grouped, told_chain, chains_of};
-ghost use Rattle.hx_audit.specs.Finding.{AreTold};
+ghost use Rattle.hx_audit.specs.Listing.{uses_of, grouped, output_chain, chains_of};
+ghost use Rattle.hx_audit.specs.Finding.{AreOutput};
 ghost use Rattle.hx_audit.specs.Recording.{AreRecorded, Explains, IsErrorAt};
 
+use crate::applying::{open, take_event};
 use crate::chain::{Chain, ChainTokens};
 use crate::fault::StrikeError;
 use crate::listing::{Listing, event_names};
-use crate::playing::{open, take_event};
 use hx_levels::LevelBook;
 use hx_market::{Event, Market};
 use hx_members::Setup;
@@ -100,9 +100,9 @@ fn tell(
     member: MemberNo,
     groups: IndexMap<Token, ChainTokens>,
 ) -> Result<Vec<Chain>, NoMemory>
-    requires { AreTold market.now.market member groups.entries }
+    requires { AreOutput market.now.market member groups.entries }
     ensures { IfOk result (λ chains.
-        chains.items ≡ map (told_chain market.now.market.chains member) groups.entries) }
+        chains.items ≡ map (output_chain market.now.market.chains member) groups.entries) }
 {
     let mut chains = Vec::new(alloc);
     for (entered, tokens) in groups {
@@ -115,7 +115,7 @@ fn tell(
 /// The chains of a member after the history, by first use: each with its tokens in order of use, those of rejected
 /// Enters and of failed replaces included, and what it has done. A number that the setup has not has none.
 ///
-/// `Refused` names the first event that the market refuses at its turn. `NoMemory` where a growth was refused.
+/// `Refused` names the first event that the market refuses at its turn. `NoMemory` if a growth was refused.
 pub fn chains(
     alloc: Global,
     setup: &Setup,

@@ -10,10 +10,10 @@ ghost use Rattle.hx_audit.specs.Finding.{in_chains, AreChosen};
 ghost use Rattle.hx_audit.specs.Recording.{AreRecorded, IsFirstLoud, ExplainsChains};
 ghost use Rattle.hx_audit.specs.declared.fault.StrikeError.TheVariants.{NoMemory as OutOfMemory, NotQuiet};
 
+use crate::applying::open;
 use crate::chaining::take_all;
 use crate::fault::StrikeError;
 use crate::listing::Listing;
-use crate::playing::open;
 use crate::selection::{Selection, is_quiet, keep};
 use hx_levels::LevelBook;
 use hx_market::{Event, Market};
@@ -76,7 +76,7 @@ fn choose(
 /// the member. The others are copied, in order; the market records these, too, whole.
 ///
 /// `Refused` names the first event that the market refuses at its turn; `NotQuiet`, after it, the first listed token
-/// that is not quiet. `NoMemory` where a growth was refused.
+/// that is not quiet. `NoMemory` if a growth was refused.
 pub fn strike_chains(
     alloc: Global,
     setup: &Setup,
@@ -87,9 +87,9 @@ pub fn strike_chains(
     ensures recorded { OnOk result (AreRecorded setup.now events.now) }
     ensures quiet { OnOk result (AllByRecursion
         (λ t. is_quiet (run setup.now events.now) member t ≡ true) tokens.now) }
-    ensures struck { IfOk result (λ kept. kept.items
+    ensures struck { IfOk result (λ retained. retained.items
         ≡ strike (chained_with member tokens.now (run setup.now events.now)) events.now) }
-    ensures again { IfOk result (λ kept. AreRecorded setup.now kept.items) }
+    ensures again { IfOk result (λ retained. AreRecorded setup.now retained.items) }
     ensures refused { IfErr result (ExplainsChains setup.now events.now member tokens.now) }
 {
     let mut market = open(alloc, setup)?;

@@ -1,7 +1,8 @@
 //! Audits of a recorded history, which is the list of a day's events: the chains of a member, and the same history
-//! without the messages of his quiet chains. Each call runs one market over the events.
+//! without the messages of its quiet chains. Each call runs one market over the events.
 #![tactic(auto)]
 
+mod applying;
 mod auditor;
 mod bearing;
 mod chain;
@@ -9,7 +10,6 @@ mod chaining;
 mod chosen;
 mod fault;
 mod listing;
-mod playing;
 mod selection;
 mod striking;
 

@@ -36,7 +36,7 @@ fn message_names(message: &Inbound) -> Option<Naming>
     }
 }
 
-/// What the event names, where it is a message of the member.
+/// What the event names, if it is a message of the member.
 pub(crate) fn event_names(event: &Event, member: MemberNo) -> Option<Naming>
     ensures { result ≡ named member event.now }
 {

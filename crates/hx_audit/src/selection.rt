@@ -33,7 +33,7 @@ pub(crate) fn is_quiet(market: &Market<LevelBook>, member: MemberNo, token: &Tok
     }
 }
 
-// Whether it is so of whoever has this number.
+// Whether the predicate holds of this number.
 fn is_quiet_of_number(market: &Market<LevelBook>, member: u16, token: &Token) -> bool
     requires tell { FactsTell market.now.market.chains }
     requires of_members { AreOfMembers market.now.market.tokens }
@@ -45,7 +45,7 @@ fn is_quiet_of_number(market: &Market<LevelBook>, member: u16, token: &Token) ->
     }
 }
 
-/// Whether the token of whoever has this number is quiet, and he is one whose chains are struck.
+/// Whether the token of this number is quiet, and the number is a member's whose chains are struck.
 pub(crate) fn is_quiet_of(
     market: &Market<LevelBook>,
     whose: Whose,
@@ -62,7 +62,7 @@ pub(crate) fn is_quiet_of(
     }
 }
 
-// Whether the token, where there is one, is chosen.
+// Whether the token, if there is one, is chosen.
 fn is_chosen<S: Selection>(selection: &S, member: u16, token: Option<Token>) -> bool
     ensures { result ≡ is_chosen (S.chosen selection.now) member token }
 {
@@ -86,13 +86,13 @@ pub(crate) fn keep<S: Selection>(
     selection: &S,
     events: &[Event],
 ) -> Result<Vec<Event>, NoMemory>
-    ensures { IfOk result (λ kept. kept.items ≡ strike (S.chosen selection.now) events.now) }
+    ensures { IfOk result (λ retained. retained.items ≡ strike (S.chosen selection.now) events.now) }
 {
-    let mut kept = Vec::new(alloc);
+    let mut retained = Vec::new(alloc);
     for event in events {
         if !is_borne(selection, &Bearing::of(event)) {
-            kept.push(event.copy()?)?;
+            retained.push(event.copy()?)?;
         }
     }
-    Ok(kept)
+    Ok(retained)
 }

@@ -1,4 +1,4 @@
--- Where one seat's view changes, the rule of the log stays.
+-- If one seat's view changes, the rule of the log stays.
 use Rattle.std.proofs.Common.{◌≡◌, ◌≢◌, ℕ, zero, suc, ◌+◌, ◌*◌, ◌<◌, List, [], ◌∷◌, ◌++◌, length, get_or, set, true, false, true≢false, ap, sym, ◌∙◌, subst, ⊎_elim, arith, append_assoc, length-append}
 use Rattle.std.specs.List.{All}
 use Rattle.std.proofs.lemmas.List.{set-get_or}
@@ -15,13 +15,13 @@ use Rattle.hx_blog.specs.Rule.{KnowsABeginning, IsWrittenBy, RuleOfTheLog}
 use Rattle.hx_blog.proofs.Prefixes.{prefix_self, prefix_trans}
 use Rattle.hx_blog.proofs.Feeds.{length-words}
 
--- a place that has an element is within the list
+-- an index that has an element is within the list
 pub within : {A : Type 0} (l : List A) (i : ℕ) (a : A) → get_elem? l i ≡ some a → i < length l
 within [] i a e = absurd (some-ne-none a (sym e))
 within (x ∷ xs) zero a e = omega arith
 within (x ∷ xs) (suc i) a e = let h = within xs i a e in omega arith
 
--- a word is stored behind those that were begun
+-- a word is stored after those that were begun
 pub more_words : (count : ℕ) (ws begun unused : List ℕ) (i n : ℕ) → i ≡ suc (length ws + length begun) → i < suc (length ws + (length begun + length unused))
     → (left : List ℕ) × (set (count ∷ (ws ++ (begun ++ unused))) i n ≡ count ∷ (ws ++ ((begun ++ n ∷ []) ++ left)))
 more_words count ws begun [] i n e h = absurd (omega arith)
@@ -38,7 +38,7 @@ module _ {E : Type 0} (room : ℕ) where
   knows_more writer all now seat v p f =
       record { room_is = f.room_is; known = prefix_trans v.known all now f.known p; told = prefix_trans v.told all now f.told p; read = f.read; only_writer = f.only_writer }
 
-  -- the other seats stay where one seat's view changes
+  -- the other seats stay when one seat's view changes
   pub seats_set : (writer : ℕ) (all now : Entries E) (views : List (View E)) (id : ℕ) (w : View E) → IsPrefix all now
       → ((seat : ℕ) (v : View E) → get_elem? views seat ≡ some v → v.gone ≡ false → KnowsABeginning room writer all seat v)
       → (w.gone ≡ false → KnowsABeginning room writer now id w)

@@ -82,7 +82,7 @@ module _ {E : Type 0} (room : ℕ) where
       writer_moves room s id v (record v { told = all }) k.unused s.words k (prefix_self v.known) live writes k.words refl k.messages
       record { room_is = f.room_is; known = f.known; told = subst (IsPrefix all) same p; read = f.read; only_writer = f.only_writer }
 
-  -- any seat may be told of a beginning of what is published
+  -- any seat may take in a beginning of what is published
   is_told : (s : LogState E) (id : ℕ) (v : View E) (all : Entries E) (b : Bool) → v.writes ≡ b → (rule : RuleOfTheLog room s) → get_elem? s.views id ≡ some v → v.gone ≡ false → IsPrefix all rule.1.known
       → RuleOfTheLog room record { words = s.words; homes = s.homes; views = set s.views id (record v { told = all }) }
   is_told s id v all true writes rule at live p = writer_is_told s id v all rule at live writes p

@@ -32,13 +32,13 @@ module _ {E : Type 0} (room : ℕ) where
   pub stores_word : (slots id : ℕ) (me : SeatState E) (i n : ℕ) → me.0.gone ≡ false → me.0.writes ≡ true
       → i ≡ suc (6 * (length (feed me.0.known) + length me.0.staged) + length me.0.begun) → i < 6 * room + 1
       → Allows (RuleOfTheLog room) slots id me i (λ _. n) (λ _. StoresWord (step slots i n 0 none) me n)
-  stores_word slots id me i n live writes behind below s rule homes at fits =
+  stores_word slots id me i n live writes after below s rule homes at fits =
       let v = me.0 in
       let k = the_writer room s id v rule at live writes in
       let w : View E = record v { begun = v.begun ++ n ∷ [] } in
       let ws : List ℕ = words_of (feed v.known ++ v.staged) in
       let long : length ws ≡ 6 * (length (feed v.known) + length v.staged) = length-words (feed v.known ++ v.staged) ∙ ap (λ l. 6 * l) (length-append (feed v.known) v.staged) in
-      let more = more_words (length (feed v.known)) ws v.begun k.unused i n (behind ∙ ap (λ l. suc (l + length v.begun)) (sym long)) (omega (arith, long, words_used room s id v k)) in
+      let more = more_words (length (feed v.known)) ws v.begun k.unused i n (after ∙ ap (λ l. suc (l + length v.begun)) (sym long)) (omega (arith, long, words_used room s id v k)) in
       let f = k.seats id v at live in (
         w,
         keeps,
@@ -52,13 +52,13 @@ module _ {E : Type 0} (room : ℕ) where
       → i ≡ suc (6 * (length (feed me.0.known) + length me.0.staged) + length me.0.begun) → i < 6 * room + 1
       → IsMessage message → me.0.begun ++ n ∷ [] ≡ packed message
       → Allows (RuleOfTheLog room) slots id me i (λ _. n) (λ _. StoresLastWord message (step slots i n 0 none) me n)
-  stores_last_word slots id me message i n live writes behind below is whole s rule homes at fits =
+  stores_last_word slots id me message i n live writes after below is whole s rule homes at fits =
       let v = me.0 in
       let k = the_writer room s id v rule at live writes in
       let w : View E = record v { staged = v.staged ++ message ∷ []; begun = [] } in
       let ws : List ℕ = words_of (feed v.known ++ v.staged) in
       let long : length ws ≡ 6 * (length (feed v.known) + length v.staged) = length-words (feed v.known ++ v.staged) ∙ ap (λ l. 6 * l) (length-append (feed v.known) v.staged) in
-      let more = more_words (length (feed v.known)) ws v.begun k.unused i n (behind ∙ ap (λ l. suc (l + length v.begun)) (sym long)) (omega (arith, long, words_used room s id v k)) in
+      let more = more_words (length (feed v.known)) ws v.begun k.unused i n (after ∙ ap (λ l. suc (l + length v.begun)) (sym long)) (omega (arith, long, words_used room s id v k)) in
       let words = one_message_more (feed v.known) v.staged (v.begun ++ n ∷ []) more.0 message whole in
       let messages : All IsMessage (feed v.known ++ (v.staged ++ message ∷ [])) =
       subst (All IsMessage) (append_assoc (feed v.known) v.staged (message ∷ [])) (All-append IsMessage (feed v.known ++ v.staged) (message ∷ []) k.messages (all_one IsMessage message is)) in

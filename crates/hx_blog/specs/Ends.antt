@@ -11,7 +11,7 @@ LogId = TableId
 abbrev pub most_room : ℕ
 most_room = 1000000
 
--- how many messages a log has room for: it has a count word, and six words a message
+-- the number of messages for which a log has room: it has a count word, and six words a message
 abbrev pub room_of : LogId → ℕ
 room_of log = (log.words - 1) / 6
 
@@ -21,8 +21,8 @@ pub record WriterState (E : Type 0) : Type 0 where
   pub published : Entries E
   pub staged : List (List ℕ)
 
--- A reader: its log, the entries that it knows, the count that it has seen, how many messages it has read, and how often
--- it loaded the count.
+-- A reader: its log, the entries that it knows, the count that it has seen, the number of messages that it has read,
+-- and the number of times that it loaded the count.
 pub record ReaderState (E : Type 0) : Type 0 where
   pub log : LogId
   pub known : Entries E

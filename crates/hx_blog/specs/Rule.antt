@@ -9,7 +9,8 @@ use Rattle.hx_blog.specs.Views.{LogState}
 use Rattle.hx_blog.specs.declared.view.View.{View}
 
 module _ {E : Type 0} where
-  -- What a seat knows is a beginning of what is published, and so is what it was just told; it has read at most the messages that it knows; and no seat but the writer's is a writer's.
+  -- What a seat knows is a beginning of what is published, and so is the list that was just joined into it; it has read
+  -- at most the messages that it knows; and no seat but the writer's is a writer's.
   pub record KnowsABeginning (room writer : ℕ) (published : Entries E) (seat : ℕ) (v : View E)
       : Type 0 where
     pub room_is : v.room ≡ room
@@ -18,8 +19,10 @@ module _ {E : Type 0} where
     pub read : v.read ≤ length (feed v.known)
     pub only_writer : v.writes ≡ true → seat ≡ writer
 
-  -- The seat `writer` is the writer's and has the view w. Word 0 is the number of messages that it published. Behind it stand the six words of each of these messages, then those of each message that it
-  -- staged, then the words of the message that it has begun, and then words not yet used. Each seat that was not joined into another knows a beginning of what is published.
+  -- The seat `writer` is the writer's and has the view w. Word 0 is the number of messages that it published. After it
+  -- stand the six words of each of these messages, then those of each message that it staged, then the words of the
+  -- message that it has begun, and then words not yet used. Each seat that was not joined into another knows a
+  -- beginning of what is published.
   pub record IsWrittenBy (room : ℕ) (s : LogState E) (writer : ℕ) (w : View E) : Type 0 where
     pub view : get_elem? s.views writer ≡ some w
     pub live : w.gone ≡ false
@@ -32,6 +35,7 @@ module _ {E : Type 0} where
     pub seats : (seat : ℕ) (v : View E) → get_elem? s.views seat ≡ some v → v.gone ≡ false
         → KnowsABeginning room writer w.known seat v
 
-  -- The rule of the log with room for this many messages: some seat is the writer's, and the words and all seats agree with it.
+  -- The rule of the log with room for `room` messages: some seat is the writer's, and the words and all seats agree
+  -- with it.
   abbrev pub RuleOfTheLog : ℕ → LogState E → Type 0
   RuleOfTheLog room s = (writer : ℕ) × (w : View E) × IsWrittenBy room s writer w

@@ -1,4 +1,5 @@
--- The six kinds of step on a log: which seat's view changes at it, and what it tells that seat. No step changes the view of another seat, but for a seat that is joined away.
+-- The six kinds of step on a log: which seat's view changes at it, and what the seat learns by it. No step changes the
+-- view of another seat, except of a seat that is joined away.
 use Rattle.std.specs.Prelude.{◌≡◌, ◌⊎◌, ℕ, ◌+◌, ◌-◌, ◌≤◌, List, [], ◌∷◌, ◌++◌, All, length, slice_index}
 use mathlib.Core.List.{IsPrefix}
 use Rattle.atomic_table.specs.Table.{Step}
@@ -14,12 +15,13 @@ module _ {E : Type 0} where
   abbrev pub StoresWord : Step (Unit {0}) → SeatState E → ℕ → SeatState E → Type 0
   StoresWord step old word new = new ≡ (record old.0 { begun = old.0.begun ++ word ∷ [] }, old.1)
 
-  -- The same, where the word is the last one of this message: the message is staged.
+  -- The same, if the word is the last one of this message: the message is staged.
   abbrev pub StoresLastWord : List ℕ → Step (Unit {0}) → SeatState E → ℕ → SeatState E → Type 0
   StoresLastWord message step old word new =
       new ≡ (record old.0 { staged = old.0.staged ++ message ∷ []; begun = [] }, old.1)
 
-  -- Second kind: the writer stores the count, also where it stays the same. These entries are published, and these messages stay staged. It is the one step of an event, or of several.
+  -- Second kind: the writer stores the count, even if it stays the same. These entries are published, and these
+  -- messages stay staged. It is the one step of an event, or of several.
   abbrev pub StoresCount :
       Entries E → List (List ℕ) → Step (Unit {0}) → SeatState E → ℕ → SeatState E → Type 0
   StoresCount entries left step old count new =
@@ -44,7 +46,7 @@ module _ {E : Type 0} where
   abbrev pub LoadsWord : Step (Unit {0}) → SeatState E → ℕ → SeatState E → Type 0
   LoadsWord step old word new = (new ≡ old) × IsWordOfFeed step old word
 
-  -- The same, where the word is the last one of the next message: the reader has read one message more.
+  -- The same, if the word is the last one of the next message: the reader has read one message more.
   abbrev pub LoadsLastWord : Step (Unit {0}) → SeatState E → ℕ → SeatState E → Type 0
   LoadsLastWord step old word new =
       (new ≡ (record old.0 { read = old.0.read + 1 }, old.1)) × IsWordOfFeed step old word
@@ -55,7 +57,8 @@ module _ {E : Type 0} where
   abbrev pub newcomer : View E → View E
   newcomer v = reading v.room v.known 0 0
 
-  -- Sixth kind: a seat is joined into another, which is told what that one knew, and then compares the two lists. The one joined away knows nothing from then on.
+  -- Sixth kind: a seat is joined into another, which takes in what that seat knew, and then compares the two lists. The
+  -- seat that was joined away knows nothing from then on.
   abbrev pub told_of : View E → View E → View E
   told_of v joined = record v { told = joined.known }
 
@@ -66,7 +69,7 @@ module _ {E : Type 0} where
       × IsPrefix old.0.known new.0.known × IsPrefix old.0.told new.0.known
       × ((new.0.known ≡ old.0.known) ⊎ (new.0.known ≡ old.0.told))
 
-  -- The writer compares the lists: what it was told is a beginning of what it published.
+  -- The writer compares the lists: what was joined into its seat is a beginning of what it published.
   abbrev pub Confirms : Step (Unit {0}) → SeatState E → ℕ → SeatState E → Type 0
   Confirms step old count new =
       (new ≡ (record old.0 { told = [] }, old.1)) × IsPrefix old.0.told old.0.known

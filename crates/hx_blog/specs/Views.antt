@@ -68,7 +68,8 @@ module _ {E : Type 0} where
   abbrev pub IsReading : SeatState E → Type 0
   IsReading me = me ≡ (reading me.0.room me.0.known me.0.read me.0.loads, [])
 
-  -- What a writer keeps between two calls: its seat fits its log, and it counts what it published and what it staged, for which there is room.
+  -- What holds of a writer between two calls: its seat fits its log, and it counts what it published and what it
+  -- staged, for which there is room.
   pub record KeepsWriting (log : LogId) (me : SeatState E) (count staged : ℕ) : Type 0 where
     pub writing : IsWriting me
     pub words : log.words ≡ 6 * me.0.room + 1
@@ -77,7 +78,8 @@ module _ {E : Type 0} where
     pub above : staged ≡ length me.0.staged
     pub room : count + staged ≤ me.0.room
 
-  -- What a reader keeps between two calls: its seat fits its log; it has read at most the count that it has seen, which is at most the number of messages that it knows.
+  -- What holds of a reader between two calls: its seat fits its log; it has read at most the count that it has seen,
+  -- which is at most the number of messages that it knows.
   pub record KeepsReading (log : LogId) (me : SeatState E) (seen read : ℕ) : Type 0 where
     pub reading : IsReading me
     pub words : log.words ≡ 6 * me.0.room + 1

@@ -1,11 +1,11 @@
 //! A broadcast log: messages of one writer for many readers, in words that all threads share without a lock.
 //!
-//! The writer stages the messages of an event and then publishes them together; a reader reads them from the
-//! first one on, in order, each once. A slot is used once: the log neither grows nor starts again. Each load
-//! and store of a word is sequentially consistent.
+//! The writer stages the messages of an event and then publishes them together; a reader reads them from the first one
+//! on, in order, each once. A slot is used once: the log neither grows nor starts again. Each load and store of a word
+//! is sequentially consistent.
 //!
-//! No call waits, retries or loops until it succeeds: each loads or stores at most seven words, but for
-//! `Log::new`. Only `Log::new` takes memory. Each call asks that the log and its ends belong together.
+//! No call waits, retries or loops until it succeeds: except for `Log::new`, each loads or stores at most seven words.
+//! Only `Log::new` takes memory. Each call requires that the log and its ends belong together.
 #![tactic(auto)]
 
 pub mod laws;

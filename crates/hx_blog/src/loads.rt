@@ -55,7 +55,7 @@ pub(crate) fn load_count<E>(table: &LogTable<E>, seat: &mut LogSeat<E>) -> u64
     table.shared.load::<LoadCount>(seat, 0)
 }
 
-// Loads the first five words of the message at this place, counted from 0, which is known.
+// Loads the first five words of the message at this index, counted from 0, which is known.
 fn load_front<E>(table: &LogTable<E>, seat: &mut LogSeat<E>, place: u64) -> [u64; 6]
     requires log { seat.old.table_id ≡ table.now.shared.table_id }
     requires sized { table.now.shared.table_id.words ≡ 6 * seat.old.me.0.room + 1 }
@@ -75,7 +75,7 @@ fn load_front<E>(table: &LogTable<E>, seat: &mut LogSeat<E>, place: u64) -> [u64
     words
 }
 
-/// Loads the message at this place, counted from 0, which is known.
+/// Loads the message at this index, counted from 0, which is known.
 pub(crate) fn load_message<E>(
     table: &LogTable<E>,
     seat: &mut LogSeat<E>,

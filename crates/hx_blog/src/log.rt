@@ -38,8 +38,8 @@ impl<E> Model for Log<E> {
 }
 
 impl<E> Log<E> {
-    /// A log with room for this many messages, 1 to 1,000,000, its writer, and a reader that knows nothing. It
-    /// takes 48 bytes a message, and for a moment twice as much.
+    /// A log with room for `capacity` messages, 1 to 1,000,000, its writer, and a reader that knows nothing. It takes
+    /// 48 bytes a message, and for a moment twice as much.
     pub fn new(alloc: Global, capacity: u64) -> Result<(Log<E>, Writer<E>, Reader<E>), NoMemory>
         requires { (1 ≤ capacity) × (capacity ≤ most_room) }
         ensures room { IfOk result (λ ends. room_of ends.0 ≡ capacity) }
@@ -54,7 +54,7 @@ impl<E> Log<E> {
     }
 }
 
-// This many words, all 0.
+// `count` words, all 0.
 fn zeros(alloc: Global, count: usize) -> Result<Vec<u64>, NoMemory>
     ensures { IfOk result (λ words. words.items ≡ replicate count 0) }
 {

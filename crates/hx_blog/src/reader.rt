@@ -13,8 +13,8 @@ use crate::writer::Writer;
 use arrayvec::ArrayVec;
 use std::marker::Model;
 
-/// An end of a log that reads. Contracts see the entries that it knows, the count that it has seen, how many
-/// messages it has read, and how often it loaded the count.
+/// An end of a log that reads. Contracts see the entries that it knows, the count that it has seen, the number of
+/// messages that it has read, and the number of times that it loaded the count.
 #[derive(Drop)]
 pub struct Reader<E> {
     pub(crate) seat: LogSeat<E>,
@@ -40,8 +40,8 @@ impl<E> Model for Reader<E> {
 }
 
 impl<E> Reader<E> {
-    /// Loads the count, and gives it: the number of messages published, at most as many as the log has room for, and
-    /// 1,000,000.
+    /// Loads the count, and returns it: the number of published messages, at most the number for which the log has
+    /// room, and at most 1,000,000.
     pub fn look(&mut self, log: &Log<E>) -> u64
         requires { self.old.log ≡ log.now }
         ensures same { (self.new.log ≡ self.old.log) × (self.new.read ≡ self.old.read) }
@@ -56,7 +56,7 @@ impl<E> Reader<E> {
         self.seen
     }
 
-    /// How many messages were read by `next`.
+    /// The number of messages that `next` has read.
     pub fn read_so_far(&self) -> u64
         ensures read { result ≡ self.now.read }
         ensures within { (self.now.read ≤ self.now.seen)
@@ -65,7 +65,7 @@ impl<E> Reader<E> {
         self.read
     }
 
-    /// Message `n`, counted from 1; none exactly where `n` is 0 or above the count that this reader has seen.
+    /// Message `n`, counted from 1; `None` exactly if `n` is 0 or above the count that this reader has seen.
     pub fn at(&mut self, log: &Log<E>, n: u64) -> Option<ArrayVec<u8, 44>>
         requires { self.old.log ≡ log.now }
         ensures same { self.new ≡ self.old }
@@ -80,8 +80,8 @@ impl<E> Reader<E> {
         Some(load_message(&log.table, &mut self.seat, n - 1))
     }
 
-    /// The message after those that were read. Where all messages below the count seen were read, it loads the
-    /// count first, and gives none exactly where that count is what was read.
+    /// The message after those that were read. If all messages below the count seen were read, it loads the count
+    /// first, and returns `None` exactly if that count is the number of messages read.
     pub fn next(&mut self, log: &Log<E>) -> Option<ArrayVec<u8, 44>>
         requires { self.old.log ≡ log.now }
         ensures log { self.new.log ≡ self.old.log }
@@ -94,7 +94,7 @@ impl<E> Reader<E> {
         ensures got { MatchOption result (got self.new ≡ got self.old)
             (λ m. got self.new ≡ got self.old ++ m.items ∷ []) }
 
-        // It loads the count only where there is no message left below the count seen.
+        // It loads the count only if there is no message left below the count seen.
         ensures left { self.old.read < self.old.seen → (self.new.known ≡ self.old.known)
             × (self.new.seen ≡ self.old.seen) × (self.new.loads ≡ self.old.loads) }
         ensures loaded { self.old.read ≡ self.old.seen →

@@ -1,4 +1,4 @@
-//! Receipts, which tell others what their maker knew.
+//! Receipts, by which a thread shows others what it knew.
 ghost use Rattle.hx_blog.specs.Ends.{most_room};
 ghost use Rattle.std.specs.Prelude.{◌≡◌, ◌⊎◌, ◌+◌, ◌*◌, ◌≤◌};
 ghost use mathlib.Core.List.{IsPrefix};
@@ -43,7 +43,7 @@ impl<E> Receipt<E> {
         }
     }
 
-    /// Adds what another receipt knows: it knows from then on the longer of the two lists, which both begin.
+    /// Adds what another receipt knows: this receipt knows from then on the longer of the two lists, which both begin.
     pub fn learn(&mut self, log: &Log<E>, receipt: Receipt<E>)
         requires log { self.old.log ≡ log.now }
         requires receipt { receipt.log ≡ log.now }
@@ -56,7 +56,7 @@ impl<E> Receipt<E> {
         tell_reader(&log.table, &mut self.seat, seat);
     }
 
-    /// It knows from then on exactly what is published; what it knew is a beginning of that.
+    /// The receipt knows from then on exactly what is published; what it knew is a beginning of that.
     pub fn catch_up(&mut self, log: &Log<E>, writer: &mut Writer<E>)
         requires log { self.old.log ≡ log.now }
         requires writer { writer.old.log ≡ log.now }

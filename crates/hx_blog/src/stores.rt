@@ -69,7 +69,7 @@ impl<E, N: NamesEntries<E>> Play<(), View<E>> for StoreCount<N> {
     ghost then = { StoresCount N.entries N.left };
 }
 
-/// Stores the six words of a message behind those that stand, from the word `first` on, and leaves the count.
+/// Stores the six words of a message after those that stand, from the word `first` on, and leaves the count.
 pub(crate) fn store_message<E, N: NamesMessage>(
     table: &LogTable<E>,
     seat: &mut LogSeat<E>,
@@ -79,7 +79,7 @@ pub(crate) fn store_message<E, N: NamesMessage>(
     requires log { seat.old.table_id ≡ table.now.shared.table_id }
     requires sized { table.now.shared.table_id.words ≡ 6 * table.now.shared.key + 1 }
     requires writing { IsWriting seat.old.me }
-    requires behind { first
+    requires after { first
         ≡ suc (6 * (length (feed seat.old.me.0.known) + length seat.old.me.0.staged)) }
     requires room { (first + 5 < table.now.shared.table_id.words)
         × (table.now.shared.key ≤ most_room) }

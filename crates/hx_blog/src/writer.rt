@@ -44,7 +44,7 @@ impl<E> Model for Writer<E> {
 }
 
 impl<E> Writer<E> {
-    /// How many more messages can be staged.
+    /// The number of further messages that can be staged.
     pub fn free(&self, log: &Log<E>) -> u64
         requires { self.now.log ≡ log.now }
         ensures { result + length (feed self.now.published) + length self.now.staged
@@ -53,7 +53,7 @@ impl<E> Writer<E> {
         log.capacity - self.count - self.staged
     }
 
-    /// How many messages are published, at most 1,000,000.
+    /// The number of published messages, at most 1,000,000.
     pub fn count(&self) -> u64
         ensures messages { result ≡ length (feed self.now.published) }
         ensures limit { result ≤ most_room }
@@ -61,7 +61,7 @@ impl<E> Writer<E> {
         self.count
     }
 
-    /// How many messages are published or staged, at most 1,000,000.
+    /// The number of published or staged messages, at most 1,000,000.
     pub fn reached(&self) -> u64
         ensures messages { result ≡ length (feed self.now.published) + length self.now.staged }
         ensures limit { result ≤ most_room }
@@ -69,8 +69,8 @@ impl<E> Writer<E> {
         self.count + self.staged
     }
 
-    /// Stores a message above the count, where no reader looks yet. It is refused exactly where no slot is
-    /// free, and then nothing changes.
+    /// Stores a message above the count, where no reader looks yet. Fails exactly if no slot is free, and then nothing
+    /// changes.
     pub fn stage(&mut self, log: &Log<E>, message: &ArrayVec<u8, 44>) -> Result<(), Full>
         requires { self.old.log ≡ log.now }
         ensures ok { OnOk result
@@ -99,8 +99,8 @@ impl<E> Writer<E> {
         self.staged += 1;
     }
 
-    /// Publishes what was staged as the messages of this event, of which there may be none: one store of the
-    /// count, also where it stays. Contracts know the event; the log does not keep it.
+    /// Publishes what was staged as the messages of this event, of which there may be none: one store of the count,
+    /// even if it stays the same. Contracts know the event; the log does not store it.
     pub fn publish(&mut self, log: &Log<E>, event: &E)
         requires { self.old.log ≡ log.now }
         ensures { self.new ≡ record {
@@ -127,7 +127,7 @@ impl<E> Writer<E> {
     }
 
     /// Publishes the first `count` staged messages, as those of the entries that `N` names, each of which may have some
-    /// or none: one store of the count, also where it stays. The others stay staged.
+    /// or none: one store of the count, even if it stays the same. The others stay staged.
     pub fn publish_first<N: NamesEntries<E>>(&mut self, log: &Log<E>, count: u64)
         requires log { self.old.log ≡ log.now }
         requires count { count ≡ length (feed N.entries) }

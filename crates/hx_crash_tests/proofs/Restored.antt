@@ -1,4 +1,4 @@
--- The records of events that an exchange goes on from.
+-- The records of events that an exchange resumes from.
 use Rattle.std.proofs.Common.{◌≡◌, ◌∙◌, ◌≤◌, ℕ, List, [], ◌∷◌, ◌++◌, length, map, drop, refl, ap, sym}
 use Rattle.std.proofs.lemmas.List.{append-nil, drop_all}
 use Rattle.hx_rules.specs.declared.event.Event.{Event}

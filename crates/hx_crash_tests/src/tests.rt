@@ -1,4 +1,4 @@
-//! The journal of a day in a file, days over one that fails, is slow or is full, and days that go on from what one keeps.
+//! The journal of a day in a file, days over one that fails, is slow or is full, and days that resume from a journal.
 
 mod at_once;
 mod busy;
@@ -8,9 +8,9 @@ mod five_records;
 mod going_on;
 mod journal;
 mod journal_tool;
+mod output;
 mod resuming;
 mod shared_file;
-mod told;
 mod worked_days;
 
 use std::process::Abort;

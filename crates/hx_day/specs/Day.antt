@@ -1,4 +1,4 @@
--- What a market keeps of its day.
+-- The state of a market's day.
 use Rattle.std.specs.Prelude.{ℕ, ◌<◌, Bool, List, slice_index}
 use Rattle.hx_units.specs.Limits.{member_numbers}
 use Rattle.hx_rules.specs.Limits.{operator_limit}

@@ -27,7 +27,7 @@ impl Model for EventCounts {
 }
 
 impl EventCounts {
-    /// None are. `NoMemory` where the counts find no room.
+    /// None are. `NoMemory` if the counts find no memory.
     pub fn new(alloc: Global) -> Result<EventCounts, NoMemory>
         ensures { IfOk result (λ recorded. recorded ≡ no_counts) }
     {

@@ -39,7 +39,7 @@ fn time_of(event: &Event) -> u64
     }
 }
 
-// How many events may be recorded under the event's number; none where it is from no member of the setup.
+// How many events may be recorded under the event's number; none if it is from no member of the setup.
 fn limit_of(setup: &Setup, event: &Event) -> Option<u32>
     ensures limit { IfSome result (λ limit. limit ≡ limit_of setup.now event.now) }
     ensures known { OnSome result (is_from_stranger setup.now event.now ≡ false) }
@@ -53,7 +53,8 @@ fn limit_of(setup: &Setup, event: &Event) -> Option<u32>
     }
 }
 
-/// The number under which an event is recorded, unless it is refused, at this many recorded events of each number.
+/// The number under which an event is recorded, unless it is refused, with these counts of recorded events of each
+/// number.
 pub fn admit(setup: &Setup, recorded: &EventCounts, event: &Event) -> Result<u16, PrepareError>
     ensures number { IfOk result (λ number. number ≡ sender event.now) }
     ensures may_record { IfOk result (λ number. MayRecord recorded.now number) }

@@ -31,7 +31,7 @@ impl Model for Trading {
 }
 
 impl Trading {
-    /// No stock is halted, of this many, and nothing is executed. `NoMemory` where the states find no room.
+    /// None of `stocks` stocks is halted, and nothing is executed. `NoMemory` if there is no memory for the states.
     pub fn new(alloc: Global, stocks: u16) -> Result<Trading, NoMemory>
         ensures halted { IfOk result (λ t. t.halted ≡ replicate (suc stocks) false) }
         ensures executions { IfOk result (λ t. t.executions ≡ []) }
@@ -49,7 +49,7 @@ impl Trading {
         &self.halted
     }
 
-    /// The execution of a match number; none where that was never drawn.
+    /// The execution of a match number; none if that was never drawn.
     pub fn execution(&self, number: u64) -> Option<Match>
         ensures { result ≡ execution_of self.now.executions number }
     {
@@ -59,7 +59,7 @@ impl Trading {
         self.executions.get((number - 1) as usize).copied()
     }
 
-    /// Makes room for the executions of these fills, where there is not enough. `NoMemory` where there is none; the
+    /// Makes room for the executions of these fills, if there is not enough. `NoMemory` if there is none; the
     /// executions stay.
     pub fn reserve_for(&mut self, fills: &[Fill]) -> Result<(), NoMemory>
         ensures halted { self.new.halted ≡ self.old.halted }
@@ -85,9 +85,9 @@ impl Trading {
         ensures halted { self.new.halted ≡ slice_set self.old.halted locate is_halted }
         ensures executions { self.new.executions ≡ self.old.executions }
     {
-        let place = locate as usize;
-        if place < self.halted.len() {
-            self.halted[place] = is_halted;
+        let index = locate as usize;
+        if index < self.halted.len() {
+            self.halted[index] = is_halted;
         }
     }
 
@@ -100,11 +100,11 @@ impl Trading {
         if number == 0 {
             return;
         }
-        let place = (number - 1) as usize;
-        if place < self.executions.len() {
+        let index = (number - 1) as usize;
+        if index < self.executions.len() {
             let mut broken = *execution;
             broken.broken = true;
-            self.executions[place] = broken;
+            self.executions[index] = broken;
         }
     }
 }

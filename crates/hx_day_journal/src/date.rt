@@ -6,7 +6,7 @@ use std::alloc::{AllocError, Global};
 // How many digits a date has: four of the year, two of the month, two of the day.
 const DIGITS: usize = 8;
 
-// The digit of a number at a place, counted from the last.
+// The digit of a number at an index, counted from the last.
 fn digit(number: u32, place: u32) -> u8 {
     let mut rest = number;
     for _ in 0..place {
@@ -15,7 +15,7 @@ fn digit(number: u32, place: u32) -> u8 {
     b'0' + (rest % 10) as u8
 }
 
-/// The date of a day since 1970, as `YYYYMMDD`; that of the last date there is where the number is greater.
+/// The date of a day since 1970, as `YYYYMMDD`; that of the last date there is if the number is greater.
 pub fn date_of(alloc: Global, day: u64) -> Result<Vec<u8>, AllocError> {
     let date = match Date::from_unix_epoch_day(i64::try_from(day).unwrap_or(i64::MAX)) {
         Ok(date) => date,
@@ -30,7 +30,7 @@ pub fn date_of(alloc: Global, day: u64) -> Result<Vec<u8>, AllocError> {
     Ok(text)
 }
 
-/// The day since 1970 of a date `YYYYMMDD`; none where it is no date, or one before 1970.
+/// The day since 1970 of a date `YYYYMMDD`; none if it is no date, or one before 1970.
 pub fn day_of(text: &str) -> Option<u64> {
     if text.len() != DIGITS {
         return None;

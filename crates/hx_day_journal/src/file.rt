@@ -1,43 +1,46 @@
 //! A file that waits for room.
 
 use hx_journal::{DeviceError, RawFile};
-use hx_serve::{Board, Notice};
+use hx_serve::{Notice, NoticeSink};
 use std::thread;
 use std::time::{Clock, Duration, Instant};
 
-// A full disk is looked at so often, in milliseconds.
+// The interval, in milliseconds, at which a full disk is tried again.
 const AGAIN: u64 = 500;
 
 /// When what was written is brought to the disk.
 #[derive(Clone, Copy, Debug, PartialEq, Eq)]
 pub enum Syncs {
-    /// After each group of records, before any of it is told: a machine that loses power loses nothing that was told.
+    /// After each group of records, before any of it is published: a machine that loses power loses nothing that was
+    /// published.
     Group,
-    /// Whenever the system likes: a process that is killed loses nothing that was told, a machine that loses power may.
+    /// Whenever the system likes: a process that is killed loses nothing that was published, a machine that loses power
+    /// may.
     Never,
 }
 
-/// A journal's file, whose writes wait while the disk has no room. What such a write left behind the end of the file is
-/// cut off again, so that whoever makes room finds a sound file. A write that waits is one write still: until the next
-/// sync each byte of it is the old one or the new one, or is not there.
+/// A journal's file, whose writes wait while the disk has no room. What such a write left after the end of the file is
+/// cut off again, so that an operator who makes room finds a sound file. A write that waits is one write still: until
+/// the next sync each byte of it is the old one or the new one, or is not there.
 #[derive(Drop)]
 pub struct PatientFile<'a, F, B, T> {
     file: F,
     // How many bytes it has.
     len: usize,
     syncs: Syncs,
-    board: &'a B,
+    notice_sink: &'a B,
     rt: &'a T,
 }
 
-impl<'a, F: RawFile + Drop, B: Board, T: Clock> PatientFile<'a, F, B, T> {
-    /// A file of `len` bytes. The board is told when a write waits, and when it goes on, and how long each sync took.
-    pub fn new(file: F, len: usize, syncs: Syncs, board: &'a B, rt: &'a T) -> Self {
+impl<'a, F: RawFile + Drop, B: NoticeSink, T: Clock> PatientFile<'a, F, B, T> {
+    /// A file of `len` bytes. The notice sink gets a notice when a write waits, and when it goes on, and how long each
+    /// sync took.
+    pub fn new(file: F, len: usize, syncs: Syncs, notice_sink: &'a B, rt: &'a T) -> Self {
         PatientFile {
             file,
             len,
             syncs,
-            board,
+            notice_sink,
             rt,
         }
     }
@@ -50,7 +53,7 @@ impl<'a, F: RawFile + Drop, B: Board, T: Clock> PatientFile<'a, F, B, T> {
     // Cuts off what a write left that found no room, and waits a while.
     fn wait_for_room(&mut self, first: bool) -> Result<(), DeviceError> {
         if first {
-            self.board.post(Notice::JournalWaits);
+            self.notice_sink.post(Notice::JournalWaits);
         }
         self.file.cut(self.len)?;
         thread::sleep(self.rt, Duration::from_millis(AGAIN));
@@ -58,13 +61,13 @@ impl<'a, F: RawFile + Drop, B: Board, T: Clock> PatientFile<'a, F, B, T> {
     }
 }
 
-impl<'a, F: RawFile + Drop, B: Board, T: Clock> RawFile for PatientFile<'a, F, B, T> {
+impl<'a, F: RawFile + Drop, B: NoticeSink, T: Clock> RawFile for PatientFile<'a, F, B, T> {
     fn write_at(&mut self, at: usize, bytes: &[u8]) -> Result<(), DeviceError> {
         for turn in 0..u64::MAX {
             match self.file.write_at(at, bytes) {
                 Ok(()) => {
                     if turn != 0 {
-                        self.board.post(Notice::JournalGoesOn);
+                        self.notice_sink.post(Notice::JournalGoesOn);
                     }
                     self.len = self.len.max(at.saturating_add(bytes.len()));
                     return Ok(());
@@ -91,7 +94,7 @@ impl<'a, F: RawFile + Drop, B: Board, T: Clock> RawFile for PatientFile<'a, F, B
                     && let Ok(time) = begun.elapsed(self.rt)
                 {
                     let nanoseconds = u64::try_from(time.as_nanos()).unwrap_or(u64::MAX);
-                    self.board.synced(nanoseconds);
+                    self.notice_sink.synced(nanoseconds);
                 }
                 Ok(())
             }

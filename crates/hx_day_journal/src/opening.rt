@@ -14,7 +14,7 @@ use hx_engine::Recovered;
 use hx_journal::{FileJournal, Head, HostFile, Noted};
 use hx_market::Event;
 use hx_recovery::{Progress, recover};
-use hx_serve::{Board, Notice, time_of};
+use hx_serve::{Notice, NoticeSink, time_of};
 use std::fs;
 use std::rt::Files;
 use std::time::Clock;
@@ -22,7 +22,7 @@ use std::time::Clock;
 /// The journal of a day in a file of the system.
 pub type DayFile<'a, B, T> = FileJournal<Noted<PatientFile<'a, HostFile, B, T>>>;
 
-/// Which journal is wanted, and how it is kept.
+/// Which journal is wanted, and when it is synced.
 #[derive(Clone, Copy)]
 pub struct Wanted<'a> {
     /// The session, 10 letters or digits.
@@ -35,38 +35,38 @@ pub struct Wanted<'a> {
     pub syncs: Syncs,
 }
 
-// After how many events the operator is told how far the reading of a journal has come.
+// The number of events after which the operator gets a notice of how far a journal is read.
 const STEP: u64 = 1_000_000;
 
-// Tells the operator how far it has come.
+// Posts how far the reading has come.
 #[derive(Clone, Copy)]
 struct Telling<'a, B> {
-    board: &'a B,
+    notice_sink: &'a B,
 }
 
-impl<B: Board> Progress for Telling<'_, B> {
+impl<B: NoticeSink> Progress for Telling<'_, B> {
     fn reached(&self, events: u64) {
         if events % STEP == 0 {
-            self.board.post(Notice::Reading { events });
+            self.notice_sink.post(Notice::Reading { events });
         }
     }
 }
 
-/// Opens the journal of a day, or makes it where no file of this name is there, and reads the events that it keeps. What a
-/// crash left behind its last whole block is cut off. While it is open no other process opens it. The board is told of each
-/// million events that are read.
+/// Opens the journal of a day, or makes it if no file of this name is there, and reads its events. What a crash left
+/// after its last whole block is cut off. While it is open no other process opens it. The notice sink gets a notice of
+/// each million events that are read.
 ///
-/// Errors: where the file is of another session, day or setup, or damaged, it is not touched.
-pub fn open_journal<'a, B: Board, T: Files<File = fs::File> + AllocGlobal + Clock>(
+/// Errors: if the file is of another session, day or setup, or damaged, it is not touched.
+pub fn open_journal<'a, B: NoticeSink, T: Files<File = fs::File> + AllocGlobal + Clock>(
     rt: &'a T,
-    board: &'a B,
+    notice_sink: &'a B,
     path: &str,
     wanted: Wanted<'_>,
 ) -> Result<Recovered<DayFile<'a, B, T>>, DayJournalError>
     ensures appended { IfOk result (λ r.
         records_of (appended (λ d. seen_of d.log.events) r.journal)
         ≡ lines record_of (restored r.events.items)) }
-    ensures kept { IfOk result (λ r.
+    ensures durable { IfOk result (λ r.
         records_of (stored (λ d. seen_of d.log.events) r.journal)
         ≡ lines record_of (restored r.events.items)) }
     ensures is_open { IfOk result (λ r. r.journal.is_open ≡ true) }
@@ -75,8 +75,8 @@ pub fn open_journal<'a, B: Board, T: Files<File = fs::File> + AllocGlobal + Cloc
     let day = date_of(alloc, wanted.day)?;
     let head = Head::new(alloc, wanted.session, &day, wanted.setup)?;
     let (file, bytes) = HostFile::open(rt, path)?;
-    let file = PatientFile::new(file, bytes.len(), wanted.syncs, board, rt);
-    Ok(recover(alloc, file, &bytes, &head, &Telling { board })?)
+    let file = PatientFile::new(file, bytes.len(), wanted.syncs, notice_sink, rt);
+    Ok(recover(alloc, file, &bytes, &head, &Telling { notice_sink })?)
 }
 
 /// The last of the times of events, in nanoseconds since midnight: a day that goes on from them gives no time below it.

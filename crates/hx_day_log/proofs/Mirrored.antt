@@ -7,7 +7,7 @@ use Rattle.hx_tape_lines.specs.Text.{record_of}
 use Rattle.hx_desk.specs.Entries.{restored}
 use Rattle.hx_engine.specs.Journals.{lines}
 use Rattle.hx_recovery.proofs.Restored.{lines_restored}
-use Rattle.hx_mirror.specs.Mirrors.{Mirrors}
+use Rattle.hx_fenced_log.specs.Mirrors.{Mirrors}
 use Rattle.hx_day_log.specs.Mirrored.{IsBeside}
 
 -- the records of the first events, and of the others
@@ -27,10 +27,10 @@ take_all (suc n) [] few = refl
 take_all zero (e ∷ events) few = absurd (omega (arith, few))
 take_all (suc n) (e ∷ events) few = ap (λ (l : List Event). e ∷ l) (take_all n events (omega (arith, few)))
 
--- a group more is kept
-pub group_kept : (rest front back : List Event) (was now after start : List (List ℕ)) (n : ℕ) → front ≡ take n rest → back ≡ drop n rest → was ++ map record_of rest ≡ start
+-- another group is durable
+pub group_durable : (rest front back : List Event) (was now after start : List (List ℕ)) (n : ℕ) → front ≡ take n rest → back ≡ drop n rest → was ++ map record_of rest ≡ start
     → now ≡ was ++ map record_of front → after ≡ now → after ++ map record_of back ≡ start
-group_kept rest front back was now after start n first others all more same =
+group_durable rest front back was now after start n first others all more same =
     ap (λ (l : List (List ℕ)). l ++ map record_of back) (same ∙ more) ∙ append_assoc was (map record_of front) (map record_of back)
     ∙ ap (λ (l : List Event). was ++ (map record_of l ++ map record_of back)) first ∙ ap (λ (l : List Event). was ++ (map record_of (take n rest) ++ map record_of l)) others
     ∙ ap (λ (l : List (List ℕ)). was ++ l) (cut n rest) ∙ all
@@ -43,13 +43,13 @@ drop_nil : (n : ℕ) → drop n none_of ≡ []
 drop_nil zero = refl
 drop_nil (suc n) = refl
 
-drop_behind : (played events had : List Event) → drop (length (played ++ events)) had ≡ drop (length events) (drop (length played) had)
-drop_behind [] events had = refl
-drop_behind (p ∷ played) events [] = sym (drop_nil (length events))
-drop_behind (p ∷ played) events (h ∷ had) = drop_behind played events had
+drop_after : (applied events had : List Event) → drop (length (applied ++ events)) had ≡ drop (length events) (drop (length applied) had)
+drop_after [] events had = refl
+drop_after (p ∷ applied) events [] = sym (drop_nil (length events))
+drop_after (p ∷ applied) events (h ∷ had) = drop_after applied events had
 
--- Of two lists whose first records are the same, as far as one of them goes: the one, and what the other has behind, are the
--- other, and what the one has behind.
+-- For two lists that have the same first records, as far as the shorter one goes: the one, and what the other has after
+-- those, are the other, and what the one has after those.
 spliced : (n : ℕ) (had events : List Event) → n ≤ length had → n ≤ length events → (n < length had → length events ≤ n) → map record_of (take n had) ≡ map record_of (take n events)
     → map record_of had ++ map record_of (drop n events) ≡ map record_of events ++ map record_of (drop (length events) had)
 spliced zero [] events a b few same = sym (append-nil (map record_of events)) ∙ ap (λ (l : List Event). map record_of events ++ map record_of l) (sym (drop_nil (length events)))
@@ -62,36 +62,36 @@ spliced (suc n) (h ∷ had) (e ∷ events) a b few same =
     spliced n had events (omega (arith, a)) (omega (arith, b)) (λ less. omega (arith, few (omega (arith, less)))) (ap (drop 1) same) in
     λ i. first (same i) ∷ rest i
 
--- a journal beside a day is brought up to the events that are played
-pub brought_up : {M : Type 0} (appended of_kept : M → List (List ℕ)) (is_open : M → Bool) (mirror : M) (had played now events : List Event) (before : List (List ℕ)) (n : ℕ)
-    → before ≡ map record_of played ++ map record_of (drop (length played) had) → now ≡ played ++ events
-    → n ≤ length (drop (length played) had) → n ≤ length events → (n < length (drop (length played) had) → length events ≤ n)
-    → map record_of (take n (drop (length played) had)) ≡ map record_of (take n events)
-    → Mirrors appended of_kept is_open mirror (before ++ map record_of (take (length events - n) (drop n events))) → IsBeside appended of_kept is_open mirror had now
-brought_up appended of_kept is_open mirror had played now events before n was more in_had in_events few same h =
+-- a journal beside a day is brought up to the applied events
+pub brought_up : {M : Type 0} (appended of_durable : M → List (List ℕ)) (is_open : M → Bool) (mirror : M) (had applied now events : List Event) (before : List (List ℕ)) (n : ℕ)
+    → before ≡ map record_of applied ++ map record_of (drop (length applied) had) → now ≡ applied ++ events
+    → n ≤ length (drop (length applied) had) → n ≤ length events → (n < length (drop (length applied) had) → length events ≤ n)
+    → map record_of (take n (drop (length applied) had)) ≡ map record_of (take n events)
+    → Mirrors appended of_durable is_open mirror (before ++ map record_of (take (length events - n) (drop n events))) → IsBeside appended of_durable is_open mirror had now
+brought_up appended of_durable is_open mirror had applied now events before n was more in_had in_events few same h =
     let rest : take (length events - n) (drop n events) ≡ drop n events = take_all (length events - n) (drop n events) (omega (arith, length-drop n events)) in
     let all : before ++ map record_of (take (length events - n) (drop n events)) ≡ map record_of now ++ map record_of (drop (length now) had) =
     ap (λ (l : List Event). before ++ map record_of l) rest ∙ ap (λ (l : List (List ℕ)). l ++ map record_of (drop n events)) was
-    ∙ append_assoc (map record_of played) (map record_of (drop (length played) had)) (map record_of (drop n events))
-    ∙ ap (λ (l : List (List ℕ)). map record_of played ++ l) (spliced n (drop (length played) had) events in_had in_events few same)
-    ∙ sym (append_assoc (map record_of played) (map record_of events) (map record_of (drop (length events) (drop (length played) had))))
-    ∙ ap (λ (l : List (List ℕ)). l ++ map record_of (drop (length events) (drop (length played) had))) (sym (map-append record_of played events))
-    ∙ ap (λ (l : List Event). map record_of (played ++ events) ++ map record_of l) (sym (drop_behind played events had))
+    ∙ append_assoc (map record_of applied) (map record_of (drop (length applied) had)) (map record_of (drop n events))
+    ∙ ap (λ (l : List (List ℕ)). map record_of applied ++ l) (spliced n (drop (length applied) had) events in_had in_events few same)
+    ∙ sym (append_assoc (map record_of applied) (map record_of events) (map record_of (drop (length events) (drop (length applied) had))))
+    ∙ ap (λ (l : List (List ℕ)). l ++ map record_of (drop (length events) (drop (length applied) had))) (sym (map-append record_of applied events))
+    ∙ ap (λ (l : List Event). map record_of (applied ++ events) ++ map record_of l) (sym (drop_after applied events had))
     ∙ ap (λ (l : List Event). map record_of l ++ map record_of (drop (length l) had)) (sym more) in
-    record { appended_is = h.appended_is ∙ all; kept_is = h.kept_is ∙ all; opened = h.opened }
+    record { appended_is = h.appended_is ∙ all; durable_is = h.durable_is ∙ all; opened = h.opened }
 
 -- one that has no more than the day is a mirror of it
-pub mirrors_all : {M : Type 0} (appended of_kept : M → List (List ℕ)) (is_open : M → Bool) (mirror : M) (had played : List Event) → length had ≤ length played
-    → IsBeside appended of_kept is_open mirror had played → Mirrors appended of_kept is_open mirror (lines record_of (restored played))
-mirrors_all appended of_kept is_open mirror had played few h =
-    let all : map record_of played ++ map record_of (drop (length played) had) ≡ lines record_of (restored played) =
-    ap (λ (l : List Event). map record_of played ++ map record_of l) (drop_of_length-le had few) ∙ append-nil (map record_of played) ∙ sym (lines_restored played) in
-    record { appended_is = h.appended_is ∙ all; kept_is = h.kept_is ∙ all; opened = h.opened }
+pub mirrors_all : {M : Type 0} (appended of_durable : M → List (List ℕ)) (is_open : M → Bool) (mirror : M) (had applied : List Event) → length had ≤ length applied
+    → IsBeside appended of_durable is_open mirror had applied → Mirrors appended of_durable is_open mirror (lines record_of (restored applied))
+mirrors_all appended of_durable is_open mirror had applied few h =
+    let all : map record_of applied ++ map record_of (drop (length applied) had) ≡ lines record_of (restored applied) =
+    ap (λ (l : List Event). map record_of applied ++ map record_of l) (drop_of_length-le had few) ∙ append-nil (map record_of applied) ∙ sym (lines_restored applied) in
+    record { appended_is = h.appended_is ∙ all; durable_is = h.durable_is ∙ all; opened = h.opened }
 
--- a journal of which nothing is played yet
-pub beside_first : {M : Type 0} (appended of_kept : M → List (List ℕ)) (is_open : M → Bool) (mirror : M) (had played : List Event) → played ≡ []
-    → appended mirror ≡ lines record_of (restored had) → of_kept mirror ≡ appended mirror → is_open mirror ≡ true → IsBeside appended of_kept is_open mirror had played
-beside_first appended of_kept is_open mirror had played none is kept opened =
-    let all : appended mirror ≡ map record_of played ++ map record_of (drop (length played) had) =
+-- a journal beside a day without an applied event
+pub beside_first : {M : Type 0} (appended of_durable : M → List (List ℕ)) (is_open : M → Bool) (mirror : M) (had applied : List Event) → applied ≡ []
+    → appended mirror ≡ lines record_of (restored had) → of_durable mirror ≡ appended mirror → is_open mirror ≡ true → IsBeside appended of_durable is_open mirror had applied
+beside_first appended of_durable is_open mirror had applied none is durable opened =
+    let all : appended mirror ≡ map record_of applied ++ map record_of (drop (length applied) had) =
     is ∙ lines_restored had ∙ ap (λ (l : List Event). map record_of l ++ map record_of (drop (length l) had)) (sym none) in
-    record { appended_is = all; kept_is = kept ∙ all; opened = opened }
+    record { appended_is = all; durable_is = durable ∙ all; opened = opened }

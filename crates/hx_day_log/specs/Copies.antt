@@ -2,8 +2,8 @@
 use Rattle.std.specs.Prelude.{◌≡◌, ℕ, ◌+◌, ◌-◌, List, length, drop, Option}
 use Rattle.std.specs.Io.KnownBytes.{Appends}
 use mathlib.Core.List.{IsPrefix}
-use Rattle.hx_terms.specs.Records.{Record}
-use Rattle.hx_terms.specs.Copies.{texts_of}
+use Rattle.hx_fenced_log.specs.Records.{Record}
+use Rattle.hx_fenced_log.specs.Copies.{texts_of}
 
 -- the records of a log from the one number up to the other are written: the text of each, in order
 pub record AreCopied (log : List Record) (from to : ℕ) (old new : Option (List ℕ)) : Type 0 where

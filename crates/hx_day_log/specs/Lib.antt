@@ -1,4 +1,4 @@
--- What is told of the log of a day.
+-- What is reported of the log of a day.
 pub mod Events
 pub mod Copies
 pub mod Mirrored

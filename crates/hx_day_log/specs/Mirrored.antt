@@ -2,11 +2,11 @@
 use Rattle.std.specs.Prelude.{ℕ, List, Bool, ◌++◌, length, drop, map}
 use Rattle.hx_tape_lines.specs.Text.{record_of}
 use Rattle.hx_rules.specs.declared.event.Event.{Event}
-use Rattle.hx_mirror.specs.Mirrors.{Mirrors}
+use Rattle.hx_fenced_log.specs.Mirrors.{Mirrors}
 
--- It keeps the records of the events that are played, and behind them of those that it kept before and that are
--- still to be played.
-abbrev pub IsBeside : {M : Type 0} → (appended kept : M → List (List ℕ)) → (M → Bool) → M
-    → (had played : List Event) → Type 0
-IsBeside appended kept is_open mirror had played = Mirrors appended kept is_open mirror
-    (map record_of played ++ map record_of (drop (length played) had))
+-- It has the records of the applied events, and after them those of the events that it had before and that are still to
+-- be applied.
+abbrev pub IsBeside : {M : Type 0} → (appended durable : M → List (List ℕ)) → (M → Bool) → M
+    → (had applied : List Event) → Type 0
+IsBeside appended durable is_open mirror had applied = Mirrors appended durable is_open mirror
+    (map record_of applied ++ map record_of (drop (length applied) had))

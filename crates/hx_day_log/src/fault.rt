@@ -1,8 +1,8 @@
 //! Why a day does not go on from its log.
 
 use hx_desk::DeskError;
+use hx_fenced_log::{KeepError, LogError};
 use hx_journal::JournalError;
-use hx_log::{KeepError, LogError};
 use hx_recovery::RecoveryError;
 use std::alloc::{AllocError, AllocFailed};
 use thiserror::Error;
@@ -16,7 +16,7 @@ pub enum DayLogError {
         /// Its number among the lines that count, from 1.
         record: u64,
     },
-    /// The market refuses an event of it: the setup is not the one that the day was kept under.
+    /// The market refuses an event of it: the setup is not the one that the day was recorded under.
     #[error(transparent)]
     Refused(DeskError),
     /// What stands at this number is no record of it.
@@ -25,7 +25,7 @@ pub enum DayLogError {
         /// The number.
         number: u64,
     },
-    /// The journal beside it keeps a record that is not the log's.
+    /// The journal beside it has a record that is not the log's.
     #[error("journal record {record} is not the log's")]
     OtherJournal {
         /// Its number, from 1.
@@ -125,7 +125,7 @@ impl From<KeepError> for DayLogError {
     fn from(e: KeepError) -> DayLogError {
         match e {
             KeepError::Log(error) => DayLogError::from(error),
-            KeepError::NotInOffice | KeepError::NoHead | KeepError::Lines(_) => DayLogError::Failed,
+            KeepError::NotActive | KeepError::NoHead | KeepError::Lines(_) => DayLogError::Failed,
         }
     }
 }

@@ -1,26 +1,26 @@
-//! The tape of a day as its log keeps it.
+//! The tape of a day, from its log.
 ghost use Rattle.std.specs.Prelude.{◌≡◌, ◌≢◌, ◌≤◌, length, IfOk, OnOk};
-ghost use Rattle.hx_log_journal.specs.States.{told, count_read};
+ghost use Rattle.hx_fenced_log.specs.JournalStates.{reported, count_read};
 ghost use Rattle.hx_day_log.specs.Events.{IsWritten};
 
 use crate::fault::DayLogError;
 use crate::opening::News;
-use hx_log::{Log, LogError};
-use hx_log_journal::Follower;
+use hx_fenced_log::{Follower, Log, LogError};
 use std::alloc::Global;
 use std::io::Write;
 
 /// Reads on, writes the lines that count of what is new, and flushes the writer. There is news only if more is
 /// read than before, and none only if all that stood there was.
 ///
-/// Errors: those of the log but that no node told, which is news; `Write`, after which some of the lines may be written.
+/// Errors: those of the log except that no node answered, which is news; `Write`, after which some of the lines may be
+/// written.
 pub fn write_on<L: Log, W: Write>(
     alloc: Global,
     follower: &mut Follower<L>,
     writer: &mut W,
 ) -> Result<News, DayLogError>
     ensures written { OnOk result (IsWritten
-        (told L.committed follower.old) (told L.committed follower.new)
+        (reported L.committed follower.old) (reported L.committed follower.new)
         (W.contents writer.old) (W.contents writer.new)) }
     ensures some { IfOk result (λ news. news ≡ News.Some
         → count_read follower.old.writer.reading ≢ count_read follower.new.writer.reading) }

@@ -1,32 +1,32 @@
-//! A day, and a journal beside its log that is brought up to what of the log is played.
+//! A day, and a journal beside its log that is brought up to what is applied of the log.
 ghost use Rattle.std.specs.Prelude.{◌≡◌, [], true, drop, IfOk};
 ghost use Rattle.hx_tape_lines.specs.Text.{record_of};
 ghost use Rattle.hx_desk.specs.Entries.{restored};
 ghost use Rattle.hx_engine.specs.Journals.{lines};
-ghost use Rattle.hx_mirror.specs.Mirrors.{Mirrors};
+ghost use Rattle.hx_fenced_log.specs.Mirrors.{Mirrors};
 
 use crate::fault::DayLogError;
 use crate::mirroring::{count_same, keep_records};
 use crate::replica::Replica;
-use hx_engine::{Plays, Recovered, play_all};
+use hx_engine::{Applies, Recovered, apply_all};
 use hx_journal::Journal;
 use hx_market::Event;
 use std::alloc::Global;
 use std::marker::Model;
 
-/// A day, and a journal beside its log, which kept the records of some events before. An event whose
-/// record is not the journal's is refused; what the journal lacks is appended, and synced with each reading.
+/// A day, and a journal beside its log, which had the records of some events before. An event whose record is not the
+/// journal's is refused; what the journal lacks is appended, and synced with each reading.
 #[derive(Drop)]
-pub struct MirroredDay<D: Plays, M: Journal> {
+pub struct MirroredDay<D: Applies, M: Journal> {
     day: D,
     mirror: M,
-    // What the mirror kept before.
+    // The events whose records the mirror had before.
     has: Vec<Event>,
     // Whether nothing has failed.
     in_step: bool,
 }
 
-impl<D: Plays, M: Journal> Model for MirroredDay<D, M> {
+impl<D: Applies, M: Journal> Model for MirroredDay<D, M> {
     ghost use Rattle.std.specs.Prelude.{◌≡◌, true};
     ghost use Rattle.hx_day_log.specs.Mirrored.{IsBeside};
 
@@ -34,17 +34,17 @@ impl<D: Plays, M: Journal> Model for MirroredDay<D, M> {
 
     ghost view = { λ d. d.day };
 
-    ghost invariant = { λ d. d.in_step ≡ true → IsBeside M.appended M.kept M.is_open
-        d.mirror d.has.items (D.played d.day) };
+    ghost invariant = { λ d. d.in_step ≡ true → IsBeside M.appended M.durable M.is_open
+        d.mirror d.has.items (D.applied d.day) };
 }
 
-impl<D: Plays + Drop, M: Journal + Drop> MirroredDay<D, M> {
-    /// A day of which nothing is played, and a journal that keeps the records of these events.
+impl<D: Applies + Drop, M: Journal + Drop> MirroredDay<D, M> {
+    /// A day without an applied event, and a journal that has the records of these events.
     pub fn new(day: D, beside: Recovered<M>) -> MirroredDay<D, M>
-        requires new { D.played day ≡ [] }
+        requires new { D.applied day ≡ [] }
         requires appended { M.appended beside.journal
             ≡ lines record_of (restored beside.events.items) }
-        requires kept { M.kept beside.journal ≡ M.appended beside.journal }
+        requires durable { M.durable beside.journal ≡ M.appended beside.journal }
         requires is_open { M.is_open beside.journal ≡ true }
         ensures { result ≡ day }
     {
@@ -62,12 +62,12 @@ impl<D: Plays + Drop, M: Journal + Drop> MirroredDay<D, M> {
 
     /// The day, and its mirror.
     ///
-    /// Errors: `OtherJournal` if the mirror has records behind those of the day; `JournalFailed` if something failed
+    /// Errors: `OtherJournal` if the mirror has records after those of the day; `JournalFailed` if something failed
     /// before.
     pub fn into_both(self) -> Result<(D, M), DayLogError>
         ensures day { IfOk result (λ both. both.0 ≡ self) }
-        ensures mirror { IfOk result (λ both. Mirrors M.appended M.kept M.is_open both.1
-            (lines record_of (restored (D.played self)))) }
+        ensures mirror { IfOk result (λ both. Mirrors M.appended M.durable M.is_open both.1
+            (lines record_of (restored (D.applied self)))) }
     {
         if !self.in_step {
             return Err(DayLogError::JournalFailed);
@@ -82,15 +82,15 @@ impl<D: Plays + Drop, M: Journal + Drop> MirroredDay<D, M> {
     }
 }
 
-impl<D: Plays, M: Journal> Replica for MirroredDay<D, M> {
-    ghost played = { λ d. D.played d };
+impl<D: Applies, M: Journal> Replica for MirroredDay<D, M> {
+    ghost applied = { λ d. D.applied d };
 
     ghost under = { λ d. D.under d };
 
-    /// Plays events, and brings the journal up to them.
+    /// Applies events, and brings the journal up to them.
     ///
     /// Errors: why one of them is refused; `OtherJournal`; those of the journal.
-    fn play(&mut self, alloc: Global, events: &[Event]) -> Result<(), DayLogError> {
+    fn apply(&mut self, alloc: Global, events: &[Event]) -> Result<(), DayLogError> {
         if !self.in_step {
             return Err(DayLogError::JournalFailed);
         }
@@ -106,7 +106,7 @@ impl<D: Plays, M: Journal> Replica for MirroredDay<D, M> {
                     .saturating_add(1),
             });
         }
-        play_all(&mut self.day, events)?;
+        apply_all(&mut self.day, events)?;
         keep_records(alloc, &mut self.mirror, &events[same..])?;
         self.in_step = true;
         Ok(())
@@ -117,7 +117,7 @@ impl<D: Plays, M: Journal> Replica for MirroredDay<D, M> {
     }
 }
 
-// Those of the events behind so many.
+// The events after the first `count`.
 fn rest_of(events: &[Event], count: u64) -> &[Event]
     ensures { result.now ≡ drop count events.now }
 {

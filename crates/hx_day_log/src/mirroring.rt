@@ -1,7 +1,7 @@
 //! What a mirror of a day's log has and lacks.
 ghost use Rattle.std.specs.Prelude.{◌≡◌, ◌≤◌, ◌++◌, true, length, take, map, IfOk, OnOk};
 ghost use Rattle.hx_tape_lines.specs.Text.{record_of};
-ghost use Rattle.hx_mirror.specs.Mirrors.{Mirrors};
+ghost use Rattle.hx_fenced_log.specs.Mirrors.{Mirrors};
 
 use crate::fault::DayLogError;
 use hx_journal::Journal;
@@ -9,7 +9,7 @@ use hx_market::Event;
 use hx_tape_lines::write_record;
 use std::alloc::{AllocError, Global};
 
-// A mirror is synced after this many records, so that few of them wait in memory.
+// A mirror is synced after this number of records, so that few of them wait in memory.
 const GROUP: usize = 10_000;
 
 // Whether two events have one record.
@@ -31,9 +31,9 @@ pub(crate) fn count_same(alloc: Global, one: &[Event], other: &[Event]) -> Resul
         ≡ map record_of (take n other.now)) }
 {
     let most = one.len().min(other.len());
-    for place in 0..most {
-        if !is_same(alloc, &one[place], &other[place])? {
-            return Ok(place);
+    for index in 0..most {
+        if !is_same(alloc, &one[index], &other[index])? {
+            return Ok(index);
         }
     }
     Ok(most)
@@ -63,9 +63,9 @@ pub(crate) fn keep_records<M: Journal>(
     mirror: &mut M,
     events: &[Event],
 ) -> Result<(), DayLogError>
-    requires kept { M.kept mirror.old ≡ M.appended mirror.old }
+    requires durable { M.durable mirror.old ≡ M.appended mirror.old }
     requires open { M.is_open mirror.old ≡ true }
-    ensures { OnOk result (Mirrors M.appended M.kept M.is_open mirror.new
+    ensures { OnOk result (Mirrors M.appended M.durable M.is_open mirror.new
         (M.appended mirror.old ++ map record_of events.now)) }
 {
     let mut rest = events;

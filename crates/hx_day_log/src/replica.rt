@@ -1,51 +1,51 @@
-//! What the events of a log are played on, one reading behind the other.
+//! The state that the events of a log are applied to, one reading after the other.
 ghost use Rattle.std.specs.Prelude.{◌≡◌, ◌++◌, List, length, OnOk};
 ghost use Rattle.hx_members.specs.Setups.{Setup};
 ghost use Rattle.hx_rules.specs.declared.event.Event.{Event};
 
 use crate::fault::DayLogError;
-use hx_engine::{Plays, play_all};
+use hx_engine::{Applies, apply_all};
 use hx_market::Event;
 use std::alloc::Global;
 use std::marker::Model;
 
-/// What the events of a log are played on, as they are read.
+/// The state that the events of a log are applied to, as they are read.
 pub trait Replica {
     /// The events that were.
-    ghost played: { Self → List Event };
+    ghost applied: { Self → List Event };
 
     /// The setup under which they were.
     ghost under: { Self → Setup };
 
-    /// Plays events behind the others.
+    /// Applies events after the others.
     ///
     /// Errors: why one of them is not. Nothing is promised of it then.
-    fn play(&mut self, alloc: Global, events: &[Event]) -> Result<(), DayLogError>
-        ensures played { OnOk result (played self.new ≡ played self.old ++ events.now) }
+    fn apply(&mut self, alloc: Global, events: &[Event]) -> Result<(), DayLogError>
+        ensures applied { OnOk result (applied self.new ≡ applied self.old ++ events.now) }
         ensures under { under self.new ≡ under self.old };
 
-    /// How many events were played.
+    /// How many events were applied.
     fn count(&self) -> u64
-        ensures { result ≡ length (played self.now) };
+        ensures { result ≡ length (applied self.now) };
 }
 
 /// A day alone.
 #[derive(Drop)]
-pub struct Alone<D: Plays> {
+pub struct Alone<D: Applies> {
     /// The day.
     pub day: D,
 }
 
-impl<D: Plays> Replica for Alone<D> {
-    ghost played = { λ a. D.played a.day };
+impl<D: Applies> Replica for Alone<D> {
+    ghost applied = { λ a. D.applied a.day };
 
     ghost under = { λ a. D.under a.day };
 
-    /// Plays events.
+    /// Applies events.
     ///
     /// Errors: why one of them is refused.
-    fn play(&mut self, _alloc: Global, events: &[Event]) -> Result<(), DayLogError> {
-        play_all(&mut self.day, events)?;
+    fn apply(&mut self, _alloc: Global, events: &[Event]) -> Result<(), DayLogError> {
+        apply_all(&mut self.day, events)?;
         Ok(())
     }
 

@@ -1,4 +1,4 @@
--- Whose replies are in flight, and whose wait.
+-- The members whose replies are in the batch that is written, and those whose replies wait.
 use Rattle.std.proofs.Common.{◌≡◌, ℕ, ◌+◌, List, take, sym, ap, ◌∙◌, arith}
 use Rattle.hx_blog.specs.Feed.{Entries}
 use Rattle.hx_members.specs.Setups.{Setup}
@@ -8,12 +8,12 @@ use Rattle.hx_desk.specs.declared.mark.Mark.{Mark}
 use Rattle.hx_desk.specs.Rows.{RowList, times}
 use Rattle.hx_desk.specs.InStep.{AreInStep, AreAnswered}
 
-pub flying_answered : (setup : Setup) (market : Market) (published : Entries Entry) (staged : List (List ℕ)) (h : List Entry) (rows : RowList) (counts : List ℕ) (told sealed : Mark) (flying waiting : List ℕ)
-    → AreInStep setup market published staged h rows counts told sealed flying waiting → AreAnswered setup (take told.entries h) (take sealed.entries h) flying
-flying_answered setup market published staged h rows counts told sealed flying waiting s = λ m less.
-    ap (λ n. n + times m flying) (sym (s.told_replies m less)) ∙ s.flying_replies m less
+pub flying_answered : (setup : Setup) (market : Market) (published : Entries Entry) (staged : List (List ℕ)) (h : List Entry) (rows : RowList) (counts : List ℕ) (published_end sealed : Mark) (writing waiting : List ℕ)
+    → AreInStep setup market published staged h rows counts published_end sealed writing waiting → AreAnswered setup (take published_end.entries h) (take sealed.entries h) writing
+flying_answered setup market published staged h rows counts published_end sealed writing waiting s = λ m less.
+    ap (λ n. n + times m writing) (sym (s.published_replies m less)) ∙ s.flying_replies m less
 
-pub waiting_answered : (setup : Setup) (market : Market) (published : Entries Entry) (staged : List (List ℕ)) (h : List Entry) (rows : RowList) (counts : List ℕ) (told sealed : Mark) (flying waiting : List ℕ)
-    → AreInStep setup market published staged h rows counts told sealed flying waiting → AreAnswered setup (take sealed.entries h) h waiting
-waiting_answered setup market published staged h rows counts told sealed flying waiting s = λ m less.
+pub waiting_answered : (setup : Setup) (market : Market) (published : Entries Entry) (staged : List (List ℕ)) (h : List Entry) (rows : RowList) (counts : List ℕ) (published_end sealed : Mark) (writing waiting : List ℕ)
+    → AreInStep setup market published staged h rows counts published_end sealed writing waiting → AreAnswered setup (take sealed.entries h) h waiting
+waiting_answered setup market published staged h rows counts published_end sealed writing waiting s = λ m less.
     omega (arith, s.flying_replies m less, s.all_replies m less)

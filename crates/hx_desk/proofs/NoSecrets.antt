@@ -16,7 +16,7 @@ use Rattle.hx_laws.proofs.Quiet.StruckOfAll.{feed_alone, replies_alone, all_memb
 use Rattle.hx_desk.specs.Rows.{Part, replies_spelled, row_of}
 use Rattle.hx_desk.specs.Entries.{feed_spelled, events_of}
 use Rattle.hx_desk.specs.Secrecy.{IsFeedWithoutTrace, AreRepliesWithoutTrace}
-use Rattle.hx_desk.specs.Desks.{DeskState, IsStanding, TellsNoSecret, told_of, all_of_them}
+use Rattle.hx_desk.specs.Desks.{DeskState, IsStanding, TellsNoSecret, published_of, all_of_them}
 use Rattle.hx_desk.proofs.Standing.{published_is}
 
 pub feed_without_trace : (setup : Setup) (events : List Event) (messages : List (List ℕ)) → messages ≡ feed_spelled (feed setup events) → IsFeedWithoutTrace setup events messages
@@ -32,7 +32,7 @@ feed_without_trace setup events messages is = record {
     any : (chosen : Choice) → AreQuietChains chosen (run setup events) → messages ≡ feed_spelled (feed setup (strike chosen events))
     any chosen q = is ∙ ap feed_spelled (feed_alone setup events chosen q)
 
--- nothing of another member is chosen by what chooses of one
+-- what selects messages of one member selects none of another
 spared : (p m : ℕ) (b : Bool) → (p ≡ m → ⊥) → (p == m && b) ≡ false
 spared p m b ne = at (eqb p m) refl
   where
@@ -59,6 +59,6 @@ replies_without_trace setup events p part rows is = record {
 
 pub tells_no_secret : (d : DeskState) → IsStanding d → TellsNoSecret d
 tells_no_secret d s = record {
-  feed_published = feed_without_trace d.setup (events_of (told_of d)) (blog.feed d.published) (ap blog.feed s.published ∙ published_is d.setup (told_of d));
-  rows = λ p l. replies_without_trace d.setup (events_of (told_of d)) p all_of_them (row_of d.rows p) (s.rows p l);
+  feed_published = feed_without_trace d.setup (events_of (published_of d)) (blog.feed d.published) (ap blog.feed s.published ∙ published_is d.setup (published_of d));
+  rows = λ p l. replies_without_trace d.setup (events_of (published_of d)) p all_of_them (row_of d.rows p) (s.rows p l);
 }

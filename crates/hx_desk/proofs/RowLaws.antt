@@ -11,13 +11,13 @@ use Rattle.hx_ouch.specs.Outbound.{outbound_bytes}
 use Rattle.hx_units.specs.Fields.{texts}
 use Rattle.hx_desk.specs.Rows.{row_texts, row_spare, row_of, with_reply, times, HasRoomFor}
 
--- a list in which an element was put in another's place, as far as a function of the elements goes
+-- a list in which an element was replaced, as far as a function of the elements can tell
 pub same_set : {A B : Type 0} (f : A → B) (xs : List A) (i : ℕ) (x y : A) → i < length xs → x ≡ get_or xs i x → f y ≡ f x → map f (set xs i y) ≡ map f xs
 same_set f [] i x y in' is same = absurd (omega arith)
 same_set f (z ∷ xs) zero x y in' is same = ap (λ v. v ∷ map f xs) (same ∙ ap f is)
 same_set f (z ∷ xs) (suc i) x y in' is same = ap (λ v. f z ∷ v) (same_set f xs i x y (omega arith) is same)
 
--- what holds at a place of the list before holds afterwards, and at the place itself where it holds of what was put there
+-- what holds at an index of the list before holds afterwards, and at the replaced index if it holds of the new element
 pub room_set : {A : Type 0} (g : A → ℕ) (xs : List A) (i : ℕ) (y : A) (n : ℕ → ℕ) (m : ℕ) → i < length xs → n i ≤ g y
     → (n m ≤ slice_index (map g xs) m) ⊎ (m ≡ i) → n m ≤ slice_index (map g (set xs i y)) m
 room_set g [] i y n m in' here there = absurd (omega arith)
@@ -26,7 +26,7 @@ room_set g (z ∷ xs) zero y n (suc m) in' here there = elim there [ inl h ↦ h
 room_set g (z ∷ xs) (suc i) y n zero in' here there = elim there [ inl h ↦ h | inr e ↦ absurd (omega arith) ]
 room_set g (z ∷ xs) (suc i) y n (suc m) in' here there = room_set g xs i y (λ k. n (suc k)) m (omega arith) here (elim there [ inl h ↦ inl h | inr e ↦ inr (omega arith) ])
 
--- how often a member is among one more of these
+-- the number of times that a member is among these and one more
 pub next_time : (m : ℕ) (ms : List ℕ) (i : ℕ) → i < length ms → times m (take (i + 1) ms) ≡ times m (take i ms) + cond (eqb (slice_index ms i) m) 1 0
 next_time m ms i in' = ap (λ (k : ℕ). times m (take k ms)) next ∙ one_more ms i in'
   where
@@ -44,7 +44,7 @@ next_time m ms i in' = ap (λ (k : ℕ). times m (take k ms)) next ∙ one_more 
     one_more (x ∷ ms) zero in' = turned (cond (eqb x m) 1 0)
     one_more (x ∷ ms) (suc i) in' = ap (λ (n : ℕ). cond (eqb x m) 1 0 + n) (one_more ms i (omega arith)) ∙ grouped (cond (eqb x m) 1 0) (times m (take i ms)) (cond (eqb (slice_index ms i) m) 1 0)
 
--- that is at most how many these are
+-- it is at most the number of these
 pub times_at_most : (m : ℕ) (ms : List ℕ) (i : ℕ) → times m (take i ms) ≤ i
 times_at_most m ms zero = omega arith
 times_at_most m [] (suc i) = omega arith
@@ -94,7 +94,7 @@ room_next spare ms i m in' room = at (eqb (slice_index ms i) m) refl (next_time 
     at true e next = inr (sym (eqb-true (slice_index ms i) m e))
     at false e next = inl (omega arith)
 
--- what lies behind a place, where that is beyond the end
+-- the rest of a list from an index on, if that is beyond the end
 drop_min : {A : Type 0} (xs : List A) (n k : ℕ) → k ≡ min n (length xs) → drop k xs ≡ drop n xs
 drop_min [] zero zero e = refl
 drop_min [] zero (suc k) e = absurd (omega arith)
@@ -115,7 +115,7 @@ take_min (x ∷ xs) zero (suc k) e = absurd (omega arith)
 take_min (x ∷ xs) (suc n) zero e = absurd (omega arith)
 take_min (x ∷ xs) (suc n) (suc k) e = ap (λ z. x ∷ z) (take_min xs n k (omega arith))
 
--- the end of a list from a place on, which is at most its length
+-- the end of a list from an index on, which is at most its length
 pub end_from : {A : Type 0} (xs : List A) (n k : ℕ) → k ≡ min n (length xs) → take (length xs - k) (drop k xs) ≡ drop n xs
 end_from xs n k e = whole (drop k xs) (length xs - k) (length-drop k xs) ∙ drop_min xs n k e
   where
@@ -125,7 +125,7 @@ end_from xs n k e = whole (drop k xs) (length xs - k) (length-drop k xs) ∙ dro
     whole (y ∷ ys) zero h = absurd (omega arith)
     whole (y ∷ ys) (suc m) h = ap (λ z. y ∷ z) (whole ys m (omega arith))
 
--- this many of the replies from a place on, cut where they end
+-- at most `m` of the replies from an index on, cut at their end
 pub page_end : (rows : List (List ℕ)) (end part : List (ArrayVec ℕ)) (n m c : ℕ) → texts end ≡ drop n rows → c ≡ min m (length end) → part ≡ take c end → texts part ≡ take m (drop n rows)
 page_end rows end part n m c is count cut =
     ap texts cut
@@ -133,7 +133,7 @@ page_end rows end part n m c is count cut =
     ∙ take_min (texts end) m c (count ∙ ap (min m) (sym (length-map end (λ (x : ArrayVec ℕ). x.items))))
     ∙ ap (take m) is
 
--- the row of a member, where the list has it
+-- the row of a member, if the list has it
 pub row_at : (rows : List (Vec (ArrayVec ℕ))) (i : ℕ) (x : Vec (ArrayVec ℕ)) → i < length rows → x ≡ get_or rows i x → row_of (map row_texts rows) i ≡ row_texts x
 row_at [] i x in' is = absurd (omega arith)
 row_at (y ∷ rows) zero x in' is = sym (ap row_texts is)
@@ -165,18 +165,18 @@ pub room_left : (rows : List (Vec (ArrayVec ℕ))) (i : ℕ) (x y : Vec (ArrayVe
 room_left rows i x y ms in' small is len capacity room m l =
     room_set row_spare rows i y (λ k. times k ms) m in' (omega (arith, has_room rows i x ms in' small is room)) (inl (omega (arith, room m l)))
 
--- the first replies of a row, where this many are told
-pub row_told : (rows : List (Vec (ArrayVec ℕ))) (counts : List ℕ) (m : ℕ) (row : Vec (ArrayVec ℕ)) (items : List (ArrayVec ℕ)) (n k : ℕ) → m < length rows → m < length counts
+-- the published replies of a row are its first ones
+pub row_published : (rows : List (Vec (ArrayVec ℕ))) (counts : List ℕ) (m : ℕ) (row : Vec (ArrayVec ℕ)) (items : List (ArrayVec ℕ)) (n k : ℕ) → m < length rows → m < length counts
     → row ≡ get_or rows m row → items ≡ row.items → n ≡ get_or counts m n → k ≡ min n (length items)
     → texts (take k items) ≡ take (slice_index counts m) (row_of (map row_texts rows) m)
-row_told rows counts m row items n k in_rows in_counts is same at least =
+row_published rows counts m row items n k in_rows in_counts is same at least =
     ap texts (take_min items n k least)
     ∙ sym (take-map (λ (x : ArrayVec ℕ). x.items) n items)
     ∙ ap (λ (l : List (ArrayVec ℕ)). take n (texts l)) same
     ∙ ap (take n) (sym (row_at rows m row in_rows is))
     ∙ ap (λ j. take j (row_of (map row_texts rows) m)) (get_or_read counts m n in_counts at 0)
 
--- a member is among the first of these as often as among all at most
+-- a member occurs among the first of these no more often than among all
 pub times_of_first : (m : ℕ) (ms : List ℕ) (i : ℕ) → times m (take i ms) ≤ times m ms
 times_of_first m ms zero = omega arith
 times_of_first m [] (suc i) = omega arith
@@ -185,13 +185,13 @@ times_of_first m (x ∷ ms) (suc i) = at (cond (eqb x m) 1 0) (times m (take i m
     at : (b n k : ℕ) → n ≤ k → b + n ≤ b + k
     at b n k l = omega arith
 
--- one more of these members is told
-pub one_told : (counts old members : List ℕ) (rows : List (Vec (ArrayVec ℕ))) (row : Vec (ArrayVec ℕ)) (i place n : ℕ) → i < length members → place < length counts → place < length rows
+-- the reply to one more of these members is published
+pub one_published : (counts old members : List ℕ) (rows : List (Vec (ArrayVec ℕ))) (row : Vec (ArrayVec ℕ)) (i place n : ℕ) → i < length members → place < length counts → place < length rows
     → place ≡ slice_index members i → n ≡ get_or counts place n → row ≡ get_or rows place row
     → slice_index counts place ≡ slice_index old place + times place (take i members)
     → slice_index old place + times place members ≤ length (row_of (map row_texts rows) place)
     → (n ≡ slice_index counts place) × (n < length row.items)
-one_told counts old members rows row i place n within in_counts in_rows is at here all room =
+one_published counts old members rows row i place n within in_counts in_rows is at here all room =
     let read : n ≡ slice_index counts place = get_or_read counts place n in_counts at 0 in
     let once : ◌≡◌ {A = ℕ} (cond (eqb (slice_index members i) place) 1 0) 1 = ap (λ (b : Bool). cond b 1 0) (eq-eqb (slice_index members i) place (sym is)) in
     let row_is : length (row_of (map row_texts rows) place) ≡ length row.items = ap (λ (r : List (List ℕ)). length r) (row_at rows place row in_rows here) ∙ length-map row.items (λ (x : ArrayVec ℕ). x.items) in

@@ -7,12 +7,12 @@ use Rattle.hx_itch.specs.declared.message.Feed.{Feed}
 use Rattle.hx_itch.specs.Message.{feed_bytes}
 use Rattle.hx_desk.specs.Entries.{feed_spelled}
 
--- what holds where there is no error
+-- what holds if there is no error
 pub on_ok : {T E : Type 0} (r : Result T E) (P : Type 0) → is_err r ≡ false → OnOk r P → P
 on_ok (Ok x) P f h = h
 on_ok (Err e) P f h = absurd (let z : true ≡ false = f in cc)
 
--- the rest of a list begins with the element at its place
+-- the rest of a list begins with the element at its index
 pub rest_at : {A : Type 0} (xs : List A) (i : ℕ) (d : A) → i < length xs → drop i xs ≡ get_or xs i d ∷ drop (i + 1) xs
 rest_at xs i d in' = drop-cons xs i d in' ∙ ap (λ k. get_or xs i d ∷ drop k xs) (let e : suc i ≡ i + 1 = omega arith in e)
 

@@ -13,10 +13,10 @@ use Rattle.hx_market.specs.Markets.{Market, opening}
 use Rattle.hx_market.specs.Outputs.{Reply}
 use Rattle.hx_market.specs.Refusals.{refusal}
 use Rattle.hx_laws.specs.Recorded.{AreAccepted, AreRecorded}
-use Rattle.hx_market.specs.Steps.{step, market_after, told_from, run, told, feed_of, replies_among, replies_of, feed, replies}
+use Rattle.hx_market.specs.Steps.{step, market_after, outputs_from, run, output, feed_of, replies_among, replies_of, feed, replies}
 use Rattle.hx_desk.specs.declared.entry.Entry.{Entry}
 use Rattle.hx_desk.specs.declared.mark.Mark.{Mark}
-use Rattle.hx_desk.specs.Rows.{RowList, row_of, no_rows, replies_spelled, with_reply, with_replies, members_of, times, shown, RoomyRows, told_row}
+use Rattle.hx_desk.specs.Rows.{RowList, row_of, no_rows, replies_spelled, with_reply, with_replies, members_of, times, shown, RoomyRows, published_row}
 use Rattle.hx_desk.specs.Entries.{events_of, feed_spelled, ledger_from, ledger}
 use Rattle.hx_blog.specs.Ends.{WriterState}
 use Rattle.hx_market.specs.MarketModel.{Seen}
@@ -25,7 +25,7 @@ use Rattle.hx_desk.specs.InStep.{IsMark, AreInStep, replies_after}
 use Rattle.hx_blog.proofs.Feeds.{feed-append}
 use Rattle.hx_desk.proofs.Growth.{replies_append}
 
--- One event more.
+-- One more event.
 
 market_more : (setup : Setup) (a : Market) (xs : List Event) (e : Event) → market_after setup a (xs ++ e ∷ []) ≡ (step setup (market_after setup a xs) e).market
 unfolding market_after
@@ -33,17 +33,17 @@ market_more setup a [] e = refl
 market_more setup a (x ∷ xs) e = market_more setup (step setup a x).market xs e
 
 ledger_more : (setup : Setup) (a : Market) (xs : List Entry) (e : Entry)
-    → ledger_from setup a (xs ++ e ∷ []) ≡ ledger_from setup a xs ++ (e, feed_spelled (step setup (market_after setup a (events_of xs)) e.event).told.feed) ∷ []
+    → ledger_from setup a (xs ++ e ∷ []) ≡ ledger_from setup a xs ++ (e, feed_spelled (step setup (market_after setup a (events_of xs)) e.event).output.feed) ∷ []
 unfolding ledger_from market_after
 ledger_more setup a [] e = refl
-ledger_more setup a (x ∷ xs) e = ap (λ (l : blog.Entries Entry). (x, feed_spelled (step setup a x.event).told.feed) ∷ l) (ledger_more setup (step setup a x.event).market xs e)
+ledger_more setup a (x ∷ xs) e = ap (λ (l : blog.Entries Entry). (x, feed_spelled (step setup a x.event).output.feed) ∷ l) (ledger_more setup (step setup a x.event).market xs e)
 
 replies_more : (setup : Setup) (a : Market) (p : ℕ) (xs : List Event) (e : Event)
-    → replies_of p (told_from setup a (xs ++ e ∷ [])) ≡ replies_of p (told_from setup a xs) ++ replies_among p (step setup (market_after setup a xs) e).told.replies
-unfolding told_from
+    → replies_of p (outputs_from setup a (xs ++ e ∷ [])) ≡ replies_of p (outputs_from setup a xs) ++ replies_among p (step setup (market_after setup a xs) e).output.replies
+unfolding outputs_from
 replies_more setup a p xs e =
     replies_append setup a p xs (e ∷ [])
-    ∙ ap (λ (l : List Outbound). replies_of p (told_from setup a xs) ++ l) (append-nil (replies_among p (step setup (market_after setup a xs) e).told.replies))
+    ∙ ap (λ (l : List Outbound). replies_of p (outputs_from setup a xs) ++ l) (append-nil (replies_among p (step setup (market_after setup a xs) e).output.replies))
 
 -- The events that are accepted.
 
@@ -54,16 +54,16 @@ accepted_push setup a (y ∷ xs) x h r = (h.0, accepted_push setup (step setup a
 
 -- The feed that is published.
 
-published_from : (setup : Setup) (a : Market) (xs : List Entry) → blog.feed (ledger_from setup a xs) ≡ feed_spelled (feed_of (told_from setup a (events_of xs)))
-unfolding ledger_from told_from
+published_from : (setup : Setup) (a : Market) (xs : List Entry) → blog.feed (ledger_from setup a xs) ≡ feed_spelled (feed_of (outputs_from setup a (events_of xs)))
+unfolding ledger_from outputs_from
 published_from setup a [] = refl
 published_from setup a (x ∷ xs) =
     let o = step setup a x.event in
-    ap (λ (l : List (List ℕ)). feed_spelled o.told.feed ++ l) (published_from setup o.market xs)
-    ∙ sym (map-append feed_bytes o.told.feed (feed_of (told_from setup o.market (events_of xs))))
+    ap (λ (l : List (List ℕ)). feed_spelled o.output.feed ++ l) (published_from setup o.market xs)
+    ∙ sym (map-append feed_bytes o.output.feed (feed_of (outputs_from setup o.market (events_of xs))))
 
 pub published_is : (setup : Setup) (history : List Entry) → blog.feed (ledger setup history) ≡ feed_spelled (feed setup (events_of history))
-unfolding ledger feed told
+unfolding ledger feed output
 published_is setup history = published_from setup (opening setup) history
 
 -- The rows.
@@ -138,7 +138,7 @@ ledger_take_from : (setup : Setup) (a : Market) (n : ℕ) (h : List Entry) → l
 unfolding ledger_from
 ledger_take_from setup a zero h = refl
 ledger_take_from setup a (suc n) [] = refl
-ledger_take_from setup a (suc n) (x ∷ h) = ap (λ (l : blog.Entries Entry). (x, feed_spelled (step setup a x.event).told.feed) ∷ l) (ledger_take_from setup (step setup a x.event).market n h)
+ledger_take_from setup a (suc n) (x ∷ h) = ap (λ (l : blog.Entries Entry). (x, feed_spelled (step setup a x.event).output.feed) ∷ l) (ledger_take_from setup (step setup a x.event).market n h)
 
 pub ledger_take : (setup : Setup) (n : ℕ) (h : List Entry) → ledger setup (take n h) ≡ take n (ledger setup h)
 unfolding ledger
@@ -157,15 +157,15 @@ same_rest xs ys zs e = sym (drop-append_seam xs ys) ∙ (ap (drop (length xs)) e
 
 -- the replies after a history begin with those after its beginning
 pub replies_begin : (setup : Setup) (p : ℕ) (n : ℕ) (h : List Entry) → (rest : List (List ℕ)) × (replies_after setup p (take n h) ++ rest ≡ replies_after setup p h)
-unfolding replies told
+unfolding replies output
 replies_begin setup p n h =
     let xs = events_of (take n h) in
     let ys = events_of (drop n h) in
-    let more = replies_of p (told_from setup (market_after setup (opening setup) xs) ys) in
+    let more = replies_of p (outputs_from setup (market_after setup (opening setup) xs) ys) in
     let all : xs ++ ys ≡ events_of h = sym (map-append (λ (e : Entry). e.event) (take n h) (drop n h)) ∙ ap events_of (take-append-drop n h) in (
       replies_spelled more,
-      sym (map-append outbound_bytes (replies_of p (told_from setup (opening setup) xs)) more)
-          ∙ ap replies_spelled (sym (replies_append setup (opening setup) p xs ys) ∙ ap (λ (es : List Event). replies_of p (told_from setup (opening setup) es)) all),
+      sym (map-append outbound_bytes (replies_of p (outputs_from setup (opening setup) xs)) more)
+          ∙ ap replies_spelled (sym (replies_append setup (opening setup) p xs ys) ∙ ap (λ (es : List Event). replies_of p (outputs_from setup (opening setup) es)) all),
     )
 
 accepted_front : (setup : Setup) (a : Market) (xs ys : List Event) → AreAccepted setup a (xs ++ ys) → AreAccepted setup a xs
@@ -183,7 +183,7 @@ fewer_replies setup p n h =
     let b = replies_begin setup p n h in
     omega (arith, sym (ap (λ (l : List (List ℕ)). length l) b.1) ∙ length-append (replies_after setup p (take n h)) b.0)
 
--- How often members are told.
+-- The number of times that members are answered.
 
 times_more : (m : ℕ) (xs ys : List ℕ) → times m (xs ++ ys) ≡ times m xs + times m ys
 times_more m [] ys = omega arith
@@ -236,51 +236,51 @@ mark_more setup h e mark is =
     record {
       within = omega (arith, is.within, length-append h (e ∷ []));
       messages = is.messages ∙ ap (λ (k : List Entry). length (blog.feed (ledger setup k))) same;
-      hours = is.hours ∙ ap (λ (k : List Entry). (run setup (events_of k)).hours) same;
+      phase = is.phase ∙ ap (λ (k : List Entry). (run setup (events_of k)).phase) same;
     }
 
 -- The parts of a desk.
 
-pub stands : (d : DeskState) (staged : List (List ℕ)) (rows : RowList) (counts : List ℕ) (told sealed : Mark) (flying waiting : List ℕ)
-    → AreInStep d.setup d.market d.published staged d.history rows counts told sealed flying waiting
-    → d.told ≡ told.entries → d.sealed ≡ sealed.entries → d.rows ≡ shown counts rows → IsStanding d
-stands d staged rows counts told sealed flying waiting s is_told is_sealed is_shown =
-    let same : take told.entries d.history ≡ take d.told d.history = ap (λ n. take n d.history) (sym is_told) in
+pub stands : (d : DeskState) (staged : List (List ℕ)) (rows : RowList) (counts : List ℕ) (published_end sealed : Mark) (writing waiting : List ℕ)
+    → AreInStep d.setup d.market d.published staged d.history rows counts published_end sealed writing waiting
+    → d.published_end ≡ published_end.entries → d.sealed ≡ sealed.entries → d.rows ≡ shown counts rows → IsStanding d
+stands d staged rows counts published_end sealed writing waiting s is_published is_sealed is_shown =
+    let same : take published_end.entries d.history ≡ take d.published_end d.history = ap (λ n. take n d.history) (sym is_published) in
     record {
-      order = omega (arith, s.order, is_told, is_sealed);
+      order = omega (arith, s.order, is_published, is_sealed);
       within = omega (arith, s.sealed_mark.within, is_sealed);
       market = s.runs;
       accepted = s.accepted;
-      published = s.told_feed ∙ ap (ledger d.setup) same;
+      published = s.published_feed ∙ ap (ledger d.setup) same;
       rows = λ p l.
-          let b = replies_begin d.setup p told.entries d.history in
+          let b = replies_begin d.setup p published_end.entries d.history in
           ap (λ (r : RowList). row_of r p) is_shown
           ∙ shown_row counts rows p (omega (arith, s.sized_counts)) (omega (arith, s.sized_rows))
-          ∙ ap (λ n. take n (row_of rows p)) (s.told_replies p l)
-          ∙ ap (take (length (replies_after d.setup p (take told.entries d.history)))) (s.replies p l ∙ sym b.1)
-          ∙ take-append_seam (replies_after d.setup p (take told.entries d.history)) b.0
+          ∙ ap (λ n. take n (row_of rows p)) (s.published_replies p l)
+          ∙ ap (take (length (replies_after d.setup p (take published_end.entries d.history)))) (s.replies p l ∙ sym b.1)
+          ∙ take-append_seam (replies_after d.setup p (take published_end.entries d.history)) b.0
           ∙ ap (λ (k : List Entry). replies_after d.setup p k) same;
     }
 
-pub desk_stands : (w : WriterState Entry) (seen : Seen) (h : List Entry) (rows : RoomyRows) (told sealed : Mark) (kept : ℕ) (flying waiting : List ℕ)
-    → AreInStep seen.setup seen.market w.published w.staged h rows.rows rows.told told sealed flying waiting → IsStanding (desk_of w seen h rows told sealed kept)
-desk_stands w seen h rows told sealed kept flying waiting s = stands (desk_of w seen h rows told sealed kept) w.staged rows.rows rows.told told sealed flying waiting s refl refl refl
+pub desk_stands : (w : WriterState Entry) (seen : Seen) (h : List Entry) (rows : RoomyRows) (published_end sealed : Mark) (reserved : ℕ) (writing waiting : List ℕ)
+    → AreInStep seen.setup seen.market w.published w.staged h rows.rows rows.published_end published_end sealed writing waiting → IsStanding (desk_of w seen h rows published_end sealed reserved)
+desk_stands w seen h rows published_end sealed reserved writing waiting s = stands (desk_of w seen h rows published_end sealed reserved) w.staged rows.rows rows.published_end published_end sealed writing waiting s refl refl refl
 
--- what a member's row shows is what he was told
-pub shows : (rows : RoomyRows) (p : ℕ) → p < 4096 → length rows.told ≡ 4096 → length rows.rows ≡ 4096 → told_row rows p ≡ row_of (shown rows.told rows.rows) p
-shows rows p l told all = sym (shown_row rows.told rows.rows p (omega (arith, told)) (omega (arith, all)))
+-- what a member's row shows are the published replies to the member
+pub shows : (rows : RoomyRows) (p : ℕ) → p < 4096 → length rows.published_end ≡ 4096 → length rows.rows ≡ 4096 → published_row rows p ≡ row_of (shown rows.published_end rows.rows) p
+shows rows p l published_end all = sym (shown_row rows.published_end rows.rows p (omega (arith, published_end)) (omega (arith, all)))
 
-pub starts : (setup : Setup) (market : Market) (published : blog.Entries Entry) (staged : List (List ℕ)) (h : List Entry) (rows : RowList) (counts : List ℕ) (start : Mark) (flying waiting : List ℕ)
+pub starts : (setup : Setup) (market : Market) (published : blog.Entries Entry) (staged : List (List ℕ)) (h : List Entry) (rows : RowList) (counts : List ℕ) (start : Mark) (writing waiting : List ℕ)
     → market ≡ opening setup → published ≡ [] → staged ≡ [] → h ≡ [] → rows ≡ no_rows → counts ≡ replicate 4096 0
-    → start.entries ≡ 0 → start.messages ≡ 0 → start.hours ≡ market.hours → flying ≡ [] → waiting ≡ []
-    → AreInStep setup market published staged h rows counts start start flying waiting
-unfolding run market_after ledger ledger_from replies told told_from
-starts setup market published staged h rows counts start flying waiting opens nothing unstaged empty is_empty zero_counts at_start no_messages hours nobody nobody' =
+    → start.entries ≡ 0 → start.messages ≡ 0 → start.phase ≡ market.phase → writing ≡ [] → waiting ≡ []
+    → AreInStep setup market published staged h rows counts start start writing waiting
+unfolding run market_after ledger ledger_from replies output outputs_from
+starts setup market published staged h rows counts start writing waiting opens nothing unstaged empty is_empty zero_counts at_start no_messages phase nobody nobody' =
     let none : take start.entries h ≡ h = take_whole h start.entries (omega (arith, at_start, ap (λ (k : List Entry). length k) empty)) in
     let mark : IsMark setup h start = record {
       within = omega (arith, at_start);
       messages = no_messages ∙ ap (λ (k : List Entry). length (blog.feed (ledger setup k))) (sym (none ∙ empty));
-      hours = hours ∙ (ap (λ (m : Market). m.hours) opens ∙ ap (λ (k : List Entry). (run setup (events_of k)).hours) (sym (none ∙ empty)));
+      phase = phase ∙ (ap (λ (m : Market). m.phase) opens ∙ ap (λ (k : List Entry). (run setup (events_of k)).phase) (sym (none ∙ empty)));
     } in
     let row : (p : ℕ) → row_of rows p ≡ replies_after setup p h = λ p. ap (λ (r : RowList). row_of r p) is_empty ∙ (row_of_none 4096 p ∙ ap (λ (k : List Entry). replies_after setup p k) (sym empty)) in
     let count : (p : ℕ) → slice_index counts p ≡ length (replies_after setup p h) =
@@ -289,38 +289,38 @@ starts setup market published staged h rows counts start flying waiting opens no
     record {
       runs = opens ∙ ap (λ (k : List Entry). run setup (events_of k)) (sym empty);
       accepted = subst (λ (k : List Entry). AreRecorded setup (events_of k)) (sym empty) tt;
-      told_mark = mark;
+      published_mark = mark;
       sealed_mark = mark;
       order = omega arith;
-      told_feed = nothing ∙ ap (ledger setup) (sym (none ∙ empty));
+      published_feed = nothing ∙ ap (ledger setup) (sym (none ∙ empty));
       all_feed = (λ i. blog.feed (nothing i) ++ unstaged i) ∙ ap (λ (k : List Entry). blog.feed (ledger setup k)) (sym empty);
       sized_rows = ap (λ (r : RowList). length r) is_empty ∙ length-replicate {A = List (List ℕ)} 4096 [];
       sized_counts = ap (λ (k : List ℕ). length k) zero_counts ∙ length-replicate {A = ℕ} 4096 0;
       replies = λ p l. row p;
-      told_replies = λ p l. before p;
+      published_replies = λ p l. before p;
       flying_replies = λ p l. omega (arith, before p, ap (λ (k : List ℕ). times p k) nobody);
       all_replies = λ p l. omega (arith, count p, ap (λ (k : List ℕ). times p k) nobody, ap (λ (k : List ℕ). times p k) nobody');
     }
 
--- One entry more.
+-- One more entry.
 
 replies_next : (setup : Setup) (market : Market) (p : ℕ) (h : List Entry) (e : Entry) → market ≡ run setup (events_of h)
-    → replies_after setup p (h ++ e ∷ []) ≡ replies_after setup p h ++ replies_spelled (replies_among p (step setup market e.event).told.replies)
-unfolding run replies told
+    → replies_after setup p (h ++ e ∷ []) ≡ replies_after setup p h ++ replies_spelled (replies_among p (step setup market e.event).output.replies)
+unfolding run replies output
 replies_next setup market p h e runs =
     ap (λ (es : List Event). replies_spelled (replies setup p es)) (map-append (λ (x : Entry). x.event) h (e ∷ []))
     ∙ ap replies_spelled (replies_more setup (opening setup) p (events_of h) e.event)
-    ∙ map-append outbound_bytes (replies setup p (events_of h)) (replies_among p (step setup (run setup (events_of h)) e.event).told.replies)
-    ∙ ap (λ (m : Market). replies_after setup p h ++ replies_spelled (replies_among p (step setup m e.event).told.replies)) (sym runs)
+    ∙ map-append outbound_bytes (replies setup p (events_of h)) (replies_among p (step setup (run setup (events_of h)) e.event).output.replies)
+    ∙ ap (λ (m : Market). replies_after setup p h ++ replies_spelled (replies_among p (step setup m e.event).output.replies)) (sym runs)
 
 feed_next : (setup : Setup) (market : Market) (h : List Entry) (e : Entry) → market ≡ run setup (events_of h)
-    → blog.feed (ledger setup (h ++ e ∷ [])) ≡ blog.feed (ledger setup h) ++ feed_spelled (step setup market e.event).told.feed
+    → blog.feed (ledger setup (h ++ e ∷ [])) ≡ blog.feed (ledger setup h) ++ feed_spelled (step setup market e.event).output.feed
 unfolding run ledger
 feed_next setup market h e runs =
     ap blog.feed (ledger_more setup (opening setup) h e)
-    ∙ feed-append (ledger setup h) ((e, feed_spelled (step setup (run setup (events_of h)) e.event).told.feed) ∷ [])
-    ∙ ap (λ (l : List (List ℕ)). blog.feed (ledger setup h) ++ l) (append-nil (feed_spelled (step setup (run setup (events_of h)) e.event).told.feed))
-    ∙ ap (λ (m : Market). blog.feed (ledger setup h) ++ feed_spelled (step setup m e.event).told.feed) (sym runs)
+    ∙ feed-append (ledger setup h) ((e, feed_spelled (step setup (run setup (events_of h)) e.event).output.feed) ∷ [])
+    ∙ ap (λ (l : List (List ℕ)). blog.feed (ledger setup h) ++ l) (append-nil (feed_spelled (step setup (run setup (events_of h)) e.event).output.feed))
+    ∙ ap (λ (m : Market). blog.feed (ledger setup h) ++ feed_spelled (step setup m e.event).output.feed) (sym runs)
 
 market_next : (setup : Setup) (market : Market) (h : List Entry) (e : Entry) → market ≡ run setup (events_of h)
     → (step setup market e.event).market ≡ run setup (events_of (h ++ e ∷ []))
@@ -337,21 +337,21 @@ accepted_next setup market h e runs all fits =
     subst (AreRecorded setup) (sym (map-append (λ (x : Entry). x.event) h (e ∷ [])))
     (accepted_push setup (opening setup) (events_of h) e.event all (subst (λ (m : Market). refusal setup m.recorded e.event ≡ None) runs fits))
 
-pub grown : (setup : Setup) (market : Market) (published : blog.Entries Entry) (staged : List (List ℕ)) (h : List Entry) (rows : RowList) (counts : List ℕ) (told sealed : Mark) (flying waiting : List ℕ) (e : Entry)
-    → AreInStep setup market published staged h rows counts told sealed flying waiting → refusal setup market.recorded e.event ≡ None
-    → AreInStep setup (step setup market e.event).market published (staged ++ feed_spelled (step setup market e.event).told.feed) (h ++ e ∷ [])
-    (with_replies rows (step setup market e.event).told.replies) counts told sealed flying (waiting ++ members_of (step setup market e.event).told.replies)
-grown setup market published staged h rows counts told sealed flying waiting e s fits =
-    let rs = (step setup market e.event).told.replies in
-    let ms = feed_spelled (step setup market e.event).told.feed in
+pub grown : (setup : Setup) (market : Market) (published : blog.Entries Entry) (staged : List (List ℕ)) (h : List Entry) (rows : RowList) (counts : List ℕ) (published_end sealed : Mark) (writing waiting : List ℕ) (e : Entry)
+    → AreInStep setup market published staged h rows counts published_end sealed writing waiting → refusal setup market.recorded e.event ≡ None
+    → AreInStep setup (step setup market e.event).market published (staged ++ feed_spelled (step setup market e.event).output.feed) (h ++ e ∷ [])
+    (with_replies rows (step setup market e.event).output.replies) counts published_end sealed writing (waiting ++ members_of (step setup market e.event).output.replies)
+grown setup market published staged h rows counts published_end sealed writing waiting e s fits =
+    let rs = (step setup market e.event).output.replies in
+    let ms = feed_spelled (step setup market e.event).output.feed in
     let before : (n : ℕ) → n ≤ length h → take n h ≡ take n (h ++ e ∷ []) = λ n l. sym (take_more n h e l) in
     record {
       runs = market_next setup market h e s.runs;
       accepted = accepted_next setup market h e s.runs s.accepted fits;
-      told_mark = mark_more setup h e told s.told_mark;
+      published_mark = mark_more setup h e published_end s.published_mark;
       sealed_mark = mark_more setup h e sealed s.sealed_mark;
       order = s.order;
-      told_feed = s.told_feed ∙ ap (ledger setup) (before told.entries s.told_mark.within);
+      published_feed = s.published_feed ∙ ap (ledger setup) (before published_end.entries s.published_mark.within);
       all_feed = sym (append_assoc (blog.feed published) staged ms) ∙ (ap (λ (l : List (List ℕ)). l ++ ms) s.all_feed ∙ sym (feed_next setup market h e s.runs));
       sized_rows = length-with_replies rows rs ∙ s.sized_rows;
       sized_counts = s.sized_counts;
@@ -359,7 +359,7 @@ grown setup market published staged h rows counts told sealed flying waiting e s
           row_with_replies rows rs p (omega (arith, s.sized_rows))
           ∙ ap (λ (r : List (List ℕ)). r ++ replies_spelled (replies_among p rs)) (s.replies p l)
           ∙ sym (replies_next setup market p h e s.runs);
-      told_replies = λ p l. s.told_replies p l ∙ ap (λ (k : List Entry). length (replies_after setup p k)) (before told.entries s.told_mark.within);
+      published_replies = λ p l. s.published_replies p l ∙ ap (λ (k : List Entry). length (replies_after setup p k)) (before published_end.entries s.published_mark.within);
       flying_replies = λ p l. s.flying_replies p l ∙ ap (λ (k : List Entry). length (replies_after setup p k)) (before sealed.entries s.sealed_mark.within);
       all_replies = λ p l.
           omega (
@@ -372,50 +372,50 @@ grown setup market published staged h rows counts told sealed flying waiting e s
           );
     }
 
-pub grown_to : (setup setup' : Setup) (market market' : Market) (published published' : blog.Entries Entry) (staged staged' : List (List ℕ)) (h h' : List Entry) (rows rows' : RowList) (counts counts' : List ℕ) (told sealed : Mark)
-    (flying waiting waiting' : List ℕ) (e : Entry)
-    → AreInStep setup market published staged h rows counts told sealed flying waiting → refusal setup market.recorded e.event ≡ None
-    → setup' ≡ setup → market' ≡ (step setup market e.event).market → published' ≡ published → staged' ≡ staged ++ feed_spelled (step setup market e.event).told.feed → h' ≡ h ++ e ∷ []
-    → rows' ≡ with_replies rows (step setup market e.event).told.replies → counts' ≡ counts → waiting' ≡ waiting ++ members_of (step setup market e.event).told.replies
-    → AreInStep setup' market' published' staged' h' rows' counts' told sealed flying waiting'
-grown_to setup setup' market market' published published' staged staged' h h' rows rows' counts counts' told sealed flying waiting waiting' e s fits p q r t u v w x =
-    subst (λ (z : Setup × Market × blog.Entries Entry × List (List ℕ) × List Entry × RowList × List ℕ × List ℕ). AreInStep z.0 z.1 z.2 z.3 z.4 z.5 z.6 told sealed flying z.7)
+pub grown_to : (setup setup' : Setup) (market market' : Market) (published published' : blog.Entries Entry) (staged staged' : List (List ℕ)) (h h' : List Entry) (rows rows' : RowList) (counts counts' : List ℕ) (published_end sealed : Mark)
+    (writing waiting waiting' : List ℕ) (e : Entry)
+    → AreInStep setup market published staged h rows counts published_end sealed writing waiting → refusal setup market.recorded e.event ≡ None
+    → setup' ≡ setup → market' ≡ (step setup market e.event).market → published' ≡ published → staged' ≡ staged ++ feed_spelled (step setup market e.event).output.feed → h' ≡ h ++ e ∷ []
+    → rows' ≡ with_replies rows (step setup market e.event).output.replies → counts' ≡ counts → waiting' ≡ waiting ++ members_of (step setup market e.event).output.replies
+    → AreInStep setup' market' published' staged' h' rows' counts' published_end sealed writing waiting'
+grown_to setup setup' market market' published published' staged staged' h h' rows rows' counts counts' published_end sealed writing waiting waiting' e s fits p q r t u v w x =
+    subst (λ (z : Setup × Market × blog.Entries Entry × List (List ℕ) × List Entry × RowList × List ℕ × List ℕ). AreInStep z.0 z.1 z.2 z.3 z.4 z.5 z.6 published_end sealed writing z.7)
     (λ i. (sym p i, sym q i, sym r i, sym t i, sym u i, sym v i, sym w i, sym x i))
-    (grown setup market published staged h rows counts told sealed flying waiting e s fits)
+    (grown setup market published staged h rows counts published_end sealed writing waiting e s fits)
 
--- and it tells nothing
-pub still_shown : (setup : Setup) (market : Market) (published : blog.Entries Entry) (staged : List (List ℕ)) (h : List Entry) (rows : RowList) (counts : List ℕ) (told sealed : Mark) (flying waiting : List ℕ) (rs : List Reply)
-    → AreInStep setup market published staged h rows counts told sealed flying waiting → shown counts (with_replies rows rs) ≡ shown counts rows
-still_shown setup market published staged h rows counts told sealed flying waiting rs s =
+-- and it publishes nothing
+pub still_shown : (setup : Setup) (market : Market) (published : blog.Entries Entry) (staged : List (List ℕ)) (h : List Entry) (rows : RowList) (counts : List ℕ) (published_end sealed : Mark) (writing waiting : List ℕ) (rs : List Reply)
+    → AreInStep setup market published staged h rows counts published_end sealed writing waiting → shown counts (with_replies rows rs) ≡ shown counts rows
+still_shown setup market published staged h rows counts published_end sealed writing waiting rs s =
     shown_same counts rows (with_replies rows rs) (length-with_replies rows rs)
     (λ p l.
     ap (take (slice_index counts p)) (row_with_replies rows rs p l)
     ∙ take-append-le (slice_index counts p) (row_of rows p) (replies_spelled (replies_among p rs))
-    (omega (arith, s.told_replies p (omega (arith, s.sized_rows)), fewer_replies setup p told.entries h, ap (λ (r : List (List ℕ)). length r) (s.replies p (omega (arith, s.sized_rows))))))
+    (omega (arith, s.published_replies p (omega (arith, s.sized_rows)), fewer_replies setup p published_end.entries h, ap (λ (r : List (List ℕ)). length r) (s.replies p (omega (arith, s.sized_rows))))))
 
--- What is in flight is told.
+-- The sealed entries are published.
 
--- the messages of what is in flight are the first ones that are staged
-pub flying_staged : (setup : Setup) (published : blog.Entries Entry) (staged : List (List ℕ)) (h : List Entry) (told sealed : Mark) → told.entries ≤ sealed.entries
-    → published ≡ ledger setup (take told.entries h) → blog.feed published ++ staged ≡ blog.feed (ledger setup h)
-    → blog.feed (drop told.entries (take sealed.entries (ledger setup h))) ++ blog.feed (drop sealed.entries (ledger setup h)) ≡ staged
-flying_staged setup published staged h told sealed order is all =
+-- the messages of the sealed entries are the first ones that are staged
+pub flying_staged : (setup : Setup) (published : blog.Entries Entry) (staged : List (List ℕ)) (h : List Entry) (published_end sealed : Mark) → published_end.entries ≤ sealed.entries
+    → published ≡ ledger setup (take published_end.entries h) → blog.feed published ++ staged ≡ blog.feed (ledger setup h)
+    → blog.feed (drop published_end.entries (take sealed.entries (ledger setup h))) ++ blog.feed (drop sealed.entries (ledger setup h)) ≡ staged
+flying_staged setup published staged h published_end sealed order is all =
     let whole = ledger setup h in
-    let between = drop told.entries (take sealed.entries whole) in
+    let between = drop published_end.entries (take sealed.entries whole) in
     let left = drop sealed.entries whole in
-    let front : published ≡ take told.entries whole = is ∙ ledger_take setup told.entries h in
+    let front : published ≡ take published_end.entries whole = is ∙ ledger_take setup published_end.entries h in
     let parts : blog.feed published ++ (blog.feed between ++ blog.feed left) ≡ blog.feed whole =
     sym (append_assoc (blog.feed published) (blog.feed between) (blog.feed left))
-    ∙ ap (λ (l : List (List ℕ)). l ++ blog.feed left) (sym (feed-append published between) ∙ ap blog.feed (ap (λ (k : blog.Entries Entry). k ++ between) front ∙ take_between whole told.entries sealed.entries order))
+    ∙ ap (λ (l : List (List ℕ)). l ++ blog.feed left) (sym (feed-append published between) ∙ ap blog.feed (ap (λ (k : blog.Entries Entry). k ++ between) front ∙ take_between whole published_end.entries sealed.entries order))
     ∙ sym (feed-append (take sealed.entries whole) left)
     ∙ ap blog.feed (take-append-drop sealed.entries whole) in
     same_rest (blog.feed published) (blog.feed between ++ blog.feed left) staged (parts ∙ sym all)
 
-pub now_published : (setup : Setup) (published : blog.Entries Entry) (h : List Entry) (told sealed : Mark) → told.entries ≤ sealed.entries → published ≡ ledger setup (take told.entries h)
-    → published ++ drop told.entries (take sealed.entries (ledger setup h)) ≡ ledger setup (take sealed.entries h)
-now_published setup published h told sealed order is =
-    ap (λ (k : blog.Entries Entry). k ++ drop told.entries (take sealed.entries (ledger setup h))) (is ∙ ledger_take setup told.entries h)
-    ∙ take_between (ledger setup h) told.entries sealed.entries order
+pub now_published : (setup : Setup) (published : blog.Entries Entry) (h : List Entry) (published_end sealed : Mark) → published_end.entries ≤ sealed.entries → published ≡ ledger setup (take published_end.entries h)
+    → published ++ drop published_end.entries (take sealed.entries (ledger setup h)) ≡ ledger setup (take sealed.entries h)
+now_published setup published h published_end sealed order is =
+    ap (λ (k : blog.Entries Entry). k ++ drop published_end.entries (take sealed.entries (ledger setup h))) (is ∙ ledger_take setup published_end.entries h)
+    ∙ take_between (ledger setup h) published_end.entries sealed.entries order
     ∙ sym (ledger_take setup sealed.entries h)
 
 -- and the others stay staged
@@ -426,17 +426,11 @@ still_staged setup h n =
     ∙ sym (feed-append (take n whole) (drop n whole))
     ∙ ap blog.feed (take-append-drop n whole)
 
--- this many they are
-pub flying_count : (setup : Setup) (h : List Entry) (told sealed : Mark) → told.entries ≤ sealed.entries → IsMark setup h told → IsMark setup h sealed
-    → sealed.messages ≡ told.messages + length (blog.feed (drop told.entries (take sealed.entries (ledger setup h))))
-flying_count setup h told sealed order t s =
-    let between = drop told.entries (take sealed.entries (ledger setup h)) in
-    let front = ledger setup (take told.entries h) in
-    let all : front ++ between ≡ ledger setup (take sealed.entries h) = now_published setup front h told sealed order refl in
+-- the number of these messages
+pub flying_count : (setup : Setup) (h : List Entry) (published_end sealed : Mark) → published_end.entries ≤ sealed.entries → IsMark setup h published_end → IsMark setup h sealed
+    → sealed.messages ≡ published_end.messages + length (blog.feed (drop published_end.entries (take sealed.entries (ledger setup h))))
+flying_count setup h published_end sealed order t s =
+    let between = drop published_end.entries (take sealed.entries (ledger setup h)) in
+    let front = ledger setup (take published_end.entries h) in
+    let all : front ++ between ≡ ledger setup (take sealed.entries h) = now_published setup front h published_end sealed order refl in
     omega (arith, t.messages, s.messages, sym (ap (λ (k : blog.Entries Entry). length (blog.feed k)) all), ap (λ (l : List (List ℕ)). length l) (feed-append front between), length-append (blog.feed front) (blog.feed between))
-
-pub untold : (setup : Setup) (market : Market) (published : blog.Entries Entry) (staged : List (List ℕ)) (h : List Entry) (rows : RowList) (counts : List ℕ) (told sealed : Mark) (flying waiting : List ℕ)
-    → AreInStep setup market published staged h rows counts told sealed flying waiting
-    → (p : ℕ) → p < 4096 → slice_index counts p + times p flying ≤ length (row_of rows p)
-untold setup market published staged h rows counts told sealed flying waiting s p l =
-    omega (arith, s.flying_replies p l, fewer_replies setup p sealed.entries h, ap (λ (r : List (List ℕ)). length r) (s.replies p l))

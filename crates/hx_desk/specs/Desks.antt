@@ -1,5 +1,5 @@
 -- What contracts see of a desk.
-use Rattle.std.specs.Prelude.{◌≡◌, ℕ, ◌+◌, ◌-◌, ◌<◌, ◌≤◌, Bool, nat_le, List, [], ◌∷◌, ◌++◌, length, take, drop, Option, Some, None}
+use Rattle.std.specs.Prelude.{◌≡◌, ℕ, ◌+◌, ◌-◌, ◌<◌, ◌≤◌, Bool, nat_le, List, [], ◌∷◌, ◌++◌, length, take, Option, Some, None}
 use Rattle.hx_blog.specs.Feed.{Entries, feed}
 use Rattle.hx_blog.specs.Ends.{LogId, WriterState, room_of}
 use Rattle.hx_itch.specs.declared.message.Feed.{Feed}
@@ -23,47 +23,40 @@ use Rattle.hx_desk.specs.Rows.{RowList, RoomyRows, Part, row_of, row_count, no_r
 use Rattle.hx_desk.specs.Entries.{entry_of, restored, events_of, feed_spelled, ledger}
 use Rattle.hx_desk.specs.Secrecy.{IsFeedWithoutTrace, AreRepliesWithoutTrace}
 
--- A desk: its log and its setup; the history; how many of its entries are told, and how many are told
--- or in flight to where they are kept; its market; what is published in the log; the replies that each
--- member number was told; and how many slots of the log are kept for the hours.
+-- A desk: its log and its setup; the history; the number of its entries that are published, and of those that are
+-- published or sealed; its market; what is published in the log; the published replies to each member number; and the
+-- number of slots of the log that are reserved for the hours.
 pub record DeskState : Type 0 where
   pub log : LogId
   pub setup : Setup
   pub history : List Entry
-  pub told : ℕ
+  pub published_end : ℕ
   pub sealed : ℕ
   pub market : Market
   pub published : Entries Entry
   pub rows : RowList
-  pub kept : ℕ
+  pub reserved : ℕ
 
--- the entries that are told, and those that wait to be: the history is both
-abbrev pub told_of : DeskState → List Entry
-told_of d = take d.told d.history
+-- the entries that are published
+abbrev pub published_of : DeskState → List Entry
+published_of d = take d.published_end d.history
 
-abbrev pub waiting_of : DeskState → List Entry
-waiting_of d = drop d.told d.history
-
--- the entries that are in flight
-abbrev pub flying_of : DeskState → List Entry
-flying_of d = drop d.told (take d.sealed d.history)
-
--- the desk of a log's writer, a market, a history, the rows of replies, how far it told and sealed, and
--- the slots that are kept
+-- the desk of a log's writer, a market, a history, the rows of replies, the marks up to which it published and sealed,
+-- and the number of reserved slots
 abbrev pub desk_of :
-    WriterState Entry → Seen → List Entry → RoomyRows → (told sealed : Mark) → (kept : ℕ)
+    WriterState Entry → Seen → List Entry → RoomyRows → (published_end sealed : Mark) → (reserved : ℕ)
     → DeskState
-desk_of writer market history rows told sealed kept =
+desk_of writer market history rows published_end sealed reserved =
     record {
       log = writer.log;
       setup = market.setup;
       history = history;
-      told = told.entries;
+      published_end = published_end.entries;
       sealed = sealed.entries;
       market = market.market;
       published = writer.published;
-      rows = shown rows.told rows.rows;
-      kept = kept;
+      rows = shown rows.published_end rows.rows;
+      reserved = reserved;
     }
 
 -- a desk at its start
@@ -73,84 +66,83 @@ start_of log setup =
       log = log;
       setup = setup;
       history = [];
-      told = 0;
+      published_end = 0;
       sealed = 0;
       market = opening setup;
       published = [];
       rows = no_rows;
-      kept = 0;
+      reserved = 0;
     }
 
--- The market is the run of the whole history, each event of which it accepted; what is published is what
--- is told of it, with its feed, and each row is its member's replies to what is told.
+-- The market is the run of the whole history, each event of which it accepted. What is published are the entries up to
+-- `published_end`, with their feed, and each row is its member's replies to these.
 pub record IsStanding (d : DeskState) : Type 0 where
-  pub order : d.told ≤ d.sealed
+  pub order : d.published_end ≤ d.sealed
   pub within : d.sealed ≤ length d.history
   pub market : d.market ≡ run d.setup (events_of d.history)
   pub accepted : AreRecorded d.setup (events_of d.history)
-  pub published : d.published ≡ ledger d.setup (told_of d)
+  pub published : d.published ≡ ledger d.setup (published_of d)
   pub rows :
       (member : ℕ) → member < row_count
-      → row_of d.rows member ≡ replies_spelled (replies d.setup member (events_of (told_of d)))
+      → row_of d.rows member ≡ replies_spelled (replies d.setup member (events_of (published_of d)))
 
--- the market after what is told
-abbrev pub told_market : DeskState → Market
-told_market d = run d.setup (events_of (told_of d))
+-- the market after the published entries
+abbrev pub published_market : DeskState → Market
+published_market d = run d.setup (events_of (published_of d))
 
 -- all replies
 abbrev pub all_of_them : Part
 all_of_them replies = replies
 
--- the rows are this part of the replies that a member of a desk was told, and tell nothing of others'
--- quiet chains
+-- the rows are this part of the published replies to a member of a desk, and disclose nothing of others' quiet chains
 abbrev pub AreRepliesAt : DeskState → (reader : ℕ) → Part → List (List ℕ) → Type 0
 AreRepliesAt d reader part rows =
-    AreRepliesWithoutTrace d.setup (events_of (told_of d)) reader part rows
+    AreRepliesWithoutTrace d.setup (events_of (published_of d)) reader part rows
 
--- the published feed, and the row of each member, tell nothing of quiet chains
+-- the published feed, and the row of each member, disclose nothing of quiet chains
 pub record TellsNoSecret (d : DeskState) : Type 0 where
-  pub feed_published : IsFeedWithoutTrace d.setup (events_of (told_of d)) (feed d.published)
+  pub feed_published : IsFeedWithoutTrace d.setup (events_of (published_of d)) (feed d.published)
   pub rows :
       (member : ℕ) → member < row_count
       → AreRepliesAt d member all_of_them (row_of d.rows member)
 
--- One event more.
+-- One more event.
 
 -- what an event does at a desk's market
 abbrev pub outcome_at : Seen → Event → Outcome
 outcome_at market event = step market.setup market.market event
 
--- how many slots of the log are kept from an event: none from the codes of the hours and from ticks,
--- which alone may use what is kept
-abbrev pub kept_from : (kept : ℕ) → Event → ℕ
-kept_from kept (events.Message member time bytes) = kept
-kept_from kept (events.Tick time) = 0
-kept_from kept (events.Hours time code) = 0
-kept_from kept (events.Halt time stock state reason) = kept
-kept_from kept (events.Break time number) = kept
+-- the number of slots of the log that an event may not take: none for the codes of the hours and for ticks, which alone
+-- may use reserved slots
+abbrev pub reserved_from : (reserved : ℕ) → Event → ℕ
+reserved_from reserved (events.Message member time bytes) = reserved
+reserved_from reserved (events.Tick time) = 0
+reserved_from reserved (events.Hours time code) = 0
+reserved_from reserved (events.Halt time stock state reason) = reserved
+reserved_from reserved (events.Break time number) = reserved
 
--- how many messages of the feed the whole history gives, told or not
+-- the number of feed messages of the whole history, published or not
 abbrev pub reached_of : DeskState → ℕ
 reached_of d = length (feed (ledger d.setup d.history))
 
--- how many slots of the log are free for an event, and how many messages of the feed it gives
+-- the number of slots of the log that are free for an event, and the number of its feed messages
 abbrev pub free_of : DeskState → Event → ℕ
-free_of d event = room_of d.log - reached_of d - kept_from d.kept event
+free_of d event = room_of d.log - reached_of d - reserved_from d.reserved event
 
 abbrev pub needed_of : DeskState → Event → ℕ
-needed_of d event = length (step d.setup d.market event).told.feed
+needed_of d event = length (step d.setup d.market event).output.feed
 
--- why the market refuses an event, but when out of memory
+-- why the market refuses an event, except when out of memory
 abbrev pub refusal_of : DeskState → Event → Option PrepareError
 refusal_of d event = refusal d.setup d.market.recorded event
 
--- The desk has grown by an entry, and told nothing: its place in the history is counted from 1, and so
--- is the number of its first message of the feed.
+-- The desk has grown by an entry, and published nothing: the entry's place in the history is counted from 1, and so is
+-- the number of its first message of the feed.
 pub record Grows (old new : DeskState) (entry : Entry) (done : Done) : Type 0 where
   pub log : new.log ≡ old.log
   pub setup : new.setup ≡ old.setup
   pub history : new.history ≡ old.history ++ entry ∷ []
-  pub told : new.told ≡ old.told
+  pub published_end : new.published_end ≡ old.published_end
   pub sealed : new.sealed ≡ old.sealed
   pub published : new.published ≡ old.published
   pub rows : new.rows ≡ old.rows
@@ -159,26 +151,26 @@ pub record Grows (old new : DeskState) (entry : Entry) (done : Done) : Type 0 wh
   pub count : done.count ≡ needed_of old entry.event
   pub accepted : refusal_of old entry.event ≡ None
   pub room : needed_of old entry.event ≤ free_of old entry.event
-  pub kept : new.kept ≡ old.kept
+  pub reserved : new.reserved ≡ old.reserved
 
--- What was in flight is told, and nothing else has changed.
+-- The sealed entries are published, and nothing else has changed.
 pub record Releases (old new : DeskState) : Type 0 where
   pub log : new.log ≡ old.log
   pub setup : new.setup ≡ old.setup
   pub history : new.history ≡ old.history
-  pub told : new.told ≡ old.sealed
+  pub published_end : new.published_end ≡ old.sealed
   pub sealed : new.sealed ≡ old.sealed
   pub market : new.market ≡ old.market
-  pub kept : new.kept ≡ old.kept
+  pub reserved : new.reserved ≡ old.reserved
 
--- The desk has grown by an entry, and all of its history is told: what is published is the history with
--- its feed, and each row is its member's replies to the history. The entry's place in the history is
--- counted from 1, and so is the number of its first message of the feed.
+-- The desk has grown by an entry, and all of its history is published: the log has the history with its feed, and each
+-- row is its member's replies to the history. The entry's place in the history is counted from 1, and so is the number
+-- of its first message of the feed.
 pub record Submits (old new : DeskState) (entry : Entry) (done : Done) : Type 0 where
   pub log : new.log ≡ old.log
   pub setup : new.setup ≡ old.setup
   pub history : new.history ≡ old.history ++ entry ∷ []
-  pub told : new.told ≡ length new.history
+  pub published_end : new.published_end ≡ length new.history
   pub sealed : new.sealed ≡ length new.history
   pub market : new.market ≡ run old.setup (events_of new.history)
   pub published : new.published ≡ ledger old.setup new.history
@@ -190,26 +182,25 @@ pub record Submits (old new : DeskState) (entry : Entry) (done : Done) : Type 0 
   pub count : done.count ≡ needed_of old entry.event
   pub accepted : refusal_of old entry.event ≡ None
   pub room : needed_of old entry.event ≤ free_of old entry.event
-  pub kept : new.kept ≡ old.kept
+  pub reserved : new.reserved ≡ old.reserved
 
--- The desk has grown by an event of no pass, and all of its history is told.
+-- The desk has grown by an event of no pass, and all of its history is published.
 pub record Restores (old new : DeskState) (event : Event) : Type 0 where
   pub log : new.log ≡ old.log
   pub setup : new.setup ≡ old.setup
   pub history : new.history ≡ old.history ++ entry_of 0 event ∷ []
-  pub told : new.told ≡ length new.history
-  pub kept : new.kept ≡ old.kept
+  pub published_end : new.published_end ≡ length new.history
+  pub reserved : new.reserved ≡ old.reserved
 
--- A desk that was resumed from these events: they are its history, under no pass, all of it is told, and
--- no slots are kept.
--- Since it stands, its market, its feed and its members' rows are those of these events.
+-- A desk that was resumed from these events: they are its history, under no pass, all of it is published, and no slots
+-- are reserved. Since it stands, its market, its feed and its members' rows are those of these events.
 pub record IsResumed (id : LogId) (rules : Setup) (events : List Event)
     (d : DeskState) : Type 0 where
   pub log : d.log ≡ id
   pub setup : d.setup ≡ rules
   pub history : d.history ≡ restored events
-  pub told : d.told ≡ length d.history
-  pub kept : d.kept ≡ 0
+  pub published_end : d.published_end ≡ length d.history
+  pub reserved : d.reserved ≡ 0
   pub standing : IsStanding d
 
 -- the event was not refused for its time, its member or a limit, and its messages of the feed exceed
@@ -220,8 +211,8 @@ pub record IsFull (d : DeskState) (event : Event) (free needed : ℕ) : Type 0 w
   pub messages : needed ≡ needed_of d event
   pub exceeds : free < needed
 
--- Why an event is refused: for its time, its member or a limit, as the market says; else, where none
--- of these is wrong, because its messages exceed the free slots, or when out of memory.
+-- Why an event is refused: for its time, its member or a limit, as the market says; else, if none of these is wrong,
+-- because its messages exceed the free slots, or when out of memory.
 abbrev pub Faults : DeskState → Event → DeskError → Type 0
 Faults d event fault.BadTime = refusal_of d event ≡ Some market.BadTime
 Faults d event fault.NoMember = refusal_of d event ≡ Some market.NoMember
@@ -229,7 +220,7 @@ Faults d event (fault.Limit member) = refusal_of d event ≡ Some (market.Limit 
 Faults d event (fault.Full free needed) = IsFull d event free needed
 Faults d event fault.NoMemory = refusal_of d event ≡ None
 
--- how many messages a writer published and staged
+-- the number of messages that a writer published and staged
 abbrev pub messages_in : WriterState Entry → ℕ
 messages_in writer = length (feed writer.published) + length writer.staged
 
@@ -240,4 +231,4 @@ with_staged writer messages =
 
 -- code C, the last of the six hours codes, is past
 abbrev pub is_over : Market → Bool
-is_over market = nat_le 6 market.hours
+is_over market = nat_le 6 market.phase

@@ -25,13 +25,13 @@ events_of history = map (λ e. e.event) history
 abbrev pub feed_spelled : List Feed → List (List ℕ)
 feed_spelled messages = map feed_bytes messages
 
--- the entries of a history from a market on, each with the messages of the feed that its event gives
+-- the entries of a history from a market on, each with the feed messages of its event
 unfoldable pub ledger_from : Setup → Market → List Entry → Entries Entry
 ledger_from setup market [] = []
 ledger_from setup market (e ∷ es) =
     let outcome = step setup market e.event in
-    (e, feed_spelled outcome.told.feed) ∷ ledger_from setup outcome.market es
+    (e, feed_spelled outcome.output.feed) ∷ ledger_from setup outcome.market es
 
--- what is published of a history: each entry with the messages of the feed that its event gives
+-- what is published of a history: each entry with the feed messages of its event
 unfoldable pub ledger : Setup → List Entry → Entries Entry
 ledger setup history = ledger_from setup (opening setup) history

@@ -10,7 +10,7 @@ use Rattle.hx_desk.specs.declared.entry.Entry.{Entry}
 use Rattle.hx_desk.specs.Rows.{replies_spelled}
 use Rattle.hx_desk.specs.Entries.{events_of, ledger}
 
--- the history that entries of the log tell
+-- the history in the entries of the log
 abbrev pub history_of : Entries Entry → List Entry
 history_of known = map (λ e. e.0) known
 
@@ -27,7 +27,7 @@ abbrev pub known_replies : Setup → (member : ℕ) → (known : Entries Entry) 
 known_replies setup member known =
     replies_spelled (replies setup member (events_of (history_of known)))
 
--- these are so few that their numbers have room in a signed word
+-- the replies are so few that their numbers fit a signed word
 abbrev pub AreFew : Setup → (member : ℕ) → (known : Entries Entry) → Type 0
 AreFew setup member known = length (known_replies setup member known) < 2 ^ 63
 

@@ -20,7 +20,7 @@ Part = List (List ℕ) → List (List ℕ)
 abbrev pub from_number : (number : ℕ) → Part
 from_number number replies = drop (number - 1) replies
 
--- at most this many of them, from this number on
+-- at most `most` of them, from this number on
 abbrev pub page : (number most : ℕ) → Part
 page number most replies = take most (drop (number - 1) replies)
 
@@ -52,24 +52,24 @@ with_replies rows (reply ∷ replies) = with_replies (with_reply rows reply) rep
 
 -- Room for replies.
 
--- what contracts see of the rows: the replies, for how many more each row has room, and how many of
--- each are told
+-- what contracts see of the rows: the replies, the number of further replies for which each row has room, and the
+-- number of published replies of each row
 pub record RoomyRows : Type 0 where
   pub rows : RowList
   pub spare : List ℕ
-  pub told : List ℕ
+  pub published_end : List ℕ
 
--- the first ones of each row, this many as these counts say
+-- the first replies of each row; their number is the row's count
 abbrev pub shown : (counts : List ℕ) → RowList → RowList
 shown [] rows = []
 shown (n ∷ counts) [] = []
 shown (n ∷ counts) (row ∷ rows) = take n row ∷ shown counts rows
 
--- the replies that a member was told
-abbrev pub told_row : RoomyRows → (member : ℕ) → List (List ℕ)
-told_row rows member = take (slice_index rows.told member) (row_of rows.rows member)
+-- the published replies to a member
+abbrev pub published_row : RoomyRows → (member : ℕ) → List (List ℕ)
+published_row rows member = take (slice_index rows.published_end member) (row_of rows.rows member)
 
--- the replies to one member as their bytes, and for how many more there is room
+-- the replies to one member as their bytes, and the number of further replies for which there is room
 abbrev pub row_texts : Vec (ArrayVec ℕ) → List (List ℕ)
 row_texts row = texts row.items
 
@@ -80,7 +80,7 @@ row_spare row = vec_capacity row - vec_len row
 abbrev pub members_of : List Reply → List ℕ
 members_of replies = map (λ r. r.0) replies
 
--- how often a member is among those of replies
+-- the number of times that a member is among those of replies
 abbrev pub times : (member : ℕ) → List ℕ → ℕ
 times member [] = 0
 times member (m ∷ ms) = (if m == member then 1 else 0) + times member ms
@@ -90,17 +90,17 @@ abbrev pub HasRoomFor : (spare members : List ℕ) → Type 0
 HasRoomFor spare members =
     (member : ℕ) → member < row_count → times member members ≤ slice_index spare member
 
--- the counts of these members are raised, each as often as he is among them
+-- the count of each member is raised by the number of times that the member is in the list
 abbrev pub AreRaised : (old new members : List ℕ) → Type 0
 AreRaised old new members =
     (member : ℕ) → member < row_count
     → slice_index new member ≡ slice_index old member + times member members
 
--- as many replies to each of these members stand beyond those that are told
+-- each member has an unpublished reply for each time that the list names the member
 abbrev pub HasUntold : RoomyRows → (members : List ℕ) → Type 0
 HasUntold rows members =
     (member : ℕ) → member < row_count
-    → slice_index rows.told member + times member members ≤ length (row_of rows.rows member)
+    → slice_index rows.published_end member + times member members ≤ length (row_of rows.rows member)
 
 -- the counts of these members are 0
 abbrev pub AreZeroAt : (counts members : List ℕ) → Type 0

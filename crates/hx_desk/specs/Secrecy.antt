@@ -1,4 +1,4 @@
--- What the feed and the replies to a member do not tell.
+-- What the feed and the replies to a member do not disclose.
 use Rattle.std.specs.Prelude.{◌≡◌, ◌≢◌, ℕ, false, List}
 use Rattle.hx_members.specs.Setups.{Setup}
 use Rattle.hx_rules.specs.declared.event.Event.{Event}
@@ -9,9 +9,8 @@ use Rattle.hx_market.specs.Laws.{AreQuietChains, listed, AreWholeQuietChains}
 use Rattle.hx_desk.specs.Rows.{Part, replies_spelled}
 use Rattle.hx_desk.specs.Entries.{feed_spelled}
 
--- The messages are the feed of these events, in bytes, and just as well that of the events without
--- the messages of quiet chains: of any choice of whole ones, of any part of one member's, of all of
--- one member's, and of all of all members'.
+-- The messages are the feed of these events, in bytes, and also the feed of the events without the messages of quiet
+-- chains: of any choice of whole ones, of any part of one member's, of all of one member's, and of all of all members'.
 pub record IsFeedWithoutTrace
     (setup : Setup) (events : List Event) (messages : List (List ℕ))
     : Type 0 where
@@ -28,9 +27,9 @@ pub record IsFeedWithoutTrace
       (member : ℕ) → messages ≡ feed_spelled (feed setup (strike_one setup member events))
   pub all_members : messages ≡ feed_spelled (feed setup (strike_all setup events))
 
--- The rows are this part of a member's replies to these events, in bytes, and just as well of those
--- to the events without the messages of quiet chains: of any choice of whole ones that are not his,
--- of any part of another member's, of all of another member's, and of all of everybody else's.
+-- The rows are this part of a member's replies to these events, in bytes, and also of the replies to the events without
+-- the messages of quiet chains: of any choice of whole ones of other members, of any part of another member's, of all
+-- of another member's, and of all of everybody else's.
 pub record AreRepliesWithoutTrace
     (setup : Setup) (events : List Event) (reader : ℕ) (part : Part) (rows : List (List ℕ))
     : Type 0 where

@@ -1,4 +1,4 @@
-//! What is done for an event once all its growths are made. None of it takes memory, or can fail.
+//! What is done for an event once all its growths are made. None of it takes memory or can fail.
 ghost use Rattle.std.specs.Prelude.{◌≡◌, ◌+◌, ◌^◌, ◌<◌, ◌≤◌, [], ◌∷◌, ◌++◌, length, Some};
 ghost use Rattle.std.specs.List.{AllByRecursion};
 ghost use Rattle.std.specs.Vec.{vec_len, vec_capacity};
@@ -33,7 +33,7 @@ fn stage_all(writer: &mut Writer<Entry>, log: &Log<Entry>, messages: &[Feed])
 }
 
 /// Does what was prepared for an entry: one step of the market, whose messages of the feed are staged, and whose
-/// replies are added to their members' rows, where they are not told yet.
+/// replies are added to their members' rows, not yet published.
 pub(crate) fn commit_entry(
     market: &mut Market<LevelBook>,
     writer: &mut Writer<Entry>,
@@ -47,18 +47,18 @@ pub(crate) fn commit_entry(
     requires event { prepared.event ≡ entry.event }
     requires log { writer.old.log ≡ log.now }
     requires slots { messages_in writer.old + length
-        (outcome_at market.old entry.event).told.feed ≤ room_of log.now }
+        (outcome_at market.old entry.event).output.feed ≤ room_of log.now }
     requires place { vec_len history.old < vec_capacity history.old }
     requires rows { HasRoomFor rows.old.spare
-        (members_of (outcome_at market.old entry.event).told.replies) }
+        (members_of (outcome_at market.old entry.event).output.replies) }
     ensures market { market.new.market ≡ (outcome_at market.old entry.event).market }
     ensures setup { market.new.setup ≡ market.old.setup }
     ensures writer { writer.new
-        ≡ with_staged writer.old (outcome_at market.old entry.event).told.feed }
+        ≡ with_staged writer.old (outcome_at market.old entry.event).output.feed }
     ensures history { history.new.items ≡ history.old.items ++ entry ∷ [] }
     ensures rows { rows.new.rows
-        ≡ with_replies rows.old.rows (outcome_at market.old entry.event).told.replies }
-    ensures told { rows.new.told ≡ rows.old.told }
+        ≡ with_replies rows.old.rows (outcome_at market.old entry.event).output.replies }
+    ensures published_end { rows.new.published_end ≡ rows.old.published_end }
 {
     let output = market.commit(prepared);
     stage_all(writer, log, &output.feed);

@@ -6,7 +6,7 @@ ghost use Rattle.hx_units.specs.Fields.{texts};
 ghost use Rattle.hx_desk.specs.Rows.{row_of, from_number, page};
 ghost use Rattle.hx_desk.specs.Entries.{entry_of, ledger};
 ghost use Rattle.hx_desk.specs.InStep.{IsMark, AreAnswered};
-ghost use Rattle.hx_desk.specs.Desks.{AreRepliesAt, IsStanding, TellsNoSecret, Grows, Releases, Submits, Restores, IsResumed, Faults, kept_from, start_of, is_over, told_of, told_market};
+ghost use Rattle.hx_desk.specs.Desks.{AreRepliesAt, IsStanding, TellsNoSecret, Grows, Releases, Submits, Restores, IsResumed, Faults, reserved_from, start_of, is_over, published_of, published_market};
 ghost use Rattle.hx_desk.specs.Known.{CatchesUp};
 
 use crate::commit::commit_entry;
@@ -24,35 +24,35 @@ use std::alloc::Global;
 use std::marker::{Brand, Model};
 use std::mem::swap;
 
-// How many hours codes a day has: `O`, `S`, `Q`, `M`, `E`, `C` (ITCH 5.0, System Event Message).
+// The number of hours codes of a day: `O`, `S`, `Q`, `M`, `E`, `C` (ITCH 5.0, System Event Message).
 const HOURS_CODES: u8 = 6;
 
-// How many of the slots that are kept are kept from an event.
-fn kept_from(kept: u64, event: &Event) -> u64
-    ensures { result ≡ kept_from kept event.now }
+// The number of reserved slots that this event may not take.
+fn reserved_from(reserved: u64, event: &Event) -> u64
+    ensures { result ≡ reserved_from reserved event.now }
 {
     match event {
         Event::Tick { .. } | Event::Hours { .. } => 0,
-        Event::Message { .. } | Event::Halt { .. } | Event::Break { .. } => kept,
+        Event::Message { .. } | Event::Halt { .. } | Event::Break { .. } => reserved,
     }
 }
 
-/// The market with its history, the writer of the log, and the replies to each member. Its entries are admitted first,
-/// then sealed, several at once, to be kept, and then told.
+/// The market with its history, the writer of the log, and the replies to each member. Its entries are first admitted,
+/// then sealed, several at once, as the batch that the journal writes, and then published.
 #[derive(Drop)]
 pub struct Desk {
     market: Market<LevelBook>,
     writer: Writer<Entry>,
     history: Vec<Entry>,
     rows: Rows,
-    // Up to where entries are told, and up to where they are told or in flight.
-    told: Mark,
+    // The end of the published entries, and the end of the sealed ones.
+    published_end: Mark,
     sealed: Mark,
-    // To whom the replies to the entries in flight go, and those to the entries behind them.
-    flying: Vec<MemberNo>,
+    // The members of the replies to the sealed entries, and those of the replies to the entries after them.
+    writing: Vec<MemberNo>,
     waiting: Vec<MemberNo>,
-    // This many slots of the log are kept for the codes of the hours and for ticks.
-    kept: u64,
+    // The number of slots of the log that are reserved for the codes of the hours and for ticks.
+    reserved: u64,
     alloc: Global,
 }
 
@@ -62,12 +62,12 @@ impl Model for Desk {
 
     ghost Value = { DeskState };
 
-    ghost view = { λ d. desk_of d.writer d.market d.history.items d.rows d.told d.sealed
-        d.kept };
+    ghost view = { λ d. desk_of d.writer d.market d.history.items d.rows d.published_end d.sealed
+        d.reserved };
 
     ghost invariant = { λ d. AreInStep d.market.setup d.market.market d.writer.published
-        d.writer.staged d.history.items d.rows.rows d.rows.told d.told d.sealed
-        d.flying.items d.waiting.items };
+        d.writer.staged d.history.items d.rows.rows d.rows.published_end d.published_end d.sealed
+        d.writing.items d.waiting.items };
 }
 
 // Publishes what is staged up to the second mark, with one store.
@@ -76,18 +76,18 @@ fn publish_up_to<N: NamesEntries<Entry>>(
     log: &Log<Entry>,
     market: &Market<LevelBook>,
     history: &[Entry],
-    told: Mark,
+    published_end: Mark,
     sealed: Mark,
 )
     requires log { writer.old.log ≡ log.now }
-    requires told { IsMark market.now.setup history.now told }
+    requires published_end { IsMark market.now.setup history.now published_end }
     requires sealed { IsMark market.now.setup history.now sealed }
-    requires order { told.entries ≤ sealed.entries }
+    requires order { published_end.entries ≤ sealed.entries }
     requires published { writer.old.published
-        ≡ ledger market.now.setup (take told.entries history.now) }
+        ≡ ledger market.now.setup (take published_end.entries history.now) }
     requires staged { feed writer.old.published ++ writer.old.staged
         ≡ feed (ledger market.now.setup history.now) }
-    requires entries { N.entries ≡ drop told.entries
+    requires entries { N.entries ≡ drop published_end.entries
         (take sealed.entries (ledger market.now.setup history.now)) }
     requires left { N.left
         ≡ feed (drop sealed.entries (ledger market.now.setup history.now)) }
@@ -97,11 +97,11 @@ fn publish_up_to<N: NamesEntries<Entry>>(
     ensures staged { feed writer.new.published ++ writer.new.staged
         ≡ feed (ledger market.now.setup history.now) }
 {
-    let count = sealed.messages - told.messages;
+    let count = sealed.messages - published_end.messages;
     writer.publish_first::<N>(log, count);
 }
 
-// Lists members behind others.
+// Appends members to a list.
 fn list_members(listed: &mut Vec<MemberNo>, members: &[MemberNo]) -> Result<(), NoMemory>
     ensures ok { OnOk result (listed.new.items ≡ listed.old.items ++ members.now) }
     ensures err { OnErr result (listed.new.items ≡ listed.old.items) }
@@ -111,8 +111,8 @@ fn list_members(listed: &mut Vec<MemberNo>, members: &[MemberNo]) -> Result<(), 
 }
 
 impl Desk {
-    /// A desk at its start, for a log to which nothing was written, with the fixed seed. `NoMemory` where the market or
-    /// the rows find no room.
+    /// A desk at its start, for a log to which nothing was written, with the fixed seed. Fails with `NoMemory` if there
+    /// is no memory for the market or the rows.
     pub fn new(alloc: Global, setup: Setup, writer: Writer<Entry>) -> Result<Desk, NoMemory>
         requires { (writer.published ≡ []) × (writer.staged ≡ []) }
         ensures { IfOk result (λ desk. desk ≡ start_of writer.log setup) }
@@ -120,8 +120,8 @@ impl Desk {
         Desk::seeded(alloc, setup, writer, Seed::Fixed)
     }
 
-    /// A desk at its start, for a log to which nothing was written, whose table of tokens has this seed. `NoMemory`
-    /// where the market or the rows find no room.
+    /// A desk at its start, for a log to which nothing was written, whose table of tokens has this seed. Fails with
+    /// `NoMemory` if there is no memory for the market or the rows.
     pub fn seeded(
         alloc: Global,
         setup: Setup,
@@ -135,31 +135,31 @@ impl Desk {
         let start = Mark {
             entries: 0,
             messages: 0,
-            hours: market.hours(),
+            phase: market.phase(),
         };
         Ok(Desk {
             market,
             writer,
             history: Vec::new(alloc),
             rows: Rows::new(alloc)?,
-            told: start,
+            published_end: start,
             sealed: start,
-            flying: Vec::new(alloc),
+            writing: Vec::new(alloc),
             waiting: Vec::new(alloc),
-            kept: 0,
+            reserved: 0,
             alloc,
         })
     }
 
-    /// Keeps this number of slots of the log for the codes of the hours and for ticks: from now on no other event is
-    /// given one of them, the last ones.
+    /// Reserves this number of slots of the log, the last ones, for the codes of the hours and for ticks: from now on
+    /// no other event is given one of them.
     pub fn keep(&mut self, slots: u64)
-        ensures { self.new ≡ record self.old { kept = slots } }
+        ensures { self.new ≡ record self.old { reserved = slots } }
     {
-        self.kept = slots;
+        self.reserved = slots;
     }
 
-    /// Tells a caller's proof what each desk keeps; it does nothing.
+    /// Gives a caller's proof the invariants of a desk; it does nothing.
     pub fn stands(&self)
         ensures standing { IsStanding self.now }
         ensures secret { TellsNoSecret self.now }
@@ -167,15 +167,15 @@ impl Desk {
         let _ = &self.history;
     }
 
-    /// Looks at what the first sixteen of coming events are about, so that the memory which they need is at hand when they
-    /// are admitted (`Market::glance`). Nothing is promised of the answer, which has no other use than that it was looked
-    /// for.
-    pub fn glance(&self, events: &[Event]) -> u64 {
-        self.market.glance(events)
+    /// Prefetches what the first sixteen of these coming events are about, so that their memory is in the cache when
+    /// they are admitted (`Market::prefetch`). No clause says anything about the result, which has no use but to be
+    /// computed.
+    pub fn prefetch(&self, events: &[Event]) -> u64 {
+        self.market.prefetch(events)
     }
 
-    /// How many orders the market has passed over one by one (`Market::passed_over`): what incoming orders with a minimum
-    /// have cost beside their executions. Nothing is promised of it.
+    /// Returns the number of orders that the market has passed over one by one (`Market::passed_over`): what incoming
+    /// orders with a minimum have cost besides their executions. No clause says anything about it.
     pub fn passed_over(&self) -> u64 {
         self.market.passed_over()
     }
@@ -192,7 +192,7 @@ impl Desk {
         let free = self
             .writer
             .free(log)
-            .saturating_sub(kept_from(self.kept, event));
+            .saturating_sub(reserved_from(self.reserved, event));
         if free < needed {
             return Err(DeskError::Full { free, needed });
         }
@@ -220,17 +220,17 @@ impl Desk {
         Ok(done)
     }
 
-    /// Admits an event for a pass: one step of the market. Nothing is told of it yet: its messages of the feed are
-    /// staged, and the replies to it are at hand. Where it is refused, nothing changes. The refusals come in the order
-    /// `BadTime`, `NoMember`, `Limit`, and then `NoMemory` or `Full`, as they are met.
+    /// Admits an event for a pass: one step of the market. Nothing of it is published yet: its messages of the feed are
+    /// staged, and the replies to it are in their rows. If it is refused, nothing changes. The refusals come in the
+    /// order `BadTime`, `NoMember`, `Limit`, and then `NoMemory` or `Full`, whichever is met first.
     pub fn admit(&mut self, log: &Log<Entry>, pass: u16, event: &Event) -> Result<Done, DeskError>
         requires { self.old.log ≡ log.now }
         ensures ok { IfOk result (Grows self.old self.new (entry_of pass event.now)) }
         ensures err { OnErr result (self.new ≡ self.old) }
         ensures refused { IfErr result (Faults self.old event.now) }
 
-        // Ok or not: the market is the run of the history, what is published is what is told of it with its feed, and
-        // each row is its member's replies to that; and they tell nothing of quiet chains.
+        // Ok or not: the market is the run of the history, the log has the published entries with their feed, and each
+        // row is its member's replies to these; and they disclose nothing of quiet chains.
         ensures standing { IsStanding self.new }
         ensures secret { TellsNoSecret self.new }
     {
@@ -239,20 +239,21 @@ impl Desk {
         done
     }
 
-    /// Seals all that waits: it is in flight from now on, to where it is kept. Nothing else may be in flight.
+    /// Seals all waiting entries: they are the batch that the journal writes next. No other batch may be sealed and not
+    /// yet published.
     pub fn seal(&mut self)
-        requires { self.old.sealed ≡ self.old.told }
+        requires { self.old.sealed ≡ self.old.published_end }
         ensures { self.new ≡ record self.old { sealed = length self.old.history } }
     {
         self.sealed = Mark {
             entries: self.history.len() as u64,
             messages: self.writer.reached(),
-            hours: self.market.hours(),
+            phase: self.market.phase(),
         };
-        swap(&mut self.flying, &mut self.waiting);
+        swap(&mut self.writing, &mut self.waiting);
     }
 
-    // Tells what is in flight.
+    // Publishes the sealed entries.
     fn tell(&mut self, log: &Log<Entry>)
         requires { self.old.log ≡ log.now }
         ensures { Releases self.old self.new }
@@ -262,16 +263,16 @@ impl Desk {
             log,
             &self.market,
             &self.history,
-            self.told,
+            self.published_end,
             self.sealed,
         );
-        self.rows.tell(&self.flying);
-        self.flying.clear();
-        self.told = self.sealed;
+        self.rows.tell(&self.writing);
+        self.writing.clear();
+        self.published_end = self.sealed;
     }
 
-    /// Tells what is in flight, once it is kept: its messages of the feed are published, with one store, and the
-    /// replies to it stand in their members' rows. It takes no memory, and cannot fail.
+    /// Publishes the sealed entries, once they are durable: their messages of the feed with one store, and the replies
+    /// to them in their members' rows. It takes no memory, and cannot fail.
     pub fn release(&mut self, log: &Log<Entry>)
         requires { self.old.log ≡ log.now }
         ensures released { Releases self.old self.new }
@@ -282,13 +283,13 @@ impl Desk {
         self.stands();
     }
 
-    /// Records an event for a pass, and tells it at once: one step of the market, whose messages of the feed are
-    /// published, and whose replies stand in their members' rows. Nothing may wait to be told. Where it is refused,
-    /// nothing changes. The refusals come in the order `BadTime`, `NoMember`, `Limit`, and then `NoMemory` or `Full`,
-    /// as they are met.
+    /// Records an event for a pass, and publishes it at once: one step of the market, whose messages of the feed are
+    /// published, and whose replies stand in their members' rows. No other entry may wait to be published. If the event
+    /// is refused, nothing changes. The refusals come in the order `BadTime`, `NoMember`, `Limit`, and then `NoMemory`
+    /// or `Full`, whichever is met first.
     pub fn submit(&mut self, log: &Log<Entry>, pass: u16, event: &Event) -> Result<Done, DeskError>
         requires log { self.old.log ≡ log.now }
-        requires settled { self.old.told ≡ length self.old.history }
+        requires settled { self.old.published_end ≡ length self.old.history }
         ensures ok { IfOk result (Submits self.old self.new (entry_of pass event.now)) }
         ensures err { OnErr result (self.new ≡ self.old) }
         ensures refused { IfErr result (Faults self.old event.now) }
@@ -302,11 +303,11 @@ impl Desk {
         Ok(done)
     }
 
-    /// Records an event of a history that is kept already, under no pass, and tells it at once. Nothing may wait to be
-    /// told. Where it is refused, nothing changes.
+    /// Records an event of a history that is durable already, under no pass, and publishes it at once. No other entry
+    /// may wait to be published. If the event is refused, nothing changes.
     pub fn restore(&mut self, log: &Log<Entry>, event: &Event) -> Result<(), DeskError>
         requires log { self.old.log ≡ log.now }
-        requires settled { self.old.told ≡ length self.old.history }
+        requires settled { self.old.published_end ≡ length self.old.history }
         ensures ok { OnOk result (Restores self.old self.new event.now) }
         ensures err { OnErr result (self.new ≡ self.old) }
         ensures refused { IfErr result (Faults self.old event.now) }
@@ -318,7 +319,7 @@ impl Desk {
         Ok(())
     }
 
-    /// A desk that goes on from a history that was kept: it has recorded these events, in this order, and told them.
+    /// A desk that resumes from a durable history: it has recorded these events, in this order, and published them.
     pub fn resume(
         alloc: Global,
         setup: Setup,
@@ -339,7 +340,7 @@ impl Desk {
         Ok(desk)
     }
 
-    /// Why the event is refused where there is no memory for it: as `submit` would refuse it, or when out of memory.
+    /// Why an event is refused if there is no memory for it: as `submit` would refuse it, or when out of memory.
     pub fn refuse(&mut self, event: &Event) -> DeskError
         ensures same { self.new ≡ self.old }
         ensures refused { Faults self.old event.now result }
@@ -350,7 +351,7 @@ impl Desk {
         }
     }
 
-    /// The members of the replies to what waits to be sealed, each as often as he gets one.
+    /// The members of the replies to the entries that wait to be sealed, each once per reply.
     pub fn waiting_members(&self) -> &[MemberNo]
         ensures { AreAnswered self.now.setup (take self.now.sealed self.now.history)
             self.now.history result.now }
@@ -358,15 +359,15 @@ impl Desk {
         &self.waiting
     }
 
-    /// The members of the replies to what is in flight, each as often as he gets one.
+    /// The members of the replies to the sealed entries, each once per reply.
     pub fn flying_members(&self) -> &[MemberNo]
-        ensures { AreAnswered self.now.setup (take self.now.told self.now.history)
+        ensures { AreAnswered self.now.setup (take self.now.published_end self.now.history)
             (take self.now.sealed self.now.history) result.now }
     {
-        &self.flying
+        &self.writing
     }
 
-    /// How many replies a member was told.
+    /// The number of published replies to a member.
     pub fn reply_count(&self, member: MemberNo) -> u64
         ensures count { result ≡ length (row_of self.now.rows member) }
         ensures few { result < 2 ^ 63 }
@@ -375,8 +376,8 @@ impl Desk {
         self.rows.count(member)
     }
 
-    /// The replies that a member was told, from this number on, which count from 1; 0 is read as 1. It takes memory
-    /// where there are any.
+    /// The published replies to a member, from this number on, which counts from 1; 0 is read as 1. The call takes
+    /// memory only if there are replies.
     pub fn replies_from(
         &self,
         member: MemberNo,
@@ -392,7 +393,7 @@ impl Desk {
         self.rows.from(member, from)
     }
 
-    /// At most this many replies to a member, from this number on. It takes memory where there are any.
+    /// At most `most` replies to a member, from this number on. The call takes memory only if there are replies.
     pub fn replies_page(
         &self,
         member: MemberNo,
@@ -411,46 +412,46 @@ impl Desk {
 
     /// Whether hours code `C`, the last of the day, is among the entries released so far.
     pub fn ended(&self) -> bool
-        ensures { result ≡ is_over (told_market self.now) }
+        ensures { result ≡ is_over (published_market self.now) }
     {
-        self.told.hours >= HOURS_CODES
+        self.published_end.phase >= HOURS_CODES
     }
 
-    /// How many entries the history has, told or not.
+    /// The number of entries of the history, published or not.
     pub fn history_len(&self) -> u64
         ensures { result ≡ length self.now.history }
     {
         self.history.len() as u64
     }
 
-    /// How many entries are told.
-    pub fn told_len(&self) -> u64
-        ensures { result ≡ self.now.told }
+    /// The number of published entries.
+    pub fn published_len(&self) -> u64
+        ensures { result ≡ self.now.published_end }
     {
-        self.told.entries
+        self.published_end.entries
     }
 
-    /// How many entries are told or in flight.
+    /// The number of entries that are published or sealed.
     pub fn sealed_len(&self) -> u64
         ensures { result ≡ self.now.sealed }
     {
         self.sealed.entries
     }
 
-    /// How many messages of the feed are published.
+    /// The number of published feed messages.
     pub fn feed_count(&self) -> u64
         ensures { result ≡ length (feed self.now.published) }
     {
         self.writer.count()
     }
 
-    /// A copy of what is told of the history.
+    /// A copy of the published part of the history.
     pub fn copy_history(&self) -> Result<Vec<Entry>, NoMemory>
-        ensures { IfOk result (λ history. history.items ≡ told_of self.now) }
+        ensures { IfOk result (λ history. history.items ≡ published_of self.now) }
     {
-        let told = &self.history[..self.told.entries as usize];
-        let mut history = Vec::with_capacity(self.alloc, told.len())?;
-        for entry in told {
+        let published_end = &self.history[..self.published_end.entries as usize];
+        let mut history = Vec::with_capacity(self.alloc, published_end.len())?;
+        for entry in published_end {
             let pass = entry.pass;
             let event = entry.event.copy()?;
             history.push(Entry { pass, event })?;
@@ -458,28 +459,28 @@ impl Desk {
         Ok(history)
     }
 
-    /// The history and the writer of the log, given out.
+    /// Gives out the history and the writer of the log.
     pub fn into_parts(self) -> (Vec<Entry>, Writer<Entry>)
         ensures history { result.0.items ≡ self.history }
         ensures published { (result.1.log ≡ self.log) × (result.1.published ≡ self.published) }
-        ensures whole { self.told ≡ length self.history → result.1.staged ≡ [] }
+        ensures whole { self.published_end ≡ length self.history → result.1.staged ≡ [] }
     {
         let Desk {
             market: _,
             writer,
             history,
             rows: _,
-            told: _,
+            published_end: _,
             sealed: _,
-            flying: _,
+            writing: _,
             waiting: _,
-            kept: _,
+            reserved: _,
             alloc: _,
         } = self;
         (history, writer)
     }
 
-    /// Takes in what a receipt knows: it is a beginning of what is published.
+    /// Confirms a receipt: what it knows is a beginning of what is published.
     pub fn confirm(&mut self, log: &Log<Entry>, receipt: Receipt<Entry>)
         requires log { self.old.log ≡ log.now }
         requires receipt { receipt.log ≡ log.now }
@@ -489,7 +490,7 @@ impl Desk {
         self.writer.confirm(log, receipt);
     }
 
-    /// The receipt is from now on for all that is published, of which it knew a beginning.
+    /// Renews a receipt: from now on it is for all that is published, of which it knew a beginning.
     pub fn renew(&mut self, log: &Log<Entry>, receipt: &mut Receipt<Entry>)
         requires log { self.old.log ≡ log.now }
         requires receipt { receipt.old.log ≡ log.now }

@@ -11,13 +11,13 @@ pub struct Entry {
     pub event: Event,
 }
 
-/// Where an event was recorded.
+/// The answer for a recorded event: its place in the history, and its messages of the feed.
 #[derive(Clone, Copy, Debug, PartialEq, Eq)]
 pub struct Done {
     /// Its place in the history, from 1.
     pub place: u64,
-    /// The number, from 1, of the first message of the feed that it gave, or would have given.
+    /// The number, from 1, of its first message of the feed; if it has none, of the next message to come.
     pub first: u64,
-    /// How many messages of the feed it gave.
+    /// The number of its messages of the feed.
     pub count: u64,
 }

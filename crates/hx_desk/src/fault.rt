@@ -8,21 +8,21 @@ use hx_units::NoMemory;
 use thiserror::Error;
 
 /// Why a desk refuses an event. The checks come in the order `BadTime`, `NoMember`, `Limit`, and then `NoMemory` or
-/// `Full`, as they are met.
+/// `Full`, whichever is met first.
 #[derive(Clone, Copy, Debug, PartialEq, Eq, Drop, Error)]
 pub enum DeskError {
-    /// A growth was refused.
+    /// There is no memory for a growth.
     #[error("no memory")]
     NoMemory,
     /// The log has fewer free slots than the event has messages of the feed.
     #[error("{free} slots are free, {needed} are needed")]
     Full {
-        /// How many slots are free.
+        /// The number of free slots.
         free: u64,
-        /// How many messages of the feed the event gives.
+        /// The number of the event's messages of the feed.
         needed: u64,
     },
-    /// As many events as allowed are recorded under this number: the member's, or 0 for the operator.
+    /// Under this number, the member's or 0 for the operator, the limit of recorded events is reached.
     #[error("member {member} at limit")]
     Limit {
         /// The number.

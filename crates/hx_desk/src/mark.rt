@@ -1,12 +1,12 @@
-//! Places in a history.
+//! Points in a history.
 
-/// A place in the history, with what the market told up to it.
+/// A point in the history, with the state of the market there.
 #[derive(Clone, Copy, Debug, PartialEq, Eq)]
 pub struct Mark {
-    /// How many entries are before it.
+    /// The number of entries before it.
     pub entries: u64,
-    /// How many messages of the feed they give.
+    /// The number of their messages of the feed.
     pub messages: u64,
-    /// How many of the hours codes are past after them.
-    pub hours: u8,
+    /// The number of hours codes that are past after them.
+    pub phase: u8,
 }

@@ -1,7 +1,7 @@
 //! The replies that were sent to each member.
 ghost use Rattle.std.specs.Prelude.{◌≡◌, ℕ, ◌+◌, ◌<◌, ◌≤◌, ◌^◌, map, length, slice_index, IfOk, IfErr, OnOk, replicate};
 ghost use Rattle.hx_units.specs.Fields.{texts};
-ghost use Rattle.hx_desk.specs.Rows.{AreZeroAt, AreRaised, HasUntold, told_row, row_texts, row_spare, row_of, row_count, no_rows, members_of, times, with_replies, HasRoomFor, from_number, page};
+ghost use Rattle.hx_desk.specs.Rows.{AreZeroAt, AreRaised, HasUntold, published_row, row_texts, row_spare, row_of, row_count, no_rows, members_of, times, with_replies, HasRoomFor, from_number, page};
 
 use arrayvec::ArrayVec;
 use hx_ouch::{Outbound, encode_out};
@@ -12,15 +12,16 @@ use std::marker::Model;
 // The replies to one member.
 type Row = Vec<ArrayVec<u8, 80>>;
 
-/// The replies to each member, in bytes, a row for each member number: the first of them he was told. Contracts see
-/// them, for how many more replies each row has room, and how many of each are told.
+/// The replies to each member, in bytes, a row for each member number; the first ones of each row are published.
+/// Contracts see the replies, the number of further replies for which each row has room, and the number of published
+/// replies of each row.
 #[derive(Drop)]
 pub struct Rows {
     rows: Vec<Row>,
-    // For `reserve` alone: how many replies it has counted to a member.
+    // For `reserve` alone: the number of replies that it has counted for a member.
     counts: Vec<usize>,
-    // How many of each row are told.
-    told: Vec<usize>,
+    // The number of published replies of each row.
+    published_end: Vec<usize>,
     alloc: Global,
 }
 
@@ -33,13 +34,13 @@ impl Model for Rows {
     ghost view = { λ r. record {
       rows = map row_texts r.rows.items;
       spare = map row_spare r.rows.items;
-      told = r.told.items;
+      published_end = r.published_end.items;
     } };
 
     ghost invariant = { λ r.
         (length r.rows.items ≡ row_count)
         × (length r.counts.items ≡ row_count)
-        × (length r.told.items ≡ row_count) };
+        × (length r.published_end.items ≡ row_count) };
 }
 
 // Sets the counts of these members to 0.
@@ -53,7 +54,8 @@ fn clear(counts: &mut Vec<usize>, members: &[MemberNo])
     }
 }
 
-// Makes room for the replies to these members, once it has counted them. What is counted of others has no effect.
+// Makes room for the replies to these members, once it has counted them. What is counted for other members has no
+// effect.
 fn make_room(
     rows: &mut Vec<Row>,
     counts: &mut Vec<usize>,
@@ -115,7 +117,7 @@ fn copy_of(alloc: Global, replies: &[ArrayVec<u8, 80>]) -> Result<Row, NoMemory>
     Ok(row)
 }
 
-// Raises the counts of these members, each as often as he is among them.
+// Raises the count of each of these members by the number of times that the member is among them.
 fn raise(counts: &mut Vec<usize>, rows: &[Row], members: &[MemberNo])
     requires counts { length counts.old.items ≡ row_count }
     requires rows { length rows.now ≡ row_count }
@@ -134,15 +136,15 @@ fn raise(counts: &mut Vec<usize>, rows: &[Row], members: &[MemberNo])
 }
 
 impl Rows {
-    /// No reply to anybody. `NoMemory` where there is no place for the rows.
+    /// No reply to anybody. Fails with `NoMemory` if there is no memory for the rows.
     pub fn new(alloc: Global) -> Result<Rows, NoMemory>
         ensures rows { IfOk result (λ rows. rows.rows ≡ no_rows) }
-        ensures told { IfOk result (λ rows. rows.told ≡ replicate row_count 0) }
+        ensures published_end { IfOk result (λ rows. rows.published_end ≡ replicate row_count 0) }
     {
         Ok(Rows {
             rows: empty_rows(alloc)?,
             counts: vec![in alloc; 0; 4096]?,
-            told: vec![in alloc; 0; 4096]?,
+            published_end: vec![in alloc; 0; 4096]?,
             alloc,
         })
     }
@@ -150,56 +152,56 @@ impl Rows {
     /// Makes room for the replies to these members.
     pub fn reserve(&mut self, members: &[MemberNo]) -> Result<(), NoMemory>
         ensures same { self.new.rows ≡ self.old.rows }
-        ensures told { self.new.told ≡ self.old.told }
+        ensures published_end { self.new.published_end ≡ self.old.published_end }
         ensures room { OnOk result (HasRoomFor self.new.spare members.now) }
     {
         make_room(&mut self.rows, &mut self.counts, members)
     }
 
-    /// Adds replies, for which there is room. They are not told yet.
+    /// Adds replies, for which there is room. They are not published yet.
     pub fn add(&mut self, replies: &[(MemberNo, Outbound)])
         requires { HasRoomFor self.old.spare (members_of replies.now) }
         ensures rows { self.new.rows ≡ with_replies self.old.rows replies.now }
-        ensures told { self.new.told ≡ self.old.told }
+        ensures published_end { self.new.published_end ≡ self.old.published_end }
     {
         add_all(&mut self.rows, replies);
     }
 
-    /// Tells each of these members the next of his replies, each as often as he is among them.
+    /// Publishes the next reply to each of these members, once for each time that the member is among them.
     pub fn tell(&mut self, members: &[MemberNo])
         requires { HasUntold self.old members.now }
         ensures rows { self.new.rows ≡ self.old.rows }
-        ensures told { AreRaised self.old.told self.new.told members.now }
-        ensures sized { length self.new.told ≡ row_count }
+        ensures published_end { AreRaised self.old.published_end self.new.published_end members.now }
+        ensures sized { length self.new.published_end ≡ row_count }
     {
-        raise(&mut self.told, &self.rows, members);
+        raise(&mut self.published_end, &self.rows, members);
     }
 
-    // The replies that a member was told.
+    // The published replies to a member.
     fn row(&self, member: MemberNo) -> &[ArrayVec<u8, 80>]
-        ensures replies { texts result.now ≡ told_row self.now member }
-        ensures few { length (told_row self.now member) < 2 ^ 63 }
+        ensures replies { texts result.now ≡ published_row self.now member }
+        ensures few { length (published_row self.now member) < 2 ^ 63 }
         ensures range { member < 4096 }
     {
         let place = member.get() as usize;
         let row = &self.rows[place];
-        let told = self.told[place].min(row.len());
-        &row[..told]
+        let published_end = self.published_end[place].min(row.len());
+        &row[..published_end]
     }
 
-    /// How many replies a member was told.
+    /// The number of published replies to a member.
     pub fn count(&self, member: MemberNo) -> u64
-        ensures count { result ≡ length (told_row self.now member) }
+        ensures count { result ≡ length (published_row self.now member) }
         ensures few { result < 2 ^ 63 }
         ensures range { member < 4096 }
     {
         self.row(member).len() as u64
     }
 
-    // The replies to a member from this number on, where they stand.
+    // The replies to a member from this number on, as a part of its row.
     fn end(&self, member: MemberNo, from: u64) -> &[ArrayVec<u8, 80>]
-        ensures replies { texts result.now ≡ from_number from (told_row self.now member) }
-        ensures few { length (told_row self.now member) < 2 ^ 63 }
+        ensures replies { texts result.now ≡ from_number from (published_row self.now member) }
+        ensures few { length (published_row self.now member) < 2 ^ 63 }
         ensures range { member < 4096 }
     {
         let row = self.row(member);
@@ -207,20 +209,20 @@ impl Rows {
         &row[first..]
     }
 
-    /// The replies to a member from this number on, which count from 1; 0 is read as 1. It takes memory where there
-    /// are any.
+    /// The replies to a member from this number on, which counts from 1; 0 is read as 1. The call takes memory only if
+    /// there are replies.
     pub fn from(&self, member: MemberNo, from: u64) -> Result<Vec<ArrayVec<u8, 80>>, NoMemory>
         ensures replies { IfOk result (λ rows.
-            texts rows.items ≡ from_number from (told_row self.now member)) }
+            texts rows.items ≡ from_number from (published_row self.now member)) }
         ensures memory { IfErr result (λ _.
-            0 < length (from_number from (told_row self.now member))) }
-        ensures few { length (told_row self.now member) < 2 ^ 63 }
+            0 < length (from_number from (published_row self.now member))) }
+        ensures few { length (published_row self.now member) < 2 ^ 63 }
         ensures range { member < 4096 }
     {
         copy_of(self.alloc, self.end(member, from))
     }
 
-    /// At most this many replies to a member, from this number on. It takes memory where there are any.
+    /// At most `most` replies to a member, from this number on. The call takes memory only if there are replies.
     pub fn page(
         &self,
         member: MemberNo,
@@ -228,10 +230,10 @@ impl Rows {
         most: u64,
     ) -> Result<Vec<ArrayVec<u8, 80>>, NoMemory>
         ensures replies { IfOk result (λ rows.
-            texts rows.items ≡ page from most (told_row self.now member)) }
+            texts rows.items ≡ page from most (published_row self.now member)) }
         ensures memory { IfErr result (λ _.
-            0 < length (page from most (told_row self.now member))) }
-        ensures few { length (told_row self.now member) < 2 ^ 63 }
+            0 < length (page from most (published_row self.now member))) }
+        ensures few { length (published_row self.now member) < 2 ^ 63 }
         ensures range { member < 4096 }
     {
         let end = self.end(member, from);

@@ -7,7 +7,7 @@ use Rattle.hx_disk.specs.declared.device.DeviceError.TheVariants.{NoRoom, Failed
 abbrev pub Holds : (old : List ℕ) → (at : ℕ) → (bytes : List ℕ) → (new : List ℕ) → Type 0
 Holds old at bytes new = new ≡ take at old ++ bytes ++ drop (at + length bytes) old
 
--- the byte at a place of a file, and zero where there is none
+-- the byte at an offset of a file, and zero if there is none
 abbrev pub byte : List ℕ → ℕ → ℕ
 byte file i = get_or file i 0
 
@@ -21,7 +21,7 @@ pub record Mixed (at : ℕ) (bytes : List ℕ) (old new : List ℕ) : Type 0 whe
       → (byte new i ≡ byte old i)
       ⊎ ((at ≤ i) × (i < at + length bytes) × (byte new i ≡ byte bytes (i - at)))
 
--- After a cut that a crash cuts short: some length between, and each byte behind the cut is the one
+-- After a cut that a crash cuts short: some length between, and each byte after the cut is the one
 -- that was there or zero.
 pub record Cut (len : ℕ) (old new : List ℕ) : Type 0 where
   pub no_shorter : min len (length old) ≤ length new
@@ -57,7 +57,7 @@ pub record LeavesOnly
   -- for a run that began earlier
   pub before : (t : ℕ) (c : List ℕ) → t ≤ moment old → left_since new t c → left_since old t c ⊎ P c
 
--- `Failed` and `NoRoom` are told only where a call has failed since, and where one was Ok none has
+-- `Failed` and `NoRoom` are reported only if a call has failed since, and after an Ok none has
 pub record HasCause {T : Type 0} (before now : ℕ) (result : Result T DeviceError) : Type 0 where
   pub later : before ≤ now
   pub failed : IsErrOf result Failed → before < now

@@ -26,7 +26,7 @@ impl CallLog {
         }
     }
 
-    /// Notes a call: its kind, a place, 1 where it succeeded; and its bytes.
+    /// Notes a call: its kind, an offset or a length, 1 if it succeeded; and its bytes.
     pub fn note(&mut self, _numbers: &[u64], _bytes: &[u8])
         ensures { self.new.events ≡ event_of _numbers.now _bytes.now ∷ self.old.events }
     {}

@@ -52,7 +52,7 @@ pub trait Device {
     ghost faults: { Self → ℕ };
 
     /// Writes over what is there, and past the end. Until a sync, each byte of the range may be the
-    /// old one or the new one, in any mixture, and where there was none, zero or not there.
+    /// old one or the new one, in any mixture; past the old end, the new one, zero or not there.
     fn write_at(&mut self, at: usize, bytes: &[u8]) -> Result<(), DeviceError>
         requires { at ≤ length (seen self.old) }
         ensures written { OnOk result
@@ -62,7 +62,7 @@ pub trait Device {
             (left_since self.old) (left_since self.new) (may_leave self.new) }
         ensures cause { HasCause (faults self.old) (faults self.new) result };
 
-    /// Cuts the file to a length. Until a sync, some of the bytes behind it may be there, each the
+    /// Cuts the file to a length. Until a sync, some of the bytes after it may be there, each the
     /// old one or zero.
     fn cut(&mut self, len: usize) -> Result<(), DeviceError>
         requires { len ≤ length (seen self.old) }

@@ -23,19 +23,19 @@ pub struct HostFile {
 
 impl RawFile for HostFile {
     fn write_at(&mut self, at: usize, bytes: &[u8]) -> Result<(), DeviceError> {
-        told(self.file.write_all_at(bytes, at as u64))
+        reported(self.file.write_all_at(bytes, at as u64))
     }
 
     fn cut(&mut self, len: usize) -> Result<(), DeviceError> {
-        told(self.file.set_len(len as u64))
+        reported(self.file.set_len(len as u64))
     }
 
     fn sync(&mut self) -> Result<(), DeviceError> {
-        told(self.file.sync_data())
+        reported(self.file.sync_data())
     }
 }
 
-fn told(answer: io::Result<()>) -> Result<(), DeviceError> {
+fn reported(answer: io::Result<()>) -> Result<(), DeviceError> {
     match answer {
         Ok(()) => Ok(()),
         Err(error) => match error.kind() {

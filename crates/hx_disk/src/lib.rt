@@ -9,7 +9,7 @@
 //!   So sectors and pages may reach the disk in any order, in part or not at all, and the new
 //!   length without its bytes.
 //! - Of a cut that was not synced, the file ends somewhere between the new end and the old one, and
-//!   each byte behind the new end is the old one or zero.
+//!   each byte after the new end is the old one or zero.
 //! - A sync that answers Ok makes all of this the file that its reader sees. A sync that fails
 //!   makes nothing certain, and neither does one that is tried again after it (a kernel may drop
 //!   the pages that it could not write): so the first failed call is the last that is made.
@@ -22,7 +22,7 @@
 //!
 //! - a sector that reads as garbage, or as an error, because power failed while it was written:
 //!   also one that has synced records, since the next block goes on in the same sector;
-//! - blocks of other files behind the end (ext4 with `data=writeback`);
+//! - blocks of other files after the end (ext4 with `data=writeback`);
 //! - a disk that answers a flush before the data is safe;
 //! - bit rot, and writes to the file by anybody else.
 #![tactic(auto)]

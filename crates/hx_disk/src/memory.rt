@@ -74,13 +74,13 @@ impl RawFile for MemoryFile {
     fn write_at(&mut self, at: usize, bytes: &[u8]) -> Result<(), DeviceError> {
         self.spend()?;
         let at = at.min(self.bytes.len());
-        let mut behind = Vec::new(self.alloc);
+        let mut after = Vec::new(self.alloc);
         if bytes.len() < self.bytes.len() - at {
-            behind.extend_from_slice(&self.bytes[at + bytes.len()..])?;
+            after.extend_from_slice(&self.bytes[at + bytes.len()..])?;
         }
         self.bytes.truncate(at);
         self.bytes.extend_from_slice(bytes)?;
-        self.bytes.extend_from_slice(&behind)?;
+        self.bytes.extend_from_slice(&after)?;
         Ok(())
     }
 

@@ -7,7 +7,7 @@ use crate::{CallLog, Device, DeviceError};
 
 /// The calls of a file as the system answers them: nothing is promised.
 pub trait RawFile {
-    /// Writes all the bytes at a place, over what is there and past the end.
+    /// Writes all the bytes at an offset, over what is there and past the end.
     fn write_at(&mut self, at: usize, bytes: &[u8]) -> Result<(), DeviceError>;
 
     /// Cuts the file to a length.

@@ -12,7 +12,7 @@ use Rattle.hx_laws.specs.Recorded.{AreRecorded}
 use Rattle.hx_desk.specs.declared.entry.Entry.{Entry}
 use Rattle.hx_desk.specs.Entries.{entry_of, restored, events_of, ledger}
 use Rattle.hx_desk.specs.Known.{history_of}
-use Rattle.hx_desk.specs.Desks.{DeskState, IsStanding, told_of}
+use Rattle.hx_desk.specs.Desks.{DeskState, IsStanding, published_of}
 use Rattle.hx_engine.specs.Passes.{PassState, sent_from, sent_in, AreSomeOf}
 use Rattle.hx_engine.specs.Finish.{times_given, AreAllOnce, sent_by_all, is_any_waiting, IsReturned, IsFinished}
 use Rattle.hx_desk.proofs.Standing.{published_is, take_whole}
@@ -29,7 +29,7 @@ pub all_more : (P : PassState → Type 0) (ps : List PassState) (p : PassState) 
 all_more P [] p a h = (h, tt)
 all_more P (q ∷ ps) p a h = (a.0, all_more P ps p a.1 h)
 
--- of these none waits
+-- none of these waits
 pub none_waiting : (ps : List PassState) (p : PassState) → is_any_waiting (ps ++ p ∷ []) ≡ false → (is_any_waiting ps ≡ false) × (length p.waiting ≡ 0)
 none_waiting [] p h = (refl, here (eqb (length p.waiting) 0) refl h)
   where
@@ -47,13 +47,13 @@ weaker_all : (P Q : PassState → Type 0) (ps : List PassState) → ((p : PassSt
 weaker_all P Q [] f a = tt
 weaker_all P Q (p ∷ ps) f a = (f p a.0, weaker_all P Q ps f a.1)
 
--- As many passes as there are numbers.
+-- The number of passes is the number of pass numbers.
 
 sum_to : ℕ → (ℕ → ℕ) → ℕ
 sum_to zero f = 0
 sum_to (suc n) f = sum_to n f + f (suc n)
 
--- one exactly where a number is m
+-- 1 if a number is m, else 0
 abbrev at_number : ℕ → ℕ → ℕ
 at_number m k = cond (eqb k m) 1 0
 
@@ -107,7 +107,7 @@ pub all_given : (n : ℕ) (published : Entries Entry) (ps : List PassState) → 
 all_given n published ps a once =
     sym (given_in_all n ps (weaker_all (IsReturned n published) (λ p. (1 ≤ p.number) × (p.number ≤ n)) ps (λ p r. (r.first, r.last)) a)) ∙ sum_of_ones n (λ k. times_given k ps) once
 
--- a number is given once at most
+-- a number is given at most once
 never_given : (n k : ℕ) (ps : List PassState) → n < k → AllByRecursion (λ p. p.number ≤ n) ps → times_given k ps ≡ 0
 never_given n k [] l a = refl
 never_given n k (p ∷ ps) l a = let b = a.0 in omega (arith, not_at p.number k (λ e. omega arith), never_given n k ps l a.1)
@@ -170,7 +170,7 @@ all_sent history (p ∷ ps) a l =
     let rest = sent_at_most history ps a.1 in
     (some_all p.sent (sent_in p.number history) a.0 (omega arith), all_sent history ps a.1 (omega arith))
 
--- entries of no pass are nobody's
+-- an entry of no pass counts for none of these passes
 nobodys : (k : ℕ) (ps : List PassState) (events : List Event) (rest : List Entry) → times_given 0 ps ≡ 0 → entries_of_all k ps (restored events ++ rest) ≡ entries_of_all (k + length events) ps rest
 nobodys k ps [] rest none = ap (λ j. entries_of_all j ps rest) (let e : k ≡ k + 0 = omega arith in e)
 nobodys k ps (x ∷ events) rest none =
@@ -183,41 +183,41 @@ nobodys k ps (x ∷ events) rest none =
 no_pass_is_0 : (n : ℕ) (published : Entries Entry) (ps : List PassState) → AllByRecursion (IsReturned n published) ps → times_given 0 ps ≡ 0
 no_pass_is_0 n published ps a = none_given ps (weaker_all (IsReturned n published) (λ p. 1 ≤ p.number) ps (λ p r. r.first) a)
 
--- all of it is told
-pub all_told : (setup : Setup) (before : List Event) (d : DeskState) (n : ℕ) (ps : List PassState) → IsStanding d → d.setup ≡ setup → AllByRecursion (IsReturned n d.published) ps
-    → AreAllOnce n ps → length d.history ≡ length before + sent_by_all ps → take (length before) (told_of d) ≡ restored before → told_of d ≡ d.history
-all_told setup before d n ps s of_setup returned once counted began =
-    let told : List Entry = told_of d in
-    let rest : List Entry = drop (length before) told in
-    let known : history_of d.published ≡ told = history_known d d.published s refl in
-    let some : AllByRecursion (λ p. AreSomeOf p.sent (sent_in p.number told)) ps =
-    weaker_all (IsReturned n d.published) (λ p. AreSomeOf p.sent (sent_in p.number told)) ps (λ p r. subst (λ (h : List Entry). AreSomeOf p.sent (sent_in p.number h)) known r.sent) returned in
-    let parts : restored before ++ rest ≡ told = ap (λ (l : List Entry). l ++ rest) (sym began) ∙ take-append-drop (length before) told in
-    let long : length told ≡ length before + length rest = sym (ap (λ (l : List Entry). length l) parts) ∙ length-append (restored before) rest ∙ ap (λ k. k + length rest) (length-map before (entry_of 0)) in
-    let entries : entries_of_all 1 ps told ≤ length rest =
+-- the whole history is published
+pub all_published : (setup : Setup) (before : List Event) (d : DeskState) (n : ℕ) (ps : List PassState) → IsStanding d → d.setup ≡ setup → AllByRecursion (IsReturned n d.published) ps
+    → AreAllOnce n ps → length d.history ≡ length before + sent_by_all ps → take (length before) (published_of d) ≡ restored before → published_of d ≡ d.history
+all_published setup before d n ps s of_setup returned once counted began =
+    let published_end : List Entry = published_of d in
+    let rest : List Entry = drop (length before) published_end in
+    let known : history_of d.published ≡ published_end = history_known d d.published s refl in
+    let some : AllByRecursion (λ p. AreSomeOf p.sent (sent_in p.number published_end)) ps =
+    weaker_all (IsReturned n d.published) (λ p. AreSomeOf p.sent (sent_in p.number published_end)) ps (λ p r. subst (λ (h : List Entry). AreSomeOf p.sent (sent_in p.number h)) known r.sent) returned in
+    let parts : restored before ++ rest ≡ published_end = ap (λ (l : List Entry). l ++ rest) (sym began) ∙ take-append-drop (length before) published_end in
+    let long : length published_end ≡ length before + length rest = sym (ap (λ (l : List Entry). length l) parts) ∙ length-append (restored before) rest ∙ ap (λ k. k + length rest) (length-map before (entry_of 0)) in
+    let entries : entries_of_all 1 ps published_end ≤ length rest =
     omega (arith, ap (λ (l : List Entry). entries_of_all 1 ps l) (sym parts), nobodys 1 ps before rest (no_pass_is_0 n d.published ps returned), at_most_all (1 + length before) ps rest (once_at_most n d.published ps returned once)) in
-    let sent : sent_by_all ps ≤ entries_of_all 1 ps told = sent_at_most told ps some in
-    let whole : d.told ≡ length d.history = omega (arith, counted, long, entries, sent, length-take-le d.told d.history (omega (arith, s.order, s.within)), s.order, s.within) in
-    take_whole d.history d.told whole
+    let sent : sent_by_all ps ≤ entries_of_all 1 ps published_end = sent_at_most published_end ps some in
+    let whole : d.published_end ≡ length d.history = omega (arith, counted, long, entries, sent, length-take-le d.published_end d.history (omega (arith, s.order, s.within)), s.order, s.within) in
+    take_whole d.history d.published_end whole
 
 pub finished : (setup : Setup) (before : List Event) (d : DeskState) (n : ℕ) (ps : List PassState) (history : List Entry) (messages : ℕ) → IsStanding d → d.setup ≡ setup → AllByRecursion (IsReturned n d.published) ps
-    → AreAllOnce n ps → length d.history ≡ length before + sent_by_all ps → take (length before) (told_of d) ≡ restored before → history ≡ d.history → messages ≡ length (blog.feed d.published)
+    → AreAllOnce n ps → length d.history ≡ length before + sent_by_all ps → take (length before) (published_of d) ≡ restored before → history ≡ d.history → messages ≡ length (blog.feed d.published)
     → IsFinished setup before ps history messages
 finished setup before d n ps history messages s of_setup returned once counted began same count =
-    let told : List Entry = told_of d in
-    let rest : List Entry = drop (length before) told in
-    let known : history_of d.published ≡ told = history_known d d.published s refl in
-    let some : AllByRecursion (λ p. AreSomeOf p.sent (sent_in p.number told)) ps =
-    weaker_all (IsReturned n d.published) (λ p. AreSomeOf p.sent (sent_in p.number told)) ps (λ p r. subst (λ (h : List Entry). AreSomeOf p.sent (sent_in p.number h)) known r.sent) returned in
-    let parts : restored before ++ rest ≡ told = ap (λ (l : List Entry). l ++ rest) (sym began) ∙ take-append-drop (length before) told in
-    let long : length told ≡ length before + length rest = sym (ap (λ (l : List Entry). length l) parts) ∙ length-append (restored before) rest ∙ ap (λ k. k + length rest) (length-map before (entry_of 0)) in
-    let entries : entries_of_all 1 ps told ≤ length rest =
+    let published_end : List Entry = published_of d in
+    let rest : List Entry = drop (length before) published_end in
+    let known : history_of d.published ≡ published_end = history_known d d.published s refl in
+    let some : AllByRecursion (λ p. AreSomeOf p.sent (sent_in p.number published_end)) ps =
+    weaker_all (IsReturned n d.published) (λ p. AreSomeOf p.sent (sent_in p.number published_end)) ps (λ p r. subst (λ (h : List Entry). AreSomeOf p.sent (sent_in p.number h)) known r.sent) returned in
+    let parts : restored before ++ rest ≡ published_end = ap (λ (l : List Entry). l ++ rest) (sym began) ∙ take-append-drop (length before) published_end in
+    let long : length published_end ≡ length before + length rest = sym (ap (λ (l : List Entry). length l) parts) ∙ length-append (restored before) rest ∙ ap (λ k. k + length rest) (length-map before (entry_of 0)) in
+    let entries : entries_of_all 1 ps published_end ≤ length rest =
     omega (arith, ap (λ (l : List Entry). entries_of_all 1 ps l) (sym parts), nobodys 1 ps before rest (no_pass_is_0 n d.published ps returned), at_most_all (1 + length before) ps rest (once_at_most n d.published ps returned once)) in
-    let sent : sent_by_all ps ≤ entries_of_all 1 ps told = sent_at_most told ps some in
-    let whole : d.told ≡ length d.history = omega (arith, counted, long, entries, sent, length-take-le d.told d.history (omega (arith, s.order, s.within)), s.order, s.within) in
-    let is : told ≡ history = take_whole d.history d.told whole ∙ sym same in
+    let sent : sent_by_all ps ≤ entries_of_all 1 ps published_end = sent_at_most published_end ps some in
+    let whole : d.published_end ≡ length d.history = omega (arith, counted, long, entries, sent, length-take-le d.published_end d.history (omega (arith, s.order, s.within)), s.order, s.within) in
+    let is : published_end ≡ history = take_whole d.history d.published_end whole ∙ sym same in
     let published : d.published ≡ ledger setup history = published_by setup d s of_setup ∙ ap (ledger setup) is in
-    let all : AllByRecursion (λ p. p.sent ≡ sent_in p.number told) ps = all_sent told ps some (omega (arith, entries, counted, long, whole, ap (λ (l : List Entry). length l) (take_whole d.history d.told whole))) in
+    let all : AllByRecursion (λ p. p.sent ≡ sent_in p.number published_end) ps = all_sent published_end ps some (omega (arith, entries, counted, long, whole, ap (λ (l : List Entry). length l) (take_whole d.history d.published_end whole))) in
     let accepted : AreRecorded setup (events_of d.history) = subst (λ (x : Setup). AreRecorded x (events_of d.history)) of_setup s.accepted in
     record {
       accepted = subst (λ (h : List Entry). AreRecorded setup (events_of h)) (sym same) accepted;

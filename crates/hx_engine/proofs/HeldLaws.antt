@@ -1,4 +1,4 @@
--- What lies under the lock, and what is on its way to the journal.
+-- The state under the lock, and the batch on its way to the journal.
 use Rattle.std.proofs.Common.{◌≡◌, inl, inr, ℕ, zero, suc, ◌+◌, ◌<◌, ◌≤◌, List, [], ◌∷◌, ◌++◌, length, take, drop, get_or, refl, ap, sym, ◌∙◌, subst, arith, append_assoc, append-nil, length-append}
 use Rattle.std.proofs.lemmas.List.{map-append, length-map, length-take, length-take-le, take-append-le, drop-append-le, take-append-drop}
 use Rattle.std.proofs.Math.Seq.{take-append_seam}
@@ -11,7 +11,7 @@ use Rattle.hx_desk.specs.declared.entry.Entry.{Entry}
 use Rattle.hx_desk.specs.declared.entry.Done.{Done}
 use Rattle.hx_desk.specs.Entries.{restored, entry_of}
 use Rattle.hx_desk.specs.Known.{history_of}
-use Rattle.hx_desk.specs.Desks.{DeskState, Grows, told_of}
+use Rattle.hx_desk.specs.Desks.{DeskState, Grows, published_of}
 use Rattle.hx_journal.specs.Crashes.{Leaves}
 use Rattle.hx_journal.specs.Records.{IsRecord}
 use Rattle.hx_engine.specs.Journals.{unspoken, lines}
@@ -20,9 +20,9 @@ pub feed_unspoken : (h : List Entry) → feed (unspoken h) ≡ []
 feed_unspoken [] = refl
 feed_unspoken (e ∷ h) = feed_unspoken h
 
-pub told_of_unspoken : (h : List Entry) → history_of (unspoken h) ≡ h
-told_of_unspoken [] = refl
-told_of_unspoken (e ∷ h) = ap (λ (l : List Entry). e ∷ l) (told_of_unspoken h)
+pub published_of_unspoken : (h : List Entry) → history_of (unspoken h) ≡ h
+published_of_unspoken [] = refl
+published_of_unspoken (e ∷ h) = ap (λ (l : List Entry). e ∷ l) (published_of_unspoken h)
 
 pub length_unspoken : (h : List Entry) → length (unspoken h) ≡ length h
 length_unspoken [] = refl
@@ -41,20 +41,20 @@ drop_unspoken (suc n) (e ∷ h) = drop_unspoken n h
 front : {A : Type 0} (xs ys : List A) → IsPrefix xs ys → xs ≡ take (length xs) ys
 front xs ys p = sym (take-append_seam xs p.0) ∙ ap (take (length xs)) p.1
 
--- what is silent, from a place on
+-- entries without messages, from an index on
 pub silent_rest : (n : ℕ) (known entries : Entries Entry) → known ≡ unspoken (history_of known) → entries ≡ drop n known → entries ≡ unspoken (history_of entries)
 silent_rest n known entries is e =
     let p : entries ≡ unspoken (drop n (history_of known)) = e ∙ ap (drop n) is ∙ drop_unspoken n (history_of known) in
-    p ∙ ap unspoken (sym (told_of_unspoken (drop n (history_of known)))) ∙ ap (λ (k : Entries Entry). unspoken (history_of k)) (sym p)
+    p ∙ ap unspoken (sym (published_of_unspoken (drop n (history_of known)))) ∙ ap (λ (k : Entries Entry). unspoken (history_of k)) (sym p)
 
 -- what holds of the value that is there
 pub some_at : {T : Type 0} (P : T → Type 0) (o : Option T) (t : T) → Some t ≡ o → IfSome o P → P t
 some_at P o t e h = subst (λ (x : Option _). IfSome x P) (sym e) h
 
--- An entry more.
+-- One more entry.
 
-pub told_stays : (d e : DeskState) (entry : Entry) (done : Done) → Grows d e entry done → d.told ≤ length d.history → told_of e ≡ told_of d
-told_stays d e entry done grows within = (λ i. take (grows.told i) (grows.history i)) ∙ take-append-le d.told d.history (entry ∷ []) within
+pub published_stays : (d e : DeskState) (entry : Entry) (done : Done) → Grows d e entry done → d.published_end ≤ length d.history → published_of e ≡ published_of d
+published_stays d e entry done grows within = (λ i. take (grows.published_end i) (grows.history i)) ∙ take-append-le d.published_end d.history (entry ∷ []) within
 
 pub one_line : (line : Event → List ℕ) (records : List (List ℕ)) (written : List ℕ) (d e : DeskState) (entry : Entry) (done : Done) → Grows d e entry done → d.sealed ≤ length d.history
     → records ≡ lines line (drop d.sealed d.history) → written ≡ line entry.event → records ++ written ∷ [] ≡ lines line (drop e.sealed e.history)
@@ -67,7 +67,7 @@ one_line line records written d e entry done grows within are is =
 pub more_unspoken : (h : List Entry) (e : Entry) → unspoken h ++ unspoken (e ∷ []) ≡ unspoken (h ++ e ∷ [])
 more_unspoken h e = sym (map-append (λ (x : Entry). (x, [])) h (e ∷ []))
 
--- More is told.
+-- More is published.
 
 take_shorter : {A : Type 0} (n m : ℕ) (xs : List A) → n ≤ m → take n (take m xs) ≡ take n xs
 take_shorter zero m xs l = refl
@@ -75,25 +75,25 @@ take_shorter (suc n) zero xs l = absurd (omega arith)
 take_shorter (suc n) (suc m) [] l = refl
 take_shorter (suc n) (suc m) (x ∷ xs) l = ap (λ (v : List _). x ∷ v) (take_shorter n m xs (omega arith))
 
-pub still_begins : (before : List Event) (h : List Entry) (told more : ℕ) → told ≤ more → take (length before) (take told h) ≡ restored before → take (length before) (take more h) ≡ restored before
-still_begins before h told more l began =
-    let n : length (take (length before) (take told h)) ≡ length before = ap (λ (k : List Entry). length k) began ∙ length-map before (entry_of 0) in
-    let short : length before ≤ told = omega (arith, n, length-take (length before) (take told h), length-take told h) in
-    take_shorter (length before) more h (omega (arith, short)) ∙ sym (take_shorter (length before) told h short) ∙ began
+pub still_begins : (before : List Event) (h : List Entry) (published_end more : ℕ) → published_end ≤ more → take (length before) (take published_end h) ≡ restored before → take (length before) (take more h) ≡ restored before
+still_begins before h published_end more l began =
+    let n : length (take (length before) (take published_end h)) ≡ length before = ap (λ (k : List Entry). length k) began ∙ length-map before (entry_of 0) in
+    let short : length before ≤ published_end = omega (arith, n, length-take (length before) (take published_end h), length-take published_end h) in
+    take_shorter (length before) more h (omega (arith, short)) ∙ sym (take_shorter (length before) published_end h short) ∙ began
 
 -- A batch.
 
-pub begun_at : (h : List Entry) (told : ℕ) (published known : Entries Entry) → told ≤ length h → known ≡ unspoken h → published ≡ unspoken (take told h) → take (length published) known ≡ published
-begun_at h told published known l is p =
-    let n : length published ≡ told = ap (λ (k : Entries Entry). length k) p ∙ length_unspoken (take told h) ∙ length-take-le told h l in
-    (λ i. take (n i) (is i)) ∙ take_unspoken told h ∙ sym p
+pub begun_at : (h : List Entry) (published_end : ℕ) (published known : Entries Entry) → published_end ≤ length h → known ≡ unspoken h → published ≡ unspoken (take published_end h) → take (length published) known ≡ published
+begun_at h published_end published known l is p =
+    let n : length published ≡ published_end = ap (λ (k : Entries Entry). length k) p ∙ length_unspoken (take published_end h) ∙ length-take-le published_end h l in
+    (λ i. take (n i) (is i)) ∙ take_unspoken published_end h ∙ sym p
 
-pub spelled_from : (line : Event → List ℕ) (h : List Entry) (told sealed : ℕ) (published known : Entries Entry) (texts : List (List ℕ)) → told ≤ length h → known ≡ unspoken h → published ≡ unspoken (take told h) → sealed ≡ told
+pub spelled_from : (line : Event → List ℕ) (h : List Entry) (published_end sealed : ℕ) (published known : Entries Entry) (texts : List (List ℕ)) → published_end ≤ length h → known ≡ unspoken h → published ≡ unspoken (take published_end h) → sealed ≡ published_end
     → texts ≡ lines line (drop sealed h) → texts ≡ lines line (history_of (drop (length published) known))
-spelled_from line h told sealed published known texts l is p same are =
-    let n : length published ≡ told = ap (λ (k : Entries Entry). length k) p ∙ length_unspoken (take told h) ∙ length-take-le told h l in
+spelled_from line h published_end sealed published known texts l is p same are =
+    let n : length published ≡ published_end = ap (λ (k : Entries Entry). length k) p ∙ length_unspoken (take published_end h) ∙ length-take-le published_end h l in
     are ∙ ap (λ k. lines line (drop k h)) same
-    ∙ ap (lines line) (sym (told_of_unspoken (drop told h)) ∙ ap history_of (sym (drop_unspoken told h)) ∙ (λ i. history_of (drop (sym n i) (sym is i))))
+    ∙ ap (lines line) (sym (published_of_unspoken (drop published_end h)) ∙ ap history_of (sym (drop_unspoken published_end h)) ∙ (λ i. history_of (drop (sym n i) (sym is i))))
 
 pub landed_at : (h : List Entry) (sealed end : ℕ) (published known register : Entries Entry) → published ≡ known → end ≡ length known → sealed ≡ end → IsPrefix known register → register ≡ unspoken h → published ≡ unspoken (take sealed h)
 landed_at h sealed end published known register all ends same p is =
@@ -159,6 +159,6 @@ same_both {A = A} xs ys p q =
     let less = sym (length-append ys q.0) ∙ ap length q.1 in
     sym (append-nil xs) ∙ ap (λ (r : List A). xs ++ r) (sym (none_of p.0 (omega (arith, more, less)))) ∙ p.1
 
--- a history begins with events that were kept before
+-- a history begins with the events that were durable before
 pub begins_before : (before : List Event) (h : List Entry) → take (length before) h ≡ restored before → IsPrefix (restored before) h
 begins_before before h is = subst (λ (l : List Entry). IsPrefix l h) is (drop (length before) h, take-append-drop (length before) h)

@@ -5,4 +5,4 @@ pub mod AllBack
 pub mod Refusing
 pub mod Records
 pub mod Pieces
-pub mod Playing
+pub mod Applying

@@ -9,22 +9,22 @@ many s t (e ∷ es) = ap suc (many e (drop (e - s) t) es)
 
 -- One more.
 
-behind : (s e end : ℕ) (t b : List ℕ) → s ≤ e → e - s ≤ length t → end ≡ s + length (t ++ b) → end ≡ e + length (drop (e - s) t ++ b)
-behind s e end t b low within is = omega (arith, low, within, is, length-append t b, length-append (drop (e - s) t) b, length-drop (e - s) t)
+later : (s e end : ℕ) (t b : List ℕ) → s ≤ e → e - s ≤ length t → end ≡ s + length (t ++ b) → end ≡ e + length (drop (e - s) t ++ b)
+later s e end t b low within is = omega (arith, low, within, is, length-append t b, length-append (drop (e - s) t) b, length-drop (e - s) t)
 
 pub ends_more : (s : ℕ) (t b es : List ℕ) (end : ℕ) → AreEnds s t es → end ≡ s + length (t ++ b) → AreEnds s (t ++ b) (es ++ end ∷ [])
 ends_more s t b [] end are is = (omega (arith, is), omega (arith, is), drop_all (end - s) (t ++ b) (omega (arith, is)))
 ends_more s t b (e ∷ es) end (low, within, are) is = (
   low,
   omega (arith, within, length-append t b),
-  subst (λ x. AreEnds e x (es ++ end ∷ [])) (sym (drop-append-le (e - s) t b within)) (ends_more e (drop (e - s) t) b es end are (behind s e end t b low within is)),
+  subst (λ x. AreEnds e x (es ++ end ∷ [])) (sym (drop-append-le (e - s) t b within)) (ends_more e (drop (e - s) t) b es end are (later s e end t b low within is)),
 )
 
 pub pieces_more : (s : ℕ) (t b es : List ℕ) (end : ℕ) → AreEnds s t es → end ≡ s + length (t ++ b) → pieces s (t ++ b) (es ++ end ∷ []) ≡ pieces s t es ++ b ∷ []
 pieces_more s t b [] end none is = ap (λ (l : List ℕ). l ∷ []) (take_all (end - s) (t ++ b) (omega (arith, is)) ∙ ap (λ (l : List ℕ). l ++ b) none)
 pieces_more s t b (e ∷ es) end (low, within, are) is =
     (λ i. take-append-le (e - s) t b within i ∷ pieces e (drop-append-le (e - s) t b within i) (es ++ end ∷ []))
-    ∙ ap (λ (l : List (List ℕ)). take (e - s) t ∷ l) (pieces_more e (drop (e - s) t) b es end are (behind s e end t b low within is))
+    ∙ ap (λ (l : List (List ℕ)). take (e - s) t ∷ l) (pieces_more e (drop (e - s) t) b es end are (later s e end t b low within is))
 
 -- One of them: it starts where the one before ends.
 
@@ -47,7 +47,7 @@ piece_at s t (e ∷ es) (suc i) (low, within, are) in' =
     ap (λ (l : List ℕ). take (get_or es i 0 - start) l) (ap (λ n. drop n t) far ∙ sym (drop-drop (start - e) (e - s) t))
     ∙ piece_at e (drop (e - s) t) es i are (omega (arith, in'))
 
--- The first this many of them.
+-- The first n of them.
 
 shorter : (n m : ℕ) (xs : List ℕ) → n ≤ m → take n (take m xs) ≡ take n xs
 shorter zero m xs l = refl
@@ -67,7 +67,7 @@ cut_within s t (e ∷ es) (suc k) (low, within, are) in' =
     let (a, b) = cut_within e (drop (e - s) t) es k are (omega (arith, in')) in
     (omega (arith, low, a), omega (arith, low, a, b, within, length-drop (e - s) t))
 
--- the front of a text up to a place, behind the first piece
+-- the front of a text up to an offset, after the first piece
 rest : (s e m : ℕ) (t : List ℕ) → s ≤ e → e ≤ m → drop (e - s) (take (m - s) t) ≡ take (m - e) (drop (e - s) t)
 rest s e m t low high =
     let far : m - s ≡ (e - s) + (m - e) = omega (arith, low, high) in
@@ -94,7 +94,7 @@ pieces_cut s t (e ∷ es) (suc k) (low, within, are) in' =
     (λ i. shorter (e - s) (m - s) t (let l : e - s ≤ m - s = omega (arith, a) in l) i ∷ pieces e (rest s e m t low a i) (take k es))
     ∙ ap (λ (l : List (List ℕ)). take (e - s) t ∷ l) (pieces_cut e (drop (e - s) t) es k are (omega (arith, in')))
 
--- what stands at a place
+-- the element at an index does not depend on the default
 pub stands_at : (es : List ℕ) (i d x : ℕ) → i < length es → get_or es i d ≡ get_or es i x
 stands_at [] i d x in' = absurd (omega (arith, in'))
 stands_at (e ∷ es) zero d x in' = refl

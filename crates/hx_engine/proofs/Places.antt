@@ -43,7 +43,7 @@ pub some_length : (xs ys : List Sent) → AreSomeOf xs ys → length xs ≤ leng
 some_length xs [] h = omega (arith, ap (λ (v : List Sent). length v) h)
 some_length xs (y ∷ ys) h = elim h [ inl g ↦ omega (arith, some_length xs ys g) | inr g ↦ omega (arith, ap (λ (v : List Sent). length v) g.1, some_length g.0 ys g.2) ]
 
--- as many as there are, are all
+-- some of a list that are no fewer are all of it
 pub some_all : (xs ys : List Sent) → AreSomeOf xs ys → length ys ≤ length xs → xs ≡ ys
 some_all xs [] h l = h
 some_all xs (y ∷ ys) h l =
@@ -91,45 +91,45 @@ weaker : (P Q : Sent → Type 0) (xs : List Sent) → ((x : Sent) → P x → Q 
 weaker P Q [] f h = tt
 weaker P Q (x ∷ xs) f h = (f x h.0, weaker P Q xs f h.1)
 
--- the entry of the event is that many places behind the first one
-abbrev Behind : ℕ → ℕ → List Entry → Sent → Type 0
-Behind n k history x = (k ≤ x.0) × (x.0 < k + length history) × (slice_get history (x.0 - k) ≡ Some (record { pass = n; event = x.1 }))
+-- the event's entry is at index `x.0` of the history, whose first entry has the index `k`
+abbrev After : ℕ → ℕ → List Entry → Sent → Type 0
+After n k history x = (k ≤ x.0) × (x.0 < k + length history) × (slice_get history (x.0 - k) ≡ Some (record { pass = n; event = x.1 }))
 
-behind_more : (n k : ℕ) (e : Entry) (history : List Entry) (x : Sent) → Behind n (k + 1) history x → Behind n k (e ∷ history) x
-behind_more n k e history x h =
+after_more : (n k : ℕ) (e : Entry) (history : List Entry) (x : Sent) → After n (k + 1) history x → After n k (e ∷ history) x
+after_more n k e history x h =
     let l = h.0 in
     let m = h.1 in
     (omega arith, omega arith, ap (λ j. slice_get (e ∷ history) j) (let z : x.0 - k ≡ suc (x.0 - (k + 1)) = omega arith in z) ∙ h.2)
 
-all_behind : (n k : ℕ) (history : List Entry) → AllByRecursion (Behind n k history) (sent_from n k history)
-all_behind n k [] = tt
-all_behind n k (e ∷ history) =
-    at (eqb e.pass n) refl (weaker (Behind n (k + 1) history) (Behind n k (e ∷ history)) (sent_from n (k + 1) history) (behind_more n k e history) (all_behind n (k + 1) history))
+all_after : (n k : ℕ) (history : List Entry) → AllByRecursion (After n k history) (sent_from n k history)
+all_after n k [] = tt
+all_after n k (e ∷ history) =
+    at (eqb e.pass n) refl (weaker (After n (k + 1) history) (After n k (e ∷ history)) (sent_from n (k + 1) history) (after_more n k e history) (all_after n (k + 1) history))
   where
-    first : e.pass ≡ n → Behind n k (e ∷ history) (k, e.event)
+    first : e.pass ≡ n → After n k (e ∷ history) (k, e.event)
     first same =
         (omega arith, omega arith, ap (λ j. slice_get (e ∷ history) j) (let z : k - k ≡ 0 = omega arith in z) ∙ ap (λ (m : ℕ). Some (record { pass = m; event = e.event })) same)
 
-    at : (b : Bool) → eqb e.pass n ≡ b → AllByRecursion (Behind n k (e ∷ history)) (sent_from n (k + 1) history)
-        → AllByRecursion (Behind n k (e ∷ history)) (cond b ((k, e.event) ∷ sent_from n (k + 1) history) (sent_from n (k + 1) history))
+    at : (b : Bool) → eqb e.pass n ≡ b → AllByRecursion (After n k (e ∷ history)) (sent_from n (k + 1) history)
+        → AllByRecursion (After n k (e ∷ history)) (cond b ((k, e.event) ∷ sent_from n (k + 1) history) (sent_from n (k + 1) history))
     at true is rest = (first (eqb-true e.pass n is), rest)
     at false is rest = rest
 
 pub stand_at : (n : ℕ) (sent : List Sent) (history : List Entry) → AreSomeOf sent (sent_in n history) → AllByRecursion (StandsAt n history) sent
 stand_at n sent history h =
-    weaker (Behind n 1 history) (StandsAt n history) sent (λ x g. (g.0, g.2)) (all_of_some (Behind n 1 history) sent (sent_in n history) h (all_behind n 1 history))
+    weaker (After n 1 history) (StandsAt n history) sent (λ x g. (g.0, g.2)) (all_of_some (After n 1 history) sent (sent_in n history) h (all_after n 1 history))
 
 pub are_below : (n : ℕ) (sent : List Sent) (history : List Entry) (place : ℕ) → place ≡ length history + 1 → AreSomeOf sent (sent_in n history) → AllByRecursion (λ x. x.0 < place) sent
 are_below n sent history place is h =
-    weaker (Behind n 1 history) (λ x. x.0 < place) sent (λ x g. let l = g.1 in omega arith) (all_of_some (Behind n 1 history) sent (sent_in n history) h (all_behind n 1 history))
+    weaker (After n 1 history) (λ x. x.0 < place) sent (λ x g. let l = g.1 in omega arith) (all_of_some (After n 1 history) sent (sent_in n history) h (all_after n 1 history))
 
--- The history that a ledger tells.
+-- The history of a ledger.
 
-told_by : (setup : Setup) (a : Market) (history : List Entry) → history_of (ledger_from setup a history) ≡ history
+published_by : (setup : Setup) (a : Market) (history : List Entry) → history_of (ledger_from setup a history) ≡ history
 unfolding ledger_from
-told_by setup a [] = refl
-told_by setup a (e ∷ history) = ap (λ (l : List Entry). e ∷ l) (told_by setup (step setup a e.event).market history)
+published_by setup a [] = refl
+published_by setup a (e ∷ history) = ap (λ (l : List Entry). e ∷ l) (published_by setup (step setup a e.event).market history)
 
 pub history_of_ledger : (setup : Setup) (history : List Entry) → history_of (ledger setup history) ≡ history
 unfolding ledger
-history_of_ledger setup history = told_by setup (opening setup) history
+history_of_ledger setup history = published_by setup (opening setup) history

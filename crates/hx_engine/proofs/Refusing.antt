@@ -41,7 +41,7 @@ one_history number before now new events i event l is history more =
     ∙ sym (map-append (entry_of number) (take i events) (get_or events i event ∷ []))
     ∙ ap (sent_by number) (sym (take_more events i event l)))
 
--- Who is refused.
+-- Which events are refused.
 
 pub in_order : (setup : Setup) (event : Event) (done : Done) → IsRefusedOutright setup event (Ok done) → IsInOrder setup event
 in_order setup event done r = (time, member (is_from_stranger setup event) refl)
@@ -59,12 +59,6 @@ in_order setup event done r = (time, member (is_from_stranger setup event) refl)
 
 no_true : (b : Bool) → b ≡ false → b ≡ true → ⊥
 no_true b f t = let z : true ≡ false = sym t ∙ f in absurd (let y : true ≡ false = z in cc)
-
-pub recorded : (setup : Setup) (event : Event) (done : Done) → IsInOrder setup event → IsRefusedOutright setup event (Ok done)
-recorded setup event done r = record {
-  bad_time = ((λ e. absurd (let z : ◌≡◌ {A = Result Done SubmitError} (Ok done) (Err (Refused fault.BadTime)) = e in cc)), (λ b. absurd (no_true (is_bad_time event) r.0 b)));
-  no_member = ((λ e. absurd (let z : ◌≡◌ {A = Result Done SubmitError} (Ok done) (Err (Refused fault.NoMember)) = e in cc)), (λ b. absurd (no_true (is_from_stranger setup event) r.1 b.1)));
-}
 
 stopped : (setup : Setup) (event : Event) → IsInOrder setup event → IsRefusedOutright setup event (Err Stopped)
 stopped setup event r = record {
@@ -90,19 +84,19 @@ text_at line [] i event in' is = absurd (omega arith)
 text_at line (e ∷ events) zero event in' is = ap line (sym is)
 text_at line (e ∷ events) (suc i) event in' is = text_at line events i event (omega arith) is
 
--- an event more behind its place
-pub one_placed : (behind : ℕ) (events : List Event) (i : ℕ) (event : Event) → i < length events → event ≡ get_or events i event → placed behind (take (i + 1) events) ≡ placed behind (take i events) ++ (behind + i + 1, event) ∷ []
-one_placed behind events i event l is = ap (λ n. placed behind (take n events)) (let e : i + 1 ≡ suc i = omega arith in e) ∙ next behind events i l is
+-- one more event, at its index
+pub one_placed : (later : ℕ) (events : List Event) (i : ℕ) (event : Event) → i < length events → event ≡ get_or events i event → placed later (take (i + 1) events) ≡ placed later (take i events) ++ (later + i + 1, event) ∷ []
+one_placed later events i event l is = ap (λ n. placed later (take n events)) (let e : i + 1 ≡ suc i = omega arith in e) ∙ next later events i l is
   where
-    next : (behind : ℕ) (events : List Event) (i : ℕ) → i < length events → event ≡ get_or events i event → placed behind (take (suc i) events) ≡ placed behind (take i events) ++ (behind + i + 1, event) ∷ []
-    next behind [] i l is = absurd (omega arith)
-    next behind (e ∷ events) zero l is = (λ k. (same k, sym is k) ∷ [])
+    next : (later : ℕ) (events : List Event) (i : ℕ) → i < length events → event ≡ get_or events i event → placed later (take (suc i) events) ≡ placed later (take i events) ++ (later + i + 1, event) ∷ []
+    next later [] i l is = absurd (omega arith)
+    next later (e ∷ events) zero l is = (λ k. (same k, sym is k) ∷ [])
       where
-        same : behind + 1 ≡ behind + 0 + 1
+        same : later + 1 ≡ later + 0 + 1
         same = omega arith
-    next behind (e ∷ events) (suc i) l is =
-        ap (λ (l : List Sent). (behind + 1, e) ∷ l)
-        (next (behind + 1) events i (omega arith) is ∙ ap (λ k. placed (behind + 1) (take i events) ++ (k, event) ∷ []) (let z : behind + 1 + i + 1 ≡ behind + suc i + 1 = omega arith in z))
+    next later (e ∷ events) (suc i) l is =
+        ap (λ (l : List Sent). (later + 1, e) ∷ l)
+        (next (later + 1) events i (omega arith) is ∙ ap (λ k. placed (later + 1) (take i events) ++ (k, event) ∷ []) (let z : later + 1 + i + 1 ≡ later + suc i + 1 = omega arith in z))
 
 pub event_at : (now was : List Event) (i : ℕ) (event : Event) → i < length now → i < length was → event ≡ get_or now i event → drop i now ≡ drop i was → event ≡ get_or was i event
 event_at [] was i event l m is rest = absurd (omega arith)
@@ -110,13 +104,13 @@ event_at (x ∷ now) [] i event l m is rest = absurd (omega arith)
 event_at (x ∷ now) (y ∷ was) zero event l m is rest = is ∙ ap (λ (l : List Event). get_or l 0 event) rest
 event_at (x ∷ now) (y ∷ was) (suc i) event l m is rest = event_at now was i event (omega arith) (omega arith) is rest
 
-pub events_behind : (now was : List Event) (i : ℕ) (event : Event) → drop i now ≡ drop i was → drop (i + 1) (set now i event) ≡ drop (i + 1) was
-events_behind now was i event rest = let e : suc i ≡ i + 1 = omega arith in subst (λ n. drop n (set now i event) ≡ drop n was) e (past now i ∙ sym (behind i now) ∙ ap (λ (l : List Event). drop 1 l) rest ∙ behind i was)
+pub events_after : (now was : List Event) (i : ℕ) (event : Event) → drop i now ≡ drop i was → drop (i + 1) (set now i event) ≡ drop (i + 1) was
+events_after now was i event rest = let e : suc i ≡ i + 1 = omega arith in subst (λ n. drop n (set now i event) ≡ drop n was) e (past now i ∙ sym (later i now) ∙ ap (λ (l : List Event). drop 1 l) rest ∙ later i was)
   where
-    behind : (i : ℕ) (xs : List Event) → drop 1 (drop i xs) ≡ drop (suc i) xs
-    behind zero xs = refl
-    behind (suc i) [] = refl
-    behind (suc i) (x ∷ xs) = behind i xs
+    later : (i : ℕ) (xs : List Event) → drop 1 (drop i xs) ≡ drop (suc i) xs
+    later zero xs = refl
+    later (suc i) [] = refl
+    later (suc i) (x ∷ xs) = later i xs
 
     past : (xs : List Event) (i : ℕ) → drop (suc i) (set xs i event) ≡ drop (suc i) xs
     past [] i = refl
@@ -128,19 +122,19 @@ got [] i event other g is = absurd (let z : ◌≡◌ {A = Option Event} None (S
 got (e ∷ events) zero event other g is = is ∙ (let z : Some e ≡ Some other = g in cc)
 got (e ∷ events) (suc i) event other g is = got events i event other g is
 
--- the one behind this many is refused
+-- the event after the first `i` is refused
 pub refused_at : (setup : Setup) (events : List Event) (i : ℕ) (event : Event) (error : SubmitError) → i < length events → event ≡ get_or events i event → AllByRecursion (IsInOrder setup) (take i events)
     → IsRefusedOutright setup event (Err error) → AreAdmittedUpTo setup events i (Some error)
 refused_at setup events i event error l is all r = (l, all, λ other g. subst (λ (e : Event). IsRefusedOutright setup e (Err error)) (got events i event other g is) r)
 
--- none is told
-pub none_told : (setup : Setup) (events : List Event) (count : ℕ) (refused : Option SubmitError) → 0 < count → AreAdmittedUpTo setup events count refused → AreAdmittedUpTo setup events 0 (Some Stopped)
-none_told setup [] count None l h = absurd (omega (arith, h.1))
-none_told setup [] count (Some e) l h = absurd (omega (arith, h.0))
-none_told setup (x ∷ events) zero None l h = absurd (omega arith)
-none_told setup (x ∷ events) zero (Some e) l h = absurd (omega arith)
-none_told setup (x ∷ events) (suc n) None l h = (omega arith, tt, λ other g. subst (λ (y : Event). IsRefusedOutright setup y (Err Stopped)) (let z : Some x ≡ Some other = g in cc) (stopped setup x h.2.0))
-none_told setup (x ∷ events) (suc n) (Some e) l h = (omega arith, tt, λ other g. subst (λ (y : Event). IsRefusedOutright setup y (Err Stopped)) (let z : Some x ≡ Some other = g in cc) (stopped setup x h.1.0))
+-- none is published
+pub none_published : (setup : Setup) (events : List Event) (count : ℕ) (refused : Option SubmitError) → 0 < count → AreAdmittedUpTo setup events count refused → AreAdmittedUpTo setup events 0 (Some Stopped)
+none_published setup [] count None l h = absurd (omega (arith, h.1))
+none_published setup [] count (Some e) l h = absurd (omega (arith, h.0))
+none_published setup (x ∷ events) zero None l h = absurd (omega arith)
+none_published setup (x ∷ events) zero (Some e) l h = absurd (omega arith)
+none_published setup (x ∷ events) (suc n) None l h = (omega arith, tt, λ other g. subst (λ (y : Event). IsRefusedOutright setup y (Err Stopped)) (let z : Some x ≡ Some other = g in cc) (stopped setup x h.2.0))
+none_published setup (x ∷ events) (suc n) (Some e) l h = (omega arith, tt, λ other g. subst (λ (y : Event). IsRefusedOutright setup y (Err Stopped)) (let z : Some x ≡ Some other = g in cc) (stopped setup x h.1.0))
 
 -- An answer that is the same for a bad time and for a stranger.
 
@@ -162,13 +156,6 @@ still_outright setup event error answer bad none r = record {
 
     out : (a b : SubmitError) → ◌≡◌ {A = Result Done SubmitError} (Err a) (Err b) → a ≡ b
     out a b e = cc
-
-pub answered : (setup : Setup) (events : List Event) (count : ℕ) (refused : Option SubmitError) (error answer : SubmitError) → count ≡ 0 → refused ≡ Some error
-    → ((answer ≡ Refused fault.BadTime) ↔ (error ≡ Refused fault.BadTime)) → ((answer ≡ Refused fault.NoMember) ↔ (error ≡ Refused fault.NoMember))
-    → AreAdmittedUpTo setup events count refused → AreAdmittedUpTo setup events 0 (Some answer)
-answered setup events count refused error answer none is bad stranger h =
-    let all : AreAdmittedUpTo setup events 0 (Some error) = subst (λ (n : ℕ). AreAdmittedUpTo setup events n (Some error)) none (subst (λ (o : Option SubmitError). AreAdmittedUpTo setup events count o) is h) in
-    (all.0, all.1, λ event g. still_outright setup event error answer bad stranger (all.2 event g))
 
 pub at_most : (setup : Setup) (events : List Event) (count : ℕ) (refused : Option SubmitError) → AreAdmittedUpTo setup events count refused → count ≤ length events
 at_most setup events count None h = h.1

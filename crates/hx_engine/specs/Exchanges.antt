@@ -24,9 +24,8 @@ use Rattle.hx_desk.specs.Desks.{is_over}
 use Rattle.hx_engine.specs.declared.answers.News.{News}
 use Rattle.hx_engine.specs.Passes.{PassState, sent_by, placed, sent_in, AreSomeOf, StandsAt}
 
--- The pass sent an event: it knows a history, which the market accepts, in which its entry stands at
--- this place, which is above all earlier ones of the pass; what it knew is a beginning of the history
--- before.
+-- The pass sent an event. It knows a history that the market accepts, with the event's entry at `done.place`, after all
+-- events that the pass sent before. What the pass knew is a beginning of the history before that entry.
 pub record Sends (setup : Setup) (old new : PassState) (event : Event) (done : Done) : Type 0 where
   pub before : List Entry
   pub after : List Entry
@@ -38,16 +37,16 @@ pub record Sends (setup : Setup) (old new : PassState) (event : Event) (done : D
   pub place : done.place ≡ length before + 1
   pub above : AllByRecursion (λ x. x.0 < done.place) old.sent
   pub first : done.first ≡ length (feed (ledger setup before)) + 1
-  pub count : done.count ≡ length (step setup (run setup (events_of before)) event).told.feed
+  pub count : done.count ≡ length (step setup (run setup (events_of before)) event).output.feed
   pub idle : (old.waiting ≡ []) × (new.waiting ≡ [])
 
--- where an event was recorded behind a history
+-- the answer for an event that was recorded after a history
 pub record DoneAt (setup : Setup) (before : List Entry) (event : Event) (done : Done) : Type 0 where
   pub place : done.place ≡ length before + 1
   pub first : done.first ≡ length (feed (ledger setup before)) + 1
-  pub count : done.count ≡ length (step setup (run setup (events_of before)) event).told.feed
+  pub count : done.count ≡ length (step setup (run setup (events_of before)) event).output.feed
 
--- where the last of a pass's events was recorded, the first of which stands behind a history
+-- the answer for the last of a pass's events, the first of which was recorded after a history
 abbrev pub LastDone :
     Setup → (number : ℕ) → (before : List Entry) → List Event → Done → Type 0
 LastDone setup number before events done =
@@ -55,9 +54,9 @@ LastDone setup number before events done =
     → events ≡ earlier ++ event ∷ []
     → DoneAt setup (before ++ sent_by number earlier) event done
 
--- The pass sent these events, one behind the other: it knows a history, which the market accepts, in
--- which their entries stand at consecutive places, which are above all earlier ones of the pass; what it
--- knew is a beginning of the history before.
+-- The pass sent these events, one after another. It knows a history that the market accepts, with their entries next to
+-- each other, after all events that the pass sent before. What the pass knew is a beginning of the history before those
+-- entries.
 pub record SendsAll
     (setup : Setup) (old new : PassState) (events : List Event) (done : Done)
     : Type 0 where
@@ -73,20 +72,20 @@ pub record SendsAll
   pub last : LastDone setup old.number before events done
   pub idle : (old.waiting ≡ []) × (new.waiting ≡ [])
 
--- It is as before, but that events of it may wait from now on.
+-- The pass is as before, except that events of it may wait from now on.
 pub record Stays (old new : PassState) : Type 0 where
   pub number : new.number ≡ old.number
   pub sent : new.sent ≡ old.sent
   pub known : new.known ≡ old.known
 
--- Of these events the pass sent the first so many, and where that is none it is as before.
+-- The pass sent the first `count` of these events; if `count` is zero, the pass is as before.
 abbrev pub SendsFirst :
     Setup → (old new : PassState) → List Event → (count : ℕ) → Type 0
 SendsFirst setup old new events zero = Stays old new
 SendsFirst setup old new events (suc n) =
     (done : Done) × SendsAll setup old new (take (suc n) events) done
 
--- The events were admitted behind a history, of which what is known is a beginning.
+-- The events were admitted after a history; what is known is a beginning of that history.
 pub record Enters
     (setup : Setup) (number : ℕ) (events : List Event) (known : Entries Entry)
     (entered : Entries Entry)
@@ -98,25 +97,25 @@ pub record Enters
   pub place : done.place ≡ length before + length events
   pub last : LastDone setup number before events done
 
--- So much of a history, which the market accepts, is told that what was admitted up to this place is,
--- and all of that is known.
+-- The market accepts the history, which begins with what was entered. It is published at least up to `place`, and
+-- exactly what is published is known.
 pub record Settles
     (setup : Setup) (place : ℕ) (entered old new : Entries Entry)
     : Type 0 where
   pub history : List Entry
-  pub told : ℕ
+  pub published_end : ℕ
   pub begins : IsPrefix entered (unspoken history)
-  pub far : place ≤ told
+  pub far : place ≤ published_end
   pub knew : IsPrefix old new
-  pub knows : new ≡ ledger setup (take told history)
+  pub knows : new ≡ ledger setup (take published_end history)
   pub accepted : AreRecorded setup (events_of history)
 
 -- a time that is not within the day
 abbrev pub is_bad_time : Event → Bool
 is_bad_time event = nat_le day (time_of event)
 
--- It is refused for its time exactly where that is not within the day, and for its member exactly
--- where the time is and the setup has no such member.
+-- The event is refused for its time exactly if its time is not within the day, and for its member exactly if its time
+-- is within the day and the setup has no such member.
 pub record IsRefusedOutright
     (setup : Setup) (event : Event) (result : Result Done SubmitError)
     : Type 0 where
@@ -141,8 +140,8 @@ pub record SendsTurn
   pub sends : SendsAll setup old new sent done
   pub in_order : AllByRecursion (IsInOrder setup) sent
 
--- This many of the events were refused neither for their time nor for their member. Where none is refused it is one at
--- least; else the one behind them is refused, for these exactly where they are wrong.
+-- The first `count` of the events were refused neither for their time nor for their member. If none is refused, `count`
+-- is at least one; else the event after them is refused, for its time or its member exactly if these are wrong.
 abbrev pub AreAdmittedUpTo :
     Setup → List Event → (count : ℕ) → (refused : Option SubmitError) → Type 0
 AreAdmittedUpTo setup events count None =
@@ -159,9 +158,9 @@ pub record LearnsMore (old new : PassState) : Type 0 where
   pub sent : new.sent ≡ old.sent
   pub known : IsPrefix old.known new.known
 
--- The market accepts the history, which is exactly what the reader and the pass know; the events of the
--- pass are among its entries under its number, each at its place, in their order; and the feed that the
--- reader knows, of which it has read a beginning, tells nothing of quiet chains.
+-- The market accepts the history, which is exactly what the reader and the pass know. The events of the pass are among
+-- its entries under its number, each at its own place in the history, in their order. The feed that the reader knows,
+-- of which it has read a beginning, discloses nothing of quiet chains.
 pub record IsAudit
     (setup : Setup) (history : List Entry) (reader : ReaderState Entry) (pass : PassState)
     : Type 0 where
@@ -172,15 +171,14 @@ pub record IsAudit
   pub stand : AllByRecursion (StandsAt pass.number history) pass.sent
   pub secret : IsFeedWithoutTrace setup (events_of history) (feed reader.known)
 
--- The rows are this part of the replies to a member up to what is known, and tell nothing of others'
--- quiet chains.
+-- The rows are this part of the replies to a member up to what is known, and disclose nothing of others' quiet chains.
 abbrev pub AreKnownReplies :
     Setup → (member : ℕ) → (known : Entries Entry) → Part → List (List ℕ) → Type 0
 AreKnownReplies setup member known part rows =
     AreRepliesWithoutTrace setup (events_of (history_of known)) member part rows
 
--- How many replies a member has up to what is known, and whether code C, the last of the hours
--- codes, is past then.
+-- The number of replies that a member has up to what is known, and whether the market is past code C, the last of the
+-- hours codes.
 pub record IsNews (setup : Setup) (member : ℕ) (known : Entries Entry) (news : News) : Type 0 where
   pub replies : news.replies ≡ length (known_replies setup member known)
   pub few : news.replies < 2 ^ 63

@@ -12,7 +12,7 @@ use Rattle.hx_desk.specs.Entries.{restored, events_of, ledger}
 use Rattle.hx_desk.specs.Known.{history_of}
 use Rattle.hx_engine.specs.Passes.{PassState, sent_in, AreSomeOf}
 
--- how often the pass of a number is among these
+-- the number of times that the pass of a number is among these
 abbrev pub times_given : (number : ℕ) → List PassState → ℕ
 times_given number [] = 0
 times_given number (p ∷ passes) =
@@ -30,27 +30,27 @@ pub record IsMissing (count : ℕ) (passes : List PassState) (number : ℕ) : Ty
   pub not_once : times_given number passes ≢ 1
   pub least : (k : ℕ) → 1 ≤ k → k < number → times_given k passes ≡ 1
 
--- how many events these passes sent
+-- the number of events that these passes sent
 abbrev pub sent_by_all : List PassState → ℕ
 sent_by_all [] = 0
 sent_by_all (p ∷ passes) = length p.sent + sent_by_all passes
 
--- an event of one of these passes was admitted, and was never told
+-- an event of one of these passes was admitted, and was never published
 abbrev pub is_any_waiting : List PassState → Bool
 is_any_waiting [] = false
 is_any_waiting (p ∷ passes) = if length p.waiting == 0 then is_any_waiting passes else true
 
--- The market accepts the history, which begins with what was kept before, and has exactly as many
--- entries more as the passes sent events; the entries of each pass are its events, each once, at its
--- places, in its order; what a pass knew is a beginning of the history with its feed; and this many
--- messages of the feed it gave.
+-- The market accepts the history. It begins with the events that were durable before, and has exactly one entry more
+-- for each event that the passes sent. What each pass sent are exactly its entries, each once and in order, at their
+-- places in the history. What a pass knew is a beginning of the history with its feed. `messages` is the number of
+-- messages of that feed.
 pub record IsFinished
-    (setup : Setup) (kept_before : List Event) (passes : List PassState) (history : List Entry)
+    (setup : Setup) (durable_before : List Event) (passes : List PassState) (history : List Entry)
     (messages : ℕ)
     : Type 0 where
   pub accepted : AreRecorded setup (events_of history)
-  pub begins : IsPrefix (restored kept_before) history
-  pub all : length history ≡ length kept_before + sent_by_all passes
+  pub begins : IsPrefix (restored durable_before) history
+  pub all : length history ≡ length durable_before + sent_by_all passes
   pub each : AllByRecursion (λ p. p.sent ≡ sent_in p.number history) passes
   pub knew : AllByRecursion (λ p. IsPrefix p.known (ledger setup history)) passes
   pub feed_count : messages ≡ length (feed setup (events_of history))

@@ -1,4 +1,4 @@
--- What a journal keeps of an exchange.
+-- What a journal holds of an exchange.
 use Rattle.std.specs.Prelude.{◌≡◌, ℕ, List, [], map}
 use mathlib.Core.List.{IsPrefix}
 use Rattle.std.specs.Global.{Vec}
@@ -10,7 +10,7 @@ use Rattle.hx_laws.specs.Recorded.{AreRecorded}
 use Rattle.hx_desk.specs.declared.entry.Entry.{Entry}
 use Rattle.hx_desk.specs.Entries.{restored, events_of, ledger}
 
--- entries without messages: what a log tells that is there for what it knows alone
+-- entries without messages: the content of a log that exists only for what is known of it
 abbrev pub unspoken : List Entry → Entries Entry
 unspoken history = map (λ e. (e, [])) history
 
@@ -22,13 +22,13 @@ lines line history = map (λ e. line e.event) history
 abbrev pub record_texts : List (Vec ℕ) → List (List ℕ)
 record_texts records = map (λ r. r.items) records
 
--- These records are left of an exchange that a crash ends: those of a history that the market accepts,
--- which begins with what was kept before, and has all that somebody knows, with its feed.
+-- These records are left of an exchange that a crash ends: the records of a history that the market accepts. It begins
+-- with the events that were durable before, and has all that somebody knows, with its feed.
 pub record IsLeft
-    (setup : Setup) (kept_before : List Event) (known : Entries Entry) (left : List (List ℕ))
+    (setup : Setup) (durable_before : List Event) (known : Entries Entry) (left : List (List ℕ))
     : Type 0 where
   pub history : List Entry
   pub records : left ≡ lines record_of history
   pub accepted : AreRecorded setup (events_of history)
-  pub begins : IsPrefix (restored kept_before) history
+  pub begins : IsPrefix (restored durable_before) history
   pub knew : IsPrefix known (ledger setup history)

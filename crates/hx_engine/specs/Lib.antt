@@ -4,5 +4,5 @@ pub mod Passes
 pub mod Exchanges
 pub mod Finish
 pub mod Opening
-pub mod Played
+pub mod Applied
 pub mod Pieces

@@ -12,17 +12,17 @@ use hx_journal::Journal;
 use hx_market::Event;
 use thiserror::Error;
 
-/// A history, as it was audited.
+/// The history, as an audit copied it.
 #[derive(Drop)]
 pub struct Audit {
     /// Its entries.
     pub history: Vec<Entry>,
 }
 
-/// What stands for a member.
+/// What stands for a member: the number of its replies, and whether the day is over.
 #[derive(Clone, Copy, Debug, PartialEq, Eq)]
 pub struct News {
-    /// How many replies he has; fewer than 2^63.
+    /// The number of the member's replies; fewer than 2^63.
     pub replies: u64,
     /// Whether hours code `C` is past.
     pub ended: bool,
@@ -31,11 +31,11 @@ pub struct News {
 /// How far an exchange has come. These numbers are for its operator: they count orders that nobody else sees.
 #[derive(Clone, Copy, Debug, PartialEq, Eq)]
 pub struct Counts {
-    /// How many events are recorded.
+    /// The number of events that are recorded.
     pub recorded: u64,
-    /// How many of them are told; the others wait for the journal.
-    pub told: u64,
-    /// How many messages of the feed are published.
+    /// The number of those that are published; the others wait for the journal.
+    pub published_end: u64,
+    /// The number of feed messages that are published.
     pub feed: u64,
 }
 
@@ -44,22 +44,22 @@ pub struct Counts {
 pub struct Finished<J: Journal> {
     /// The history.
     pub history: Vec<Entry>,
-    /// How many messages of the feed it gave.
+    /// The number of messages in the feed.
     pub feed: u64,
     /// The log of the feed.
     pub log: Log<Entry>,
     /// Its writer, which has published the history with its feed.
     pub writer: Writer<Entry>,
-    /// The journal, where it did not fail.
+    /// The journal, if it did not fail.
     pub journal: Option<J>,
 }
 
 /// What one turn at the lock has recorded of some events.
 #[derive(Drop)]
 pub struct Submitted {
-    /// Where the last of them was recorded.
+    /// The answer for the last of them.
     pub done: Done,
-    /// The events behind it, which wait for another turn: mostly none.
+    /// The events after it, which need another turn: mostly none.
     pub rest: Vec<Event>,
 }
 
@@ -75,7 +75,7 @@ pub enum FinishError<V: Venue, J: Journal> {
         /// The passes that were handed in.
         passes: Vec<Pass<V>>,
     },
-    /// The journal failed before an event of a pass was told.
+    /// The journal failed before an event of a pass was published.
     Stopped {
         /// The exchange.
         exchange: Exchange<V, J>,

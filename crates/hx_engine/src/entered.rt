@@ -5,27 +5,27 @@ use crate::answers::SubmitError;
 use hx_blog::Receipt;
 use hx_desk::{Done, Entry};
 
-/// How many events were admitted, where the last of them was recorded, and why the next one was refused.
+/// The number of events that were admitted, the answer for the last of them, and why the next one was refused.
 #[derive(Drop)]
 pub struct Entered {
     pub count: usize,
     pub last: Done,
     pub refused: Option<SubmitError>,
-    /// How many orders the market passed over for them.
+    /// The number of orders that the market passed over for them.
     pub passed: u64,
-    /// A receipt for all that is published, if they were told at once.
-    pub told: Option<Receipt<Entry>>,
+    /// A receipt for all that is published, if they were published at once.
+    pub published_end: Option<Receipt<Entry>>,
 }
 
 impl Entered {
-    /// So many, the last of them as said, and none was refused.
+    /// The first `count` events were admitted, the last of them with this answer, and none was refused.
     pub fn up_to(count: usize, last: Done, passed: u64) -> Entered
         ensures { result ≡ record {
           count = count;
           last = last;
           refused = None;
           passed = passed;
-          told = None;
+          published_end = None;
         } }
     {
         Entered {
@@ -33,18 +33,18 @@ impl Entered {
             last,
             refused: None,
             passed,
-            told: None,
+            published_end: None,
         }
     }
 
-    /// So many, the last of them as said; the next one was refused.
+    /// The first `count` events were admitted, the last of them with this answer; the next one was refused.
     pub fn but_for(count: usize, last: Done, error: SubmitError, passed: u64) -> Entered
         ensures { result ≡ record {
           count = count;
           last = last;
           refused = Some error;
           passed = passed;
-          told = None;
+          published_end = None;
         } }
     {
         Entered {
@@ -52,7 +52,7 @@ impl Entered {
             last,
             refused: Some(error),
             passed,
-            told: None,
+            published_end: None,
         }
     }
 
@@ -63,7 +63,7 @@ impl Entered {
           last = record { place = 0; first = 0; count = 0 };
           refused = Some error;
           passed = 0;
-          told = None;
+          published_end = None;
         } }
     {
         Entered {
@@ -75,7 +75,7 @@ impl Entered {
             },
             refused: Some(error),
             passed: 0,
-            told: None,
+            published_end: None,
         }
     }
 }

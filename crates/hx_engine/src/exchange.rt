@@ -1,4 +1,4 @@
-//! The exchange: a desk behind a lock.
+//! The exchange: a desk under a lock.
 ghost use Rattle.std.specs.Prelude.{◌≡◌, ◌⊎◌, ℕ, List, [], false, true, IfOk, IfErr, IfSome, OnErr, OnOk};
 ghost use Rattle.hx_tape_lines.specs.Text.{record_of};
 ghost use mathlib.Core.List.{IsPrefix};
@@ -17,54 +17,54 @@ use crate::pass::Pass;
 use crate::pass_count::PassCount;
 use crate::returned_passes::{is_any_waiting, missing, take_all_back};
 use crate::venue::Venue;
-use hx_bells::{Bell, Bells};
 use hx_blog::{Log, Reader, Receipt};
 use hx_desk::Entry;
 use hx_journal::{Journal, JournalError};
 use hx_units::NoMemory;
+use hx_wake::{Waker, Wakers};
 use std::alloc::Global;
 use std::sync::atomic::{AtomicBool, AtomicU64};
 use std::sync::{Condvar, Mutex, Wait};
 
-/// A desk behind a lock, with the log that everybody may read, and a journal: nothing is told before the journal keeps
-/// it.
+/// A desk under a lock, with the log that everybody may read, and a journal: nothing is published before the journal
+/// has made it durable.
 pub struct Exchange<V: Venue, J: Journal> {
     pub(crate) log: Log<Entry>,
-    // The logs of what is admitted and of what is kept, which have no messages.
+    // The logs of the admitted and of the durable entries, which have no messages.
     pub(crate) admitted: Log<Entry>,
-    pub(crate) kept: Log<Entry>,
+    pub(crate) durable: Log<Entry>,
     pub(crate) desk: Mutex<Held<V, J>>,
-    // Told of each batch that is told, and of a journal that failed.
+    // Notified after each batch that is published, and if the journal fails.
     pub(crate) recorded: Condvar,
-    // Those of the passes' sessions, and that of the publisher of the feed.
-    pub(crate) bells: Bells,
-    pub(crate) feed_bell: Bell,
-    // Whether the publisher has news for which its bell has not been rung.
+    // The wakers of the passes' sessions, and that of the publisher of the feed.
+    pub(crate) wakers: Wakers,
+    pub(crate) feed_waker: Waker,
+    // Whether the publisher has news for which its waker has not been used.
     pub(crate) is_feed_due: AtomicBool,
-    // How many threads have events to record under the lock, whether they wait for it or have it.
+    // The number of threads that have events to record under the lock, whether they wait for it or hold it.
     pub(crate) entering: AtomicU64,
     pub(crate) passes: PassCount<V>,
-    // How many events may be admitted and not yet told.
+    // At most this number of events may be admitted and not yet published.
     pub(crate) ahead: u64,
     // For how many nanoseconds a session rests for each order that the market passed over for it.
     pub(crate) rest: u64,
     pub(crate) alloc: Global,
     pub ghost named: { log ≡ V.log },
     pub ghost admitted_named: { admitted ≡ V.admitted },
-    pub ghost kept_named: { kept ≡ V.kept },
+    pub ghost durable_named: { durable ≡ V.durable },
 }
 
-// By hand, so that where a value is dropped its owner's proof sees one call.
+// Written out, so that an owner's proof sees one call when a value is dropped.
 impl<V: Venue, J: Journal + Drop> Drop for Exchange<V, J> {
     fn drop(self) {
         let Exchange {
             log: _,
             admitted: _,
-            kept: _,
+            durable: _,
             desk: _,
             recorded: _,
-            bells: _,
-            feed_bell: _,
+            wakers: _,
+            feed_waker: _,
             is_feed_due: _,
             entering: _,
             passes: _,
@@ -75,13 +75,13 @@ impl<V: Venue, J: Journal + Drop> Drop for Exchange<V, J> {
     }
 }
 
-// The journal of a keeper, which keeps the records of all that is told.
+// Takes out the journal, which holds the records of all that is published.
 fn journal_of<V: Venue, J: Journal + Drop>(keeper: Option<Keeper<V, J>>) -> Option<J>
     ensures { (h : List Entry) → IfSome keeper (λ k. k.writer.published ≡ unspoken h)
-        → IfSome result (λ j. (J.appended j ≡ lines record_of h) × (J.kept j ≡ J.appended j)
+        → IfSome result (λ j. (J.appended j ≡ lines record_of h) × (J.durable j ≡ J.appended j)
         × (J.is_open j ≡ true)
         × ((records : List (List ℕ)) → J.left_since j (J.moment j) records
-        → IsBetween (J.kept j) records (J.appended j))) }
+        → IsBetween (J.durable j) records (J.appended j))) }
 {
     match keeper {
         Some(keeper) => {
@@ -98,9 +98,9 @@ fn journal_of<V: Venue, J: Journal + Drop>(keeper: Option<Keeper<V, J>>) -> Opti
 }
 
 impl<V: Venue, J: Journal + Drop> Exchange<V, J> {
-    /// Ends the exchange, where each of its passes is handed in exactly once, and all that they submitted is told. A
-    /// reader's receipt can be confirmed by the writer that it gives back: what the reader knew is a beginning of the
-    /// history with its feed.
+    /// Ends the exchange, if each of its passes is handed in exactly once, and all that they submitted is published. A
+    /// reader's receipt can be confirmed by the writer that this call returns: what the reader knew is a beginning of
+    /// the history with its feed.
     pub fn finish(self, passes: Vec<Pass<V>>) -> Result<Finished<J>, FinishError<V, J>>
         ensures ok { IfOk result (λ f.
             IsFinished V.setup V.before passes.items f.history.items f.feed) }
@@ -111,8 +111,8 @@ impl<V: Venue, J: Journal + Drop> Exchange<V, J> {
           published = ledger V.setup f.history.items;
           staged = [];
         })) }
-        ensures kept { IfOk result (λ f. IfSome f.journal (λ j.
-            (J.appended j ≡ lines record_of f.history.items) × (J.kept j ≡ J.appended j)
+        ensures durable { IfOk result (λ f. IfSome f.journal (λ j.
+            (J.appended j ≡ lines record_of f.history.items) × (J.durable j ≡ J.appended j)
             × (J.is_open j ≡ true))) }
         ensures err { IfErr result (λ e.
             ((number : ℕ) × IsMissing V.parts passes.items number
@@ -136,11 +136,11 @@ impl<V: Venue, J: Journal + Drop> Exchange<V, J> {
         let Exchange {
             log,
             admitted: _,
-            kept: _,
+            durable: _,
             desk,
             recorded: _,
-            bells: _,
-            feed_bell: _,
+            wakers: _,
+            feed_waker: _,
             is_feed_due: _,
             entering: _,
             passes: _,
@@ -169,8 +169,8 @@ impl<V: Venue, J: Journal + Drop> Exchange<V, J> {
         })
     }
 
-    /// The journal, as a crash finds it that ends the exchange here, where nobody is writing to it: what is left of it are
-    /// the records of a history that the market accepts, and they begin with those of all that the reader knows.
+    /// The journal, as a crash that ends the exchange here finds it, if no thread is writing to it: what is left of it
+    /// are the records of a history that the market accepts, and they begin with those of all that the reader knows.
     pub fn crashed(self, reader: &mut Reader<Entry>) -> Option<J>
         requires { reader.old.log ≡ V.log }
         ensures begins { IfSome result (λ j. (c : List (List ℕ)) → J.left_since j (J.moment j) c
@@ -181,11 +181,11 @@ impl<V: Venue, J: Journal + Drop> Exchange<V, J> {
         let Exchange {
             log,
             admitted: _,
-            kept: _,
+            durable: _,
             desk,
             recorded: _,
-            bells: _,
-            feed_bell: _,
+            wakers: _,
+            feed_waker: _,
             is_feed_due: _,
             entering: _,
             passes: _,
@@ -226,23 +226,23 @@ impl<V: Venue, J: Journal + Drop> Exchange<V, J> {
         Ok(Audit { history })
     }
 
-    /// Keeps this number of slots of the log for the codes of the hours and for ticks: from now on no other event is
-    /// given one of them, the last ones. No clause says what the exchange was then.
+    /// Reserves this number of slots of the log, the last ones, for the codes of the hours and for ticks: from now on
+    /// no other event is given one of them. No clause says what the exchange was then.
     pub fn keep(&self, rt: &impl Wait, slots: u64) {
         let mut held = self.desk.lock(rt);
         held.desk.keep(slots);
     }
 
-    /// The reader knows from now on all that is told, of a history that begins with what was kept before, and gets a
-    /// receipt for its being kept: whoever has the journal can show by it that each crash leaves the records of all that
-    /// the reader knows.
+    /// Returns a receipt for the durability of all that is published. From now on the reader knows all that is
+    /// published, of a history that begins with the events that were durable before. The holder of the journal can show
+    /// by the receipt that each crash leaves the records of all that the reader knows.
     pub fn vouch(&self, rt: &impl Wait, reader: &mut Reader<Entry>) -> Receipt<Entry>
         requires { reader.old.log ≡ V.log }
         ensures reader { CatchesUp reader.old reader.new }
         ensures whole { IsWhole V.setup reader.new.known }
         ensures before { IsPrefix (restored V.before) (history_of reader.new.known) }
-        ensures kept { result ≡ record {
-          log = V.kept;
+        ensures durable { result ≡ record {
+          log = V.durable;
           known = unspoken (history_of reader.new.known);
         } }
     {
@@ -250,23 +250,23 @@ impl<V: Venue, J: Journal + Drop> Exchange<V, J> {
         let held = &mut *held;
         held.desk.inform(&self.log, reader);
         held.desk.stands();
-        held.kept.again(&self.kept)
+        held.durable.again(&self.durable)
     }
 
-    /// Why the journal failed, where it did: nothing is recorded any more then. No clause says what the exchange was when
+    /// Why the journal failed, if it did: nothing is recorded any more then. No clause says what the exchange was when
     /// it was asked.
     pub fn failure(&self, rt: &impl Wait) -> Option<JournalError> {
         self.desk.lock(rt).failed
     }
 
-    /// The log of what is kept, to which such receipts belong.
-    pub fn kept_log(&self) -> &Log<Entry>
-        ensures { result.now ≡ V.kept }
+    /// The log of the durable entries, to which such receipts belong.
+    pub fn durable_log(&self) -> &Log<Entry>
+        ensures { result.now ≡ V.durable }
     {
-        &self.kept
+        &self.durable
     }
 
-    /// The log of the feed, which waits for nobody.
+    /// The log of the feed; no reader of it waits for a lock.
     pub fn feed_log(&self) -> &Log<Entry>
         ensures { result.now ≡ V.log }
     {

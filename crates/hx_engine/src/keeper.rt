@@ -1,4 +1,4 @@
-//! The journal, beside what is known of it.
+//! The journal, with what is known of it.
 ghost use mathlib.Core.List.{IsPrefix};
 ghost use Rattle.std.specs.Prelude.{◌≡◌, List, ℕ, ◌++◌, [], true, OnOk, IfOk, IfErr};
 ghost use Rattle.hx_tape_lines.specs.Text.{record_of};
@@ -15,22 +15,22 @@ use hx_desk::{Desk, Entry};
 use hx_journal::{Journal, JournalError};
 use std::marker::{Brand, PhantomData};
 
-/// The journal of a venue, with the writer of the log of what is kept: each crash leaves the records of exactly what is
-/// published there.
+/// The journal of a venue, with the writer of the log of the durable entries: each crash leaves the records of exactly
+/// what is published there.
 #[derive(Drop)]
 pub struct Keeper<V: Venue, J: Journal> {
     pub(crate) journal: J,
     pub(crate) writer: Writer<Entry>,
     pub(crate) of: PhantomData<V>,
-    pub ghost named: { writer.log ≡ V.kept },
+    pub ghost named: { writer.log ≡ V.durable },
     pub ghost unstaged: { writer.staged ≡ [] },
     pub ghost silent: { writer.published ≡ unspoken (history_of writer.published) },
     pub ghost recorded: { J.appended journal ≡ lines record_of (history_of writer.published) },
-    pub ghost safe: { J.kept journal ≡ J.appended journal },
+    pub ghost safe: { J.durable journal ≡ J.appended journal },
     pub ghost opened: { J.is_open journal ≡ true },
 }
 
-/// Writes down the entries of the desk, which were kept before and have no messages in this log.
+/// Publishes the desk's entries, which were durable before, in this log, without messages.
 pub(crate) fn write_before<N: NamesEntries<Entry>>(
     writer: &mut Writer<Entry>,
     log: &Log<Entry>,
@@ -49,16 +49,16 @@ pub(crate) fn write_before<N: NamesEntries<Entry>>(
     writer.publish_first::<N>(log, 0);
 }
 
-// Appends records, and sees that they are kept.
+// Appends records, and syncs the journal.
 fn write_down<J: Journal>(journal: &mut J, records: &Records) -> Result<(), JournalError>
     requires opened { J.is_open journal.old ≡ true }
     requires records { AllByRecursion IsRecord (records.now) }
     ensures appended { OnOk result (J.appended journal.new
         ≡ J.appended journal.old ++ records.now) }
-    ensures kept { OnOk result (J.kept journal.new ≡ J.appended journal.new) }
+    ensures durable { OnOk result (J.durable journal.new ≡ J.appended journal.new) }
     ensures opened { OnOk result (J.is_open journal.new ≡ true) }
     ensures any_moment { Leaves (J.moment journal.old) (J.moment journal.new)
-        (J.left_since journal.old) (J.left_since journal.new) (J.kept journal.old)
+        (J.left_since journal.old) (J.left_since journal.new) (J.durable journal.old)
         (J.appended journal.old ++ records.now) }
 {
     for place in 0..records.len() {
@@ -68,17 +68,17 @@ fn write_down<J: Journal>(journal: &mut J, records: &Records) -> Result<(), Jour
 }
 
 impl<V: Venue, J: Journal + Drop> Keeper<V, J> {
-    /// The keeper of a journal that keeps the records of the desk's entries, and of no others.
+    /// Wraps a journal that holds the records of the desk's entries, and of no others.
     pub(crate) fn open(
         log: &Log<Entry>,
         writer: Writer<Entry>,
         journal: J,
         desk: &Desk,
     ) -> Keeper<V, J>
-        requires log { log.now ≡ V.kept }
-        requires writer { writer ≡ record { log = V.kept; published = []; staged = [] } }
+        requires log { log.now ≡ V.durable }
+        requires writer { writer ≡ record { log = V.durable; published = []; staged = [] } }
         requires journal { J.appended journal ≡ lines record_of desk.now.history }
-        requires safe { (J.kept journal ≡ J.appended journal) × (J.is_open journal ≡ true) }
+        requires safe { (J.durable journal ≡ J.appended journal) × (J.is_open journal ≡ true) }
         ensures { result.writer.published ≡ unspoken desk.now.history }
     {
         let mut writer = writer;
@@ -90,26 +90,27 @@ impl<V: Venue, J: Journal + Drop> Keeper<V, J> {
         }
     }
 
-    /// Keeps the records of the entries that `N` names. At any moment of the call a crash leaves all that was kept
-    /// before, and nothing but a beginning of that and these. Where the journal fails it is given back, with its error.
+    /// Writes and syncs the records of the entries that `N` names. At any moment of the call a crash leaves all that
+    /// was durable before, and nothing but a beginning of that and these. If the journal fails, it is given back with
+    /// its error.
     pub fn keep<N: NamesEntries<Entry>>(
         self,
         log: &Log<Entry>,
         records: &Records,
     ) -> Result<Keeper<V, J>, (J, JournalError)>
-        requires log { log.now ≡ V.kept }
+        requires log { log.now ≡ V.durable }
         requires silent { N.entries ≡ unspoken (history_of N.entries) }
         requires left { N.left ≡ [] }
         requires records { records.now ≡ lines record_of (history_of N.entries) }
-        ensures kept { IfOk result (λ k.
+        ensures durable { IfOk result (λ k.
             k.writer.published ≡ self.writer.published ++ N.entries) }
         ensures any_moment { IfOk result (λ k. Leaves (J.moment self.journal)
             (J.moment k.journal) (J.left_since self.journal) (J.left_since k.journal)
-            (J.kept self.journal) (J.appended self.journal
+            (J.durable self.journal) (J.appended self.journal
             ++ lines record_of (history_of N.entries))) }
         ensures failing { IfErr result (λ e. Leaves (J.moment self.journal)
             (J.moment e.0) (J.left_since self.journal) (J.left_since e.0)
-            (J.kept self.journal) (J.appended self.journal
+            (J.durable self.journal) (J.appended self.journal
             ++ lines record_of (history_of N.entries))) }
     {
         let Keeper {
@@ -128,12 +129,12 @@ impl<V: Venue, J: Journal + Drop> Keeper<V, J> {
         })
     }
 
-    /// A receipt for all that is kept.
+    /// A receipt for all that is durable.
     pub fn receipt(&mut self, log: &Log<Entry>) -> Receipt<Entry>
-        requires log { log.now ≡ V.kept }
+        requires log { log.now ≡ V.durable }
         ensures published { self.new.writer.published ≡ self.old.writer.published }
         ensures journal { self.new.journal ≡ self.old.journal }
-        ensures receipt { result ≡ record { log = V.kept; known = self.old.writer.published } }
+        ensures receipt { result ≡ record { log = V.durable; known = self.old.writer.published } }
     {
         self.writer.receipt(log)
     }
@@ -143,22 +144,21 @@ impl<V: Venue, J: Journal + Drop> Keeper<V, J> {
         self.journal.is_quick()
     }
 
-    /// The receipt knows from now on all that is kept.
+    /// The receipt knows from now on all that is durable.
     pub fn renew(&mut self, log: &Log<Entry>, receipt: &mut Receipt<Entry>)
-        requires log { log.now ≡ V.kept }
-        requires receipt { receipt.old.log ≡ V.kept }
+        requires log { log.now ≡ V.durable }
+        requires receipt { receipt.old.log ≡ V.durable }
         ensures published { self.new.writer.published ≡ self.old.writer.published }
         ensures receipt { receipt.new
-            ≡ record { log = V.kept; known = self.old.writer.published } }
+            ≡ record { log = V.durable; known = self.old.writer.published } }
     {
         receipt.catch_up(log, &mut self.writer);
     }
 
-    /// Whatever a crash leaves of the journal now, it begins with the records of all that the receipt knows, for whoever
-    /// knows it.
+    /// Shows that whatever a crash leaves of the journal now begins with the records of all that the receipt knows.
     pub fn covers(&mut self, log: &Log<Entry>, receipt: Receipt<Entry>)
-        requires log { log.now ≡ V.kept }
-        requires receipt { receipt.log ≡ V.kept }
+        requires log { log.now ≡ V.durable }
+        requires receipt { receipt.log ≡ V.durable }
         ensures published { self.new.writer.published ≡ self.old.writer.published }
         ensures journal { self.new.journal ≡ self.old.journal }
         ensures covered { (c : List (List ℕ))

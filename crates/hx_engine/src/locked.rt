@@ -1,4 +1,4 @@
-//! What lies under the lock.
+//! The state under the lock.
 ghost use Rattle.std.specs.Prelude.{◌≡◌, ◌+◌, ◌<◌, ◌≤◌, [], ◌∷◌, ◌++◌, length, map, nat_lt, take, drop, Some, None, Err, IfOk, IfErr, IfSome, OnOk, OnErr, MatchBool};
 ghost use Rattle.hx_tape_lines.specs.Text.{record_of};
 ghost use mathlib.Core.List.{IsPrefix};
@@ -11,8 +11,8 @@ ghost use Rattle.hx_engine.specs.Passes.{sent_by};
 ghost use Rattle.hx_engine.specs.Exchanges.{DoneAt, LastDone, AreAdmittedUpTo, IsRefusedOutright, Settles};
 
 use crate::answers::{SubmitError, refused};
+use crate::batch_write::{BatchWrite, WrittenBatch};
 use crate::entered::Entered;
-use crate::flight::{Flight, Landed};
 use crate::keeper::Keeper;
 use crate::spelled::Records;
 use crate::venue::Venue;
@@ -25,55 +25,56 @@ use std::marker::Brand;
 use std::mem::replace;
 use std::sync::ledger::{Book, Share};
 
-// How many events are looked at before the first of them is admitted.
+// The number of events that are prefetched before the first of them is admitted.
 const AT_ONCE: usize = 16;
 
-// How many orders the market may pass over before the events of one pass give the lock back.
+// The number of orders that the market may pass over before the events of one pass give the lock back.
 const TURN: u64 = 4_096;
 
-/// Who has news besides the members that were answered.
+/// Which threads have news, besides the members that were answered.
 #[derive(Clone, Copy)]
-pub struct ToldNews {
+pub struct PublishedNews {
     /// The publisher: messages of the feed were published.
     pub is_feed: bool,
-    /// Everybody: nothing more is told, since the day is over or the journal has failed.
+    /// Every thread: nothing more is published, since the day is over or the journal has failed.
     pub is_last: bool,
 }
 
-impl ToldNews {
-    /// Everybody has, where the journal has failed.
-    pub fn last() -> ToldNews {
-        ToldNews {
+impl PublishedNews {
+    /// Every thread has news: the journal has failed.
+    pub fn last() -> PublishedNews {
+        PublishedNews {
             is_feed: true,
             is_last: true,
         }
     }
 }
 
-/// The desk of a venue, beside the book that counts each of its entries once, and the journal, while nobody writes to it.
+/// The desk of a venue, with the book that counts each of its entries once, and the journal while no thread writes to
+/// it.
 #[derive(Drop)]
 pub struct Held<V: Venue, J: Journal> {
     /// The desk.
     pub desk: Desk,
-    /// How many entries all passes sent.
+    /// The number of entries that all passes sent.
     pub book: Book<V>,
     /// The share of no pass.
     pub spare: Share<V>,
-    // The writer of the log of what is admitted, and a receipt for what is kept.
+    // The writer of the log of the admitted entries, and a receipt for the durable entries.
     pub register: Writer<Entry>,
-    pub kept: Receipt<Entry>,
+    pub durable: Receipt<Entry>,
     // The records of the entries that are not sealed.
     pub records: Records,
     pub keeper: Option<Keeper<V, J>>,
-    // Why the journal failed, where it did.
+    // Why the journal failed, if it did.
     pub failed: Option<JournalError>,
-    // What was looked for: nobody reads it.
-    pub glanced: u64,
+    // The sum of what was prefetched: nobody reads it.
+    pub prefetched: u64,
     pub alloc: Global,
     pub ghost named: { desk.log ≡ V.log },
     pub ghost of_setup: { desk.setup ≡ V.setup },
     pub ghost counted: { length desk.history ≡ length V.before + book.total },
-    pub ghost began: { take (length V.before) (take desk.told desk.history) ≡ restored V.before },
+    pub ghost began: { take (length V.before) (take desk.published_end desk.history) ≡ restored V.before },
     pub ghost no_parts: { spare.parts ≡ 0 },
     pub ghost no_amount: { spare.amount ≡ 0 },
     pub ghost registered: { register ≡ record {
@@ -81,17 +82,17 @@ pub struct Held<V: Venue, J: Journal> {
       published = unspoken desk.history;
       staged = [];
     } },
-    pub ghost covered: { kept ≡ record {
-      log = V.kept;
-      known = unspoken (take desk.told desk.history);
+    pub ghost covered: { durable ≡ record {
+      log = V.durable;
+      known = unspoken (take desk.published_end desk.history);
     } },
     pub ghost spelled: { records ≡ lines record_of (drop desk.sealed desk.history) },
     pub ghost home: { IfSome keeper (λ k.
-        (k.writer.published ≡ unspoken (take desk.told desk.history))
-        × (desk.sealed ≡ desk.told)) } by { Prim.hlevel props },
+        (k.writer.published ≡ unspoken (take desk.published_end desk.history))
+        × (desk.sealed ≡ desk.published_end)) } by { Prim.hlevel props },
 }
 
-// Writes an entry of a pass down.
+// Publishes an entry of a pass in the log of the admitted entries.
 fn write_down<N: NamesEntries<Entry>>(
     register: &mut Writer<Entry>,
     log: &Log<Entry>,
@@ -111,15 +112,15 @@ fn write_down<N: NamesEntries<Entry>>(
 }
 
 impl<V: Venue, J: Journal + Drop> Held<V, J> {
-    /// What lies under the lock at the start of an exchange that goes on from events, which its desk has recorded and its
-    /// journal keeps.
+    /// The state under the lock at the start of an exchange that resumes from events, which its desk has recorded and
+    /// its journal holds.
     pub fn open(
         alloc: Global,
         desk: Desk,
         book: Book<V>,
         spare: Share<V>,
         register: Writer<Entry>,
-        kept: Receipt<Entry>,
+        durable: Receipt<Entry>,
         keeper: Keeper<V, J>,
     ) -> Held<V, J>
         requires desk { IsResumed V.log V.setup V.before desk }
@@ -130,7 +131,7 @@ impl<V: Venue, J: Journal + Drop> Held<V, J> {
           published = unspoken (restored V.before);
           staged = [];
         } }
-        requires kept { kept ≡ record { log = V.kept; known = unspoken (restored V.before) } }
+        requires durable { durable ≡ record { log = V.durable; known = unspoken (restored V.before) } }
         requires keeper { keeper.writer.published ≡ unspoken (restored V.before) }
     {
         Held {
@@ -138,11 +139,11 @@ impl<V: Venue, J: Journal + Drop> Held<V, J> {
             book,
             spare,
             register,
-            kept,
+            durable,
             records: Records::new(alloc),
             keeper: Some(keeper),
             failed: None,
-            glanced: 0,
+            prefetched: 0,
             alloc,
         }
     }
@@ -152,19 +153,21 @@ impl<V: Venue, J: Journal + Drop> Held<V, J> {
         self.keeper.as_ref().is_some_and(|keeper| keeper.is_quick())
     }
 
-    /// Who has news since `seen` messages of the feed were published.
-    pub fn news_since(&self, seen: u64) -> ToldNews
+    /// Which threads have news since `seen` messages of the feed were published.
+    pub fn news_since(&self, seen: u64) -> PublishedNews
         ensures { result.is_feed ≡ nat_lt seen (length (feed self.now.desk.published)) }
     {
-        ToldNews {
+        PublishedNews {
             is_feed: self.desk.feed_count() > seen,
             is_last: self.desk.ended() || self.failed.is_some(),
         }
     }
 
-    /// How many events are admitted and not yet told.
+    /// The number of events that are admitted and not yet published.
     pub fn ahead_len(&self) -> u64 {
-        self.desk.history_len().saturating_sub(self.desk.told_len())
+        self.desk
+            .history_len()
+            .saturating_sub(self.desk.published_len())
     }
 
     /// Admits an event for a pass, with its record, and counts it in its share.
@@ -250,20 +253,19 @@ impl<V: Venue, J: Journal + Drop> Held<V, J> {
         refused(self.desk.refuse(event), stopped || self.failed.is_some())
     }
 
-    // Looks at what the events from a place on are about, so that their memory is at hand, if those looked at before are
-    // all admitted.
-    fn glance(&mut self, events: &[Event], place: usize)
+    // Prefetches what the events from an index on are about, if all events that were prefetched before are admitted.
+    fn prefetch(&mut self, events: &[Event], place: usize)
         requires { place ≤ length events.now }
         ensures { self.new.desk ≡ self.old.desk }
     {
         if place % AT_ONCE == 0 {
-            self.glanced = self
-                .glanced
-                .wrapping_add(self.desk.glance(&events[place..]));
+            self.prefetched = self
+                .prefetched
+                .wrapping_add(self.desk.prefetch(&events[place..]));
         }
     }
 
-    // How many orders the market has passed over since it had passed over so many.
+    // The number of orders that the market has passed over since that number was `before`.
     fn passed_since(&self, before: u64) -> u64 {
         self.desk.passed_over().wrapping_sub(before)
     }
@@ -301,7 +303,7 @@ impl<V: Venue, J: Journal + Drop> Held<V, J> {
         };
         let before = self.desk.passed_over();
         for i in 0..events.len() {
-            self.glance(events, i);
+            self.prefetch(events, i);
             match self.enter(log, admitted, pass, share, &events[i], written.get(i)) {
                 Ok(done) => last = done,
                 Err(error) => {
@@ -317,8 +319,8 @@ impl<V: Venue, J: Journal + Drop> Held<V, J> {
         Entered::up_to(events.len(), last, self.passed_since(before))
     }
 
-    /// Takes the journal and what is to be kept next, where the journal is there.
-    pub fn begin(&mut self, admitted: &Log<Entry>) -> Option<Flight<V, J>>
+    /// Takes the journal, and the batch that is written next, if the journal is there.
+    pub fn begin(&mut self, admitted: &Log<Entry>) -> Option<BatchWrite<V, J>>
         requires admitted { admitted.now ≡ V.admitted }
         ensures desk { self.new.desk.history ≡ self.old.desk.history }
     {
@@ -334,7 +336,7 @@ impl<V: Venue, J: Journal + Drop> Held<V, J> {
         desk.stands();
         desk.seal();
         let records = replace(records, Records::new(*alloc));
-        Some(Flight {
+        Some(BatchWrite {
             keeper,
             records,
             knows: register.receipt(admitted),
@@ -342,55 +344,56 @@ impl<V: Venue, J: Journal + Drop> Held<V, J> {
         })
     }
 
-    /// Takes the journal back, and tells what it keeps now. What cannot be stops the exchange: that this is another batch
-    /// than the one that was taken.
+    /// Takes the journal back, and publishes the batch that it holds now. If this is not the batch that was taken,
+    /// which cannot be, the exchange stops.
     pub fn land(
         &mut self,
         log: &Log<Entry>,
         admitted: &Log<Entry>,
-        kept: &Log<Entry>,
-        landed: Landed<V, J>,
+        durable: &Log<Entry>,
+        written_batch: WrittenBatch<V, J>,
     )
         requires log { log.now ≡ V.log }
         requires admitted { admitted.now ≡ V.admitted }
-        requires kept { kept.now ≡ V.kept }
+        requires durable { durable.now ≡ V.durable }
     {
-        let Landed {
+        let WrittenBatch {
             keeper,
             room,
             knows,
             end,
-        } = landed;
+        } = written_batch;
         if self.keeper.is_some() || self.desk.sealed_len() != end {
             self.failed = Some(JournalError::Closed);
             return;
         }
         self.records.reuse(room);
         self.register.confirm(admitted, knows);
-        self.tell(log, kept, keeper);
+        self.tell(log, durable, keeper);
     }
 
-    // Tells what the journal keeps.
-    fn tell(&mut self, log: &Log<Entry>, kept: &Log<Entry>, keeper: Keeper<V, J>)
+    // Publishes what the journal holds.
+    fn tell(&mut self, log: &Log<Entry>, durable: &Log<Entry>, keeper: Keeper<V, J>)
         requires log { log.now ≡ V.log }
-        requires kept { kept.now ≡ V.kept }
+        requires durable { durable.now ≡ V.durable }
         requires keeps { keeper.writer.published
             ≡ unspoken (take self.old.desk.sealed self.old.desk.history) }
     {
         let mut keeper = keeper;
         let Held {
             desk,
-            kept: receipt,
+            durable: receipt,
             keeper: home,
             ..
         } = self;
         desk.stands();
         desk.release(log);
-        keeper.renew(kept, receipt);
+        keeper.renew(durable, receipt);
         *home = Some(keeper);
     }
 
-    /// Whether the entry at a place is told. Who knows that it was admitted knows from then on all that is told.
+    /// Whether the entry with this place in the history is published. If it is, a pass that knows of its admission
+    /// knows from then on all that is published.
     pub fn settle(
         &mut self,
         log: &Log<Entry>,
@@ -403,13 +406,13 @@ impl<V: Venue, J: Journal + Drop> Held<V, J> {
         requires admitted { admitted.now ≡ V.admitted }
         requires knows { knows.old.log ≡ V.log }
         requires entered { entered.old.log ≡ V.admitted }
-        ensures told { MatchBool result
+        ensures published_end { MatchBool result
             (Settles V.setup place entered.old.known knows.old.known knows.new.known)
             (knows.new ≡ knows.old) }
         ensures log { knows.new.log ≡ V.log }
         ensures entered { entered.new ≡ entered.old }
     {
-        if self.desk.told_len() < place {
+        if self.desk.published_len() < place {
             return false;
         }
         let mine = entered.again(admitted);
@@ -419,53 +422,53 @@ impl<V: Venue, J: Journal + Drop> Held<V, J> {
         true
     }
 
-    // Keeps and tells what waits, where the journal touches no disk.
-    fn lead_at_once(&mut self, log: &Log<Entry>, admitted: &Log<Entry>, kept: &Log<Entry>)
+    // Writes and publishes the waiting entries, if the journal touches no disk.
+    fn lead_at_once(&mut self, log: &Log<Entry>, admitted: &Log<Entry>, durable: &Log<Entry>)
         requires log { log.now ≡ V.log }
         requires admitted { admitted.now ≡ V.admitted }
-        requires kept { kept.now ≡ V.kept }
+        requires durable { durable.now ≡ V.durable }
     {
-        let Some(flight) = self.begin(admitted) else {
+        let Some(batch_write) = self.begin(admitted) else {
             return;
         };
-        match flight.fly(kept) {
-            Ok(landed) => self.land(log, admitted, kept, landed),
+        match batch_write.write_batch(durable) {
+            Ok(written_batch) => self.land(log, admitted, durable, written_batch),
             Err((_journal, error)) => self.failed = Some(error),
         }
     }
 
-    /// Keeps and tells what waits, where the journal touches no disk: whoever has the lock does so at once. Returns a
-    /// receipt for all that is published, if the entry at a place is told.
-    pub fn tell_at_once(
+    /// Writes and publishes the waiting entries under the lock, if the journal touches no disk. Returns a receipt for
+    /// all that is published, if the entry with this place in the history is.
+    pub fn publish_at_once(
         &mut self,
         log: &Log<Entry>,
         admitted: &Log<Entry>,
-        kept: &Log<Entry>,
+        durable: &Log<Entry>,
         knows: &mut Receipt<Entry>,
         entered: &mut Receipt<Entry>,
         place: u64,
     ) -> Option<Receipt<Entry>>
         requires log { log.now ≡ V.log }
         requires admitted { admitted.now ≡ V.admitted }
-        requires kept { kept.now ≡ V.kept }
+        requires durable { durable.now ≡ V.durable }
         requires knows { knows.old.log ≡ V.log }
         requires entered { entered.old.log ≡ V.admitted }
-        ensures told { IfSome result (λ r. (r.log ≡ V.log)
+        ensures published_end { IfSome result (λ r. (r.log ≡ V.log)
             × Settles V.setup place entered.old.known knows.old.known r.known) }
         ensures same { (knows.new ≡ knows.old) × (entered.new ≡ entered.old) }
     {
         if !self.is_quick() {
             return None;
         }
-        self.lead_at_once(log, admitted, kept);
-        let mut told = knows.again(log);
-        if self.settle(log, admitted, &mut told, entered, place) {
-            return Some(told);
+        self.lead_at_once(log, admitted, durable);
+        let mut published_end = knows.again(log);
+        if self.settle(log, admitted, &mut published_end, entered, place) {
+            return Some(published_end);
         }
         None
     }
 
-    /// The receipt knows from now on the whole history, told or not.
+    /// The receipt knows from now on the whole history, published or not.
     pub fn note(&mut self, admitted: &Log<Entry>, entered: &mut Receipt<Entry>)
         requires admitted { admitted.now ≡ V.admitted }
         requires entered { entered.old.log ≡ V.admitted }

@@ -6,20 +6,20 @@ ghost use Rattle.hx_engine.specs.Journals.{lines};
 ghost use Rattle.hx_engine.specs.Opening.{IsNewLog, most_passes};
 ghost use Rattle.hx_engine.specs.Passes.{new_passes};
 
+use crate::applied::Applied;
 use crate::exchange::Exchange;
 use crate::keeper::{Keeper, write_before};
 use crate::locked::Held;
 use crate::pass::{Pass, make_passes};
 use crate::pass_count::PassCount;
-use crate::played::Played;
 use crate::venue::Venue;
-use hx_bells::{Bell, Bells};
 use hx_blog::{Log, Writer};
 use hx_desk::{DeskError, Entry};
 use hx_journal::Journal;
 use hx_market::Event;
 use hx_members::{Seed, Setup};
 use hx_units::NoMemory;
+use hx_wake::{Waker, Wakers};
 use std::alloc::Global;
 use std::marker::Brand;
 use std::sync::atomic::{AtomicBool, AtomicU64};
@@ -33,22 +33,22 @@ pub struct Logs {
     pub feed: (Log<Entry>, Writer<Entry>),
     /// The log of the events that are admitted. It has no messages: one slot is enough.
     pub admitted: (Log<Entry>, Writer<Entry>),
-    /// The log of the events that the journal keeps. It has no messages: one slot is enough.
-    pub kept: (Log<Entry>, Writer<Entry>),
+    /// The log of the events that are durable. It has no messages: one slot is enough.
+    pub durable: (Log<Entry>, Writer<Entry>),
 }
 
-/// What an exchange goes on from.
+/// What an exchange resumes from.
 #[derive(Drop)]
 pub struct Recovered<J: Journal> {
-    /// The journal, which keeps the records of these events and no others.
+    /// The journal, which holds the records of these events and no others.
     pub journal: J,
     /// The events, in their order.
     pub events: Vec<Event>,
 }
 
 impl<V: Venue, J: Journal + Drop> Exchange<V, J> {
-    /// An exchange over new logs and an empty journal, with n passes, 1 to 1,024, and the fixed seed. What it was
-    /// given is gone after `NoMemory`.
+    /// An exchange over new logs and an empty journal, with n passes, 1 to 1,024, and the fixed seed. Its arguments are
+    /// dropped on `NoMemory`.
     pub fn new(
         alloc: Global,
         setup: Setup,
@@ -59,11 +59,11 @@ impl<V: Venue, J: Journal + Drop> Exchange<V, J> {
     ) -> Result<(Exchange<V, J>, Vec<Pass<V>>), NoMemory>
         requires feed { IsNewLog V.log logs.feed }
         requires admitted { IsNewLog V.admitted logs.admitted }
-        requires kept { IsNewLog V.kept logs.kept }
+        requires durable { IsNewLog V.durable logs.durable }
         requires of_setup { setup ≡ V.setup }
         requires before { V.before ≡ [] }
         requires journal { J.appended journal ≡ [] }
-        requires safe { (J.kept journal ≡ J.appended journal) × (J.is_open journal ≡ true) }
+        requires safe { (J.durable journal ≡ J.appended journal) × (J.is_open journal ≡ true) }
         requires blank { (blank.name ≡ V.name) × (blank.parts ≡ V.parts) }
         requires passes { (1 ≤ passes) × (passes ≤ most_passes) × (passes ≡ V.parts) }
         ensures { IfOk result (λ made. made.1.items ≡ new_passes passes) }
@@ -71,8 +71,8 @@ impl<V: Venue, J: Journal + Drop> Exchange<V, J> {
         Exchange::seeded(alloc, setup, logs, journal, blank, passes, Seed::Fixed)
     }
 
-    /// An exchange over new logs and an empty journal, with n passes, 1 to 1,024, whose table of tokens has this
-    /// seed: members choose their tokens, so where strangers trade it should be drawn. What it was given is gone after
+    /// An exchange over new logs and an empty journal, with n passes, 1 to 1,024. Its table of tokens has this seed:
+    /// members choose their tokens, so if strangers trade, draw the seed at random. Its arguments are dropped on
     /// `NoMemory`.
     pub fn seeded(
         alloc: Global,
@@ -85,11 +85,11 @@ impl<V: Venue, J: Journal + Drop> Exchange<V, J> {
     ) -> Result<(Exchange<V, J>, Vec<Pass<V>>), NoMemory>
         requires feed { IsNewLog V.log logs.feed }
         requires admitted { IsNewLog V.admitted logs.admitted }
-        requires kept { IsNewLog V.kept logs.kept }
+        requires durable { IsNewLog V.durable logs.durable }
         requires of_setup { setup ≡ V.setup }
         requires before { V.before ≡ [] }
         requires journal { J.appended journal ≡ [] }
-        requires safe { (J.kept journal ≡ J.appended journal) × (J.is_open journal ≡ true) }
+        requires safe { (J.durable journal ≡ J.appended journal) × (J.is_open journal ≡ true) }
         requires blank { (blank.name ≡ V.name) × (blank.parts ≡ V.parts) }
         requires passes { (1 ≤ passes) × (passes ≤ most_passes) × (passes ≡ V.parts) }
         ensures { IfOk result (λ made. made.1.items ≡ new_passes passes) }
@@ -104,10 +104,10 @@ impl<V: Venue, J: Journal + Drop> Exchange<V, J> {
         }
     }
 
-    /// An exchange that goes on from events that its journal keeps: they are told again, over new logs, and its passes,
-    /// 1 to 1,024, sent none of them. Its table of tokens has this seed. An error says why an event is not recorded again:
-    /// the log of the feed has no room for it, or there is no memory, or it is of another setup. What it was given is
-    /// gone then.
+    /// An exchange that resumes from the events that its journal holds. They are published again, over new logs, and
+    /// its passes, 1 to 1,024, sent none of them. Its table of tokens has this seed. An error says why an event is not
+    /// recorded again: the log of the feed has no room for it, or there is no memory, or it is of another setup. The
+    /// arguments are dropped then.
     pub fn resume(
         alloc: Global,
         setup: Setup,
@@ -119,11 +119,11 @@ impl<V: Venue, J: Journal + Drop> Exchange<V, J> {
     ) -> Result<(Exchange<V, J>, Vec<Pass<V>>), DeskError>
         requires feed { IsNewLog V.log logs.feed }
         requires admitted { IsNewLog V.admitted logs.admitted }
-        requires kept { IsNewLog V.kept logs.kept }
+        requires durable { IsNewLog V.durable logs.durable }
         requires of_setup { setup ≡ V.setup }
         requires before { recovered.events.items ≡ V.before }
         requires journal { J.appended recovered.journal ≡ lines record_of (restored V.before) }
-        requires safe { (J.kept recovered.journal ≡ J.appended recovered.journal)
+        requires safe { (J.durable recovered.journal ≡ J.appended recovered.journal)
             × (J.is_open recovered.journal ≡ true) }
         requires blank { (blank.name ≡ V.name) × (blank.parts ≡ V.parts) }
         requires passes { (1 ≤ passes) × (passes ≤ most_passes) × (passes ≡ V.parts) }
@@ -132,44 +132,44 @@ impl<V: Venue, J: Journal + Drop> Exchange<V, J> {
         let Logs {
             feed,
             admitted,
-            kept,
+            durable,
         } = logs;
         let Recovered { journal, events } = recovered;
-        let played = Played::resume(alloc, setup, feed, seed, &events)?;
-        let made = Exchange::open(alloc, played, admitted, kept, journal, blank, passes)?;
+        let applied = Applied::resume(alloc, setup, feed, seed, &events)?;
+        let made = Exchange::open(alloc, applied, admitted, durable, journal, blank, passes)?;
         Ok(made)
     }
 
-    /// An exchange that goes on from events that are played and that its journal keeps, over new logs of what is admitted
-    /// and of what is kept: it plays none of them again, and its passes, 1 to 1,024, sent none of them. What it was given
-    /// is gone after `NoMemory`.
+    /// An exchange that resumes from events that are applied and that its journal holds, over new logs of the admitted
+    /// and of the durable entries. It applies none of them again, and its passes, 1 to 1,024, sent none of them. Its
+    /// arguments are dropped on `NoMemory`.
     pub fn open(
         alloc: Global,
-        played: Played,
+        applied: Applied,
         admitted: (Log<Entry>, Writer<Entry>),
-        kept: (Log<Entry>, Writer<Entry>),
+        durable: (Log<Entry>, Writer<Entry>),
         journal: J,
         blank: Blank,
         passes: u16,
     ) -> Result<(Exchange<V, J>, Vec<Pass<V>>), NoMemory>
-        requires feed { played.log ≡ V.log }
+        requires feed { applied.log ≡ V.log }
         requires admitted { IsNewLog V.admitted admitted }
-        requires kept { IsNewLog V.kept kept }
-        requires of_setup { played.setup ≡ V.setup }
-        requires before { played.events ≡ V.before }
+        requires durable { IsNewLog V.durable durable }
+        requires of_setup { applied.setup ≡ V.setup }
+        requires before { applied.events ≡ V.before }
         requires journal { J.appended journal ≡ lines record_of (restored V.before) }
-        requires safe { (J.kept journal ≡ J.appended journal) × (J.is_open journal ≡ true) }
+        requires safe { (J.durable journal ≡ J.appended journal) × (J.is_open journal ≡ true) }
         requires blank { (blank.name ≡ V.name) × (blank.parts ≡ V.parts) }
         requires passes { (1 ≤ passes) × (passes ≤ most_passes) × (passes ≡ V.parts) }
         ensures { IfOk result (λ made. made.1.items ≡ new_passes passes) }
     {
-        let Played {
+        let Applied {
             log,
             desk,
             mut knows,
-        } = played;
+        } = applied;
         let (admitted, mut register) = admitted;
-        let (kept, pen) = kept;
+        let (durable, pen) = durable;
         let (book, mut spare) = blank.open::<V>();
         let made = make_passes(
             alloc,
@@ -180,18 +180,18 @@ impl<V: Venue, J: Journal + Drop> Exchange<V, J> {
             &mut spare,
             passes,
         )?;
-        let bells = Bells::new(alloc, passes).map_err(|_| NoMemory)?;
+        let wakers = Wakers::new(alloc, passes).map_err(|_| NoMemory)?;
         write_before::<Brand>(&mut register, &admitted, &desk);
-        let mut keeper = Keeper::open(&kept, pen, journal, &desk);
-        let receipt = keeper.receipt(&kept);
+        let mut keeper = Keeper::open(&durable, pen, journal, &desk);
+        let receipt = keeper.receipt(&durable);
         let exchange = Exchange {
             log,
             admitted,
-            kept,
+            durable,
             desk: Mutex::new(Held::open(alloc, desk, book, spare, register, receipt, keeper)),
             recorded: Condvar::new(),
-            bells,
-            feed_bell: Bell::new(),
+            wakers,
+            feed_waker: Waker::new(),
             is_feed_due: AtomicBool::new(false),
             entering: AtomicU64::new(0),
             passes: PassCount::of(passes),
@@ -202,8 +202,8 @@ impl<V: Venue, J: Journal + Drop> Exchange<V, J> {
         Ok((exchange, made))
     }
 
-    /// The same, but where this many events, at least one, are admitted and not yet told, the next calls of `submit` wait
-    /// before theirs is. Of a new exchange that number has no limit.
+    /// The same, with a limit: while this number of events, at least one, is admitted and not yet published, the next
+    /// calls of `submit` wait before they admit theirs. A new exchange has no limit.
     pub fn at_most_ahead(self, events: u64) -> Self {
         let mut exchange = self;
         exchange.ahead = events.max(1);

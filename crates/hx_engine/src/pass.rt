@@ -13,19 +13,19 @@ use std::marker::Model;
 use std::mem::replace;
 use std::sync::ledger::Share;
 
-/// What one client of an exchange sent, and what he knows. Contracts see its number, its events with their places, those
-/// of them that were admitted and not told, and the entries that it knows.
+/// What one client of an exchange sent, and what it knows. Contracts see its number, its events, each with its place in
+/// the history, those of its events that were admitted and not published, and the entries that it knows.
 #[derive(Drop)]
 pub struct Pass<V: Venue> {
     pub(crate) number: u16,
-    // Its events that were admitted, of which this many are told; the others wait.
+    // Its events that were admitted. The first `published_end` of them are published; the others wait.
     pub(crate) sent: Vec<(u64, Event)>,
-    pub(crate) told: usize,
+    pub(crate) published_end: usize,
     pub(crate) knows: Receipt<Entry>,
-    // A receipt for the history up to its last event, told or not.
+    // A receipt for the history up to its last event, published or not.
     pub(crate) entered: Receipt<Entry>,
     pub(crate) share: Share<V>,
-    // How many orders the market passed over for its events since that was asked last.
+    // The number of orders that the market passed over for its events since the last call of `take_passed`.
     pub(crate) passed: u64,
 }
 
@@ -38,8 +38,8 @@ impl<V: Venue> Model for Pass<V> {
 
     ghost view = { λ p. record {
       number = p.number;
-      sent = take p.told p.sent.items;
-      waiting = drop p.told p.sent.items;
+      sent = take p.published_end p.sent.items;
+      waiting = drop p.published_end p.sent.items;
       known = p.knows.known;
     } };
 
@@ -50,8 +50,8 @@ impl<V: Venue> Model for Pass<V> {
         × (p.entered.log ≡ V.admitted)
         × (0 < p.number)
         × (p.number ≤ V.parts)
-        × AreSomeOf (take p.told p.sent.items) (sent_in p.number (history_of p.knows.known))
-        × (p.told ≤ length p.sent.items) };
+        × AreSomeOf (take p.published_end p.sent.items) (sent_in p.number (history_of p.knows.known))
+        × (p.published_end ≤ length p.sent.items) };
 }
 
 impl<V: Venue> Pass<V> {
@@ -63,22 +63,22 @@ impl<V: Venue> Pass<V> {
         self.number
     }
 
-    /// Its events, each with its place in the history.
+    /// Its published events, each with its place in the history.
     pub fn sent(&self) -> &[(u64, Event)]
         ensures { result.now ≡ self.now.sent }
     {
-        &self.sent[..self.told]
+        &self.sent[..self.published_end]
     }
 
-    /// How many of its events were admitted and not told, since the journal failed.
+    /// The number of its events that were admitted and not published, since the journal failed.
     pub fn waiting_len(&self) -> usize
         ensures { result ≡ length self.now.waiting }
     {
-        self.sent.len() - self.told
+        self.sent.len() - self.published_end
     }
 
-    /// How many orders the market passed over for its events since this was asked last (`Desk::passed_over`). Nothing is
-    /// promised of it.
+    /// Returns the number of orders that the market passed over for its events since the last call
+    /// (`Desk::passed_over`). No clause says anything about it.
     pub fn take_passed(&mut self) -> u64
         ensures { self.new ≡ self.old }
     {
@@ -126,7 +126,7 @@ pub(crate) fn make_passes<V: Venue>(
         passes.push(Pass {
             number,
             sent: Vec::new(alloc),
-            told: 0,
+            published_end: 0,
             knows,
             entered,
             share,

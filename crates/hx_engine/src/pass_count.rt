@@ -1,11 +1,11 @@
-//! How many passes an exchange has.
+//! The number of passes of an exchange.
 ghost use Rattle.std.specs.Prelude.{◌≡◌, ◌≤◌};
 ghost use Rattle.hx_engine.specs.Opening.{most_passes};
 
 use crate::venue::Venue;
 use std::marker::{Model, PhantomData};
 
-/// How many passes an exchange gave: one for each part of its venue's ledger.
+/// The number of passes that an exchange gave: one for each part of its venue's ledger.
 #[derive(Drop)]
 pub struct PassCount<V: Venue> {
     count: u16,
@@ -24,7 +24,7 @@ impl<V: Venue> Model for PassCount<V> {
 }
 
 impl<V: Venue> PassCount<V> {
-    /// This many.
+    /// This number.
     pub fn of(count: u16) -> PassCount<V>
         requires { (count ≡ V.parts) × (count ≤ most_passes) }
         ensures { result ≡ count }

@@ -1,4 +1,4 @@
-//! What an exchange tells of a member's replies, and of the end of the day.
+//! What an exchange says of a member's replies, and of the end of the day.
 ghost use Rattle.std.specs.Prelude.{◌≡◌, ◌<◌, ◌≤◌, length, IfOk, IfErr};
 ghost use Rattle.hx_units.specs.Fields.{texts};
 ghost use Rattle.hx_desk.specs.Rows.{from_number, page};
@@ -12,15 +12,15 @@ use crate::locked::Held;
 use crate::pass::Pass;
 use crate::venue::Venue;
 use arrayvec::ArrayVec;
-use hx_bells::Bell;
 use hx_blog::{Log, Reader};
 use hx_desk::Entry;
 use hx_journal::Journal;
 use hx_units::{MemberNo, NoMemory};
+use hx_wake::Waker;
 use std::sync::Wait;
 use std::sync::atomic::Ordering;
 
-// The reader knows from now on all that is published: how much stands then for a member.
+// Returns what stands for a member. The reader knows from now on all that is published.
 fn tell<V: Venue, J: Journal + Drop>(
     held: &mut Held<V, J>,
     log: &Log<Entry>,
@@ -41,7 +41,7 @@ fn tell<V: Venue, J: Journal + Drop>(
     }
 }
 
-// The reader knows from now on all that is published: whether the day is over then.
+// Whether the day is over. The reader knows from now on all that is published.
 fn tell_end<V: Venue, J: Journal + Drop>(
     held: &mut Held<V, J>,
     log: &Log<Entry>,
@@ -59,8 +59,8 @@ fn tell_end<V: Venue, J: Journal + Drop>(
 }
 
 impl<V: Venue, J: Journal + Drop> Exchange<V, J> {
-    /// How many replies a member has, and whether the day is over. The reader knows from then on the history of which
-    /// that is.
+    /// The number of a member's replies, and whether the day is over. The reader knows from then on the history to
+    /// which these belong.
     pub fn news(&self, rt: &impl Wait, reader: &mut Reader<Entry>, member: MemberNo) -> News
         requires { reader.old.log ≡ V.log }
         ensures news { IsNews V.setup member reader.new.known result }
@@ -72,7 +72,8 @@ impl<V: Venue, J: Journal + Drop> Exchange<V, J> {
         tell(held, &self.log, reader, member)
     }
 
-    /// Whether the day is over: hours code `C` is past. The reader knows from then on the history of which that is.
+    /// Whether the day is over: the market is past hours code `C`. The reader knows from then on the history to which
+    /// this belongs.
     pub fn is_over(&self, rt: &impl Wait, reader: &mut Reader<Entry>) -> bool
         requires { reader.old.log ≡ V.log }
         ensures over { result ≡ is_over (known_market V.setup reader.new.known) }
@@ -84,8 +85,8 @@ impl<V: Venue, J: Journal + Drop> Exchange<V, J> {
         tell_end(held, &self.log, reader)
     }
 
-    /// The replies to a member from this number on, which count from 1; 0 is read as 1. The reader knows from then on
-    /// the history to which they are. It takes memory where there are any.
+    /// The replies to a member from this number on, which counts from 1; 0 is read as 1. The reader knows from then on
+    /// the history to which they belong. The call takes memory only if there are replies.
     pub fn replies(
         &self,
         rt: &impl Wait,
@@ -109,8 +110,8 @@ impl<V: Venue, J: Journal + Drop> Exchange<V, J> {
         held.desk.replies_from(member, from)
     }
 
-    /// At most this many replies to a member, from this number on: it holds the lock no longer than these take. It takes
-    /// memory where there are any.
+    /// At most `most` replies to a member, from this number on: the call holds the lock no longer than these take. It
+    /// takes memory only if there are replies.
     pub fn replies_page(
         &self,
         rt: &impl Wait,
@@ -135,7 +136,7 @@ impl<V: Venue, J: Journal + Drop> Exchange<V, J> {
         held.desk.replies_page(member, from, most)
     }
 
-    /// The same, beside how much stands for the member then: both by one look.
+    /// The same, together with what stands for the member then: both under one lock.
     pub fn news_page(
         &self,
         rt: &impl Wait,
@@ -167,62 +168,62 @@ impl<V: Venue, J: Journal + Drop> Exchange<V, J> {
         self.desk.lock(rt).desk.ended()
     }
 
-    /// Whether nothing more is told: hours code `C` is past, or the journal has failed. No clause says what the market was
-    /// when it was asked.
+    /// Whether nothing more is published: the market is past hours code `C`, or the journal has failed. No clause says
+    /// what the market was when it was asked.
     pub fn is_closed(&self, rt: &impl Wait) -> bool {
         let held = self.desk.lock(rt);
         held.desk.ended() || held.failed.is_some()
     }
 
-    /// The bell of the publisher of the feed: it rings where messages are published, and at the end of the day.
-    pub fn feed_bell(&self) -> &Bell {
-        &self.feed_bell
+    /// The waker of the publisher of the feed: it is woken when messages are published, and at the end of the day.
+    pub fn feed_waker(&self) -> &Waker {
+        &self.feed_waker
     }
 
-    /// Rings for the publisher of the feed, where a `submit_all` has left that to its caller.
-    pub fn ring_feed(&self) {
+    /// Wakes the publisher of the feed, if a `submit_all` has left that to its caller.
+    pub fn wake_feed(&self) {
         if self.is_feed_due.load(Ordering::SeqCst)
             && self.is_feed_due.swap(false, Ordering::SeqCst)
         {
-            self.feed_bell.ring();
+            self.feed_waker.wake();
         }
     }
 
-    /// Whether some thread has events to record just now. It is a guess: nothing rests on it but how much a session takes
-    /// at once.
+    /// Whether some thread has events to record just now. It is a guess: only the number of messages that a session
+    /// takes at once depends on it.
     pub fn is_busy(&self) -> bool {
         self.entering.load(Ordering::SeqCst) != 0
     }
 
-    /// The bell of a pass's session.
-    pub fn bell(&self, pass: &Pass<V>) -> &Bell {
-        self.bells.bell(pass.number)
+    /// The waker of a pass's session.
+    pub fn waker(&self, pass: &Pass<V>) -> &Waker {
+        self.wakers.waker(pass.number)
     }
 
-    /// The bell of a pass's session rings from now on where a member has news; it rings for nobody else.
+    /// The waker of a pass's session wakes it from now on when a member has news, and for nobody else.
     pub fn listen(&self, rt: &impl Wait, pass: &Pass<V>, member: MemberNo) {
-        self.bells.listen(rt, pass.number, member);
+        self.wakers.listen(rt, pass.number, member);
     }
 
-    /// The bell of a pass's session, which rang for a member, rings for nobody.
+    /// The waker of a pass's session, which woke it for a member, wakes it for nobody.
     pub fn leave(&self, rt: &impl Wait, pass: &Pass<V>, member: MemberNo) {
-        self.bells.leave(rt, pass.number, member);
+        self.wakers.leave(rt, pass.number, member);
     }
 
-    /// Rings the bells of all sessions: each looks whether it is to end.
-    pub fn ring_all(&self) {
-        self.bells.ring_all();
+    /// Wakes all sessions: each looks whether it is to end.
+    pub fn wake_all(&self) {
+        self.wakers.wake_all();
     }
 
     /// How far the exchange has come.
     pub fn counts(&self, rt: &impl Wait) -> Counts
-        ensures { result.told ≤ result.recorded }
+        ensures { result.published_end ≤ result.recorded }
     {
         let held = self.desk.lock(rt);
         held.desk.stands();
         Counts {
             recorded: held.desk.history_len(),
-            told: held.desk.told_len(),
+            published_end: held.desk.published_len(),
             feed: held.desk.feed_count(),
         }
     }

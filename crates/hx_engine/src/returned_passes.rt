@@ -9,7 +9,7 @@ use hx_blog::Log;
 use hx_desk::{Desk, Entry};
 use std::sync::ledger::Share;
 
-// How often the pass of a number is among these.
+// The number of times that the pass of a number is among these.
 fn times_given<V: Venue>(passes: &[Pass<V>], number: u16) -> usize
     ensures { result ≡ times_given number passes.now }
 {
@@ -36,7 +36,7 @@ pub fn missing<V: Venue>(passes: &[Pass<V>], count: u16) -> Option<u16>
     None
 }
 
-/// Whether an event of one of these passes was admitted, and was never told.
+/// Whether an event of one of these passes was admitted, and was never published.
 pub fn is_any_waiting<V: Venue>(passes: &[Pass<V>]) -> bool
     ensures { result ≡ is_any_waiting passes.now }
 {
@@ -61,7 +61,7 @@ fn take_back<V: Venue>(desk: &mut Desk, log: &Log<Entry>, share: &mut Share<V>, 
     let Pass {
         number: _,
         sent: _,
-        told: _,
+        published_end: _,
         knows,
         entered: _,
         share: own,

@@ -1,16 +1,16 @@
-//! How much of the lock's time may go by passing over orders for one session.
+//! The part of the lock's time that one session may take by orders that the market passes over for it.
 ghost use Rattle.std.specs.Prelude.{◌*◌, ◌≡◌, min};
 
 use crate::exchange::Exchange;
 use crate::venue::Venue;
 use hx_journal::Journal;
 
-// How long the market takes to pass over one order, in nanoseconds, where the order is far from the one before it in memory.
+// The time that the market takes to pass over one order that is far from the one before it in memory, in nanoseconds.
 const PASSING: u64 = 40;
 
 impl<V: Venue, J: Journal + Drop> Exchange<V, J> {
-    /// The same, but the market passes over orders for one session for this part of the time at most, in percent, 1 to 100:
-    /// a session whose messages took more of it rests for as long as brings them down to it. Of a new exchange it is 100.
+    /// The same, but the market passes over orders for one session for this part of the time at most, in percent, 1 to
+    /// 100: a session whose messages took more rests until its part is down to it. Of a new exchange it is 100.
     pub fn with_share(self, percent: u64) -> Self {
         let percent = percent.clamp(1, 100);
         let mut exchange = self;

@@ -8,7 +8,7 @@ use std::marker::Model;
 #[derive(Drop)]
 pub struct Records {
     text: Vec<u8>,
-    // Where each of them ends in the text.
+    // The offset at which each of them ends in the text.
     ends: Vec<usize>,
 }
 
@@ -23,7 +23,7 @@ impl Model for Records {
     ghost invariant = { λ r. AreEnds 0 r.text.items r.ends.items };
 }
 
-// Where the piece in front of a place ends, or 0.
+// The offset at which the piece before this index ends, or 0.
 fn end_before(ends: &[usize], place: usize) -> usize
     requires { place ≤ length ends.now }
     ensures { result ≡ get_or (0 ∷ ends.now) place 0 }
@@ -35,7 +35,7 @@ fn end_before(ends: &[usize], place: usize) -> usize
 }
 
 impl Records {
-    /// None.
+    /// No records.
     pub fn new(alloc: Global) -> Records
         ensures { result ≡ [] }
     {
@@ -45,7 +45,7 @@ impl Records {
         }
     }
 
-    /// None, with room for this many records of this many bytes together.
+    /// No records, with memory for `count` records of `bytes` bytes in all.
     pub fn with_capacity(alloc: Global, count: usize, bytes: usize) -> Result<Records, AllocError>
         ensures { IfOk result (λ r. r ≡ []) }
     {
@@ -55,14 +55,14 @@ impl Records {
         })
     }
 
-    /// How many there are.
+    /// The number of records.
     pub fn len(&self) -> usize
         ensures { result ≡ length self.now }
     {
         self.ends.len()
     }
 
-    /// The record at a place, which counts from 0.
+    /// The record at an index, which counts from 0.
     pub fn get(&self, place: usize) -> &[u8]
         requires { place < length self.now }
         ensures { result.now ≡ get_or self.now place [] }
@@ -71,7 +71,7 @@ impl Records {
         &self.text[start..self.ends[place]]
     }
 
-    /// Puts a record behind the others.
+    /// Puts a record after the others.
     pub fn push(&mut self, bytes: &[u8]) -> Result<(), AllocError>
         ensures ok { OnOk result (self.new ≡ self.old ++ bytes.now ∷ []) }
         ensures err { OnErr result (self.new ≡ self.old) }
@@ -105,7 +105,7 @@ impl Records {
         self.clear();
     }
 
-    /// Takes all away, and keeps their memory.
+    /// Removes all records, and retains their memory.
     pub fn clear(&mut self)
         ensures { self.new ≡ [] }
     {

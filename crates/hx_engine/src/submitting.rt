@@ -1,4 +1,4 @@
-//! How events are recorded: they are admitted under the lock, and told once they are kept.
+//! How events are recorded: they are admitted under the lock, and published once they are durable.
 ghost use Rattle.std.specs.Prelude.{◌≡◌, ◌≢◌, ◌⊎◌, ◌↔◌, ◌+◌, ◌-◌, ◌<◌, ◌≤◌, [], ◌∷◌, ◌++◌, length, map, take, drop, Some, Err, IfOk, IfErr, IfSome, OnOk, OnErr, MatchBool};
 ghost use Rattle.hx_tape_lines.specs.Text.{record_of};
 ghost use Rattle.std.specs.Vec.{vec_len, vec_capacity};
@@ -10,10 +10,10 @@ ghost use Rattle.hx_engine.specs.Passes.{placed};
 ghost use Rattle.hx_engine.specs.Exchanges.{Sends, SendsFirst, SendsTurn, Enters, Settles, Stays, AreAdmittedUpTo, IsRefusedOutright};
 
 use crate::answers::{SubmitError, Submitted};
+use crate::batch_write::BatchWrite;
 use crate::entered::Entered;
 use crate::exchange::Exchange;
-use crate::flight::Flight;
-use crate::locked::{Held, ToldNews};
+use crate::locked::{Held, PublishedNews};
 use crate::pass::Pass;
 use crate::spelled::Records;
 use crate::venue::Venue;
@@ -67,7 +67,7 @@ fn spell_all(alloc: Global, events: &[Event]) -> Result<Records, NoMemory>
     Ok(written)
 }
 
-// Moves the first events, so many, which were admitted at consecutive places, up to this one.
+// Moves the first `count` events, which were admitted at consecutive places in the history, the last one at `last`.
 fn move_first(sent: &mut Vec<(u64, Event)>, events: &mut Vec<Event>, count: usize, last: u64)
     requires room { vec_len sent.old + count ≤ vec_capacity sent.old }
     requires inside { count ≤ length events.old.items }
@@ -76,18 +76,19 @@ fn move_first(sent: &mut Vec<(u64, Event)>, events: &mut Vec<Event>, count: usiz
         ≡ sent.old.items ++ placed (last - count) (take count events.old.items) }
     ensures rest { events.new.items ≡ drop count events.old.items }
 {
-    let behind = last - count as u64;
+    let later = last - count as u64;
     for i in 0..count {
         let event = replace(&mut events[i], Event::Tick { time: 0 });
-        sent.push_reserved((behind + i as u64 + 1, event));
+        sent.push_reserved((later + i as u64 + 1, event));
     }
     events.rotate_left(count);
     events.truncate(events.len() - count);
 }
 
 impl<V: Venue, J: Journal + Drop> Exchange<V, J> {
-    /// Records an event for a pass, and waits until it is kept and told: one of the threads that wait writes the records
-    /// of all of them, without the lock. If it is refused, the pass is as before.
+    /// Records an event for a pass, and waits until it is durable and published. Group commit: one of the waiting
+    /// threads is the leader, and writes the records of all of them outside the lock. If the event is refused, the pass
+    /// is as before.
     pub fn submit(
         &self,
         rt: &impl Wait,
@@ -107,21 +108,22 @@ impl<V: Venue, J: Journal + Drop> Exchange<V, J> {
             return Err(self.refuse(rt, &mut pass.knows, &mut pass.entered, event, false));
         };
         let done = self.submit_all(rt, pass, events);
-        self.ring_feed();
+        self.wake_feed();
         match done {
             Ok(submitted) => Ok(submitted.done),
             Err((error, _)) => Err(error),
         }
     }
 
-    /// Records events for a pass, one after another, and waits until they are kept and told: as that many calls of
-    /// `submit`, up to the first that is refused, but with one wait for all. Their records are spelled before the lock.
-    /// It takes one turn at the lock, which ends early where the market has passed over many orders for the events: what
-    /// is left then waits for another call. An error says why the next one is refused, and how many are recorded before
-    /// it. Where the journal fails no event is told, and they wait for good: such a pass submits nothing more.
+    /// Records events for a pass, one after another, and waits until they are durable and published: the same as one
+    /// call of `submit` for each event, up to the first that is refused, but with one wait for all. Their records are
+    /// spelled before the lock is taken. The call takes one turn at the lock, which ends early if the market has passed
+    /// over many orders for the events: the rest then needs another call. An error says why the next event is refused,
+    /// and the number of events that are recorded before it. If the journal fails, no event is published, and they wait
+    /// for good: such a pass submits nothing more.
     ///
-    /// Whoever calls it calls `ring_feed` soon after it, and before he waits for anybody: where the events are told under
-    /// the lock, the publisher of the feed is not woken before that, so that a reply may go out first.
+    /// A caller must call `wake_feed` soon after it, and before it waits for anything: if the events are published
+    /// under the lock, the publisher of the feed is not woken before that, so that a reply may go out first.
     pub fn submit_all(
         &self,
         rt: &impl Wait,
@@ -137,7 +139,7 @@ impl<V: Venue, J: Journal + Drop> Exchange<V, J> {
         ensures outright { IfErr result (λ e.
             AreAdmittedUpTo V.setup events.items e.1 (Some e.0)) }
     {
-        let waits = pass.told < pass.sent.len();
+        let waits = pass.published_end < pass.sent.len();
         let room = pass.sent.reserve(events.len());
         let Ok(written) = spell_all(self.alloc, &events) else {
             let error = self.refuse(rt, &mut pass.knows, &mut pass.entered, &events[0], waits);
@@ -152,7 +154,7 @@ impl<V: Venue, J: Journal + Drop> Exchange<V, J> {
             last,
             refused,
             passed,
-            told,
+            published_end,
         } = self.enter(
             rt,
             pass.number,
@@ -179,10 +181,16 @@ impl<V: Venue, J: Journal + Drop> Exchange<V, J> {
             };
         }
         move_first(&mut pass.sent, &mut events, count, last.place);
-        if !self.await_told(rt, &mut pass.knows, &mut pass.entered, last.place, told) {
+        if !self.await_published(
+            rt,
+            &mut pass.knows,
+            &mut pass.entered,
+            last.place,
+            published_end,
+        ) {
             return Err((SubmitError::Stopped, 0));
         }
-        pass.told = pass.sent.len();
+        pass.published_end = pass.sent.len();
         match refused {
             Some(error) => Err((error, count)),
             None => Ok(Submitted {
@@ -192,8 +200,8 @@ impl<V: Venue, J: Journal + Drop> Exchange<V, J> {
         }
     }
 
-    // Answers a refusal. One that rests on what others sent, or on earlier events of the pass, is answered once all of
-    // these are told: before, a crash might leave less of them.
+    // Answers a refusal. A refusal that rests on what others sent, or on earlier events of the pass, is answered once
+    // all of these are published: before, a crash might leave less of them.
     fn answer(
         &self,
         rt: &impl Wait,
@@ -213,18 +221,18 @@ impl<V: Venue, J: Journal + Drop> Exchange<V, J> {
         let place = self.history_len(rt);
         let mut known = knows.again(&self.log);
         let mut mine = entered.again(&self.admitted);
-        if self.await_told(rt, &mut known, &mut mine, place, None) {
+        if self.await_published(rt, &mut known, &mut mine, place, None) {
             return error;
         }
         SubmitError::Stopped
     }
 
-    // How many entries were admitted.
+    // The number of entries that were admitted.
     fn history_len(&self, rt: &impl Wait) -> u64 {
         self.desk.lock(rt).desk.history_len()
     }
 
-    // Why the event is refused where there is no memory for it, or where the pass has stopped.
+    // Why an event is refused if there is no memory for it, or if the pass has stopped.
     fn refuse(
         &self,
         rt: &impl Wait,
@@ -242,7 +250,7 @@ impl<V: Venue, J: Journal + Drop> Exchange<V, J> {
         self.answer(rt, knows, entered, error)
     }
 
-    // What the desk says now of an event for which there is no memory, or of one of a pass that has stopped.
+    // What the desk says now of an event for which there is no memory, or of an event of a pass that has stopped.
     fn look(&self, rt: &impl Wait, event: &Event, stopped: bool) -> SubmitError
         ensures { IsRefusedOutright V.setup event.now (Err result) }
     {
@@ -251,8 +259,8 @@ impl<V: Venue, J: Journal + Drop> Exchange<V, J> {
         held.refuse(event, stopped)
     }
 
-    // Admits events, up to the first that is refused. Where the journal touches no disk they are told before the lock is
-    // given back.
+    // Admits events, up to the first that is refused. If the journal touches no disk, they are published before the
+    // lock is given back.
     fn enter(
         &self,
         rt: &impl Wait,
@@ -275,7 +283,7 @@ impl<V: Venue, J: Journal + Drop> Exchange<V, J> {
         ensures counted { share.new.amount ≡ share.old.amount + result.count }
         ensures parts { share.new.parts ≡ share.old.parts }
         ensures outright { AreAdmittedUpTo V.setup events.now result.count result.refused }
-        ensures told { IfSome result.told (λ r. (r.log ≡ V.log)
+        ensures published_end { IfSome result.published_end (λ r. (r.log ≡ V.log)
             × Settles V.setup result.last.place entered.new.known knows.old.known r.known) }
     {
         self.entering.fetch_add(1, Ordering::SeqCst);
@@ -292,28 +300,36 @@ impl<V: Venue, J: Journal + Drop> Exchange<V, J> {
         held.desk.stands();
         let mut made = held.enter_all(&self.log, &self.admitted, number, share, events, &written);
         held.note(&self.admitted, entered);
-        let (log, admitted, kept) = (&self.log, &self.admitted, &self.kept);
+        let (log, admitted, durable) = (&self.log, &self.admitted, &self.durable);
         let seen = held.desk.feed_count();
-        self.ring_at_once(rt, held);
-        made.told = held.tell_at_once(log, admitted, kept, knows, entered, made.last.place);
+        self.wake_at_once(rt, held);
+        made.published_end = held.publish_at_once(
+            log,
+            admitted,
+            durable,
+            knows,
+            entered,
+            made.last.place,
+        );
         let news = held.news_since(seen);
         drop(lock);
         self.entering.fetch_sub(1, Ordering::SeqCst);
-        self.wake(made.told.is_some(), news);
+        self.wake(made.published_end.is_some(), news);
         made
     }
 
-    // Rings for the members whose replies are told at once, where they are.
-    fn ring_at_once(&self, rt: &impl Wait, held: &Held<V, J>) {
+    // Wakes for the members whose replies are published at once, if they are.
+    fn wake_at_once(&self, rt: &impl Wait, held: &Held<V, J>) {
         if held.is_quick() {
-            self.bells.ring(rt, held.desk.waiting_members());
+            self.wakers.wake(rt, held.desk.waiting_members());
         }
     }
 
-    // Wakes those who wait for a batch, and whoever else has news, but for the publisher: its ring is due from then on,
-    // unless nothing more is told. There is no news where nothing is told, unless nothing more is.
-    fn wake(&self, is_told: bool, news: ToldNews) {
-        if !is_told && !news.is_last {
+    // Wakes the threads that wait for a batch, and all others that have news, except the publisher: its wake is due
+    // from then on, unless nothing more is published. If nothing was published, there is no news, unless this is the
+    // end of all publishing.
+    fn wake(&self, is_published: bool, news: PublishedNews) {
+        if !is_published && !news.is_last {
             return;
         }
         self.recorded.notify_all();
@@ -321,55 +337,55 @@ impl<V: Venue, J: Journal + Drop> Exchange<V, J> {
             self.is_feed_due.store(true, Ordering::SeqCst);
         }
         if news.is_last {
-            self.ring_feed();
-            self.bells.ring_all();
+            self.wake_feed();
+            self.wakers.wake_all();
         }
     }
 
-    // Waits until the entry at a place is told, and leads where nobody does; false where the journal has failed. Where a
-    // receipt says that it is told, it waits for nobody.
-    fn await_told(
+    // Waits until the entry with this place in the history is published, and becomes the leader if there is none;
+    // returns false if the journal has failed. If a receipt shows that the entry is published, it does not wait.
+    fn await_published(
         &self,
         rt: &impl Wait,
         knows: &mut Receipt<Entry>,
         entered: &mut Receipt<Entry>,
         place: u64,
-        told: Option<Receipt<Entry>>,
+        published_end: Option<Receipt<Entry>>,
     ) -> bool
         requires knows { knows.old.log ≡ V.log }
         requires entered { entered.old.log ≡ V.admitted }
-        requires told { IfSome told (λ r. (r.log ≡ V.log)
+        requires published_end { IfSome published_end (λ r. (r.log ≡ V.log)
             × Settles V.setup place entered.old.known knows.old.known r.known) }
-        ensures told { MatchBool result
+        ensures published_end { MatchBool result
             (Settles V.setup place entered.old.known knows.old.known knows.new.known)
             (knows.new.known ≡ knows.old.known) }
         ensures logs { (knows.new.log ≡ V.log) × (entered.new.log ≡ V.admitted) }
     {
-        if let Some(told) = told {
-            *knows = told;
+        if let Some(published_end) = published_end {
+            *knows = published_end;
             return true;
         }
         for _ in rt.forever() {
             match self.turn(rt, knows, entered, place) {
-                Ok(told) => return told,
-                Err(flight) => self.lead(rt, flight),
+                Ok(published_end) => return published_end,
+                Err(batch_write) => self.lead(rt, batch_write),
             }
         }
         unreachable!()
     }
 
-    // What a thread does next whose entry stands at this place: it is told, or the journal has failed; or the thread
-    // leads, with this batch.
+    // The next step of a thread whose entry has this place in the history: the entry is published, or the journal has
+    // failed, or the thread becomes the leader of this batch.
     fn turn(
         &self,
         rt: &impl Wait,
         knows: &mut Receipt<Entry>,
         entered: &mut Receipt<Entry>,
         place: u64,
-    ) -> Result<bool, Flight<V, J>>
+    ) -> Result<bool, BatchWrite<V, J>>
         requires knows { knows.old.log ≡ V.log }
         requires entered { entered.old.log ≡ V.admitted }
-        ensures told { IfOk result (λ told. MatchBool told
+        ensures published_end { IfOk result (λ published_end. MatchBool published_end
             (Settles V.setup place entered.old.known knows.old.known knows.new.known)
             (knows.new ≡ knows.old)) }
         ensures leads { OnErr result (knows.new ≡ knows.old) }
@@ -377,36 +393,36 @@ impl<V: Venue, J: Journal + Drop> Exchange<V, J> {
         ensures entered { entered.new ≡ entered.old }
     {
         let mut held = self.recorded.wait_while(rt, self.desk.lock(rt), |held| {
-            held.desk.told_len() < place && held.failed.is_none() && held.keeper.is_none()
+            held.desk.published_len() < place && held.failed.is_none() && held.keeper.is_none()
         });
         let held = &mut *held;
         if held.settle(&self.log, &self.admitted, knows, entered, place) {
             return Ok(true);
         }
         match held.begin(&self.admitted) {
-            Some(flight) => Err(flight),
+            Some(batch_write) => Err(batch_write),
             None => Ok(false),
         }
     }
 
-    // Keeps a batch without the lock, then tells it under the lock, and wakes who waits, the publisher too: others wait
-    // for the batch, and their replies are no more urgent than the feed.
-    fn lead(&self, rt: &impl Wait, flight: Flight<V, J>) {
-        let news = match flight.fly(&self.kept) {
-            Ok(landed) => {
+    // Writes a batch outside the lock, then publishes it under the lock, and wakes the waiting threads, the publisher
+    // too: others wait for the batch, and their replies are no more urgent than the feed.
+    fn lead(&self, rt: &impl Wait, batch_write: BatchWrite<V, J>) {
+        let news = match batch_write.write_batch(&self.durable) {
+            Ok(written_batch) => {
                 let mut held = self.desk.lock(rt);
                 let seen = held.desk.feed_count();
-                self.bells.ring(rt, held.desk.flying_members());
-                held.land(&self.log, &self.admitted, &self.kept, landed);
+                self.wakers.wake(rt, held.desk.flying_members());
+                held.land(&self.log, &self.admitted, &self.durable, written_batch);
                 held.news_since(seen)
             }
             Err((_journal, error)) => {
                 let mut held = self.desk.lock(rt);
                 held.failed = Some(error);
-                ToldNews::last()
+                PublishedNews::last()
             }
         };
         self.wake(true, news);
-        self.ring_feed();
+        self.wake_feed();
     }
 }

@@ -9,19 +9,19 @@ use std::alloc::Global;
 use std::sync::ledger::Blank;
 use std::test::Fail;
 
-/// The three logs of an exchange, of which this is the feed's.
+/// The three logs of an exchange; the given one is the feed's.
 pub fn logs_of(alloc: Global, log: Log<Entry>, writer: Writer<Entry>) -> Result<Logs, Fail>
     requires { IsNewLog log (log, writer) }
     ensures feed { IfOk result (λ l. (l.feed.0 ≡ log) × IsNewLog l.feed.0 l.feed) }
     ensures admitted { IfOk result (λ l. IsNewLog l.admitted.0 l.admitted) }
-    ensures kept { IfOk result (λ l. IsNewLog l.kept.0 l.kept) }
+    ensures durable { IfOk result (λ l. IsNewLog l.durable.0 l.durable) }
 {
     let (admitted, register, _) = Log::<Entry>::new(alloc, 1)?;
-    let (kept, pen, _) = Log::<Entry>::new(alloc, 1)?;
+    let (durable, pen, _) = Log::<Entry>::new(alloc, 1)?;
     Ok(Logs {
         feed: (log, writer),
         admitted: (admitted, register),
-        kept: (kept, pen),
+        durable: (durable, pen),
     })
 }
 
@@ -39,7 +39,7 @@ pub fn ground_of(alloc: Global, setup: Setup, capacity: u64, passes: u16) -> Res
     requires capacity { (1 ≤ capacity) × (capacity ≤ 1000000) }
     ensures feed { IfOk result (λ g. IsNewLog g.logs.feed.0 g.logs.feed) }
     ensures admitted { IfOk result (λ g. IsNewLog g.logs.admitted.0 g.logs.admitted) }
-    ensures kept { IfOk result (λ g. IsNewLog g.logs.kept.0 g.logs.kept) }
+    ensures durable { IfOk result (λ g. IsNewLog g.logs.durable.0 g.logs.durable) }
     ensures reader { IfOk result (λ g. g.reader.log ≡ g.logs.feed.0) }
     ensures parts { IfOk result (λ g. g.blank.parts ≡ passes) }
 {

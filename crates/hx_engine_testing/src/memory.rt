@@ -1,4 +1,4 @@
-//! A journal in memory, whose sync takes as long as a test wants, and which takes as many records.
+//! A journal in memory. A test sets how long a sync takes, and the number of records that it takes.
 ghost use Rattle.std.specs.Prelude.{◌≡◌, ◌≤◌, [], length};
 
 use hx_engine::{Journal, JournalError};
@@ -10,13 +10,13 @@ use std::thread;
 pub struct Memory {
     /// Its records.
     pub records: Vec<Vec<u8>>,
-    /// How many of them are synced.
+    /// The number of those that are synced.
     pub synced: usize,
-    /// How many syncs there were.
+    /// The number of syncs so far.
     pub syncs: u64,
-    /// How often a sync lets other threads run before it ends.
+    /// How many times a sync lets other threads run before it ends.
     pub pause: u32,
-    /// How many records it takes.
+    /// The number of records that it takes.
     pub room: usize,
     alloc: Global,
     ghost within: { synced ≤ length records.items },
@@ -56,7 +56,7 @@ impl Journal for Memory {
 
     ghost appended = { λ j. record_texts j.records.items };
 
-    ghost kept = { λ j. take j.synced (record_texts j.records.items) };
+    ghost durable = { λ j. take j.synced (record_texts j.records.items) };
 
     ghost is_open = { λ j. true };
 

@@ -1,11 +1,11 @@
-//! A journal in memory whose calls somebody sees.
+//! A journal in memory, with a witness of its calls.
 ghost use Rattle.std.specs.Prelude.{◌≡◌, []};
 
 use crate::memory::Memory;
 use hx_engine::{Journal, JournalError};
 use std::alloc::Global;
 
-/// Who sees the calls of a journal.
+/// A witness of a journal's calls.
 pub trait Witness {
     /// A record is about to be appended.
     fn appends(&self) {}
@@ -14,7 +14,7 @@ pub trait Witness {
     fn synced(&self, _count: usize) {}
 }
 
-/// A journal in memory whose calls somebody sees.
+/// A journal in memory, with a witness of its calls.
 #[derive(Drop)]
 pub struct Witnessed<W> {
     /// The journal.
@@ -45,7 +45,7 @@ impl<W: Witness> Journal for Witnessed<W> {
 
     ghost appended = { λ j. record_texts j.memory.records.items };
 
-    ghost kept = { λ j. take j.memory.synced (record_texts j.memory.records.items) };
+    ghost durable = { λ j. take j.memory.synced (record_texts j.memory.records.items) };
 
     ghost is_open = { λ j. true };
 

@@ -1,6 +1,5 @@
 //! Worked rows and busy days, given to a desk and to an exchange.
 
-mod bells;
 mod busy_day;
 mod desks;
 mod exchanges;
@@ -8,6 +7,7 @@ mod refusing;
 mod scenario;
 mod turns;
 mod two_sessions;
+mod wakers;
 mod waking;
 
 use hx_market::Event;

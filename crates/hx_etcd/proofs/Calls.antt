@@ -1,4 +1,4 @@
--- An answer is a head and the body behind it; what lacks the one or the other is none.
+-- An answer is a head and the body after it; what lacks the one or the other is none.
 use Rattle.std.specs.Prelude.{Option, Some, None, Result, Ok, ◌==◌}
 use Rattle.std.specs.Io.KnownBytes.{Consumes}
 use Rattle.std.proofs.Common.{◌≡◌, ◌≢◌, ◌&&◌, not, Bool, ℕ, ◌<◌, List, [], ◌++◌, length, refl, sym, ap, ◌∙◌, subst, arith, append_assoc, length-append}
@@ -8,7 +8,7 @@ use Rattle.http1.specs.declared.framing.Framing.{Framing}
 use Rattle.hx_etcd.specs.declared.response.CallError.{CallError}
 use Rattle.hx_etcd.specs.declared.response.CallError.TheVariants.{Over, Stream, Ended, Http, NoLength, TooLong, NoMemory}
 use Rattle.hx_etcd.specs.declared.response.Head.{Head}
-use Rattle.hx_etcd.specs.declared.told.Answer.{Answer}
+use Rattle.hx_etcd.specs.declared.reported.Answer.{Answer}
 use Rattle.hx_etcd.specs.Responses.{framing_of, HasHead, HasBody, LacksBody, NeverHasBody, LacksHead, NeverHasHead, IsAnswer, LacksAnswer, NeverHasAnswer}
 use Rattle.hx_etcd.specs.Connections.{most_body, Comes, HeadComes, BodyComes, AnswerComes, OnceCome, IsHeadFault, IsBodyFault, IsCallFault}
 use Rattle.hx_etcd.proofs.Streams.{more_comes}
@@ -17,7 +17,7 @@ use Rattle.hx_etcd.proofs.Streams.{more_comes}
 
 no_answer : (whole middle came : List ℕ) (h : ResponseHead) (framing : Framing) → HasHead whole h framing middle → LacksBody framing (middle ++ came) → LacksAnswer (whole ++ came)
 no_answer whole middle came h framing has bad k body rest = λ is.
-    let same = response_prefix_free whole came h k middle is.behind has.reads is.head.reads in
+    let same = response_prefix_free whole came h k middle is.later has.reads is.head.reads in
     let alike : Ok framing ≡ Ok is.framing = sym has.framed ∙ ap framing_of same.0 ∙ is.head.framed in
     let framed : is.framing ≡ framing = cc alike in
     let there : HasBody (middle ++ came) is.framing body rest = subst (λ (l : List ℕ). HasBody l is.framing body rest) (sym same.1) is.content in
@@ -37,19 +37,19 @@ head_fails a b before Ended fault = (
   record {
     whole = fault.1.whole;
     comes = fault.1.comes;
-    is_so = λ h body rest. λ is. fault.1.is_so h is.framing is.behind is.head;
+    is_so = λ h body rest. λ is. fault.1.is_so h is.framing is.later is.head;
   },
 )
 head_fails a b before (Http e) fault = record {
   whole = fault.whole;
   comes = fault.comes;
-  is_so = λ more h body rest. λ is. fault.is_so more h is.framing is.behind is.head;
+  is_so = λ more h body rest. λ is. fault.is_so more h is.framing is.later is.head;
 }
 head_fails a b before NoLength fault = fault
 head_fails a b before TooLong fault = absurd fault
 head_fails a b before NoMemory fault = tt
 
--- ---- a head, and what comes behind it
+-- ---- a head, and what comes after it
 
 module _ (a b c : Option (List ℕ)) (before middle : List ℕ) (head : Head) (h : HeadComes a b before head middle) where
   all_comes : (came : List ℕ) → Consumes b c came → Comes a c before (h.whole ++ came)
@@ -96,7 +96,7 @@ module _ (a b c : Option (List ℕ)) (before middle : List ℕ) (head : Head) (h
         head = h.response;
         is = record {
           framing = head.framing;
-          behind = k.whole;
+          later = k.whole;
           head = record {
             reads = subst (λ (l : List ℕ). ReadsResponse (h.whole ++ came) h.response l) (sym k.comes.added) (ReadsResponse-append h.whole h.response middle came h.has.reads);
             short = h.has.short;

@@ -1,4 +1,4 @@
--- The head of a response: where it is found, and when there will be none.
+-- The head of a response: its position, and when there will be none.
 use Rattle.std.proofs.Common.{◌≡◌, ◌≢◌, ◌&&◌, not, ℕ, ◌<◌, ◌≤◌, Bool, List, ◌++◌, length, map, take, drop, refl, sym, ap, ◌∙◌, subst, arith}
 use Rattle.std.specs.Prelude.{Result, Ok, Err, nat_lt, nat_le}
 use Rattle.std.proofs.lemmas.List.{length-map, length-take-le}
@@ -29,8 +29,8 @@ is_too_long input none long more h f rest =
 
 -- the head that is there is the head of all that begins so
 pub is_refused : (input : List ℕ) (h : ResponseHead) (rest : List ℕ) → ReadsResponse input h rest → ((f : Framing) → length (print_response h) ≤ most_head → framing_of h ≡ Ok f → f ≢ UntilClose → ⊥) → NeverHasHead input
-is_refused input h rest reads bad more k f behind = λ has.
-    let same : h ≡ k = (response_prefix_free input more h k rest behind reads has.reads).0 in
+is_refused input h rest reads bad more k f later = λ has.
+    let same : h ≡ k = (response_prefix_free input more h k rest later reads has.reads).0 in
     bad f (subst (λ (x : ResponseHead). length (print_response x) ≤ most_head) (sym same) has.short) (ap framing_of same ∙ has.framed) has.ends
 
 -- the head that is there is too long

@@ -1,38 +1,17 @@
 -- The records of pairs.
-use Rattle.std.proofs.Common.{◌≡◌, ◌≢◌, inl, inr, ℕ, zero, suc, ◌+◌, ◌<◌, List, [], ◌∷◌, ◌++◌, length, take, map, get_or, refl, sym, ap, ◌∙◌, subst, arith, add-zero, add-one}
+use Rattle.std.proofs.Common.{◌≡◌, ◌≢◌, ℕ, zero, suc, ◌+◌, ◌<◌, List, [], ◌∷◌, ◌++◌, length, take, map, get_or, refl, sym, ap, ◌∙◌, subst, arith, add-zero, add-one}
 use Rattle.std.specs.Prelude.{Option, Some, None, codes}
-use Rattle.std.proofs.lemmas.List.{take_all, length-map}
+use Rattle.std.proofs.lemmas.List.{length-map}
 use Rattle.json.specs.Json.{Json, null, Items, no_items, item}
 use Rattle.json.specs.Find.{get, as_array}
 use Rattle.json.specs.Value.{value_view, items_of}
 use Rattle.json.specs.declared.value.Value.{Value as Tree}
-use Rattle.hx_terms.specs.Records.{Record}
-use Rattle.hx_etcd.specs.declared.told.Field.TheVariants.{Key, Value}
-use Rattle.hx_etcd.specs.declared.told.AnswerError.{AnswerError}
-use Rattle.hx_etcd.specs.declared.told.AnswerError.TheVariants.{Status, NoJson, NoField, NotBase64, NoKey, NoRecord, OtherNumber, NoMemory}
-use Rattle.hx_etcd.specs.Answers.{IsBytesFault, HasKey, IsKeyFault, IsPairFault, IsRecordAt, AreRecords, IsListFault, list_of, pairs_of, pairs_in, HoldsRecords, HasBadPair}
+use Rattle.hx_fenced_log.specs.Records.{Record}
+use Rattle.hx_etcd.specs.declared.reported.Field.TheVariants.{Key}
+use Rattle.hx_etcd.specs.declared.reported.AnswerError.{AnswerError}
+use Rattle.hx_etcd.specs.Answers.{IsPairFault, IsRecordAt, AreRecords, IsListFault, list_of, pairs_in, HoldsRecords, HasBadPair}
 
 -- ---- one pair
-
-pub pair_key : (number : ℕ) (pair : Json) (e : AnswerError) → IsKeyFault number pair e → IsPairFault number pair e
-pair_key number pair (Status code) h = h
-pair_key number pair NoJson h = h
-pair_key number pair (NoField f) h = inl h
-pair_key number pair (NotBase64 f) h = inl h
-pair_key number pair (NoKey n) h = h
-pair_key number pair (NoRecord n error) h = absurd h
-pair_key number pair (OtherNumber n) h = absurd h
-pair_key number pair NoMemory h = tt
-
-pub pair_value : (number : ℕ) (pair : Json) (e : AnswerError) → HasKey number pair → IsBytesFault Value pair e → IsPairFault number pair e
-pair_value number pair (Status code) key h = h
-pair_value number pair NoJson key h = h
-pair_value number pair (NoField f) key h = inr (key, h)
-pair_value number pair (NotBase64 f) key h = inr (key, h)
-pair_value number pair (NoKey n) key h = absurd h
-pair_value number pair (NoRecord n error) key h = absurd h
-pair_value number pair (OtherNumber n) key h = absurd h
-pair_value number pair NoMemory key h = tt
 
 -- ---- pair by pair
 
@@ -76,9 +55,6 @@ pub bad_in : {A : Type 0} (from number i : ℕ) (vs : List (Tree A)) (v : Tree A
 bad_in from number i vs v rs e lt is count are bad =
     bad_at from number i (map value_view vs) (value_view v) rs e (omega (arith, lt, length-map vs value_view)) count (item_at vs i v lt is) are bad
 
-pub all_read : (from n : ℕ) (js : List Json) (rs : List Record) → length js ≡ n → AreRecords from (take n js) rs → AreRecords from js rs
-all_read from n js rs count are = subst (λ (l : List Json). AreRecords from l rs) (take_all n js (omega (arith, count))) are
-
 -- ---- the whole answer
 
 pub list_of-items : (js : List Json) → list_of (items_of js) ≡ js
@@ -108,7 +84,3 @@ with_bad_pair from j header member js e h m is bad = record {
   are = ap pairs_in (sym m) ∙ is;
   fault = subst (λ (l : List Json). IsListFault from l e) (sym (list_of-items js)) bad;
 }
-
-pub no_array : (j header member : Json) → Some header ≡ get (codes "header") j → Some member ≡ get (codes "kvs") j → as_array member ≡ None → (get (codes "header") j ≢ None) × (pairs_of j ≡ None)
-no_array j header member h e is =
-    (λ (none : get (codes "header") j ≡ None). (let bad : Some header ≡ None = h ∙ none in cc bad), ap pairs_in (sym e) ∙ is)

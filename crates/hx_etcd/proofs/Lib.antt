@@ -1,4 +1,3 @@
-pub mod Faults
 pub mod Joins
 pub mod Holding
 pub mod Heads

@@ -22,7 +22,7 @@ runs_bounded (Length left) new input len piece runs bounded = λ e. let bad : Le
 runs_bounded (Chunked chunks max_len) new input len piece runs bounded = λ e. let bad : Chunked runs.0 max_len ≡ UntilClose = sym runs.1 ∙ e in cc bad
 runs_bounded UntilClose new input len piece runs bounded = absurd (bounded refl)
 
--- a slice from a place on
+-- a slice from an index on
 pub from_there : (at : ℕ) (input : List ℕ) → take (length input - at) (drop at input) ≡ drop at input
 from_there at input = ap (λ (k : ℕ). take k (drop at input)) (sym (length-drop at input)) ∙ take-length (drop at input)
 

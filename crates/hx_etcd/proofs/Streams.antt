@@ -21,10 +21,6 @@ use Rattle.hx_etcd.proofs.Pieces.{fronts_join}
 
 -- ---- bytes that come
 
-nothing_consumed : (known : Option (List ℕ)) → Consumes known known []
-nothing_consumed None = tt
-nothing_consumed (Some xs) = refl
-
 consumes_more : (a b c : Option (List ℕ)) (xs ys : List ℕ) → Consumes a b xs → Consumes b c ys → Consumes a c (xs ++ ys)
 consumes_more None b c xs ys p q = tt
 consumes_more (Some u) None c xs ys p q = absurd p
@@ -117,7 +113,7 @@ pub record Goes (known later : Option (List ℕ)) (first d : Decoder) (before un
   pub waits : Waits first all d unread content
   pub many : most_body ≤ length all + left
 
--- another piece, behind which more comes
+-- another piece, after which more comes
 pub body_goes_on : (a b c : Option (List ℕ)) (first d e : Decoder) (before unread middle rest old new : List ℕ) (piece : Piece) (left count now : ℕ) → Goes a b first d before unread old left → IsPieceOf d unread e old new piece → piece.is_last ≡ false → middle ≡ drop piece.len unread → Fills b c middle rest count → left ≤ count + now → Goes a c first e before rest new now
 body_goes_on a b c first d e before unread middle rest old new piece left count now goes is last here next bound =
     let came = next.comes.came in

@@ -7,17 +7,17 @@ use Rattle.base64.specs.GeneralPurpose.{decode_of}
 use Rattle.std.specs.Result.{result_ok}
 use Rattle.json.specs.Json.{Json, null, Items, no_items, item, document}
 use Rattle.json.specs.Find.{get, at, as_str, as_bool, as_array}
-use Rattle.hx_terms.specs.Records.{Record}
-use Rattle.hx_terms.specs.Lines.{IsOfLog}
-use Rattle.hx_terms.specs.Texts.{spelled, IsTextFault}
+use Rattle.hx_fenced_log.specs.Records.{Record}
+use Rattle.hx_fenced_log.specs.Lines.{IsOfLog}
+use Rattle.hx_fenced_log.specs.Texts.{spelled, IsTextFault}
 use Rattle.hx_etcd.specs.Keys.{key_of}
 use Rattle.hx_etcd.specs.declared.append.Appended.{Appended}
 use Rattle.hx_etcd.specs.declared.append.Appended.TheVariants.{Stands, Taken, NoneBefore}
-use Rattle.hx_etcd.specs.declared.told.Answer.{Answer}
-use Rattle.hx_etcd.specs.declared.told.Field.{Field}
-use Rattle.hx_etcd.specs.declared.told.Field.TheVariants.{Header, Pairs, Key, Value, Revision}
-use Rattle.hx_etcd.specs.declared.told.AnswerError.{AnswerError}
-use Rattle.hx_etcd.specs.declared.told.AnswerError.TheVariants.{Status, NoJson, NoField, NotBase64, NoKey, NoRecord, OtherNumber, NoMemory}
+use Rattle.hx_etcd.specs.declared.reported.Answer.{Answer}
+use Rattle.hx_etcd.specs.declared.reported.Field.{Field}
+use Rattle.hx_etcd.specs.declared.reported.Field.TheVariants.{Header, Pairs, Key, Value, Revision}
+use Rattle.hx_etcd.specs.declared.reported.AnswerError.{AnswerError}
+use Rattle.hx_etcd.specs.declared.reported.AnswerError.TheVariants.{Status, NoJson, NoField, NotBase64, NoKey, NoRecord, OtherNumber, NoMemory}
 
 -- ---- the body
 
@@ -58,8 +58,8 @@ abbrev pub text_in : (name : List ℕ) → Json → Option (List ℕ)
 text_in name j = option_and_then as_str (get name j)
 
 -- a member is there, and true
-abbrev pub is_told : (name : List ℕ) → Json → Bool
-is_told name j = unwrap_or (flag_in name j) false
+abbrev pub is_reported : (name : List ℕ) → Json → Bool
+is_reported name j = unwrap_or (flag_in name j) false
 
 -- the bytes of a text in base64 with padding (RFC 4648, section 4)
 unfoldable pub bytes_of : List ℕ → Option (List ℕ)
@@ -123,7 +123,7 @@ first_found j = option_and_then (at 0) (option_and_then (get (codes "kvs")) (fir
 
 -- the transaction's condition did not hold, and this pair was found
 pub record Found (j pair : Json) : Type 0 where
-  pub not_made : is_told (codes "succeeded") j ≡ false
+  pub not_made : is_reported (codes "succeeded") j ≡ false
   pub first : first_found j ≡ Some pair
 
 -- under the key of this number stands this text
@@ -135,26 +135,26 @@ pub record HasText (number : ℕ) (j : Json) (text : List ℕ) : Type 0 where
 
 -- the transaction's condition did not hold, and no pair was found
 pub record FoundNone (j : Json) : Type 0 where
-  pub not_made : is_told (codes "succeeded") j ≡ false
+  pub not_made : is_reported (codes "succeeded") j ≡ false
   pub range : Json
   pub first : first_range j ≡ Some range
   pub none : get (codes "kvs") range ≡ None
 
--- What the value of an answer says of the record of this number. Where its key has none and it is not
+-- What the value of an answer says of the record of this number. If its key has none and it is not
 -- made, the one before it is not there.
 abbrev pub Says : (number : ℕ) → Json → Appended → Type 0
-Says number j Stands = is_told (codes "succeeded") j ≡ true
+Says number j Stands = is_reported (codes "succeeded") j ≡ true
 Says number j (Taken text) = HasText number j text.items
 Says number j NoneBefore = FoundNone j
 
--- of a pair that was found, the key is wrong, or behind it the value
+-- of a pair that was found, the key is wrong, or the value after it
 abbrev pub IsFoundFault : (number : ℕ) → (pair : Json) → AnswerError → Type 0
 IsFoundFault number pair e =
     IsKeyFault number pair e ⊎ (HasKey number pair × IsBytesFault Value pair e)
 
 -- the record is not made, and it is not said what was found
 pub record SaysNothing (j : Json) : Type 0 where
-  pub not_made : is_told (codes "succeeded") j ≡ false
+  pub not_made : is_reported (codes "succeeded") j ≡ false
   pub none : first_found j ≡ None
   pub some : ¬ FoundNone j
 
@@ -223,7 +223,7 @@ abbrev pub list_of : Items → List Json
 list_of no_items = []
 list_of (item j js) = j ∷ list_of js
 
--- the pairs of an answer: none where there is no such member; nothing where it is no array
+-- the pairs of an answer: none if there is no such member; nothing if it is no array
 abbrev pub pairs_in : Option Json → Option Items
 pairs_in None = Some no_items
 pairs_in (Some j) = as_array j

@@ -8,7 +8,7 @@ use Rattle.hx_etcd.specs.declared.connection.Connection.{Connection}
 use Rattle.hx_etcd.specs.declared.response.CallError.{CallError}
 use Rattle.hx_etcd.specs.declared.response.CallError.TheVariants.{Over, Stream, Ended, Http, NoLength, TooLong, NoMemory}
 use Rattle.hx_etcd.specs.declared.response.Head.{Head}
-use Rattle.hx_etcd.specs.declared.told.Answer.{Answer}
+use Rattle.hx_etcd.specs.declared.reported.Answer.{Answer}
 use Rattle.hx_etcd.specs.Pieces.{Tells}
 use Rattle.hx_etcd.specs.Responses.{is_kept, HasHead, LacksHead, NeverHasHead, RunsToClose, HasBody, LacksBody, NeverHasBody, IsAnswer, LacksAnswer, NeverHasAnswer}
 
@@ -27,19 +27,19 @@ writer_of c = c.writer
 abbrev pub unread_of : {R W : Type 0} → Connection R W → List ℕ
 unread_of c = c.inlet.unread.items
 
--- this many bytes of a body may come, with what frames it
+-- the most bytes of a body that may come, with what frames it
 abbrev pub most_body : ℕ
 most_body = 2147483648
 
 -- ---- what comes
 
--- bytes came, and are behind those that were there
+-- bytes came, and stand after those that were there
 pub record Comes (known later : Option (List ℕ)) (before after : List ℕ) : Type 0 where
   pub came : List ℕ
   pub consumed : Consumes known later came
   pub added : after ≡ before ++ came
 
--- at least one came, and this many
+-- `count` bytes came, at least one
 pub record Fills (known later : Option (List ℕ)) (before after : List ℕ) (count : ℕ) : Type 0 where
   pub comes : Comes known later before after
   pub counted : length after ≡ length before + count
@@ -61,8 +61,8 @@ pub record BodyComes (known later : Option (List ℕ)) (before : List ℕ) (fram
   pub comes : Comes known later before whole
   pub has : HasBody whole framing body rest
 
--- With the bytes that came there is an answer. The connection goes on where it says so, and nothing
--- came behind it.
+-- With the bytes that came there is an answer. The connection goes on if the answer says so, and
+-- nothing came after it.
 pub record AnswerComes (known later : Option (List ℕ)) (before : List ℕ) (answer : Answer)
     (rest : List ℕ) (is_over : Bool) : Type 0 where
   pub whole : List ℕ

@@ -8,9 +8,9 @@ use Rattle.base64.specs.GeneralPurpose.{encode_of}
 use Rattle.json.specs.Json.{Json, string, array, object, no_items, item, no_members, member}
 use Rattle.json.specs.Tree.{json_tokens}
 use Rattle.json.specs.Print.{print}
-use Rattle.hx_terms.specs.Records.{Record}
-use Rattle.hx_terms.specs.Texts.{spelled}
-use Rattle.hx_etcd.specs.Keys.{key_of, keys_end, trim_key, copy_key, sign_key}
+use Rattle.hx_fenced_log.specs.Records.{Record}
+use Rattle.hx_fenced_log.specs.Texts.{spelled}
+use Rattle.hx_etcd.specs.Keys.{key_of, keys_end, trim_key, copy_key, heartbeat_key}
 
 -- base64 with padding (RFC 4648, section 4)
 unfoldable pub base64_of : List ℕ → List ℕ
@@ -88,7 +88,7 @@ trimming_of first64 end64 mark64 value64 =
 
 -- ---- texts
 
--- What holds where a record of this number is the next one: the one before it is there, and in front
+-- What holds if a record of this number is the next one: the one before it is there, and in front
 -- of the first one nothing was trimmed.
 abbrev pub before_key : (number : ℕ) → List ℕ
 before_key number = if nat_lt 1 number then key_of (number - 1) else trim_key
@@ -96,7 +96,7 @@ before_key number = if nat_lt 1 number then key_of (number - 1) else trim_key
 abbrev pub before_said : (number : ℕ) → List ℕ
 before_said number = if nat_lt 1 number then present else absent
 
--- The text that appends a record: it is put where it is the next one and its key is not there, else
+-- The text that appends a record: it is put if it is the next one and its key is not there, else
 -- the key is read.
 abbrev pub append_text : Record → List ℕ
 append_text r =
@@ -131,16 +131,16 @@ abbrev pub range_text : (from most : ℕ) → List ℕ
 range_text from most =
     print (json_tokens (question_of (base64_of (key_of from)) (base64_of keys_end) (decimal most)))
 
--- the text that shows this sign of life of a writer
-abbrev pub sign_text : (writer : ℕ) → List ℕ → List ℕ
-sign_text writer sign =
-    print (json_tokens (putting_of (base64_of (sign_key writer)) (base64_of sign)))
+-- the text that writes this heartbeat of a writer
+abbrev pub heartbeat_text : (writer : ℕ) → List ℕ → List ℕ
+heartbeat_text writer heartbeat =
+    print (json_tokens (putting_of (base64_of (heartbeat_key writer)) (base64_of heartbeat)))
 
 -- the text that asks for it
-abbrev pub sign_question_text : (writer : ℕ) → List ℕ
-sign_question_text writer = print (json_tokens (finding_of (base64_of (sign_key writer))))
+abbrev pub heartbeat_question_text : (writer : ℕ) → List ℕ
+heartbeat_question_text writer = print (json_tokens (finding_of (base64_of (heartbeat_key writer))))
 
--- the text by which a copy shows that it has this many records, and the text that asks for that
+-- the text by which a copy shows that it has `count` records, and the text that asks for that
 abbrev pub copy_text : (copy count : ℕ) → List ℕ
 copy_text copy count =
     print (json_tokens (putting_of (base64_of (copy_key copy)) (base64_of (decimal count))))

@@ -3,7 +3,7 @@ use Rattle.std.specs.Prelude.{ℕ, ◌-◌, List, ◌++◌, length, replicate, c
 use Rattle.std.specs.Fmt.{decimal}
 use Rattle.hx_units.specs.Letters.{letter}
 
--- the noughts in front of a number that is spelled by this many digits
+-- the noughts in front of a number of `size` digits
 abbrev pub noughts : (size n : ℕ) → List ℕ
 noughts size n = replicate (size - length (decimal n)) (letter "0")
 
@@ -11,7 +11,7 @@ noughts size n = replicate (size - length (decimal n)) (letter "0")
 unfoldable pub key_of : ℕ → List ℕ
 key_of n = codes "hx/" ++ (noughts 12 n ++ decimal n)
 
--- the first key behind all that begin with `hx/`: "0" is the byte behind "/"
+-- the first key after all that begin with `hx/`: "0" is the byte after "/"
 abbrev pub keys_end : List ℕ
 keys_end = codes "hx0"
 
@@ -23,6 +23,6 @@ trim_key = codes "hz"
 abbrev pub copy_key : (copy : ℕ) → List ℕ
 copy_key copy = codes "hc/" ++ decimal copy
 
--- the key under which a writer shows that he is there: `hy/` and his number
-abbrev pub sign_key : (writer : ℕ) → List ℕ
-sign_key writer = codes "hy/" ++ decimal writer
+-- the key of a writer's heartbeat: `hy/` and the writer's number
+abbrev pub heartbeat_key : (writer : ℕ) → List ℕ
+heartbeat_key writer = codes "hy/" ++ decimal writer

@@ -3,7 +3,7 @@ pub mod Parts
 pub mod Documents
 pub mod Requests
 pub mod Answers
-pub mod Signs
+pub mod Heartbeats
 pub mod Trims
 pub mod Responses
 pub mod Pieces

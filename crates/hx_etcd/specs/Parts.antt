@@ -13,7 +13,7 @@ token_of EndArray = token.end_array
 token_of (Key name) = token.key name.now
 token_of (Text text) = token.string text.now
 
--- on success these tokens are added behind those that there were
+-- on success these tokens are added after those that there were
 pub record Adds {E : Type 0} (r : Result (Unit {0}) E) (old new : Written) (ts : List token.Token)
     : Type 0 where
   pub before : OnOk r (new.before ≡ old.before)

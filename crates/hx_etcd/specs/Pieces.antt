@@ -13,7 +13,7 @@ use Rattle.hx_etcd.specs.Responses.{most_head, most_fields, is_kept, HasHead, Ne
 
 -- ---- heads
 
--- what is told of the head of a response
+-- the parts of a response's head that are reported
 pub record Tells (h : ResponseHead) (head : Head) : Type 0 where
   pub status : head.status ≡ status_code h
   pub kept : head.is_kept ≡ is_kept h
@@ -48,8 +48,8 @@ HasBadHead input NoMemory = ⊥
 
 -- ---- bodies
 
--- behind this many bytes of the input, which had this data, the new decoder waits for just what is
--- left of the body
+-- after `len` bytes of the input, which had this data, the new decoder waits for exactly the rest
+-- of the body
 pub record GoesOn (old : Decoder) (input : List ℕ) (new : Decoder) (len : ℕ) (content : List ℕ)
     : Type 0 where
   pub back :
@@ -68,7 +68,7 @@ abbrev pub HasNotEnded : Decoder → List ℕ → Type 0
 HasNotEnded old input =
     old ≢ UntilClose → (body : Body) (rest : List ℕ) → ¬ (Completes old input body rest)
 
--- the body ends behind this many bytes of the input, which had this data
+-- the body ends after `len` bytes of the input, which had this data
 pub record ComesToEnd (old : Decoder) (input : List ℕ) (len : ℕ) (content : List ℕ) : Type 0 where
   pub trailers : List Field
   pub few : length trailers ≤ most_fields
@@ -90,7 +90,7 @@ pub record IsPieceOf (old : Decoder) (input : List ℕ) (new : Decoder) (before 
   pub added : after ≡ before ++ content
   pub found : FindsPiece piece.is_last old input new piece.len content
 
--- why there is none: whatever follows, there is no body, or it has too many fields behind it
+-- why there is none: whatever follows, there is no body, or it has too many fields after it
 abbrev pub HasBadPiece : Decoder → List ℕ → CallError → Type 0
 HasBadPiece old input Over = ⊥
 HasBadPiece old input (Stream e) = ⊥

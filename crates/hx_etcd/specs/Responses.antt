@@ -12,11 +12,11 @@ use Rattle.http1.specs.Message.{known_of}
 
 -- ---- limits
 
--- a head takes at most this many bytes; so do the extensions of chunks, and the fields behind them
+-- the most bytes of a head; of the extensions of chunks, and of the fields after them, too
 abbrev pub most_head : ℕ
 most_head = 16384
 
--- a head has at most this many fields; so have the fields behind chunks
+-- the most fields of a head; of the fields after chunks, too
 abbrev pub most_fields : ℕ
 most_fields = 64
 
@@ -29,11 +29,11 @@ limits = record {
 
 -- ---- heads
 
--- where the body of a response to a POST ends (section 6.3)
+-- how the body of a response to a POST ends (section 6.3)
 abbrev pub framing_of : ResponseHead → Result Framing FramingError
 framing_of h = response_framing Other (status_code h) h.minor (known_of h.fields)
 
--- the connection goes on behind a final response of HTTP/1.1 that does not say `close` (section 9.3)
+-- the connection goes on after a final response of HTTP/1.1 that does not say `close` (section 9.3)
 abbrev pub is_kept : ResponseHead → Bool
 is_kept h = (nat_lt 0 h.minor && nat_le 200 (status_code h)) && not (known_of h.fields).close
 
@@ -82,9 +82,9 @@ NeverHasBody framing bytes = (more : List ℕ) → LacksBody framing (bytes ++ m
 -- these bytes are a response with this head and this body, and the rest
 pub record IsAnswer (bytes : List ℕ) (h : ResponseHead) (body rest : List ℕ) : Type 0 where
   pub framing : Framing
-  pub behind : List ℕ
-  pub head : HasHead bytes h framing behind
-  pub content : HasBody behind framing body rest
+  pub later : List ℕ
+  pub head : HasHead bytes h framing later
+  pub content : HasBody later framing body rest
 
 -- they are no whole answer yet
 abbrev pub LacksAnswer : List ℕ → Type 0

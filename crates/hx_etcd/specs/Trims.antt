@@ -4,13 +4,13 @@ use Rattle.std.specs.Prelude.{◌≡◌, ◌≢◌, ◌⊎◌, ℕ, ◌<◌, ◌
 use Rattle.std.specs.Fmt.{decimal}
 use Rattle.json.specs.Json.{Json}
 use Rattle.json.specs.Find.{get}
-use Rattle.hx_etcd.specs.Answers.{HasDocument, IsDocumentFault, is_told, text_in, name_of}
+use Rattle.hx_etcd.specs.Answers.{HasDocument, IsDocumentFault, is_reported, text_in, name_of}
 use Rattle.hx_etcd.specs.declared.trims.Trimmed.{Trimmed}
 use Rattle.hx_etcd.specs.declared.trims.Trimmed.TheVariants.{Done, NotThere}
-use Rattle.hx_etcd.specs.declared.told.Answer.{Answer}
-use Rattle.hx_etcd.specs.declared.told.Field.TheVariants.{Header, Revision}
-use Rattle.hx_etcd.specs.declared.told.AnswerError.{AnswerError}
-use Rattle.hx_etcd.specs.declared.told.AnswerError.TheVariants.{NoField}
+use Rattle.hx_etcd.specs.declared.reported.Answer.{Answer}
+use Rattle.hx_etcd.specs.declared.reported.Field.TheVariants.{Header, Revision}
+use Rattle.hx_etcd.specs.declared.reported.AnswerError.{AnswerError}
+use Rattle.hx_etcd.specs.declared.reported.AnswerError.TheVariants.{NoField}
 
 -- a header has this revision, of 14 digits at most
 abbrev pub HasRevision : (header : Json) → ℕ → Type 0
@@ -27,15 +27,15 @@ HasHeader j header = get (codes "header") j ≡ Some header
 -- what the value of an answer says of a trim
 abbrev pub Says : Json → Trimmed → Type 0
 Says j (Done n) =
-    (is_told (codes "succeeded") j ≡ true)
+    (is_reported (codes "succeeded") j ≡ true)
     × ((header : Json) × HasHeader j header × HasRevision header n)
 Says j NotThere =
-    (is_told (codes "succeeded") j ≡ false) × (get (codes "header") j ≢ None)
+    (is_reported (codes "succeeded") j ≡ false) × (get (codes "header") j ≢ None)
 
 -- it is made, and has no revision
 abbrev pub LacksRevision : Json → Type 0
 LacksRevision j =
-    (is_told (codes "succeeded") j ≡ true)
+    (is_reported (codes "succeeded") j ≡ true)
     × ((header : Json) × HasHeader j header × HasNoRevision header)
 
 -- why it says nothing

@@ -4,7 +4,7 @@ ghost use Rattle.json.specs.Value.{value_view};
 ghost use Rattle.hx_etcd.specs.Answers.{first_range, Says, IsSayingFault, HasKey, IsKeyFault, IsAppended, IsAppendFault};
 
 use crate::keys::key;
-use crate::told::{Answer, AnswerError, Field, bytes_in, is_told, read_document};
+use crate::reported::{Answer, AnswerError, Field, bytes_in, is_reported, read_document};
 use json::{Scratch, Value};
 use std::alloc::Global;
 
@@ -15,8 +15,8 @@ pub enum Appended {
     Stands,
     /// Its key was taken: there stands this text.
     Taken(Vec<u8>),
-    /// It is not made, and its key has none: the record before it is not there, or in front of the first one the log was
-    /// trimmed.
+    /// It is not made, and its key has none: the record before it is not there, or in front of the first one the log
+    /// was trimmed.
     NoneBefore,
 }
 
@@ -41,7 +41,7 @@ fn read_appended(alloc: Global, number: u64, document: &Value<'_>) -> Result<App
     ensures ok { IfOk result (Says number (value_view document.now)) }
     ensures err { IfErr result (IsSayingFault number (value_view document.now)) }
 {
-    if is_told(document, "succeeded") {
+    if is_reported(document, "succeeded") {
         return Ok(Appended::Stands);
     }
     let Some(range) = first_range(document) else {

@@ -4,8 +4,8 @@ ghost use Rattle.std.specs.Io.KnownBytes.{Appends};
 ghost use Rattle.hx_etcd.specs.Connections.{is_over, reader_of, writer_of, unread_of, AnswerComes, IsCallFault};
 
 use crate::inlet::Inlet;
+use crate::reported::Answer;
 use crate::response::CallError;
-use crate::told::Answer;
 use std::alloc::Global;
 use std::io::{Read, Write};
 

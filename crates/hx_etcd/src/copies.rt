@@ -31,7 +31,7 @@ fn copy_question_body(alloc: Global, copy: u64) -> Result<Vec<u8>, NoMemory>
 }
 
 /// The request by which a copy of the log shows how many records it has: it puts the count, in decimal, under the key
-/// `hc/` and the copy's number, in place of what stands there. Its answer tells nothing.
+/// `hc/` and the copy's number, over what stands there. Its answer says nothing of use.
 pub fn copy_request(alloc: Global, copy: u64, count: u64) -> Result<Vec<u8>, NoMemory>
     ensures { IfOk result (λ text.
         text.items ≡ request_text (codes "/v3/kv/put") (copy_text copy count)) }
@@ -40,7 +40,7 @@ pub fn copy_request(alloc: Global, copy: u64, count: u64) -> Result<Vec<u8>, NoM
     request(alloc, b"/v3/kv/put", &body)
 }
 
-/// The request for what a copy has shown. `read_sign_answer` reads the answer.
+/// The request for what a copy has shown. `read_heartbeat_answer` reads the answer.
 pub fn copy_question(alloc: Global, copy: u64) -> Result<Vec<u8>, NoMemory>
     ensures { IfOk result (λ text.
         text.items ≡ request_text (codes "/v3/kv/range") (copy_question_text copy)) }

@@ -3,19 +3,19 @@ ghost use Rattle.std.specs.Prelude.{◌≡◌, IfOk};
 ghost use Rattle.std.specs.String.{string_bytes};
 ghost use Rattle.json.specs.Print.{print};
 ghost use Rattle.json.specs.Tree.{json_tokens};
-ghost use Rattle.hx_etcd.specs.Documents.{base64_of, transaction_of, before_key, before_said, question_of, putting_of, finding_of, append_text, range_text, sign_text, sign_question_text};
-ghost use Rattle.hx_etcd.specs.Keys.{key_of, keys_end, sign_key};
+ghost use Rattle.hx_etcd.specs.Documents.{base64_of, transaction_of, before_key, before_said, question_of, putting_of, finding_of, append_text, range_text, heartbeat_text, heartbeat_question_text};
+ghost use Rattle.hx_etcd.specs.Keys.{key_of, keys_end, heartbeat_key};
 
-use crate::keys::{key, sign_key};
+use crate::keys::{heartbeat_key, key};
 use crate::parts::Part::{Array, EndArray, EndObject, Key, Object, Text};
 use crate::parts::text_of;
 use base64::engine::general_purpose::STANDARD;
-use hx_terms::LogRecord;
+use hx_fenced_log::LogRecord;
 use hx_units::NoMemory;
 use itoa::Buffer;
 use std::alloc::Global;
 
-// The first key behind those of records: "0" is the byte behind "/".
+// The first key after those of records: "0" is the byte after "/".
 const KEYS_END: &[u8; 3] = b"hx0";
 
 // The key that stands once the log was trimmed.
@@ -42,7 +42,7 @@ const ABSENT: &str = "EQUAL";
 
 const PRESENT: &str = "GREATER";
 
-// The transaction that puts a value where its key is not there and this holds of another one, and else reads the key.
+// The transaction that puts a value if its key is not there and this holds of another one, and else reads the key.
 fn transaction<'a>(
     alloc: Global,
     key: &'a str,
@@ -132,7 +132,7 @@ fn question<'a>(
     )
 }
 
-// The key of which something holds where a record of this number is the next one.
+// The key of which something holds if a record of this number is the next one.
 fn encoded_before(alloc: Global, number: u64) -> Result<String, NoMemory>
     ensures { IfOk result (λ text. string_bytes text ≡ base64_of (before_key number)) }
 {
@@ -150,7 +150,7 @@ fn said_before(number: u64) -> &'static str
     if number > 1 { PRESENT } else { ABSENT }
 }
 
-// The transaction that makes a record where it is the next one and its key is not there, and else tells what is there.
+// The transaction that makes a record if it is the next one and its key is not there, and else reads what is there.
 pub(crate) fn append_body(alloc: Global, appended: &LogRecord) -> Result<Vec<u8>, NoMemory>
     ensures { IfOk result (λ body. body.items ≡ append_text appended.now) }
 {
@@ -168,7 +168,7 @@ pub(crate) fn append_body(alloc: Global, appended: &LogRecord) -> Result<Vec<u8>
     )
 }
 
-// The question for the records from a number on, at most this many.
+// The question for the records from a number on, at most `most`.
 pub(crate) fn range_body(alloc: Global, from: u64, most: u64) -> Result<Vec<u8>, NoMemory>
     ensures { IfOk result (λ body. body.items ≡ range_text from most) }
 {
@@ -204,27 +204,31 @@ pub(crate) fn finding<'a>(alloc: Global, key: &'a str) -> Result<Vec<u8>, NoMemo
     text_of(alloc, &[Object, Key("key"), Text(key), EndObject])
 }
 
-// The key of a writer's sign of life as JSON has it.
-fn encoded_sign_key(alloc: Global, writer: u64) -> Result<String, NoMemory>
-    ensures { IfOk result (λ text. string_bytes text ≡ base64_of (sign_key writer)) }
+// The key of a writer's heartbeat as JSON has it.
+fn encoded_heartbeat_key(alloc: Global, writer: u64) -> Result<String, NoMemory>
+    ensures { IfOk result (λ text. string_bytes text ≡ base64_of (heartbeat_key writer)) }
 {
-    let key = sign_key(alloc, writer)?;
+    let key = heartbeat_key(alloc, writer)?;
     encoded(alloc, &key)
 }
 
-// The text that shows a writer's sign of life.
-pub(crate) fn sign_body(alloc: Global, writer: u64, sign: &[u8]) -> Result<Vec<u8>, NoMemory>
-    ensures { IfOk result (λ body. body.items ≡ sign_text writer sign.now) }
+// The text that writes a writer's heartbeat.
+pub(crate) fn heartbeat_body(
+    alloc: Global,
+    writer: u64,
+    heartbeat: &[u8],
+) -> Result<Vec<u8>, NoMemory>
+    ensures { IfOk result (λ body. body.items ≡ heartbeat_text writer heartbeat.now) }
 {
-    let key = encoded_sign_key(alloc, writer)?;
-    let value = encoded(alloc, sign)?;
+    let key = encoded_heartbeat_key(alloc, writer)?;
+    let value = encoded(alloc, heartbeat)?;
     putting(alloc, key.as_str(), value.as_str())
 }
 
 // The question for it.
-pub(crate) fn sign_question_body(alloc: Global, writer: u64) -> Result<Vec<u8>, NoMemory>
-    ensures { IfOk result (λ body. body.items ≡ sign_question_text writer) }
+pub(crate) fn heartbeat_question_body(alloc: Global, writer: u64) -> Result<Vec<u8>, NoMemory>
+    ensures { IfOk result (λ body. body.items ≡ heartbeat_question_text writer) }
 {
-    let key = encoded_sign_key(alloc, writer)?;
+    let key = encoded_heartbeat_key(alloc, writer)?;
     finding(alloc, key.as_str())
 }

@@ -6,10 +6,10 @@ use crate::response::{CallError, Head, decoder_of, read_head, read_piece};
 use std::alloc::{AllocError, Global};
 use std::io::Read;
 
-// This many bytes are read at once, at most.
+// The most bytes that are read at once.
 const MOST_READ: usize = 16 * 1024;
 
-// This many bytes of a body may come, with what frames it.
+// The most bytes of a body that may come, with what frames it.
 const MOST_BODY: usize = 2 * 1024 * 1024 * 1024;
 
 // What is read, and what has come of it.
@@ -57,7 +57,7 @@ impl<R: Read + Drop> Inlet<R> {
         }
     }
 
-    // Reads the body behind a head.
+    // Reads the body after a head.
     pub(crate) fn next_body(&mut self, head: &Head) -> Result<Vec<u8>, CallError>
         ensures ok { IfOk result (λ body. BodyComes (R.remaining self.old.reader)
             (R.remaining self.new.reader) self.old.unread.items head.now.framing body.items
@@ -82,7 +82,7 @@ impl<R: Read + Drop> Inlet<R> {
         }
     }
 
-    // Reads what comes next, and tells how many bytes that is.
+    // Reads what comes next, and returns how many bytes that is.
     fn fill(&mut self) -> Result<usize, CallError>
         ensures ok { IfOk result (Fills (R.remaining self.old.reader)
             (R.remaining self.new.reader) self.old.unread.items self.new.unread.items) }

@@ -1,12 +1,12 @@
 //! The keys of records.
 ghost use Rattle.std.specs.Prelude.{◌≡◌, IfOk};
-ghost use Rattle.hx_etcd.specs.Keys.{key_of, copy_key, sign_key};
+ghost use Rattle.hx_etcd.specs.Keys.{key_of, copy_key, heartbeat_key};
 
 use hx_units::NoMemory;
 use itoa::Buffer;
 use std::alloc::Global;
 
-// As many noughts as a key's number has digits.
+// The noughts of a key's number: one for each of its digits.
 const NOUGHTS: &[u8; 12] = b"000000000000";
 
 /// The key of the record of this number: `hx/` and the number by twelve digits, as `hx/000000000001`. The keys of
@@ -35,9 +35,9 @@ pub(crate) fn copy_key(alloc: Global, copy: u64) -> Result<Vec<u8>, NoMemory>
     Ok(key)
 }
 
-// The key under which a writer shows that he is there: `hy/` and his number, as `hy/7`.
-pub(crate) fn sign_key(alloc: Global, writer: u64) -> Result<Vec<u8>, NoMemory>
-    ensures { IfOk result (λ key. key.items ≡ sign_key writer) }
+// The key of a writer's heartbeat: `hy/` and the writer's number, as `hy/7`.
+pub(crate) fn heartbeat_key(alloc: Global, writer: u64) -> Result<Vec<u8>, NoMemory>
+    ensures { IfOk result (λ key. key.items ≡ heartbeat_key writer) }
 {
     let mut buffer = Buffer::new();
     let mut key = Vec::new(alloc);

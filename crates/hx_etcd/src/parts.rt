@@ -7,7 +7,7 @@ use hx_units::NoMemory;
 use json::Writer;
 use std::alloc::{AllocError, Global};
 
-// A part of a JSON text. A key, and a text behind it, is a member.
+// A part of a JSON text. A key, and a text after it, is a member.
 #[derive(Clone, Copy, Drop)]
 pub(crate) enum Part<'a> {
     Object,

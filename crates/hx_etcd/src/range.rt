@@ -5,13 +5,13 @@ ghost use Rattle.json.specs.Value.{value_view, items_view};
 ghost use Rattle.hx_etcd.specs.Answers.{IsRecordAt, IsPairFault, AreRecords, IsListFault, HoldsRecords, IsHoldingFault, IsRange, IsRangeFault};
 
 use crate::append::check_key;
-use crate::told::{Answer, AnswerError, Field, bytes_in, read_document};
-use hx_terms::{LogRecord, TextError, read_record};
+use crate::reported::{Answer, AnswerError, Field, bytes_in, read_document};
+use hx_fenced_log::{LogRecord, TextError, read_record};
 use json::{Scratch, Value};
 use std::alloc::Global;
 
 /// The records that an answer holds: the first has this number, each other the next one, and each stands under the key
-/// of its number. None where the log ends before.
+/// of its number. None if the log ends before.
 ///
 /// Errors: the first thing that is wrong, of the answer, then pair by pair.
 pub fn read_range_answer(
@@ -46,7 +46,7 @@ fn read_range(alloc: Global, from: u64, document: &Value<'_>) -> Result<Vec<LogR
     Ok(records)
 }
 
-// The items of an array; none where the value is no array.
+// The items of an array; none if the value is no array.
 fn items_of<'v, 'a>(value: &'v Value<'a>) -> Option<&'v [Value<'a>]>
     ensures { MatchOption result (as_array (value_view value.now) ≡ None)
         (λ items. as_array (value_view value.now) ≡ Some (items_view items.now)) }

@@ -4,7 +4,7 @@ ghost use Rattle.hx_etcd.specs.Documents.{append_text, range_text};
 ghost use Rattle.hx_etcd.specs.Requests.{request_text};
 
 use crate::documents::{append_body, range_body};
-use hx_terms::LogRecord;
+use hx_fenced_log::LogRecord;
 use hx_units::NoMemory;
 use itoa::Buffer;
 use std::alloc::Global;
@@ -28,9 +28,8 @@ pub(crate) fn request(alloc: Global, path: &[u8], body: &[u8]) -> Result<Vec<u8>
     Ok(text)
 }
 
-/// The request that appends a record: it is made only where its key has none and the record before it stands, or for the
-/// first one where nothing was trimmed; else the answer tells what its key has.
-/// `read_append_answer` reads the answer.
+/// The request that appends a record: it is made only if its key has none and the record before it stands, or for the
+/// first one if nothing was trimmed; else the answer reports what its key has. `read_append_answer` reads the answer.
 pub fn append_request(alloc: Global, appended: &LogRecord) -> Result<Vec<u8>, NoMemory>
     ensures { IfOk result (λ text.
         text.items ≡ request_text (codes "/v3/kv/txn") (append_text appended.now)) }
@@ -39,7 +38,7 @@ pub fn append_request(alloc: Global, appended: &LogRecord) -> Result<Vec<u8>, No
     request(alloc, b"/v3/kv/txn", &body)
 }
 
-/// The request for the records from a number on, in the order of their keys, and at most this many; where that is 0, all.
+/// The request for the records from a number on, in the order of their keys, and at most `most`; if that is 0, all.
 /// `read_range_answer` reads the answer.
 pub fn range_request(alloc: Global, from: u64, most: u64) -> Result<Vec<u8>, NoMemory>
     ensures { IfOk result (λ text.

@@ -14,10 +14,10 @@ use httparse::spans::{EMPTY_HEADER_SPAN, parse_response};
 use std::alloc::AllocError;
 use std::io;
 
-// A head takes at most this many bytes.
+// The most bytes of a head.
 const MOST_HEAD: usize = 16 * 1024;
 
-// A head has at most this many fields; so have the fields behind chunks.
+// The most fields of a head; of the fields after chunks, too.
 const MOST_FIELDS: usize = 64;
 
 /// Why a call has no answer.
@@ -70,13 +70,13 @@ pub(crate) struct Head {
     pub(crate) status: u16,
     // Where its body ends.
     pub(crate) framing: Framing,
-    // Whether the connection goes on behind it.
+    // Whether the connection goes on after it.
     pub(crate) is_kept: bool,
     // How many bytes it has.
     pub(crate) len: usize,
 }
 
-// The head at the front of the bytes that have come; none where it is not whole yet.
+// The head at the front of the bytes that have come; none if it is not whole yet.
 pub(crate) fn read_head(input: &[u8]) -> Result<Option<Head>, CallError>
     ensures ok { IfOk result (FindsHead input.now) }
     ensures err { IfErr result (HasBadHead input.now) }
@@ -110,7 +110,7 @@ pub(crate) fn read_head(input: &[u8]) -> Result<Option<Head>, CallError>
 // How far a body was read.
 #[derive(Clone, Copy, Drop)]
 pub(crate) struct Piece {
-    // This many bytes of the input are done with.
+    // How many bytes of the input are done with.
     pub(crate) len: usize,
     // Whether the body ends there.
     pub(crate) is_last: bool,

@@ -10,8 +10,8 @@ ghost use Rattle.hx_etcd.specs.Trims.{HasRevision, HasNoRevision, Says, IsSaying
 use crate::documents::{TRIM_KEY, encoded, encoded_key};
 use crate::parts::Part::{Array, EndArray, EndObject, Key, Object, Text};
 use crate::parts::text_of;
+use crate::reported::{Answer, AnswerError, Field, is_reported, read_document, text_in};
 use crate::requests::request;
-use crate::told::{Answer, AnswerError, Field, is_told, read_document, text_in};
 use hx_text::read_number;
 use hx_units::NoMemory;
 use itoa::Buffer;
@@ -102,7 +102,7 @@ fn trim_body(alloc: Global, number: u64) -> Result<Vec<u8>, NoMemory>
     )
 }
 
-/// The request that trims the log: where the record of this number stands, all in front of it are deleted, and it stays.
+/// The request that trims the log: if the record of this number stands, all in front of it are deleted, and it stays.
 /// From then on a mark stands under `hz`. `read_trim_answer` reads the answer.
 pub fn trim_request(alloc: Global, number: u64) -> Result<Vec<u8>, NoMemory>
     ensures { IfOk result (λ text.
@@ -157,7 +157,7 @@ fn read_trimmed(document: &Value<'_>) -> Result<Trimmed, AnswerError>
     let Some(header) = document.get("header") else {
         return Err(AnswerError::NoField(Field::Header));
     };
-    if !is_told(document, "succeeded") {
+    if !is_reported(document, "succeeded") {
         return Ok(Trimmed::NotThere);
     }
     match revision_in(header) {

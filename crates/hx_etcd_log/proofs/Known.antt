@@ -1,16 +1,16 @@
 -- What is known of a log.
 use Rattle.std.specs.Prelude.{Some, slice_get}
-use Rattle.std.proofs.Common.{◌≡◌, ℕ, zero, suc, get_or, ◌+◌, ◌-◌, ◌<◌, ◌≤◌, ◌^◌, List, [], ◌∷◌, ◌++◌, length, take, drop, refl, sym, ap, ◌∙◌, subst, arith, length-append, append_assoc}
+use Rattle.std.proofs.Common.{◌≡◌, ℕ, zero, suc, get_or, ◌+◌, ◌-◌, ◌<◌, ◌≤◌, ◌^◌, List, [], ◌∷◌, ◌++◌, length, take, drop, sym, ap, ◌∙◌, subst, arith, length-append, append_assoc}
 use Rattle.std.proofs.Math.Seq.{drop-append_seam}
 use Rattle.std.proofs.lemmas.List.{drop_all, take_more}
 use Rattle.hx_journal.specs.Lines.{lines_of, text_of}
 use Rattle.hx_journal.proofs.Lines.{lines_of-text}
-use Rattle.hx_terms.specs.declared.head.Head.{Head}
-use Rattle.hx_terms.specs.Lines.{IsOfLog}
-use Rattle.hx_terms.specs.Records.{Record}
-use Rattle.hx_terms.proofs.Fronts.{are_lines}
-use Rattle.hx_log.specs.Logs.{AreNumbered}
-use Rattle.hx_log.proofs.Standing.{numbered_push}
+use Rattle.hx_fenced_log.specs.declared.terms.head.Head.{Head}
+use Rattle.hx_fenced_log.specs.Lines.{IsOfLog}
+use Rattle.hx_fenced_log.specs.Records.{Record}
+use Rattle.hx_fenced_log.proofs.Fronts.{are_lines}
+use Rattle.hx_fenced_log.specs.Logs.{AreNumbered}
+use Rattle.hx_fenced_log.proofs.Standing.{numbered_push}
 use Rattle.hx_etcd_log.specs.Notes.{record_of}
 use Rattle.hx_etcd_log.specs.Inside.{IsTelling}
 
@@ -27,7 +27,7 @@ same_record a b good fine head text =
 
 -- a record as it is noted
 pub noted_record : (r : Record) (h : Head) (text none : List ℕ) → h ≡ r.head → text ≡ text_of r.lines → IsOfLog r
-    → record_of ((h.number ∷ h.term ∷ h.writer ∷ h.place ∷ []), text, none) ≡ r
+    → record_of ((h.number ∷ h.term ∷ h.writer ∷ h.index ∷ []), text, none) ≡ r
 noted_record r h text none head is good =
     let lines : lines_of text ≡ r.lines = ap lines_of is ∙ same_lines r good in
     λ i. record { head = head i; lines = lines i }
@@ -58,10 +58,7 @@ pub numbered_append : (n : ℕ) (rs more : List Record) → AreNumbered n rs →
 numbered_append n [] more h k = numbered_from (n + 0) n more (omega arith) k
 numbered_append n (r ∷ rs) more h k = (h.0, numbered_append (n + 1) rs more h.1 (numbered_from _ _ more (omega arith) k))
 
--- ---- what is told
-
-pub none_told : IsTelling [] 0 []
-none_told = record { counted = refl; few = omega arith; numbered = tt; within = omega arith; last = refl }
+-- ---- what is reported
 
 one_known : (records page : List Record) (count : ℕ) (r : Record) → IsTelling records count page → r.head.number ≡ length records + 1 → r.head.number < 10 ^ 14
     → IsTelling (records ++ r ∷ []) r.head.number []
@@ -76,9 +73,9 @@ one_known records page count r h number few =
       last = sym (drop_all (r.head.number - 0) (records ++ r ∷ []) all);
     }
 
-pub one_told : (records page all rest : List Record) (count now : ℕ) (r : Record) → IsTelling records count page → r.head.number ≡ length records + 1 → r.head.number < 10 ^ 14
+pub one_reported : (records page all rest : List Record) (count now : ℕ) (r : Record) → IsTelling records count page → r.head.number ≡ length records + 1 → r.head.number < 10 ^ 14
     → now ≡ r.head.number → all ≡ records ++ r ∷ [] → rest ≡ [] → IsTelling all now rest
-one_told records page all rest count now r h number few now_is all_is rest_is =
+one_reported records page all rest count now r h number few now_is all_is rest_is =
     let known : IsTelling (records ++ r ∷ []) r.head.number [] = one_known records page count r h number few in
     subst (λ (l : List Record). IsTelling l now rest) (sym all_is)
     (subst (λ (n : ℕ). IsTelling (records ++ r ∷ []) n rest) (sym now_is)
@@ -87,16 +84,16 @@ one_told records page all rest count now r h number few now_is all_is rest_is =
 page_known : (records page more : List Record) (count now : ℕ) → IsTelling records count page → AreNumbered (length records + 1) more → now ≡ count + length more → now < 10 ^ 14
     → IsTelling (records ++ more) now more
 page_known records page more count now h numbered is few =
-    let place : now - length more ≡ length records = omega (arith, is, h.counted) in
+    let index : now - length more ≡ length records = omega (arith, is, h.counted) in
     record {
       counted = omega (arith, is, h.counted, length-append records more);
       few = few;
       numbered = numbered_append 1 records more h.numbered (numbered_from _ _ more (omega arith) numbered);
       within = omega (arith, is);
-      last = sym (ap (λ (k : ℕ). drop k (records ++ more)) place ∙ drop-append_seam records more);
+      last = sym (ap (λ (k : ℕ). drop k (records ++ more)) index ∙ drop-append_seam records more);
     }
 
-pub page_told : (records page more all : List Record) (count now : ℕ) → IsTelling records count page → AreNumbered (length records + 1) more → now ≡ count + length more → now < 10 ^ 14
+pub page_reported : (records page more all : List Record) (count now : ℕ) → IsTelling records count page → AreNumbered (length records + 1) more → now ≡ count + length more → now < 10 ^ 14
     → all ≡ records ++ more → IsTelling all now more
-page_told records page more all count now h numbered is few all_is =
+page_reported records page more all count now h numbered is few all_is =
     subst (λ (l : List Record). IsTelling l now more) (sym all_is) (page_known records page more count now h numbered is few)

@@ -1,10 +1,10 @@
--- What a copy tells of a log.
+-- What a copy reports of a log.
 use Rattle.std.specs.Prelude.{◌≢◌}
 use Rattle.std.proofs.Common.{◌≡◌, ℕ, suc, get_or, ◌+◌, ◌<◌, List, [], ◌∷◌, ◌++◌, length, take, drop, drop-cons, take-append-drop, sym, ap, ◌∙◌, subst, arith}
-use Rattle.std.proofs.lemmas.List.{length-take, take_all, take_more}
-use Rattle.hx_terms.specs.Records.{Record}
-use Rattle.hx_log.specs.Logs.{AreNumbered}
-use Rattle.hx_log.proofs.Standing.{numbered_push}
+use Rattle.std.proofs.lemmas.List.{length-take, take_more}
+use Rattle.hx_fenced_log.specs.Records.{Record}
+use Rattle.hx_fenced_log.specs.Logs.{AreNumbered}
+use Rattle.hx_fenced_log.proofs.Standing.{numbered_push}
 use Rattle.hx_etcd_log.specs.Copied.{IsMisnumbered}
 
 -- one more record has its number
@@ -20,13 +20,9 @@ pub misnumbered : (from number i : ℕ) (page : List Record) (r : Record) → i 
 misnumbered from number i page r lt is count numbered other = record {
   before = take i page;
   found = r;
-  behind = drop (suc i) page;
+  later = drop (suc i) page;
   is = sym (take-append-drop i page) ∙ ap (λ (l : List Record). take i page ++ l) (drop-cons page i r lt ∙ ap (λ (x : Record). x ∷ drop (suc i) page) (sym is));
   numbered = numbered;
   due = omega (arith, count, length-take i page, lt);
   other = other;
 }
-
--- all have
-pub all_numbered : (from i : ℕ) (page : List Record) → length page ≡ i → AreNumbered from (take i page) → AreNumbered from page
-all_numbered from i page end numbered = subst (λ (l : List Record). AreNumbered from l) (take_all i page (omega (arith, end))) numbered

@@ -2,11 +2,11 @@
 use Rattle.std.proofs.Common.{◌≡◌, ℕ, List, [], ◌∷◌, ◌++◌, Bool, true, false, refl, sym, ap, subst, ◌∙◌, append_assoc}
 use Rattle.std.specs.Prelude.{Err, if◌then◌else◌}
 use Rattle.std.specs.List.{AllByRecursion}
-use Rattle.hx_log.specs.declared.error.LogError.TheVariants as refusal
-use Rattle.hx_etcd.specs.declared.told.Answer.{Answer}
+use Rattle.hx_fenced_log.specs.declared.log.error.LogError.TheVariants as refusal
+use Rattle.hx_etcd.specs.declared.reported.Answer.{Answer}
 use Rattle.hx_etcd_log.specs.declared.nodes.AskError.{AskError}
 use Rattle.hx_etcd_log.specs.declared.nodes.AskError.TheVariants as fault
-use Rattle.hx_etcd_log.specs.Asks.{Ask, Answered, Unsent, Lost, outcome_of, lost_after, IsUnsent, MayBeTaken, Tells, EachSince, OneSince, IsMissed, IsNotTold}
+use Rattle.hx_etcd_log.specs.Asks.{Ask, Answered, Unsent, Lost, outcome_of, lost_after, IsUnsent, MayBeTaken, Tells, EachSince, OneSince, IsMissed}
 
 -- asks were made
 pub record Since (before after : List Ask) : Type 0 where
@@ -31,8 +31,8 @@ one_before a b c h s = record {
 }
 
 -- others were made first, and then one
-pub one_behind : {P : Ask → Type 0} (a b c : List Ask) → Since a b → OneSince P b c → OneSince P a c
-one_behind a b c s h = record {
+pub one_after : {P : Ask → Type 0} (a b c : List Ask) → Since a b → OneSince P b c → OneSince P a c
+one_after a b c s h = record {
   newer = h.newer;
   ask = h.ask;
   older = h.older ++ s.asks;
@@ -44,8 +44,8 @@ all_append : (P : Ask → Type 0) (xs ys : List Ask) → AllByRecursion P xs →
 all_append P [] ys p q = q
 all_append P (x ∷ xs) ys p q = (p.0, all_append P xs ys p.1 q)
 
-pub each_behind : {P : Ask → Type 0} (a b c : List Ask) → EachSince P a b → EachSince P b c → EachSince P a c
-each_behind {P = P} a b c h k = record {
+pub each_after : {P : Ask → Type 0} (a b c : List Ask) → EachSince P a b → EachSince P b c → EachSince P a c
+each_after {P = P} a b c h k = record {
   asks = k.asks ++ h.asks;
   is = k.is ∙ ap (λ (l : List Ask). k.asks ++ l) h.is ∙ sym (append_assoc k.asks h.asks a);
   each = all_append P k.asks h.asks k.each h.each;
@@ -71,7 +71,7 @@ pub missed : (before after : List Ask) (node : ℕ) (request : List ℕ) (e : As
 missed before after node request fault.Unsent is = each_of before after _ is refl
 missed before after node request fault.Lost is = one_of before after _ is lost
 
--- ---- what answers tell
+-- ---- what answers report
 
 -- what is asked is the same
 pub asked_as : {P : Answer → Type 0} (request wanted : List ℕ) (b c : List Ask) → request ≡ wanted → OneSince (Tells request P) b c → OneSince (Tells wanted P) b c
@@ -86,8 +86,8 @@ tells_also request b c f h = record {
   holds = record { asked = h.holds.asked; answer = h.holds.answer; gave = h.holds.gave; says = f h.holds.answer h.holds.says };
 }
 
-pub told_is_taken : {P : Answer → Type 0} (request : List ℕ) (b c : List Ask) → OneSince (Tells request P) b c → OneSince MayBeTaken b c
-told_is_taken request b c h = record {
+pub reported_is_taken : {P : Answer → Type 0} (request : List ℕ) (b c : List Ask) → OneSince (Tells request P) b c → OneSince MayBeTaken b c
+reported_is_taken request b c h = record {
   newer = h.newer;
   ask = h.ask;
   older = h.older;
@@ -101,27 +101,20 @@ abbrev pub Tried : Bool → (before after : List Ask) → Type 0
 Tried false before after = EachSince IsUnsent before after
 Tried true before after = OneSince MayBeTaken before after
 
-pub none_yet : (a : List Ask) → Tried false a a
-none_yet a = record { asks = []; is = refl; each = tt }
-
 since_tried : (lost : Bool) (a b : List Ask) → Tried lost a b → Since a b
 since_tried true a b h = of_one h
 since_tried false a b h = of_each h
 
 pub tried_unsent : (lost : Bool) (a b c : List Ask) → Tried lost a b → EachSince IsUnsent b c → Tried lost a c
 tried_unsent true a b c h k = one_before a b c h (of_each k)
-tried_unsent false a b c h k = each_behind a b c h k
+tried_unsent false a b c h k = each_after a b c h k
 
 pub tried_lost : (lost : Bool) (a b c : List Ask) → Tried lost a b → OneSince MayBeTaken b c → Tried true a c
-tried_lost lost a b c h k = one_behind a b c (since_tried lost a b h) k
+tried_lost lost a b c h k = one_after a b c (since_tried lost a b h) k
 
-pub tried_told : {P : Ask → Type 0} (lost : Bool) (a b c : List Ask) → Tried lost a b → OneSince P b c → OneSince P a c
-tried_told lost a b c h k = one_behind a b c (since_tried lost a b h) k
+pub tried_reported : {P : Ask → Type 0} (lost : Bool) (a b c : List Ask) → Tried lost a b → OneSince P b c → OneSince P a c
+tried_reported lost a b c h k = one_after a b c (since_tried lost a b h) k
 
 pub tried_missed : (is_lost : Bool) (e : AskError) (a b c : List Ask) → Tried is_lost a b → IsMissed b c e → Tried (lost_after is_lost e) a c
 tried_missed is_lost fault.Unsent a b c h k = tried_unsent is_lost a b c h k
 tried_missed is_lost fault.Lost a b c h k = tried_lost is_lost a b c h k
-
-pub tried_in_vain : (lost : Bool) (a b : List Ask) → Tried lost a b → IsNotTold a b (if lost then refusal.Unknown else refusal.Unreachable)
-tried_in_vain true a b h = h
-tried_in_vain false a b h = h

@@ -1,20 +1,20 @@
 -- What becomes of an append to a log in an etcd.
 use Rattle.std.specs.Prelude.{◌≡◌, ◌≢◌, ◌⊎◌, ℕ, ◌+◌, ◌<◌, ◌≤◌, List, [], ◌∷◌, ◌++◌, length, codes}
 use Rattle.json.specs.Json.{Json}
-use Rattle.hx_terms.specs.Lines.{IsOfLog}
-use Rattle.hx_terms.specs.Records.{Record}
-use Rattle.hx_terms.specs.Texts.{spelled}
-use Rattle.hx_log.specs.declared.error.LogError.{LogError}
-use Rattle.hx_log.specs.declared.error.LogError.TheVariants.{Taken, Gap, Unknown, Unreachable, NoRecord, Trimmed, BadCopy, NoMemory}
+use Rattle.hx_fenced_log.specs.Lines.{IsOfLog}
+use Rattle.hx_fenced_log.specs.Records.{Record}
+use Rattle.hx_fenced_log.specs.Texts.{spelled}
+use Rattle.hx_fenced_log.specs.declared.log.error.LogError.{LogError}
+use Rattle.hx_fenced_log.specs.declared.log.error.LogError.TheVariants.{Taken, Gap, Unknown, Unreachable, NoRecord, Trimmed, BadCopy, NoMemory}
 use Rattle.hx_etcd.specs.declared.append.Appended.TheVariants.{Stands, NoneBefore}
-use Rattle.hx_etcd.specs.declared.told.Answer.{Answer}
+use Rattle.hx_etcd.specs.declared.reported.Answer.{Answer}
 use Rattle.hx_etcd.specs.Answers.{HasDocument, HasText, IsAppended}
 use Rattle.hx_etcd.specs.Documents.{append_text}
 use Rattle.hx_etcd.specs.Requests.{request_text}
 use Rattle.hx_etcd_log.specs.Telling.{Telling}
 use Rattle.hx_etcd_log.specs.Asks.{Ask, EachSince, OneSince, IsUnsent, MayBeTaken, Tells}
 use Rattle.hx_etcd_log.specs.declared.log.EtcdLog.{EtcdLog}
-use Rattle.hx_etcd_log.specs.EtcdLogs.{committed_of, kept_of, asks_of, IsUnasked, IsUntold}
+use Rattle.hx_etcd_log.specs.EtcdLogs.{committed_of, stored_of, asks_of, IsUnasked, IsUntold}
 
 -- the request that appends a record
 abbrev pub appending : Record → List ℕ
@@ -46,11 +46,11 @@ pub record SaysNoRecord (number : ℕ) (answer : Answer) : Type 0 where
   pub has : HasKeyText number text answer
   pub none : HasNoRecord number text
 
--- what is told of a record whose key has this text, where it is not the record's
+-- what is reported of a record whose key has this text, if it is not the record's
 abbrev pub IsFindFault : (old new : Telling) → Record → (text : List ℕ) → LogError → Type 0
 IsFindFault old new r text Taken =
     (other : Record) × (other ≢ r) × (text ≡ spelled other)
-    × (new ≡ record { records = old.records ++ other ∷ []; kept = 1 })
+    × (new ≡ record { records = old.records ++ other ∷ []; stored = 1 })
 IsFindFault old new r text Gap = ⊥
 IsFindFault old new r text Unknown = new ≡ old
 IsFindFault old new r text Unreachable = ⊥
@@ -62,20 +62,20 @@ IsFindFault old new r text NoMemory = ⊥
 
 -- ---- outcomes
 
--- the record stands behind all that was known, as a node has told since
+-- the record stands after all that was known, as a node has reported since
 pub record IsAppendedTo {N : Type 0} (old new : EtcdLog N) (r : Record) : Type 0 where
   pub next : r.head.number ≡ length (committed_of old) + 1
   pub committed : committed_of new ≡ committed_of old ++ r ∷ []
-  pub told : OneSince (Tells (appending r) (SaysItStands r)) (asks_of old) (asks_of new)
+  pub reported : OneSince (Tells (appending r) (SaysItStands r)) (asks_of old) (asks_of new)
 
--- another record stands there, as a node has told since; it is kept for a read
+-- another record stands there, as a node has reported since; it is retained for a read
 pub record IsAnotherThere {N : Type 0} (old new : EtcdLog N) (r : Record) : Type 0 where
   pub other : Record
   pub differs : other ≢ r
   pub next : r.head.number ≡ length (committed_of old) + 1
   pub committed : committed_of new ≡ committed_of old ++ other ∷ []
-  pub kept : kept_of new ≡ 1
-  pub told :
+  pub stored : stored_of new ≡ 1
+  pub reported :
       OneSince (Tells (appending r) (HasKeyText r.head.number (spelled other)))
       (asks_of old) (asks_of new)
 
@@ -85,9 +85,9 @@ abbrev pub IsInVain : {N : Type 0} → (old new : EtcdLog N) → Record
 IsInVain old new r P =
     (r.head.number ≡ length (committed_of old) + 1) × IsUntold old new P
 
--- Why a record is not appended. Its number is taken: one of those that are known has it, or another
--- record is found there. There is a gap: it is behind the next one. Else nodes were asked in vain: the
--- log was trimmed, where one says that the record before it is not there.
+-- Why a record is not appended. Its number is taken: one of those that are known has it, or another record is found
+-- there. There is a gap: it is after the next one. Else nodes were asked in vain: the log was trimmed, if one says that
+-- the record before it is not there.
 abbrev pub IsAppendFault : {N : Type 0} → (old new : EtcdLog N) → Record → LogError → Type 0
 IsAppendFault old new r Taken =
     ((r.head.number ≤ length (committed_of old)) × IsUnasked old new) ⊎ IsAnotherThere old new r

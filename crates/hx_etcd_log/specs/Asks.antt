@@ -1,9 +1,9 @@
 -- What the nodes of an etcd were asked, and what became of that.
 use Rattle.std.specs.Prelude.{◌≡◌, ◌≢◌, Bool, true, ℕ, zero, suc, List, ◌∷◌, ◌++◌, map, slice_index, Result, Ok, Err}
 use Rattle.std.specs.List.{AllByRecursion}
-use Rattle.hx_log.specs.declared.error.LogError.{LogError}
-use Rattle.hx_log.specs.declared.error.LogError.TheVariants.{Taken, Gap, Unknown, Unreachable, NoRecord, Trimmed, BadCopy, NoMemory}
-use Rattle.hx_etcd.specs.declared.told.Answer.{Answer}
+use Rattle.hx_fenced_log.specs.declared.log.error.LogError.{LogError}
+use Rattle.hx_fenced_log.specs.declared.log.error.LogError.TheVariants.{Taken, Gap, Unknown, Unreachable, NoRecord, Trimmed, BadCopy, NoMemory}
+use Rattle.hx_etcd.specs.declared.reported.Answer.{Answer}
 use Rattle.hx_etcd_log.specs.declared.nodes.AskError.{AskError}
 use Rattle.hx_etcd_log.specs.declared.nodes.AskError.TheVariants as fault
 use Rattle.hx_etcd_log.specs.Notes.{Note}
@@ -74,23 +74,23 @@ pub record OneSince (P : Ask → Type 0) (before after : List Ask) : Type 0 wher
   pub is : after ≡ newer ++ (ask ∷ (older ++ before))
   pub holds : P ask
 
--- why one ask tells nothing
+-- why one ask reports nothing
 abbrev pub IsMissed : (before after : List Ask) → AskError → Type 0
 IsMissed before after fault.Unsent = EachSince IsUnsent before after
 IsMissed before after fault.Lost = OneSince MayBeTaken before after
 
--- whether some try may be taken, once one more tells nothing
+-- whether some try may be taken, once one more reports nothing
 abbrev pub lost_after : (is_lost : Bool) → AskError → Bool
 lost_after is_lost fault.Unsent = is_lost
 lost_after is_lost fault.Lost = true
 
--- why several tell nothing: without memory, none was made
-abbrev pub IsNotTold : (before after : List Ask) → LogError → Type 0
-IsNotTold before after Taken = ⊥
-IsNotTold before after Gap = ⊥
-IsNotTold before after Unknown = OneSince MayBeTaken before after
-IsNotTold before after Unreachable = EachSince IsUnsent before after
-IsNotTold before after (NoRecord number) = ⊥
-IsNotTold before after (Trimmed number) = ⊥
-IsNotTold before after (BadCopy number) = ⊥
-IsNotTold before after NoMemory = after ≡ before
+-- why several report nothing: without memory, none was made
+abbrev pub IsNotReported : (before after : List Ask) → LogError → Type 0
+IsNotReported before after Taken = ⊥
+IsNotReported before after Gap = ⊥
+IsNotReported before after Unknown = OneSince MayBeTaken before after
+IsNotReported before after Unreachable = EachSince IsUnsent before after
+IsNotReported before after (NoRecord number) = ⊥
+IsNotReported before after (Trimmed number) = ⊥
+IsNotReported before after (BadCopy number) = ⊥
+IsNotReported before after NoMemory = after ≡ before

@@ -1,7 +1,7 @@
 -- What was noted.
 use Rattle.std.specs.Prelude.{ℕ, List, [], ◌∷◌, ◌++◌, slice_index}
 use Rattle.hx_journal.specs.Lines.{lines_of}
-use Rattle.hx_terms.specs.Records.{Record}
+use Rattle.hx_fenced_log.specs.Records.{Record}
 
 -- numbers, and two texts; notes stand in a list, the newest first
 abbrev pub Note : Type 0
@@ -14,7 +14,7 @@ record_of (numbers, text, none) = record {
     number = slice_index numbers 0;
     term = slice_index numbers 1;
     writer = slice_index numbers 2;
-    place = slice_index numbers 3;
+    index = slice_index numbers 3;
   };
   lines = lines_of text;
 }

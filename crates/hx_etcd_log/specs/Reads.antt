@@ -1,12 +1,12 @@
 -- What becomes of a read of a log in an etcd.
 use Rattle.std.specs.Prelude.{◌≡◌, ◌≢◌, ◌⊎◌, ℕ, ◌+◌, ◌<◌, ◌≤◌, List, ◌++◌, length, codes}
-use Rattle.hx_terms.specs.declared.text.TextError.{TextError}
-use Rattle.hx_terms.specs.Records.{Record}
-use Rattle.hx_log.specs.declared.error.LogError.{LogError}
-use Rattle.hx_log.specs.declared.error.LogError.TheVariants.{Taken, Gap, Unknown, Unreachable, NoRecord, Trimmed, BadCopy, NoMemory}
-use Rattle.hx_etcd.specs.declared.told.Answer.{Answer}
-use Rattle.hx_etcd.specs.declared.told.AnswerError.{AnswerError}
-use Rattle.hx_etcd.specs.declared.told.AnswerError.TheVariants as bad
+use Rattle.hx_fenced_log.specs.declared.terms.text.TextError.{TextError}
+use Rattle.hx_fenced_log.specs.Records.{Record}
+use Rattle.hx_fenced_log.specs.declared.log.error.LogError.{LogError}
+use Rattle.hx_fenced_log.specs.declared.log.error.LogError.TheVariants.{Taken, Gap, Unknown, Unreachable, NoRecord, Trimmed, BadCopy, NoMemory}
+use Rattle.hx_etcd.specs.declared.reported.Answer.{Answer}
+use Rattle.hx_etcd.specs.declared.reported.AnswerError.{AnswerError}
+use Rattle.hx_etcd.specs.declared.reported.AnswerError.TheVariants as bad
 use Rattle.hx_etcd.specs.Answers.{IsRange, IsRangeFault}
 use Rattle.hx_etcd.specs.Documents.{range_text}
 use Rattle.hx_etcd.specs.Requests.{request_text}
@@ -15,9 +15,9 @@ use Rattle.hx_etcd_log.specs.declared.reading.Found.TheVariants.{Page, Gone, Bad
 use Rattle.hx_etcd_log.specs.Telling.{Telling}
 use Rattle.hx_etcd_log.specs.Asks.{EachSince, OneSince, IsUnsent, MayBeTaken, Tells}
 use Rattle.hx_etcd_log.specs.declared.log.EtcdLog.{EtcdLog}
-use Rattle.hx_etcd_log.specs.EtcdLogs.{committed_of, kept_of, asks_of, IsUnasked, IsUntold}
+use Rattle.hx_etcd_log.specs.EtcdLogs.{committed_of, stored_of, asks_of, IsUnasked, IsUntold}
 
--- this many records are asked for at once
+-- the number of records that are asked for at once
 abbrev pub most_records : ℕ
 most_records = 100
 
@@ -25,12 +25,12 @@ most_records = 100
 abbrev pub asking_from : (from : ℕ) → List ℕ
 asking_from from = request_text (codes "/v3/kv/range") (range_text from most_records)
 
--- why records are not copied: they stand in front of those that are kept
+-- why records are not copied: they stand in front of the retained ones
 abbrev pub IsCopyFault : Telling → (from : ℕ) → LogError → Type 0
 IsCopyFault t from Taken = ⊥
 IsCopyFault t from Gap = ⊥
 IsCopyFault t from Unknown = ⊥
-IsCopyFault t from Unreachable = from + t.kept ≤ length t.records
+IsCopyFault t from Unreachable = from + t.stored ≤ length t.records
 IsCopyFault t from (NoRecord number) = ⊥
 IsCopyFault t from (Trimmed number) = ⊥
 IsCopyFault t from (BadCopy number) = ⊥
@@ -46,7 +46,7 @@ IsNoRecordAt number e =
     (e ≡ bad.NoKey number) ⊎ ((e ≡ bad.OtherNumber number)
     ⊎ ((error : TextError) × (e ≡ bad.NoRecord number error)))
 
--- what is found where an answer has this fault
+-- what is found if an answer has this fault
 abbrev pub IsFaultFound : (from : ℕ) → AnswerError → Found → Type 0
 IsFaultFound from e (Page page) = ⊥
 IsFaultFound from e Gone = e ≡ bad.NoKey from
@@ -67,17 +67,17 @@ IsFoundIn from answer (Bad number) = Contradicts from number answer
 
 -- ---- outcomes
 
--- the next records are known too, and kept, as a node has told since
+-- the next records are known too, and retained, as a node has reported since
 pub record IsFetched {N : Type 0} (old new : EtcdLog N) : Type 0 where
   pub page : List Record
   pub committed : committed_of new ≡ committed_of old ++ page
-  pub kept : kept_of new ≡ length page
-  pub told :
+  pub stored : stored_of new ≡ length page
+  pub reported :
       let from = length (committed_of old) + 1 in
       OneSince (Tells (asking_from from) (λ answer. IsRange from answer page))
       (asks_of old) (asks_of new)
 
--- what a read asks: nothing where a record of its number is known, else for the next records
+-- what a read asks: nothing if a record of its number is known, else for the next records
 abbrev pub IsReadOn : {N : Type 0} → (old new : EtcdLog N) → (from : ℕ) → Type 0
 IsReadOn old new from =
     ((from ≤ length (committed_of old)) × IsUnasked old new)
@@ -98,9 +98,9 @@ IsFetchFault old new (Trimmed number) =
 IsFetchFault old new (BadCopy number) = ⊥
 IsFetchFault old new NoMemory = IsUnasked old new
 
--- Why a read gives no records: its number is in front of those that are kept; or the next records do
--- not come. Without memory they may be known all the same, and are kept.
+-- Why a read gives no records: its number is in front of the retained ones; or the next records do not come. Without
+-- memory they may be known all the same, and are retained.
 abbrev pub IsReadFault : {N : Type 0} → (old new : EtcdLog N) → (from : ℕ) → LogError → Type 0
 IsReadFault old new from e =
-    (IsCopyFault new.told from e × IsReadOn old new from)
+    (IsCopyFault new.reported from e × IsReadOn old new from)
     ⊎ ((length (committed_of old) < from) × IsFetchFault old new e)

@@ -1,24 +1,23 @@
 //! Nodes are asked to append a record.
 ghost use Rattle.std.specs.Prelude.{◌≡◌, IfOk, IfErr};
 ghost use Rattle.hx_etcd.specs.Answers.{IsAppended};
-ghost use Rattle.hx_etcd_log.specs.Asks.{OneSince, Tells, IsMissed, IsNotTold};
+ghost use Rattle.hx_etcd_log.specs.Asks.{OneSince, Tells, IsMissed, IsNotReported};
 ghost use Rattle.hx_etcd_log.specs.EtcdLogs.{asks_of};
 ghost use Rattle.hx_etcd_log.specs.Appends.{appending};
 
 use crate::asking::{error_of, lost_after};
 use crate::{AskError, EtcdLog, Nodes};
 use hx_etcd::{Appended, append_request, read_append_answer};
-use hx_log::LogError;
-use hx_terms::LogRecord;
+use hx_fenced_log::{LogError, LogRecord};
 
 impl<N: Nodes> EtcdLog<N> {
     // Asks the nodes in turn to append a record, until an answer says what stands at its number.
     pub(crate) fn ask_to_append(&mut self, next: &LogRecord) -> Result<Appended, LogError>
-        ensures known { self.new.told ≡ self.old.told }
+        ensures known { self.new.reported ≡ self.old.reported }
         ensures ok { IfOk result (λ said. OneSince
             (Tells (appending next.now) (λ answer. IsAppended next.now.head.number answer said))
             (asks_of self.old) (asks_of self.new)) }
-        ensures err { IfErr result (IsNotTold (asks_of self.old) (asks_of self.new)) }
+        ensures err { IfErr result (IsNotReported (asks_of self.old) (asks_of self.new)) }
     {
         let number = next.head().number;
         let request = append_request(self.alloc, next)?;
@@ -34,7 +33,7 @@ impl<N: Nodes> EtcdLog<N> {
 
     // Asks one node to append a record of this number.
     fn try_to_append(&mut self, request: &[u8], number: u64) -> Result<Appended, AskError>
-        ensures known { self.new.told ≡ self.old.told }
+        ensures known { self.new.reported ≡ self.old.reported }
         ensures ok { IfOk result (λ said. OneSince
             (Tells request.now (λ answer. IsAppended number answer said))
             (asks_of self.old) (asks_of self.new)) }

@@ -5,7 +5,7 @@ ghost use Rattle.hx_etcd_log.specs.EtcdLogs.{asks_of};
 
 use crate::{AskError, EtcdLog, Nodes};
 use hx_etcd::Answer;
-use hx_log::LogError;
+use hx_fenced_log::LogError;
 
 // The outcomes of an ask, as they are noted.
 const ANSWERED: u64 = 0;
@@ -14,7 +14,7 @@ const UNSENT: u64 = 1;
 
 const LOST: u64 = 2;
 
-// Each node is asked this many times if no answer tells anything.
+// How often each node is asked if no answer reports anything.
 const ROUNDS: usize = 2;
 
 impl<N: Nodes> EtcdLog<N> {
@@ -25,7 +25,7 @@ impl<N: Nodes> EtcdLog<N> {
           request = request.now;
           outcome = outcome_of result;
         } ∷ asks_of self.old }
-        ensures told { self.new.told ≡ self.old.told }
+        ensures reported { self.new.reported ≡ self.old.reported }
     {
         let node = self.node as u64;
         let outcome = self.nodes.ask(self.node, request);
@@ -43,7 +43,7 @@ impl<N: Nodes> EtcdLog<N> {
     // It is the next node's turn.
     pub(crate) fn turn(&mut self)
         ensures asks { asks_of self.new ≡ asks_of self.old }
-        ensures told { self.new.told ≡ self.old.told }
+        ensures reported { self.new.reported ≡ self.old.reported }
     {
         self.node = match self.node.checked_add(1) {
             Some(next) if next < self.nodes.count() => next,
@@ -67,7 +67,7 @@ pub(crate) fn lost_after(is_lost: bool, error: AskError) -> bool
     }
 }
 
-// Why no answer told anything.
+// Why no answer reported anything.
 pub(crate) fn error_of(is_lost: bool) -> LogError
     ensures { result ≡ (if is_lost then LogError.Unknown else LogError.Unreachable) }
 {

@@ -1,14 +1,13 @@
 //! A log that a copy begins.
 ghost use Rattle.std.specs.Prelude.{◌≡◌, ◌<◌, ◌≤◌, ◌-◌, ◌+◌, [], length, drop, IfOk, IfErr, OnOk, OnErr, IsErrOf};
 ghost use mathlib.Core.List.{IsPrefix};
-ghost use Rattle.hx_log.specs.Logs.{Stands, AreNumbered};
+ghost use Rattle.hx_fenced_log.specs.Logs.{Stands, AreNumbered};
 ghost use Rattle.hx_etcd_log.specs.EtcdLogs.{committed_of};
 ghost use Rattle.hx_etcd_log.specs.Appends.{IsAppendedTo, IsAppendFault};
-ghost use Rattle.hx_etcd_log.specs.Copied.{records_of, IsToldBy, IsTellFault, IsMisnumbered, IsPageTaken, IsBadPage, IsCopiedOn, IsCopiedFault};
+ghost use Rattle.hx_etcd_log.specs.Copied.{records_of, IsReportedBy, IsTellFault, IsMisnumbered, IsPageTaken, IsBadPage, IsCopiedOn, IsCopiedFault};
 
 use crate::{EtcdLog, Nodes};
-use hx_log::{Log, LogError};
-use hx_terms::LogRecord;
+use hx_fenced_log::{Log, LogError, LogRecord};
 use std::alloc::Global;
 
 /// Why a copy gives no page.
@@ -22,7 +21,7 @@ pub enum PageError {
 
 /// A copy of a log, page by page: nothing is promised.
 pub trait Pages {
-    /// Its next records, from this number on; none where it has no more, for now.
+    /// Its next records, from this number on; none if it has no more, for now.
     fn next(&mut self, alloc: Global, from: u64) -> Result<Vec<LogRecord>, PageError>;
 }
 
@@ -37,17 +36,17 @@ impl<P: Pages> Pages for Option<P> {
 }
 
 impl<N: Nodes> EtcdLog<N> {
-    /// A copy tells the next records: they are known as if a node had told them, and are kept for who reads them. No node
-    /// is asked.
+    /// Takes the next records from a copy: they are known as if a node had reported them, and are retained for a read.
+    /// No node is asked.
     ///
-    /// Errors: `BadCopy` of the first number that is due and that a record has not. Then nothing is told.
+    /// Errors: `BadCopy` of the first number that is due and that a record has not. Then nothing is reported.
     pub fn tell(&mut self, page: Vec<LogRecord>) -> Result<(), LogError>
-        ensures told { OnOk result (IsToldBy page.items self.old self.new) }
+        ensures reported { OnOk result (IsReportedBy page.items self.old self.new) }
         ensures err { IfErr result (IsTellFault (length (committed_of self.old) + 1) page.items) }
         ensures same { OnErr result (self.new ≡ self.old) }
     {
-        check_numbers(self.told.len() + 1, &page)?;
-        self.told.add_page(page);
+        check_numbers(self.reported.len() + 1, &page)?;
+        self.reported.add_page(page);
         Ok(())
     }
 }
@@ -68,13 +67,13 @@ fn check_numbers(from: u64, page: &[LogRecord]) -> Result<(), LogError>
 }
 
 /// A log in an etcd that a copy begins: what the copy has is read from there, and only what it has not is asked for. So
-/// it is read from its beginning on where it is trimmed. It is believed that the copy is one of this log.
+/// it is read from its beginning on if it is trimmed. It is believed that the copy is one of this log.
 pub struct CopiedLog<P, N> {
     pub(crate) pages: P,
     pub(crate) log: EtcdLog<N>,
 }
 
-// By hand, so that where a value is dropped its owner's proof sees one call.
+// By hand, so that when a value is dropped its owner's proof sees one call.
 impl<P: Drop, N: Drop> Drop for CopiedLog<P, N> {
     fn drop(self) {
         let CopiedLog { pages: _, log: _ } = self;
@@ -92,13 +91,13 @@ impl<P: Pages, N: Nodes> CopiedLog<P, N> {
         }
     }
 
-    // Tells the log the next page of the copy, and returns whether there was one.
+    // Gives the log the next page of the copy, and returns whether there was one.
     fn take_page(&mut self, alloc: Global) -> Result<bool, LogError>
         ensures ok { IfOk result (λ some. IsPageTaken some self.old.log self.new.log) }
         ensures err { IfErr result (IsBadPage (length (records_of self.old))) }
         ensures same { OnErr result (self.new.log ≡ self.old.log) }
     {
-        let due = self.log.told.len() + 1;
+        let due = self.log.reported.len() + 1;
         let page = match self.pages.next(alloc, due) {
             Ok(page) => page,
             Err(PageError::Failed) => return Err(LogError::BadCopy { number: due }),
@@ -113,7 +112,7 @@ impl<P: Pages, N: Nodes> CopiedLog<P, N> {
 }
 
 impl<P: Pages, N: Nodes> Log for CopiedLog<P, N> {
-    ghost committed = { λ log. log.log.told.records };
+    ghost committed = { λ log. log.log.reported.records };
 
     /// Appends a record, as `EtcdLog::append` does.
     fn append(&mut self, next: &LogRecord) -> Result<(), LogError>
@@ -131,10 +130,10 @@ impl<P: Pages, N: Nodes> Log for CopiedLog<P, N> {
         self.log.append(next)
     }
 
-    /// Records from a number on: of those that are kept; where none of them has it, the next page of the copy; and where
+    /// Records from a number on: of those that are retained; if none of them has it, the next page of the copy; and if
     /// that has none, asks the nodes for the next ones.
     ///
-    /// Errors: those of `EtcdLog::read`; `BadCopy` where the copy gives no page, or one with other numbers.
+    /// Errors: those of `EtcdLog::read`; `BadCopy` if the copy gives no page, or one with other numbers.
     fn read(&mut self, alloc: Global, from: u64) -> Result<Vec<LogRecord>, LogError>
         requires { 0 < from }
 
@@ -149,7 +148,7 @@ impl<P: Pages, N: Nodes> Log for CopiedLog<P, N> {
         ensures fault { IfErr result (IsCopiedFault self.old.log self.new.log from) }
     {
         if from > self.log.len() && self.take_page(alloc)? {
-            return self.log.told.copies(alloc, from);
+            return self.log.reported.copies(alloc, from);
         }
         self.log.read(alloc, from)
     }

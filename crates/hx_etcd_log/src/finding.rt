@@ -1,16 +1,15 @@
 //! What stands at the number of a record.
 ghost use Rattle.std.specs.Prelude.{◌≡◌, ◌↔◌, ◌+◌, ◌∷◌, ◌++◌, [], length, IsTrue, IfErr, OnOk};
-ghost use Rattle.hx_terms.specs.Texts.{spelled};
+ghost use Rattle.hx_fenced_log.specs.Texts.{spelled};
 ghost use Rattle.hx_etcd_log.specs.Appends.{IsFindFault};
 
-use crate::told::Told;
-use hx_log::LogError;
-use hx_terms::{LogRecord, TextError, read_record};
+use crate::reported::Reported;
+use hx_fenced_log::{LogError, LogRecord, TextError, read_record};
 use std::alloc::Global;
 
-impl Told {
-    /// The key of the next record has this text: Ok where it is the record's. Where it is another record's, that one
-    /// is told.
+impl Reported {
+    /// The key of the next record has this text: Ok if it is the record's. If it is another record's, that one is
+    /// reported.
     pub(crate) fn find(
         &mut self,
         alloc: Global,
@@ -19,9 +18,9 @@ impl Told {
     ) -> Result<(), LogError>
         requires { next.now.head.number ≡ length self.old.records + 1 }
         ensures same { OnOk result (text.now ≡ spelled next.now) }
-        ensures told { OnOk result (self.new ≡ record {
+        ensures reported { OnOk result (self.new ≡ record {
           records = self.old.records ++ next.now ∷ [];
-          kept = 0;
+          stored = 0;
         }) }
         ensures fault { IfErr result (IsFindFault self.old self.new next.now text.now) }
     {

@@ -1,40 +1,39 @@
 //! A log in an etcd.
 ghost use Rattle.std.specs.Prelude.{◌≡◌, ◌<◌, ◌≤◌, ◌-◌, ◌+◌, [], length, drop, IfOk, IfErr, OnOk, IsErrOf};
 ghost use mathlib.Core.List.{IsPrefix};
-ghost use Rattle.hx_log.specs.Logs.{Stands, AreNumbered};
-ghost use Rattle.hx_etcd_log.specs.EtcdLogs.{committed_of, kept_of, asks_of};
+ghost use Rattle.hx_fenced_log.specs.Logs.{Stands, AreNumbered};
+ghost use Rattle.hx_etcd_log.specs.EtcdLogs.{committed_of, stored_of, asks_of};
 ghost use Rattle.hx_etcd_log.specs.Appends.{IsAppendedTo, IsAppendFault};
 ghost use Rattle.hx_etcd_log.specs.Reads.{IsReadOn, IsReadFault};
 
 use crate::Nodes;
 use crate::noted::Noted;
-use crate::told::Told;
+use crate::reported::Reported;
 use hx_etcd::Appended;
-use hx_log::{Log, LogError};
-use hx_terms::LogRecord;
+use hx_fenced_log::{Log, LogError, LogRecord};
 use std::alloc::Global;
 
-/// A log in an etcd, as this client knows it: of the records that stand there it knows how many answers have told, and
-/// keeps the last of them until it reads on. What nodes answer against that is an error.
+/// A log in an etcd, as this client knows it: of the records that stand there it knows how many answers have reported,
+/// and retains the last of them until it reads on. What nodes answer against that is an error.
 pub struct EtcdLog<N> {
     pub(crate) alloc: Global,
     pub(crate) nodes: N,
     // What the nodes were asked.
     pub(crate) asks: Noted,
-    // What they have told.
-    pub(crate) told: Told,
-    // The node that is asked next: the last that answered, or the one behind the last that did not.
+    // What they have reported.
+    pub(crate) reported: Reported,
+    // The node that is asked next: the last that answered, or the one after the last that did not.
     pub(crate) node: usize,
 }
 
-// By hand, so that where a value is dropped its owner's proof sees one call.
+// By hand, so that when a value is dropped its owner's proof sees one call.
 impl<N: Drop> Drop for EtcdLog<N> {
     fn drop(self) {
         let EtcdLog {
             alloc: _,
             nodes: _,
             asks: _,
-            told: _,
+            reported: _,
             node: _,
         } = self;
     }
@@ -44,14 +43,14 @@ impl<N: Nodes> EtcdLog<N> {
     /// A log of which nothing is known. Its nodes were not asked anything.
     pub fn new(alloc: Global, nodes: N) -> EtcdLog<N>
         ensures committed { committed_of result ≡ [] }
-        ensures kept { kept_of result ≡ 0 }
+        ensures stored { stored_of result ≡ 0 }
         ensures asks { asks_of result ≡ [] }
     {
         EtcdLog {
             alloc,
             nodes,
             asks: Noted::new(),
-            told: Told::new(alloc),
+            reported: Reported::new(alloc),
             node: 0,
         }
     }
@@ -60,18 +59,18 @@ impl<N: Nodes> EtcdLog<N> {
     pub fn len(&self) -> u64
         ensures { result ≡ length (committed_of self.now) }
     {
-        self.told.len()
+        self.reported.len()
     }
 }
 
 impl<N: Nodes> Log for EtcdLog<N> {
-    ghost committed = { λ log. log.told.records };
+    ghost committed = { λ log. log.reported.records };
 
     /// Appends a record whose number is the next one that this client knows of: asks the nodes in turn, the last that
-    /// answered first, twice each at most, until one tells what stands there. Each ask makes the record where nothing
-    /// stands yet, and so finds it where the answer to an earlier one was lost.
+    /// answered first, twice each at most, until one reports what stands there. Each ask makes the record if nothing
+    /// stands yet, and so finds it if the answer to an earlier one was lost.
     ///
-    /// Errors: `Unreachable` where no byte was sent to any node, `Unknown` where no node told, `Trimmed` where the record
+    /// Errors: `Unreachable` if no byte was sent to any node, `Unknown` if no node answered, `Trimmed` if the record
     /// before it is not there.
     fn append(&mut self, next: &LogRecord) -> Result<(), LogError>
         ensures grows { IsPrefix (committed_of self.old) (committed_of self.new) }
@@ -86,7 +85,7 @@ impl<N: Nodes> Log for EtcdLog<N> {
         ensures fault { IfErr result (IsAppendFault self.old self.new next.now) }
     {
         let number = next.head().number;
-        let due = self.told.len() + 1;
+        let due = self.reported.len() + 1;
         if number < due {
             return Err(LogError::Taken);
         }
@@ -95,18 +94,18 @@ impl<N: Nodes> Log for EtcdLog<N> {
         }
         match self.ask_to_append(next)? {
             Appended::Stands => {
-                self.told.add(next);
+                self.reported.add(next);
                 Ok(())
             }
-            Appended::Taken(text) => self.told.find(self.alloc, next, &text),
+            Appended::Taken(text) => self.reported.find(self.alloc, next, &text),
             Appended::NoneBefore => Err(LogError::Trimmed { number }),
         }
     }
 
-    /// Records from a number on: of those that are kept; where none of them has it, asks the nodes for the next ones.
+    /// Records from a number on: of those that are retained; if none of them has it, asks the nodes for the next ones.
     ///
-    /// Errors: `Unreachable` of a number in front of those that are kept, too; `NoRecord` where an answer contradicts
-    /// what is known; `Trimmed` where the next record is not there, and later ones are.
+    /// Errors: `Unreachable` of a number in front of those that are retained, too; `NoRecord` if an answer contradicts
+    /// what is known; `Trimmed` if the next record is not there, and later ones are.
     fn read(&mut self, alloc: Global, from: u64) -> Result<Vec<LogRecord>, LogError>
         requires { 0 < from }
 
@@ -120,9 +119,9 @@ impl<N: Nodes> Log for EtcdLog<N> {
         ensures read_on { OnOk result (IsReadOn self.old self.new from) }
         ensures fault { IfErr result (IsReadFault self.old self.new from) }
     {
-        if from > self.told.len() {
+        if from > self.reported.len() {
             self.fetch()?;
         }
-        self.told.copies(alloc, from)
+        self.reported.copies(alloc, from)
     }
 }

@@ -1,26 +1,26 @@
 //! A copy of a log in a file, as it is read page by page.
 use crate::{PageError, Pages};
-use hx_terms::{LogRecord, RecordsError, read_records};
+use hx_fenced_log::{LogRecord, RecordsError, read_records};
 use hx_text::split_once;
 use std::alloc::Global;
 use std::io::Read;
 
-// This many bytes are read at once, at most.
+// The most bytes that are read at once.
 const MOST_READ: usize = 16 * 1024;
 
-// A page is looked for this many times, at most.
+// The most reads for one page.
 const MOST_READS: u64 = 1_000_000_000_000;
 
-/// A copy of a log, of which only whole records are told: behind each of them another begins. Where it grows it is read
-/// on. A zero ends it: what a crash leaves of a file may have zeros where it was written last, and is as it was written
-/// in front of them.
+/// A copy of a log, of which only whole records are given out: after each of them another begins. If it grows it is
+/// read on. A zero ends it: after a crash the end of a file may be zeros; in front of them the file is as it was
+/// written.
 #[derive(Drop)]
 pub struct TextPages<R: Read + Drop> {
     alloc: Global,
     reader: R,
-    // What is read and not told.
+    // What is read and not given out.
     text: Vec<u8>,
-    // How many bytes are told.
+    // How many bytes are given out.
     len: u64,
     // Whether a zero was read.
     is_over: bool,
@@ -38,17 +38,17 @@ impl<R: Read + Drop> TextPages<R> {
         }
     }
 
-    /// How many bytes the records take that were told.
+    /// How many bytes the records take that were given out.
     pub fn len(&self) -> u64 {
         self.len
     }
 
-    /// What stands behind these, as far as it is read.
+    /// What stands after these, as far as it is read.
     pub fn rest(&self) -> &[u8] {
         &self.text
     }
 
-    /// The reader, given out. What was read and not told is gone.
+    /// The reader, given out. What was read and not given out is gone.
     pub fn into_reader(self) -> R {
         self.reader
     }
@@ -70,7 +70,7 @@ impl<R: Read + Drop> TextPages<R> {
         Ok(found.records)
     }
 
-    // Reads what comes next, up to a zero, and tells whether something came.
+    // Reads what comes next, up to a zero, and returns whether something came.
     fn fill(&mut self) -> Result<bool, PageError> {
         if self.is_over {
             return Ok(false);
@@ -105,7 +105,7 @@ impl<R: Read + Drop> Pages for TextPages<R> {
     }
 }
 
-// Those of these records that have this number or a later one.
+// The records among these that have this number or a later one.
 fn from_number(
     alloc: Global,
     records: Vec<LogRecord>,

@@ -1,23 +1,22 @@
 //! Nodes are asked for records.
 ghost use Rattle.std.specs.Prelude.{◌≡◌, ◌+◌, length, IfOk, IfErr, IfSome, OnOk};
-ghost use Rattle.hx_etcd_log.specs.Asks.{OneSince, Tells, IsMissed, IsNotTold};
+ghost use Rattle.hx_etcd_log.specs.Asks.{OneSince, Tells, IsMissed, IsNotReported};
 ghost use Rattle.hx_etcd_log.specs.EtcdLogs.{asks_of};
 ghost use Rattle.hx_etcd_log.specs.Reads.{asking_from, IsFaultFound, IsFoundIn, IsFetched, IsFetchFault};
 
 use crate::asking::{error_of, lost_after};
 use crate::{AskError, EtcdLog, Nodes};
 use hx_etcd::{Answer, AnswerError, range_request, read_range_answer};
-use hx_log::LogError;
-use hx_terms::LogRecord;
+use hx_fenced_log::{LogError, LogRecord};
 use std::alloc::Global;
 
-// This many records are asked for at once.
+// The number of records that are asked for at once.
 const MOST_RECORDS: u64 = 100;
 
 // What an answer says of the next records.
 #[derive(Drop)]
 pub(crate) enum Found {
-    // Some of them, or none where none stands there.
+    // Some of them, or none if none stands there.
     Page(Vec<LogRecord>),
     // The first of them is not there, and later ones are.
     Gone,
@@ -26,15 +25,15 @@ pub(crate) enum Found {
 }
 
 impl<N: Nodes> EtcdLog<N> {
-    // Asks for the next records, and keeps them.
+    // Asks for the next records, and retains them.
     pub(crate) fn fetch(&mut self) -> Result<(), LogError>
         ensures ok { OnOk result (IsFetched self.old self.new) }
         ensures err { IfErr result (IsFetchFault self.old self.new) }
     {
-        let from = self.told.len() + 1;
+        let from = self.reported.len() + 1;
         match self.ask_for_records(from)? {
             Found::Page(page) => {
-                self.told.add_page(page);
+                self.reported.add_page(page);
                 Ok(())
             }
             Found::Gone => Err(LogError::Trimmed { number: from }),
@@ -44,11 +43,11 @@ impl<N: Nodes> EtcdLog<N> {
 
     // Asks the nodes in turn for the records from a number on, until an answer says what stands there.
     fn ask_for_records(&mut self, from: u64) -> Result<Found, LogError>
-        ensures known { self.new.told ≡ self.old.told }
+        ensures known { self.new.reported ≡ self.old.reported }
         ensures ok { IfOk result (λ found. OneSince
             (Tells (asking_from from) (λ answer. IsFoundIn from answer found))
             (asks_of self.old) (asks_of self.new)) }
-        ensures err { IfErr result (IsNotTold (asks_of self.old) (asks_of self.new)) }
+        ensures err { IfErr result (IsNotReported (asks_of self.old) (asks_of self.new)) }
     {
         let request = range_request(self.alloc, from, MOST_RECORDS)?;
         let mut is_lost = false;
@@ -63,7 +62,7 @@ impl<N: Nodes> EtcdLog<N> {
 
     // Asks one node for the records from a number on.
     fn try_to_read(&mut self, request: &[u8], from: u64) -> Result<Found, AskError>
-        ensures known { self.new.told ≡ self.old.told }
+        ensures known { self.new.reported ≡ self.old.reported }
         ensures ok { IfOk result (λ found. OneSince
             (Tells request.now (λ answer. IsFoundIn from answer found))
             (asks_of self.old) (asks_of self.new)) }

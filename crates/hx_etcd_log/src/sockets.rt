@@ -14,8 +14,8 @@ struct Node {
     line: Option<Connection<TcpStream, TcpStream>>,
 }
 
-/// The nodes of an etcd over TCP, without encryption. A connection is opened when a node is asked, and is kept until a
-/// call over it fails.
+/// The nodes of an etcd over TCP, without encryption. A connection is opened when a node is asked, and stays open until
+/// a call over it fails.
 #[derive(Drop)]
 pub struct TcpNodes<'a, R> {
     net: &'a R,

@@ -1,15 +1,16 @@
 //! What the copies of a log show in an etcd, and how the log is trimmed.
 ghost use Rattle.std.specs.Prelude.{◌≡◌, ◌<◌, ◌≤◌, ◌+◌, ℕ, [], IfSome, IfNone};
 ghost use Rattle.std.specs.List.{AllByRecursion};
-ghost use Rattle.hx_etcd_log.specs.Trims.{HasBehind, IsLeast, lesser};
+ghost use Rattle.hx_etcd_log.specs.Trims.{HasAfter, IsLeast, lesser};
 
 use crate::turns::ask_in_turn;
 use crate::{AskError, Nodes};
 use hx_etcd::{
     AnswerError, Trimmed, compaction_request, copy_question, copy_request, range_request,
-    read_compaction_answer, read_range_answer, read_sign_answer, read_trim_answer, trim_request,
+    read_compaction_answer, read_heartbeat_answer, read_range_answer, read_trim_answer,
+    trim_request,
 };
-use hx_terms::LogRecord;
+use hx_fenced_log::LogRecord;
 use hx_text::read_number;
 use std::alloc::Global;
 
@@ -32,7 +33,7 @@ impl<N: Nodes> Copies<N> {
         }
     }
 
-    /// Shows that a copy surely has this many records, and returns whether a node took it.
+    /// Shows that a copy surely has `count` records, and returns whether a node took it.
     pub fn show(&mut self, copy: u64, count: u64) -> bool {
         match copy_request(self.alloc, copy, count) {
             Ok(request) => ask_in_turn(&mut self.nodes, &mut self.turn, &request).is_ok(),
@@ -42,22 +43,22 @@ impl<N: Nodes> Copies<N> {
 
     /// How many records a copy has shown last; none if it has shown none.
     ///
-    /// Errors: no node gave an answer that tells it.
+    /// Errors: no node gave an answer that reports it.
     pub fn seen(&mut self, copy: u64) -> Result<Option<u64>, AskError> {
         let Ok(question) = copy_question(self.alloc, copy) else {
             return Err(AskError::Unsent);
         };
         let answer = ask_in_turn(&mut self.nodes, &mut self.turn, &question)?;
-        match read_sign_answer(self.alloc, &answer) {
+        match read_heartbeat_answer(self.alloc, &answer) {
             Ok(Some(text)) => Ok(read_number(&text)),
             Ok(None) => Ok(None),
             Err(_) => Err(AskError::Lost),
         }
     }
 
-    /// The record of this number, where it stands; none where it does not.
+    /// The record of this number, if it stands; none if it does not.
     ///
-    /// Errors: no node gave an answer that tells it.
+    /// Errors: no node gave an answer that reports it.
     pub fn stands(&mut self, number: u64) -> Result<Option<LogRecord>, AskError> {
         let Ok(request) = range_request(self.alloc, number, 1) else {
             return Err(AskError::Unsent);
@@ -70,9 +71,9 @@ impl<N: Nodes> Copies<N> {
         }
     }
 
-    /// Deletes the records in front of the one of this number, where that stands. The answer says what became of it.
+    /// Deletes the records in front of the one of this number, if that stands. The answer says what became of it.
     ///
-    /// Errors: no node gave an answer that tells it. They may be deleted.
+    /// Errors: no node gave an answer that reports it. They may be deleted.
     pub fn trim(&mut self, number: u64) -> Result<Trimmed, AskError> {
         let Ok(request) = trim_request(self.alloc, number) else {
             return Err(AskError::Unsent);
@@ -93,26 +94,26 @@ impl<N: Nodes> Copies<N> {
     }
 }
 
-/// The record in front of which a log may be trimmed, where its copies have these many records: the last one that each
-/// of them has, with this many behind it that are to stay. None where a copy has shown nothing, or too few.
-pub fn trim_place(counts: &[Option<u64>], stay: u64) -> Option<u64>
-    ensures some { IfSome result (λ n. (1 < n) × AllByRecursion (HasBehind n stay) counts.now) }
-    ensures last { IfSome result (λ n. (m : ℕ) → AllByRecursion (HasBehind m stay) counts.now → m ≤ n) }
-    ensures none { IfNone result ((n : ℕ) → 1 < n → AllByRecursion (HasBehind n stay) counts.now
+/// The record in front of which a log may be trimmed, if its copies have these numbers of records: the last one that
+/// each of them has, with `stay` records after it. None if a copy has shown nothing, or too few.
+pub fn trim_index(counts: &[Option<u64>], stay: u64) -> Option<u64>
+    ensures some { IfSome result (λ n. (1 < n) × AllByRecursion (HasAfter n stay) counts.now) }
+    ensures last { IfSome result (λ n. (m : ℕ) → AllByRecursion (HasAfter m stay) counts.now → m ≤ n) }
+    ensures none { IfNone result ((n : ℕ) → 1 < n → AllByRecursion (HasAfter n stay) counts.now
         → counts.now ≡ []) }
 {
     let least = least_of(counts)?;
     if least <= stay {
         return None;
     }
-    let place = least - stay;
-    if place > 1 { Some(place) } else { None }
+    let index = least - stay;
+    if index > 1 { Some(index) } else { None }
 }
 
-// The least of what copies have shown; none where one of them has shown nothing, or there is none.
+// The least of what copies have shown; none if one of them has shown nothing, or there is none.
 fn least_of(counts: &[Option<u64>]) -> Option<u64>
     ensures some { IfSome result (IsLeast counts.now) }
-    ensures none { IfNone result ((n stay : ℕ) → AllByRecursion (HasBehind n stay) counts.now
+    ensures none { IfNone result ((n stay : ℕ) → AllByRecursion (HasAfter n stay) counts.now
         → counts.now ≡ []) }
 {
     let mut least = None;

@@ -2,8 +2,8 @@
 use crate::{AskError, Nodes};
 use hx_etcd::Answer;
 
-/// The first answer of status 200, of the nodes from the one whose turn it is on, each asked once. It stays the turn of
-/// who gave it.
+/// The first answer of status 200, of the nodes from the one whose turn it is on, each asked once. The next turn begins
+/// with the node that gave it.
 pub(crate) fn ask_in_turn<N: Nodes>(
     nodes: &mut N,
     turn: &mut usize,

@@ -32,7 +32,7 @@ with_head type locate time fields =
 abbrev pub is_system_event : List ℕ → Bool
 is_system_event bytes = is_message 12 system_event bytes
 
--- what its bytes say: each field at its place
+-- what its bytes say: each field at its offset
 abbrev pub system_event_of : List ℕ → SystemEvent
 system_event_of bytes = record {
   locate = number_at 1 2 bytes;
@@ -56,7 +56,7 @@ pub record IsSystemEvent (m : SystemEvent) : Type 0 where
 abbrev pub is_stock_directory : List ℕ → Bool
 is_stock_directory bytes = is_message 39 stock_directory bytes
 
--- what its bytes say: each field at its place
+-- what its bytes say: each field at its offset
 abbrev pub stock_directory_of : List ℕ → StockDirectory
 stock_directory_of bytes = record {
   locate = number_at 1 2 bytes;
@@ -83,7 +83,7 @@ pub record IsStockDirectory (m : StockDirectory) : Type 0 where
 abbrev pub is_add_order : List ℕ → Bool
 is_add_order bytes = is_message 36 add_order bytes
 
--- what its bytes say: each field at its place
+-- what its bytes say: each field at its offset
 abbrev pub add_order_of : List ℕ → AddOrder
 add_order_of bytes = record {
   locate = number_at 1 2 bytes;
@@ -115,7 +115,7 @@ pub record IsAddOrder (m : AddOrder) : Type 0 where
 abbrev pub is_add_order_with_attribution : List ℕ → Bool
 is_add_order_with_attribution bytes = is_message 40 add_order_with_attribution bytes
 
--- what its bytes say: each field at its place
+-- what its bytes say: each field at its offset
 abbrev pub add_order_with_attribution_of : List ℕ → AddOrderWithAttribution
 add_order_with_attribution_of bytes = record {
   locate = number_at 1 2 bytes;
@@ -150,7 +150,7 @@ pub record IsAddOrderWithAttribution (m : AddOrderWithAttribution) : Type 0 wher
 abbrev pub is_order_executed : List ℕ → Bool
 is_order_executed bytes = is_message 31 order_executed bytes
 
--- what its bytes say: each field at its place
+-- what its bytes say: each field at its offset
 abbrev pub order_executed_of : List ℕ → OrderExecuted
 order_executed_of bytes = record {
   locate = number_at 1 2 bytes;
@@ -179,7 +179,7 @@ pub record IsOrderExecuted (m : OrderExecuted) : Type 0 where
 abbrev pub is_order_cancel : List ℕ → Bool
 is_order_cancel bytes = is_message 23 order_cancel bytes
 
--- what its bytes say: each field at its place
+-- what its bytes say: each field at its offset
 abbrev pub order_cancel_of : List ℕ → OrderCancel
 order_cancel_of bytes = record {
   locate = number_at 1 2 bytes;
@@ -206,7 +206,7 @@ pub record IsOrderCancel (m : OrderCancel) : Type 0 where
 abbrev pub is_order_delete : List ℕ → Bool
 is_order_delete bytes = is_message 19 order_delete bytes
 
--- what its bytes say: each field at its place
+-- what its bytes say: each field at its offset
 abbrev pub order_delete_of : List ℕ → OrderDelete
 order_delete_of bytes = record {
   locate = number_at 1 2 bytes;
@@ -231,7 +231,7 @@ pub record IsOrderDelete (m : OrderDelete) : Type 0 where
 abbrev pub is_order_replace : List ℕ → Bool
 is_order_replace bytes = is_message 35 order_replace bytes
 
--- what its bytes say: each field at its place
+-- what its bytes say: each field at its offset
 abbrev pub order_replace_of : List ℕ → OrderReplace
 order_replace_of bytes = record {
   locate = number_at 1 2 bytes;
@@ -263,7 +263,7 @@ pub record IsOrderReplace (m : OrderReplace) : Type 0 where
 abbrev pub is_trade : List ℕ → Bool
 is_trade bytes = is_message 44 trade bytes
 
--- what its bytes say: each field at its place
+-- what its bytes say: each field at its offset
 abbrev pub trade_of : List ℕ → Trade
 trade_of bytes = record {
   locate = number_at 1 2 bytes;
@@ -274,8 +274,8 @@ trade_of bytes = record {
   match_number = number_at 36 8 bytes;
 }
 
--- its bytes: field after field; the order that was not displayed keeps its reference and its side, for which 0 and
--- `B` stand (ITCH 5.0, Trade Message: Order Reference Number, Buy/Sell Indicator)
+-- its bytes: field after field; the order that was not displayed does not show its reference and its side, which are
+-- written as 0 and `B` (ITCH 5.0, Trade Message: Order Reference Number, Buy/Sell Indicator)
 abbrev pub trade_bytes : Trade → List ℕ
 trade_bytes m = with_head trade m.locate m.time
     ((0 ∷ 0 ∷ 0 ∷ 0 ∷ 0 ∷ 0 ∷ 0 ∷ 0 ∷ []) ++ (letter_of Buy ∷ []) ++ spelled 4 m.shares
@@ -296,7 +296,7 @@ pub record IsTrade (m : Trade) : Type 0 where
 abbrev pub is_stock_trading_action : List ℕ → Bool
 is_stock_trading_action bytes = is_message 25 stock_trading_action bytes
 
--- what its bytes say: each field at its place
+-- what its bytes say: each field at its offset
 abbrev pub stock_trading_action_of : List ℕ → StockTradingAction
 stock_trading_action_of bytes = record {
   locate = number_at 1 2 bytes;
@@ -328,7 +328,7 @@ pub record IsStockTradingAction (m : StockTradingAction) : Type 0 where
 abbrev pub is_broken_trade : List ℕ → Bool
 is_broken_trade bytes = is_message 19 broken_trade bytes
 
--- what its bytes say: each field at its place
+-- what its bytes say: each field at its offset
 abbrev pub broken_trade_of : List ℕ → BrokenTrade
 broken_trade_of bytes = record {
   locate = number_at 1 2 bytes;

@@ -14,7 +14,7 @@ use write::write;
 /// System Event: the hours of the day have changed. 12 bytes (ITCH 5.0, System Event).
 #[derive(Clone, Copy, Debug, PartialEq, Eq)]
 pub struct SystemEvent {
-    /// The number of the stock for the day; 0 where the message is of no stock (Stock Locate).
+    /// The number of the stock for the day; 0 if the message is of no stock (Stock Locate).
     pub locate: u16,
     /// Nanoseconds since midnight, below 2^48 (Timestamp).
     pub time: u64,
@@ -26,7 +26,7 @@ pub struct SystemEvent {
 /// Stock Directory: a stock that is traded on this day. 39 bytes (ITCH 5.0, Stock Directory).
 #[derive(Clone, Copy, Debug, PartialEq, Eq)]
 pub struct StockDirectory {
-    /// The number of the stock for the day; 0 where the message is of no stock (Stock Locate).
+    /// The number of the stock for the day; 0 if the message is of no stock (Stock Locate).
     pub locate: u16,
     /// Nanoseconds since midnight, below 2^48 (Timestamp).
     pub time: u64,
@@ -40,7 +40,7 @@ pub struct StockDirectory {
 /// Attribution).
 #[derive(Clone, Copy, Debug, PartialEq, Eq)]
 pub struct AddOrder {
-    /// The number of the stock for the day; 0 where the message is of no stock (Stock Locate).
+    /// The number of the stock for the day; 0 if the message is of no stock (Stock Locate).
     pub locate: u16,
     /// Nanoseconds since midnight, below 2^48 (Timestamp).
     pub time: u64,
@@ -60,7 +60,7 @@ pub struct AddOrder {
 /// Order with MPID Attribution).
 #[derive(Clone, Copy, Debug, PartialEq, Eq)]
 pub struct AddOrderWithAttribution {
-    /// The number of the stock for the day; 0 where the message is of no stock (Stock Locate).
+    /// The number of the stock for the day; 0 if the message is of no stock (Stock Locate).
     pub locate: u16,
     /// Nanoseconds since midnight, below 2^48 (Timestamp).
     pub time: u64,
@@ -82,7 +82,7 @@ pub struct AddOrderWithAttribution {
 /// Executed).
 #[derive(Clone, Copy, Debug, PartialEq, Eq)]
 pub struct OrderExecuted {
-    /// The number of the stock for the day; 0 where the message is of no stock (Stock Locate).
+    /// The number of the stock for the day; 0 if the message is of no stock (Stock Locate).
     pub locate: u16,
     /// Nanoseconds since midnight, below 2^48 (Timestamp).
     pub time: u64,
@@ -97,7 +97,7 @@ pub struct OrderExecuted {
 /// Order Cancel: some shares of a shown order were cancelled. 23 bytes (ITCH 5.0, Order Cancel).
 #[derive(Clone, Copy, Debug, PartialEq, Eq)]
 pub struct OrderCancel {
-    /// The number of the stock for the day; 0 where the message is of no stock (Stock Locate).
+    /// The number of the stock for the day; 0 if the message is of no stock (Stock Locate).
     pub locate: u16,
     /// Nanoseconds since midnight, below 2^48 (Timestamp).
     pub time: u64,
@@ -110,7 +110,7 @@ pub struct OrderCancel {
 /// Order Delete: a shown order has left the book. 19 bytes (ITCH 5.0, Order Delete).
 #[derive(Clone, Copy, Debug, PartialEq, Eq)]
 pub struct OrderDelete {
-    /// The number of the stock for the day; 0 where the message is of no stock (Stock Locate).
+    /// The number of the stock for the day; 0 if the message is of no stock (Stock Locate).
     pub locate: u16,
     /// Nanoseconds since midnight, below 2^48 (Timestamp).
     pub time: u64,
@@ -122,7 +122,7 @@ pub struct OrderDelete {
 /// bytes (ITCH 5.0, Order Replace).
 #[derive(Clone, Copy, Debug, PartialEq, Eq)]
 pub struct OrderReplace {
-    /// The number of the stock for the day; 0 where the message is of no stock (Stock Locate).
+    /// The number of the stock for the day; 0 if the message is of no stock (Stock Locate).
     pub locate: u16,
     /// Nanoseconds since midnight, below 2^48 (Timestamp).
     pub time: u64,
@@ -136,12 +136,11 @@ pub struct OrderReplace {
     pub price: u32,
 }
 
-/// Trade: shares of an order that is not shown were executed. It tells neither the order nor its
-/// side: the reference is written as 0, and the side as `B`. 44 bytes (ITCH 5.0, Trade Message
-/// (Non-Cross)).
+/// Trade: shares of an order that is not shown were executed. It names neither the order nor its side: the reference is
+/// written as 0, and the side as `B`. 44 bytes (ITCH 5.0, Trade Message (Non-Cross)).
 #[derive(Clone, Copy, Debug, PartialEq, Eq)]
 pub struct Trade {
-    /// The number of the stock for the day; 0 where the message is of no stock (Stock Locate).
+    /// The number of the stock for the day; 0 if the message is of no stock (Stock Locate).
     pub locate: u16,
     /// Nanoseconds since midnight, below 2^48 (Timestamp).
     pub time: u64,
@@ -159,7 +158,7 @@ pub struct Trade {
 /// Action).
 #[derive(Clone, Copy, Debug, PartialEq, Eq)]
 pub struct StockTradingAction {
-    /// The number of the stock for the day; 0 where the message is of no stock (Stock Locate).
+    /// The number of the stock for the day; 0 if the message is of no stock (Stock Locate).
     pub locate: u16,
     /// Nanoseconds since midnight, below 2^48 (Timestamp).
     pub time: u64,
@@ -174,7 +173,7 @@ pub struct StockTradingAction {
 /// Broken Trade: an execution was broken. 19 bytes (ITCH 5.0, Broken Trade / Order Execution).
 #[derive(Clone, Copy, Debug, PartialEq, Eq)]
 pub struct BrokenTrade {
-    /// The number of the stock for the day; 0 where the message is of no stock (Stock Locate).
+    /// The number of the stock for the day; 0 if the message is of no stock (Stock Locate).
     pub locate: u16,
     /// Nanoseconds since midnight, below 2^48 (Timestamp).
     pub time: u64,
@@ -209,11 +208,11 @@ pub enum Feed {
     BrokenTrade(BrokenTrade),
 }
 
-/// The message that the bytes are, or none where their type and length are not those of one.
-/// Any bytes are read, in fields and in what is no field: the tracking number, the reference and
-/// side of a Trade, and the reserved byte of a Stock Trading Action.
+/// The message that the bytes are, or none if their type and length are not those of one. Any bytes are read, in fields
+/// and in what is no field: the tracking number, the reference and side of a Trade, and the reserved byte of a Stock
+/// Trading Action.
 pub fn decode(bytes: &[u8]) -> Option<Feed>
-    // Which message it is, from the places of its fields; none exactly for another type or length.
+    // Which message it is, from the offsets of its fields; none exactly for another type or length.
     ensures exact { result ≡ feed_message_of bytes.now }
     ensures readable { IsSome result ↔ IsTrue (is_feed_message bytes.now) }
     // What is read may be written.

@@ -38,13 +38,13 @@ in_records moment left_since old new P least most so_far so = record {
       (so_far.before t left.0 le left.1);
 }
 
--- what stands is between what is kept and what was appended
+-- what stands is between what is durable and what was appended
 pub stands_between : (file : List ℕ) (waiting : List (List ℕ)) → sealed (lines_of file) ≡ lines_of file → IsBetween (records_of (lines_of file)) (recovered file) (records_of (lines_of file ++ waiting))
 stands_between file waiting whole =
     subst (λ (l : List (List ℕ)). IsBetween (records_of (lines_of file)) (records_of l) (records_of (lines_of file ++ waiting))) (sym whole)
     (record { begins = prefix_self (records_of (lines_of file)); begun = prefix_records (lines_of file) (lines_of file ++ waiting) (waiting, refl) })
 
--- where nothing waits or no mark is written
+-- if nothing waits or no mark is written
 pub recovers_old : (stored waiting : List (List ℕ)) (c : List ℕ) → sealed stored ≡ stored → IsBetween stored (lines_of c) (stored ++ waiting) → IsBetween (records_of stored) (recovered c) (records_of (stored ++ waiting))
 recovers_old stored waiting c whole between = record {
   begins = prefix_records stored (sealed (lines_of c)) (keeps_sealed stored (lines_of c) between.begins whole);

@@ -19,14 +19,14 @@ first_cut (a ∷ front) (b ∷ bs) x y is lacks e =
     let cut = first_cut front bs x y is.1 (λ k d lt. lacks (suc k) d (omega arith)) tail in
     (cc (head, cut.0), cut.1)
 
-no_line : (line behind : List ℕ) → [] ≡ line ++ 10 ∷ behind → ⊥
-no_line [] behind e = cc (e)
-no_line (x ∷ line) behind e = cc (e)
+no_line : (line after : List ℕ) → [] ≡ line ++ 10 ∷ after → ⊥
+no_line [] after e = cc (e)
+no_line (x ∷ line) after e = cc (e)
 
-pub first_line : (ls : List (List ℕ)) (line behind : List ℕ) → AreLines ls → Lacks 10 line → text_of ls ≡ line ++ 10 ∷ behind → (rest : List (List ℕ)) × (ls ≡ line ∷ rest) × (text_of rest ≡ behind) × AreLines rest
-first_line [] line behind are lacks e = absurd (no_line line behind e)
-first_line (l ∷ ls) line behind are lacks e =
-    let cut = first_cut l line (text_of ls) behind are.0 lacks e in
+pub first_line : (ls : List (List ℕ)) (line after : List ℕ) → AreLines ls → Lacks 10 line → text_of ls ≡ line ++ 10 ∷ after → (rest : List (List ℕ)) × (ls ≡ line ∷ rest) × (text_of rest ≡ after) × AreLines rest
+first_line [] line after are lacks e = absurd (no_line line after e)
+first_line (l ∷ ls) line after are lacks e =
+    let cut = first_cut l line (text_of ls) after are.0 lacks e in
     (ls, ap (λ (x : List ℕ). x ∷ ls) cut.0, cut.1, are.1)
 
 -- Of a text of lines the rest has lines too, and these records and theirs are all of the text.
@@ -36,26 +36,26 @@ pub record Copied (text rest tape : List ℕ) (count : ℕ) : Type 0 where
   pub count_is : count + length (records_of (lines_of rest)) ≡ length (records_of (lines_of text))
 
 -- the next line, with its record or without
-next_lines : (rest line behind : List ℕ) → rest ≡ text_of (lines_of rest) → Lacks 10 line → rest ≡ line ++ 10 ∷ behind → (lines_of rest ≡ line ∷ lines_of behind) × (behind ≡ text_of (lines_of behind))
-next_lines rest line behind whole lacks cut =
-    let first = first_line (lines_of rest) line behind (lines_of_are rest) lacks (sym whole ∙ cut) in
-    let is : lines_of behind ≡ first.0 = ap lines_of (sym first.2) ∙ lines_of-text first.0 first.3 in
+next_lines : (rest line after : List ℕ) → rest ≡ text_of (lines_of rest) → Lacks 10 line → rest ≡ line ++ 10 ∷ after → (lines_of rest ≡ line ∷ lines_of after) × (after ≡ text_of (lines_of after))
+next_lines rest line after whole lacks cut =
+    let first = first_line (lines_of rest) line after (lines_of_are rest) lacks (sym whole ∙ cut) in
+    let is : lines_of after ≡ first.0 = ap lines_of (sym first.2) ∙ lines_of-text first.0 first.3 in
     (first.1 ∙ ap (λ (l : List (List ℕ)). line ∷ l) (sym is), sym first.2 ∙ ap text_of (sym is))
 
-pub one_copied : (text rest tape line behind then : List ℕ) (count n : ℕ) → Copied text rest tape count → Lacks 10 line → rest ≡ line ++ 10 ∷ behind
-    → then ≡ tape ++ text_of (records_of (line ∷ [])) → n ≡ length (records_of (line ∷ [])) → Copied text behind then (count + n)
-one_copied text rest tape line behind then count n so_far lacks cut more one =
-    let next = next_lines rest line behind so_far.whole lacks cut in
-    let parts : records_of (lines_of rest) ≡ records_of (line ∷ []) ++ records_of (lines_of behind) =
-    ap records_of next.0 ∙ records_of-append (line ∷ []) (lines_of behind) in
+pub one_copied : (text rest tape line after then : List ℕ) (count n : ℕ) → Copied text rest tape count → Lacks 10 line → rest ≡ line ++ 10 ∷ after
+    → then ≡ tape ++ text_of (records_of (line ∷ [])) → n ≡ length (records_of (line ∷ [])) → Copied text after then (count + n)
+one_copied text rest tape line after then count n so_far lacks cut more one =
+    let next = next_lines rest line after so_far.whole lacks cut in
+    let parts : records_of (lines_of rest) ≡ records_of (line ∷ []) ++ records_of (lines_of after) =
+    ap records_of next.0 ∙ records_of-append (line ∷ []) (lines_of after) in
     record {
       whole = next.1;
       tape_is =
-          ap (λ (l : List ℕ). l ++ text_of (records_of (lines_of behind))) more
-          ∙ append_assoc tape (text_of (records_of (line ∷ []))) (text_of (records_of (lines_of behind)))
-          ∙ ap (λ (l : List ℕ). tape ++ l) (sym (text_of-append (records_of (line ∷ [])) (records_of (lines_of behind))) ∙ ap text_of (sym parts))
+          ap (λ (l : List ℕ). l ++ text_of (records_of (lines_of after))) more
+          ∙ append_assoc tape (text_of (records_of (line ∷ []))) (text_of (records_of (lines_of after)))
+          ∙ ap (λ (l : List ℕ). tape ++ l) (sym (text_of-append (records_of (line ∷ [])) (records_of (lines_of after))) ∙ ap text_of (sym parts))
           ∙ so_far.tape_is;
-      count_is = omega (arith, one, so_far.count_is, ap length parts, length-append (records_of (line ∷ [])) (records_of (lines_of behind)));
+      count_is = omega (arith, one, so_far.count_is, ap length parts, length-append (records_of (line ∷ [])) (records_of (lines_of after)));
     }
 
 -- no line feed, no line
@@ -82,5 +82,5 @@ pub few_of : (lines : List (List ℕ)) → length (records_of lines) ≤ length 
 few_of lines = omega (arith, length-filter (λ (line : List ℕ). not (is_mark line)) lines, count_by-le-length (λ (line : List ℕ). not (is_mark line)) lines)
 
 -- a shorter rest
-pub shorter : (rest line behind : List ℕ) → rest ≡ line ++ 10 ∷ behind → length behind < length rest
-shorter rest line behind cut = omega (arith, ap length cut, length-append line (10 ∷ behind))
+pub shorter : (rest line after : List ℕ) → rest ≡ line ++ 10 ∷ after → length after < length rest
+shorter rest line after cut = omega (arith, ap length cut, length-append line (10 ∷ after))

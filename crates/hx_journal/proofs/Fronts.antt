@@ -1,4 +1,4 @@
--- The whole blocks at the front of a text, and what stands behind them.
+-- The whole blocks at the front of a text, and what stands after them.
 use Rattle.std.proofs.Common.{◌≡◌, ◌≢◌, inr, Option, None, Some, ℕ, suc, ◌≤◌, ◌+◌, ◌-◌, Bool, true, false, List, [], ◌∷◌, ◌++◌, length, take, drop, get_or, refl, sym, ap, subst, ◌∙◌, arith, append_assoc, length-take}
 use Rattle.std.proofs.lemmas.List.{take-take, take_all, get_or-take, get_or-drop, length-drop}
 use mathlib.Core.List.{IsPrefix}
@@ -7,7 +7,7 @@ use Rattle.hx_journal.specs.Lines.{lines_of, text_of}
 use Rattle.hx_journal.specs.Records.{is_mark, records_of, sealed, recovered}
 use Rattle.hx_journal.specs.Crashes.{IsBetween}
 use Rattle.hx_journal.specs.Heads.{IsWord, head_of}
-use Rattle.hx_journal.specs.Surveys.{before_damage, marks_of, StandsBehind}
+use Rattle.hx_journal.specs.Surveys.{before_damage, marks_of, StandsAfter}
 use Rattle.hx_journal.proofs.Prefixes.{prefix_self, prefix_trans}
 use Rattle.hx_journal.proofs.Lines.{prefix_lines_of, lines_of_are, lines_of-text, lines_of-text_before}
 use Rattle.hx_journal.proofs.Sealing.{sealed_prefix, sealed_again, keeps_sealed, prefix_records}
@@ -15,7 +15,7 @@ use Rattle.hx_journal.proofs.Spelling.{line-head}
 use Rattle.hx_journal.proofs.Copying.{first_line, no_lines}
 use Rattle.hx_journal.proofs.Recovery.{are_sealed, lines_of_front}
 
--- Of a text up to a place, the whole blocks end where those of the text up to their own end do.
+-- Of a text up to an offset, the whole blocks end where those of the text up to their own end do.
 module _ (text : List ℕ) (at end : ℕ) (inside : end ≤ length (take at text)) (front : take end (take at text) ≡ text_of (sealed (lines_of (take at text)))) where
   cut_twice : take end (take at text) ≡ take end text
   cut_twice = take-take end at text (omega (arith, inside, length-take at text))
@@ -73,13 +73,13 @@ head_first text session day setup rest first second third is =
     ap lines_of (is ∙ sym (append_assoc head (10 ∷ []) rest)) ∙ lines_of-text_before (head ∷ []) rest (line-head session day setup first second third, tt) in
     (lines_of rest, sym lines)
 
--- what stands behind a place, by what stands in the rest of the text
-pub behind_text : (text : List ℕ) (end torn : ℕ) → end ≤ length text
+-- what stands after an offset, by what stands in the rest of the text
+pub after_text : (text : List ℕ) (end torn : ℕ) → end ≤ length text
     → torn ≤ length (take (length text - end) (drop end text))
     → ((i : ℕ) → suc i ≡ torn → get_or (take (length text - end) (drop end text)) i 0 ≢ 0)
     → ((i : ℕ) → torn ≤ i → get_or (take (length text - end) (drop end text)) i 0 ≡ 0)
-    → StandsBehind text end torn (length (take (length text - end) (drop end text)) - torn)
-behind_text text end torn inside within last rest =
+    → StandsAfter text end torn (length (take (length text - end) (drop end text)) - torn)
+after_text text end torn inside within last rest =
     let all : take (length text - end) (drop end text) ≡ drop end text = take_all (length text - end) (drop end text) (omega (arith, length-drop end text)) in
     record {
       all = omega (arith, inside, within, ap length all, length-drop end text);

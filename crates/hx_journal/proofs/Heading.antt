@@ -4,7 +4,7 @@ use Rattle.std.specs.Prelude.{Option, None, Some, IfNone}
 use Rattle.hx_text.specs.Cuts.{Lacks}
 use Rattle.hx_journal.specs.Heads.{IsWord, IsHeadOf, head_of}
 
--- what holds anyway holds where there is nothing
+-- what holds anyway holds if there is nothing
 pub if_none : {A : Type 0} (r : Option A) (P : Type 0) → P → IfNone r P
 if_none None P h = h
 if_none (Some x) P h = tt
@@ -24,9 +24,9 @@ word_lacks (b ∷ word) is zero d lt = λ e. omega (arith, is.0.0, e)
 word_lacks (b ∷ word) is (suc k) d lt = word_lacks word is.1 k d (omega arith)
 
 -- a text with a space does not lack one
-pub has_space : (front behind : List ℕ) → Lacks 32 (front ++ 32 ∷ behind) → ⊥
-has_space [] behind lacks = lacks zero 0 (omega arith) refl
-has_space (b ∷ front) behind lacks = has_space front behind (λ k d lt. lacks (suc k) d (omega arith))
+pub has_space : (front after : List ℕ) → Lacks 32 (front ++ 32 ∷ after) → ⊥
+has_space [] after lacks = lacks zero 0 (omega arith) refl
+has_space (b ∷ front) after lacks = has_space front after (λ k d lt. lacks (suc k) d (omega arith))
 
 -- a text is cut at its first space in one way
 pub one_cut : (a b x y : List ℕ) → Lacks 32 a → Lacks 32 b → a ++ 32 ∷ x ≡ b ++ 32 ∷ y → (a ≡ b) × (x ≡ y)
@@ -39,21 +39,21 @@ one_cut (a ∷ front) (b ∷ bs) x y la lb e =
     let cut = one_cut front bs x y (λ k d lt. la (suc k) d (omega arith)) (λ k d lt. lb (suc k) d (omega arith)) tail in
     (cc (head, cut.0), cut.1)
 
--- what stands behind the tag is cut as the line is
-behind_tags : (rest session day setup : List ℕ) → 35 ∷ 104 ∷ 120 ∷ 49 ∷ 32 ∷ rest ≡ head_of session day setup → rest ≡ session ++ 32 ∷ (day ++ 32 ∷ setup)
-behind_tags rest session day setup e =
+-- what stands after the tag is cut as the line is
+after_tags : (rest session day setup : List ℕ) → 35 ∷ 104 ∷ 120 ∷ 49 ∷ 32 ∷ rest ≡ head_of session day setup → rest ≡ session ++ 32 ∷ (day ++ 32 ∷ setup)
+after_tags rest session day setup e =
     let whole : 35 ∷ 104 ∷ 120 ∷ 49 ∷ 32 ∷ rest ≡ 35 ∷ 104 ∷ 120 ∷ 49 ∷ 32 ∷ (session ++ 32 ∷ (day ++ 32 ∷ setup)) = e ∙ tag_and_rest session day setup in
     cc (whole)
 
 pub no_session : (line rest session day setup : List ℕ) → line ≡ 35 ∷ 104 ∷ 120 ∷ 49 ∷ 32 ∷ rest → Lacks 32 rest → line ≡ head_of session day setup → ⊥
-no_session line rest session day setup tag lacks is = let cut = behind_tags rest session day setup (sym tag ∙ is) in has_space session (day ++ 32 ∷ setup) (subst (Lacks 32) cut lacks)
+no_session line rest session day setup tag lacks is = let cut = after_tags rest session day setup (sym tag ∙ is) in has_space session (day ++ 32 ∷ setup) (subst (Lacks 32) cut lacks)
 
-pub no_day : (line rest front behind session day setup : List ℕ) → line ≡ 35 ∷ 104 ∷ 120 ∷ 49 ∷ 32 ∷ rest → rest ≡ front ++ 32 ∷ behind → Lacks 32 front → Lacks 32 behind → IsWord session → line ≡ head_of session day setup → ⊥
-no_day line rest front behind session day setup tag cut first second word is =
-    let here = one_cut front session behind (day ++ 32 ∷ setup) first (word_lacks session word) (sym cut ∙ behind_tags rest session day setup (sym tag ∙ is)) in
+pub no_day : (line rest front after session day setup : List ℕ) → line ≡ 35 ∷ 104 ∷ 120 ∷ 49 ∷ 32 ∷ rest → rest ≡ front ++ 32 ∷ after → Lacks 32 front → Lacks 32 after → IsWord session → line ≡ head_of session day setup → ⊥
+no_day line rest front after session day setup tag cut first second word is =
+    let here = one_cut front session after (day ++ 32 ∷ setup) first (word_lacks session word) (sym cut ∙ after_tags rest session day setup (sym tag ∙ is)) in
     has_space day setup (subst (Lacks 32) here.1 second)
 
--- the parts of a line are its words, where it has such
+-- the parts of a line are its words, if it has such
 pub record SameParts (a b c session day setup : List ℕ) : Type 0 where
   pub first : a ≡ session
   pub second : b ≡ day
@@ -61,7 +61,7 @@ pub record SameParts (a b c session day setup : List ℕ) : Type 0 where
 
 pub same_parts : (line a b c session day setup : List ℕ) → IsHeadOf line a b c → IsWord session → IsWord day → line ≡ head_of session day setup → SameParts a b c session day setup
 same_parts line a b c session day setup cut first second is =
-    let whole = behind_tags (a ++ 32 ∷ (b ++ 32 ∷ c)) session day setup (sym (tag_and_rest a b c) ∙ sym cut.is ∙ is) in
+    let whole = after_tags (a ++ 32 ∷ (b ++ 32 ∷ c)) session day setup (sym (tag_and_rest a b c) ∙ sym cut.is ∙ is) in
     let front = one_cut a session (b ++ 32 ∷ c) (day ++ 32 ∷ setup) cut.session_ends (word_lacks session first) whole in
     let back = one_cut b day c setup cut.day_ends (word_lacks day second) front.1 in
     record { first = front.0; second = back.0; third = back.1 }

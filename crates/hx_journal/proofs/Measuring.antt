@@ -8,7 +8,7 @@ use Rattle.hx_journal.specs.Records.{is_mark, sealed}
 use Rattle.hx_journal.proofs.Lines.{zero_ends, goes_on, ends_line, in_line, text_of-append, few_lines_of}
 use Rattle.hx_journal.proofs.Sealing.{sealed_mark, sealed_record, sealed_prefix}
 
--- Of the first n bytes: the lines that ended, where the next began, and the whole blocks among them.
+-- Of the first n bytes: the lines that ended, the begun part of the next, and the whole blocks among them.
 pub record Measured (bytes : List ℕ) (n start lines : ℕ) (whole : ℕ × ℕ) : Type 0 where
   pub ended : List (List ℕ)
   pub begun : List ℕ

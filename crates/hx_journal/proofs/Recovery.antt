@@ -14,9 +14,9 @@ use Rattle.hx_journal.proofs.Lines.{lines_of-text, lines_of_are}
 use Rattle.hx_journal.proofs.Sealing.{sealed_prefix, no_record, prefix_records, reads_alike}
 use Rattle.hx_journal.proofs.Copying.{first_line}
 
-are_front : (front behind : List (List ℕ)) → AreLines (front ++ behind) → AreLines front
-are_front [] behind are = tt
-are_front (line ∷ front) behind are = (are.0, are_front front behind are.1)
+are_front : (front after : List (List ℕ)) → AreLines (front ++ after) → AreLines front
+are_front [] after are = tt
+are_front (line ∷ front) after are = (are.0, are_front front after are.1)
 
 pub are_sealed : (file : List ℕ) → AreLines (sealed (lines_of file))
 are_sealed file =
@@ -30,7 +30,7 @@ lines_of_front file end front = ap lines_of front ∙ lines_of-text (sealed (lin
 pub front_text : (file : List ℕ) (end : ℕ) → take end file ≡ text_of (sealed (lines_of file)) → take end file ≡ text_of (lines_of (take end file))
 front_text file end front = front ∙ ap text_of (sym (lines_of_front file end front))
 
--- no crash changes what is read, where the whole blocks stay and nothing is new
+-- no crash changes what is read, if the whole blocks stay and nothing is new
 pub still_read : (file c : List ℕ) (end : ℕ) → take end file ≡ text_of (sealed (lines_of file)) → HasFromTo (lines_of (take end file)) (lines_of file) c → ReadsAlike file c
 still_read file c end front between =
     reads_alike file c (subst (λ l. IsBetween l (lines_of c) (lines_of file)) (lines_of_front file end front) between)
@@ -42,7 +42,7 @@ nothing_before : (xs : List (List ℕ)) → IsPrefix xs [] → xs ≡ []
 nothing_before [] p = refl
 nothing_before (x ∷ xs) p = absurd (cc (p.1))
 
--- nor where a file without blocks gets its first line
+-- nor if a file without blocks gets its first line
 pub head_read : (file head c : List ℕ) → sealed (lines_of file) ≡ [] → is_mark head ≡ true → HasFromTo [] (head ∷ []) c → ReadsAlike file c
 head_read file head c none mark between =
     let all : IsPrefix (sealed (lines_of c)) (head ∷ []) = prefix_trans (sealed (lines_of c)) (lines_of c) (head ∷ []) (sealed_prefix (lines_of c)) between.begun in

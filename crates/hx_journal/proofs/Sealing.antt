@@ -43,9 +43,9 @@ unfolding joined
 joined_more line front [] = refl
 joined_more line front (next ∷ rest) = before_some line front next rest
 
-sealed-append : (front behind : List (List ℕ)) → sealed (front ++ behind) ≡ joined front (sealed behind)
-sealed-append [] behind = joined_none (sealed behind)
-sealed-append (line ∷ front) behind = ap (sealed_with line) (sealed-append front behind) ∙ joined_more line front (sealed behind)
+sealed-append : (front after : List (List ℕ)) → sealed (front ++ after) ≡ joined front (sealed after)
+sealed-append [] after = joined_none (sealed after)
+sealed-append (line ∷ front) after = ap (sealed_with line) (sealed-append front after) ∙ joined_more line front (sealed after)
 
 alone_prefix : (line : List ℕ) (lines : List (List ℕ)) (mark : Bool) → is_mark line ≡ mark → IsPrefix (sealed_with line []) (line ∷ lines)
 alone_prefix line lines true is = subst (λ l. IsPrefix l (line ∷ lines)) (sym (mark_alone line is)) (lines, refl)

@@ -23,11 +23,11 @@ line-decimal n lt = line_of_lacks (decimal n) (lacks-decimal 0 n (omega arith) l
 text : (b : ℕ) → 10 < b → IsText b
 text b lt = (λ e. absurd (omega (arith, lt, e)), λ e. absurd (omega (arith, lt, e)))
 
-pub line-mark : (place size previous sum : ℕ) → place < 2 ^ 64 → size < 2 ^ 64 → previous < 2 ^ 64 → sum < 2 ^ 64 → IsLine (mark_of place size previous sum)
-line-mark place size previous sum lp ls lv lu =
-    line-append (35 ∷ decimal place ++ 32 ∷ decimal size ++ 32 ∷ decimal previous) (32 ∷ decimal sum)
-    (line-append (35 ∷ decimal place ++ 32 ∷ decimal size) (32 ∷ decimal previous)
-    (line-append (35 ∷ decimal place) (32 ∷ decimal size) (text 35 (omega arith), line-decimal place lp) (text 32 (omega arith), line-decimal size ls))
+pub line-mark : (offset size previous sum : ℕ) → offset < 2 ^ 64 → size < 2 ^ 64 → previous < 2 ^ 64 → sum < 2 ^ 64 → IsLine (mark_of offset size previous sum)
+line-mark offset size previous sum lp ls lv lu =
+    line-append (35 ∷ decimal offset ++ 32 ∷ decimal size ++ 32 ∷ decimal previous) (32 ∷ decimal sum)
+    (line-append (35 ∷ decimal offset ++ 32 ∷ decimal size) (32 ∷ decimal previous)
+    (line-append (35 ∷ decimal offset) (32 ∷ decimal size) (text 35 (omega arith), line-decimal offset lp) (text 32 (omega arith), line-decimal size ls))
     (text 32 (omega arith), line-decimal previous lv))
     (text 32 (omega arith), line-decimal sum lu)
 

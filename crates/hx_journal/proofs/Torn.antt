@@ -59,8 +59,8 @@ torn_write file group c end rest lines torn = record {
 pub written : (file group new : List ℕ) (end : ℕ) → IsAtRest file end → group ≡ text_of (lines_of group) → Holds file end group new → IsAtRest new (end + length group) × (lines_of new ≡ lines_of file ++ lines_of group)
 written file group new end rest lines holds = (record { inside = inside; front = front; zeros = zeros }, is)
   where
-    behind : List ℕ
-    behind = drop (end + length group) file
+    after : List ℕ
+    after = drop (end + length group) file
 
     size : length (text_of (lines_of file)) ≡ end
     size = ap length (sym rest.front) ∙ length_front file end rest.inside
@@ -74,14 +74,14 @@ written file group new end rest lines holds = (record { inside = inside; front =
     inside : end + length group ≤ length new
     inside = omega (arith, long, ap length parts, length-append (text_of (lines_of file) ++ group) (drop (end + length group) file))
 
-    zeros_behind : (i : ℕ) → get_or (drop (end + length group) file) i 0 ≡ 0
-    zeros_behind i = get_or-drop (end + length group) file i 0 ∙ rest.zeros (end + length group + i) (omega arith)
+    zeros_after : (i : ℕ) → get_or (drop (end + length group) file) i 0 ≡ 0
+    zeros_after i = get_or-drop (end + length group) file i 0 ∙ rest.zeros (end + length group + i) (omega arith)
 
     only_group : lines_of (group ++ drop (end + length group) file) ≡ lines_of group
     only_group =
         ap (λ l. lines_of (l ++ drop (end + length group) file)) lines
         ∙ lines_of-text_before (lines_of group) (drop (end + length group) file) (lines_of_are group)
-        ∙ ap (λ l. lines_of group ++ l) (lines_of-zeros (drop (end + length group) file) zeros_behind)
+        ∙ ap (λ l. lines_of group ++ l) (lines_of-zeros (drop (end + length group) file) zeros_after)
         ∙ append-nil (lines_of group)
 
     is : lines_of new ≡ lines_of file ++ lines_of group
@@ -102,7 +102,7 @@ written file group new end rest lines holds = (record { inside = inside; front =
     zeros i far =
         ap (λ l. get_or l i 0) parts
         ∙ get_or-append_right (text_of (lines_of file) ++ group) (drop (end + length group) file) (end + length group) i 0 long far
-        ∙ zeros_behind (i - (end + length group))
+        ∙ zeros_after (i - (end + length group))
 
 -- a file that begins with the text of lines has them
 pub has_front : (file : List ℕ) (ls : List (List ℕ)) (end : ℕ) → end ≤ length file → take end file ≡ text_of ls → AreLines ls → IsPrefix ls (lines_of file)
@@ -129,7 +129,7 @@ cut_done file end inside front =
       zeros = λ i far. get_or_past (take end file) i 0 (omega (arith, size));
     }
 
--- zeros behind the lines, in whatever mixture they come
+-- zeros after the lines, in whatever mixture they come
 pub torn_zeros : (file zeros c : List ℕ) (end : ℕ) → IsAtRest file end → ((i : ℕ) → get_or zeros i 0 ≡ 0) → Mixed end zeros file c → lines_of c ≡ lines_of file
 torn_zeros file zeros c end rest none torn =
     prefix_both (lines_of c) (lines_of file)
@@ -148,7 +148,7 @@ zeros-append (x ∷ xs) ys none nothing zero = none zero
 zeros-append (x ∷ xs) ys none nothing (suc i) = zeros-append xs ys (λ k. none (suc k)) nothing i
 
 pub zeros_written : (file zeros new : List ℕ) (end : ℕ) → IsAtRest file end → ((i : ℕ) → get_or zeros i 0 ≡ 0) → Holds file end zeros new → IsAtRest new end × (lines_of new ≡ lines_of file)
-zeros_written file zeros new end rest none holds = (record { inside = inside; front = front; zeros = zeros_behind }, is)
+zeros_written file zeros new end rest none holds = (record { inside = inside; front = front; zeros = zeros_after }, is)
   where
     size : length (text_of (lines_of file)) ≡ end
     size = ap length (sym rest.front) ∙ length_front file end rest.inside
@@ -176,8 +176,8 @@ zeros_written file zeros new end rest none holds = (record { inside = inside; fr
         ∙ take_at (text_of (lines_of file)) (zeros ++ drop (end + length zeros) file) end size
         ∙ ap text_of (sym is)
 
-    zeros_behind : (i : ℕ) → end ≤ i → byte new i ≡ 0
-    zeros_behind i far =
+    zeros_after : (i : ℕ) → end ≤ i → byte new i ≡ 0
+    zeros_after i far =
         ap (λ l. get_or l i 0) parts
         ∙ get_or-append_right (text_of (lines_of file)) (zeros ++ drop (end + length zeros) file) end i 0 size far
         ∙ all_zeros (i - end)

@@ -11,7 +11,7 @@ pub record LineFileState (D : Type 0) : Type 0 where
   pub waiting : List (List ℕ)
   pub is_open : Bool
 
--- lines up to this place, and zeros behind it
+-- lines up to this offset, and zeros after it
 pub record IsAtRest (file : List ℕ) (end : ℕ) : Type 0 where
   pub inside : end ≤ length file
   pub front : take end file ≡ text_of (lines_of file)

@@ -13,7 +13,7 @@ abbrev pub head_of : List ℕ → List ℕ → List ℕ → List ℕ
 head_of session day setup =
     35 ∷ 104 ∷ 120 ∷ 49 ∷ 32 ∷ session ++ 32 ∷ day ++ 32 ∷ setup
 
--- a line is cut into these parts: at the first two spaces behind its tag
+-- a line is cut into these parts: at the first two spaces after its tag
 pub record IsHeadOf (line session day setup : List ℕ) : Type 0 where
   pub is : line ≡ head_of session day setup
   pub session_ends : Lacks 32 session

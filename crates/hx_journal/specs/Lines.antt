@@ -15,7 +15,7 @@ abbrev pub AreLines : List (List ℕ) → Type 0
 AreLines [] = Unit {0}
 AreLines (r ∷ rs) = IsLine r × AreLines rs
 
--- each line with a line feed behind it
+-- each line with a line feed after it
 abbrev pub text_of : List (List ℕ) → List ℕ
 text_of [] = []
 text_of (r ∷ rs) = r ++ 10 ∷ text_of rs

@@ -2,7 +2,7 @@
 use Rattle.std.specs.Prelude.{ℕ, List, ◌∷◌, ◌++◌}
 use Rattle.std.specs.Fmt.{decimal}
 
--- `#PLACE SIZE PREVIOUS SUM`: the line that ends a block
-abbrev pub mark_of : (place : ℕ) → (size : ℕ) → (previous : ℕ) → (sum : ℕ) → List ℕ
-mark_of place size previous sum =
-    35 ∷ decimal place ++ 32 ∷ decimal size ++ 32 ∷ decimal previous ++ 32 ∷ decimal sum
+-- `#OFFSET SIZE PREVIOUS SUM`: the line that ends a block
+abbrev pub mark_of : (offset : ℕ) → (size : ℕ) → (previous : ℕ) → (sum : ℕ) → List ℕ
+mark_of offset size previous sum =
+    35 ∷ decimal offset ++ 32 ∷ decimal size ++ 32 ∷ decimal previous ++ 32 ∷ decimal sum

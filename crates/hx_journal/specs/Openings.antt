@@ -15,7 +15,7 @@ pub record IsOpened
     : Type 0 where
   pub is_open : journal.is_open ≡ true
   pub head_is : IsPrefix (head ∷ []) (stored seen journal)
-  pub kept : records_of (stored seen journal) ≡ recovered file
+  pub durable : records_of (stored seen journal) ≡ recovered file
   pub waiting : journal.waiting ≡ []
   pub tape_is : tape ≡ text_of (recovered file)
   pub records_are : lines_of tape ≡ recovered file
@@ -26,7 +26,7 @@ IsRefusal (Journal error) = ⊥
 IsRefusal (Damaged at) = Unit {0}
 IsRefusal (OtherHead part) = Unit {0}
 
--- a fault of the device is told only where a call of it has failed since
+-- a fault of the device is reported only if a call of it has failed since
 abbrev pub IsOpenCause : (before : ℕ) → (now : ℕ) → OpenError → Type 0
 IsOpenCause before now (Journal error) = IsCause before now error
 IsOpenCause before now (Damaged at) = Unit {0}
@@ -38,6 +38,6 @@ IsOtherDay (Journal error) = ⊥
 IsOtherDay (Damaged at) = ⊥
 IsOtherDay (OtherHead part) = Unit {0}
 
--- another day is named only where the whole blocks of the file do not begin with this line
+-- another day is named only if the whole blocks of the file do not begin with this line
 abbrev pub NamesOther : List ℕ → List ℕ → OpenError → Type 0
 NamesOther file head error = IsOtherDay error → IsPrefix (head ∷ []) (sealed (lines_of file)) → ⊥

@@ -15,7 +15,7 @@ IsRecord bytes = IsLine bytes × (is_mark bytes ≡ false)
 abbrev pub records_of : List (List ℕ) → List (List ℕ)
 records_of lines = filter (λ line. not (is_mark line)) lines
 
--- a line stays where some line behind it stays, or where it is a mark
+-- a line stays if some line after it stays, or if it is a mark
 abbrev pub sealed_with : List ℕ → List (List ℕ) → List (List ℕ)
 sealed_with line [] = if is_mark line then line ∷ [] else []
 sealed_with line (next ∷ rest) = line ∷ next ∷ rest

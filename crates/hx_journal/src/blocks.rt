@@ -7,29 +7,29 @@ use crate::mark::{ends_whole_block, spell_mark};
 use crate::sum::crc32;
 use std::alloc::Global;
 
-/// Sees that the blocks of a file, behind its first line, are as they were written, and that no
-/// whole block stands behind them. Returns the sum of the last block. The error names the first
-/// byte of the first block that is not as it was written, or of what stands behind them all.
-pub fn check(alloc: Global, first: &[u8], blocks: &[u8], behind: &[u8]) -> Result<u32, OpenError>
+/// Checks that the blocks of a file, after its first line, are as they were written, and that no
+/// whole block stands after them. Returns the sum of the last block. The error names the first byte
+/// of the first block that is not as it was written, or of what stands after them all.
+pub fn check(alloc: Global, first: &[u8], blocks: &[u8], after: &[u8]) -> Result<u32, OpenError>
     ensures cause { (before now : ℕ) → IfErr result (λ e. IsOpenCause before now e) }
     ensures day { IfErr result (λ e. IsOtherDay e → ⊥) }
 {
-    let place = first.len() + 1;
-    let sum = match follow(alloc, blocks, place, crc32(0, first)) {
+    let offset = first.len() + 1;
+    let sum = match follow(alloc, blocks, offset, crc32(0, first)) {
         Ok(sum) => sum,
         Err(error) => return Err(error),
     };
-    if whole_blocks(behind) > 0 {
-        let at = place.saturating_add(blocks.len());
+    if whole_blocks(after) > 0 {
+        let at = offset.saturating_add(blocks.len());
         return Err(OpenError::Damaged { at });
     }
     Ok(sum)
 }
 
-// Follows the chain of blocks in a text that stands at a place of a file, behind a line with this
+// Follows the chain of blocks in a text that stands at an offset of a file, after a line with this
 // sum, and returns the sum of the last block. The error names the first byte of the first block
 // that is not as it was written.
-fn follow(alloc: Global, text: &[u8], place: usize, sum: u32) -> Result<u32, OpenError>
+fn follow(alloc: Global, text: &[u8], offset: usize, sum: u32) -> Result<u32, OpenError>
     ensures cause { (before now : ℕ) → IfErr result (λ e. IsOpenCause before now e) }
     ensures day { IfErr result (λ e. IsOtherDay e → ⊥) }
 {
@@ -50,7 +50,7 @@ fn follow(alloc: Global, text: &[u8], place: usize, sum: u32) -> Result<u32, Ope
             let lines = text.get(chain.start..start).unwrap_or(&[]);
             let sum = spell_mark(&mut mark, chain.first, lines, chain.sum)?;
             if mark.as_slice() != line {
-                let at = place.saturating_add(chain.start);
+                let at = offset.saturating_add(chain.start);
                 return Err(OpenError::Damaged { at });
             }
             chain = Chain {

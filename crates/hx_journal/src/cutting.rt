@@ -1,4 +1,4 @@
-//! A cut of what stands behind the blocks that a survey found.
+//! A cut of what stands after the blocks that a survey found.
 ghost use Rattle.std.specs.Prelude.{◌≡◌, ◌<◌, ◌≤◌, length, take, OnOk, IsErrOf};
 ghost use mathlib.Core.List.{IsPrefix};
 ghost use Rattle.hx_disk.specs.Device.{Only, LeavesOnly};
@@ -9,9 +9,8 @@ ghost use Rattle.hx_journal.specs.Surveys.{before_damage};
 use crate::line_file::repair;
 use crate::{Device, DeviceError, Survey};
 
-/// Cuts off what stands behind the blocks that a survey of a file found, and sees that the cut is on
-/// the disk. All of the file is on the disk before. A crash at any moment of the call leaves these
-/// blocks.
+/// Cuts off what stands after the blocks that a survey of a file found, and syncs the cut. All of the file is on the
+/// disk before. A crash at any moment of the call leaves these blocks.
 pub fn cut_off<D: Device>(file: &mut D, text: &[u8], survey: &Survey<'_>) -> Result<(), DeviceError>
     requires read { text.now ≡ D.seen file.old }
     requires inside { survey.now.end ≤ length text.now }
@@ -21,7 +20,7 @@ pub fn cut_off<D: Device>(file: &mut D, text: &[u8], survey: &Survey<'_>) -> Res
     requires well { D.faults file.old ≡ 0 }
 
     ensures cut { OnOk result (D.seen file.new ≡ take survey.now.end text.now) }
-    ensures kept { OnOk result (recovered (D.seen file.new)
+    ensures retained { OnOk result (recovered (D.seen file.new)
         ≡ recovered (before_damage text.now survey.now.damage)) }
     ensures durable { OnOk result (Only (D.seen file.new) (D.may_leave file.new)) }
     ensures any_moment { LeavesOnly D.moment D.left_since file.old file.new (λ c.

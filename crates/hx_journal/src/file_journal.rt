@@ -11,8 +11,8 @@ use crate::{Device, Journal, JournalError};
 use std::alloc::Global;
 use std::marker::Model;
 
-/// The journal of a day in a file: a first line that says of which day, and blocks of records, each
-/// with a line behind it that has its sum.
+/// The journal of a day in a file: a first line that says of which day, and blocks of records, each with a line after
+/// it that has its sum.
 #[derive(Drop)]
 pub struct FileJournal<D: Device> {
     pub(crate) lines: LineFile<D>,
@@ -20,7 +20,7 @@ pub struct FileJournal<D: Device> {
     pub(crate) records: usize,
     // The sum of the last block.
     pub(crate) sum: u32,
-    // The line that ends a block. Its memory is kept from one block to the next.
+    // The line that ends a block. Its memory is reused from one block to the next.
     pub(crate) mark: Vec<u8>,
 }
 
@@ -41,7 +41,7 @@ impl<D: Device> Journal for FileJournal<D> {
 
     ghost appended = { λ j. records_of (appended D.seen j) };
 
-    ghost kept = { λ j. records_of (stored D.seen j) };
+    ghost durable = { λ j. records_of (stored D.seen j) };
 
     ghost is_open = { λ j. j.is_open };
 
@@ -104,9 +104,8 @@ impl<D: Device> FileJournal<D> {
         self.lines.is_open()
     }
 
-    /// Writes this number of zeros behind the blocks and syncs, so that the blocks to come lie in a file
-    /// that needs no growth: their syncs are cheaper then. After a device's `Err` the journal is
-    /// closed.
+    /// Writes `len` zeros after the blocks and syncs, so that the blocks to come lie in a file that needs no growth:
+    /// their syncs are cheaper then. After a device's `Err` the journal is closed.
     pub fn zeros_ahead(&mut self, alloc: Global, len: usize) -> Result<(), JournalError>
         ensures same { OnOk result ((self.new.is_open ≡ true)
             × (stored D.seen self.new ≡ stored D.seen self.old)

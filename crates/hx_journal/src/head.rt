@@ -82,7 +82,7 @@ impl Head {
         &self.line
     }
 
-    /// The first part by which another line differs, or none where it is no head, or the same one.
+    /// The first part by which another line differs, or none if it is no head, or the same one.
     pub(crate) fn other_part(&self, found: &[u8]) -> Option<HeadPart> {
         let (session, day, setup) = parts(&self.line)?;
         let (found_session, found_day, found_setup) = parts(found)?;
@@ -108,7 +108,7 @@ impl Head {
         true
     }
 
-    // The byte of the line with its line feed, and zero behind it.
+    // The byte of the line with its line feed, and zero after it.
     fn byte_at(&self, i: usize) -> u8 {
         match self.line.get(i) {
             Some(b) => *b,
@@ -118,19 +118,19 @@ impl Head {
     }
 }
 
-/// What stands behind the tag of a line, up to a space, up to the next one, and behind that.
+/// What stands after the tag of a line, up to a space, up to the next one, and after that.
 pub(crate) fn parts(line: &[u8]) -> Option<(&[u8], &[u8], &[u8])>
     ensures some { IfSome result (λ p. IsHeadOf line.now p.0.now p.1.now p.2.now) }
     ensures none { IfNone result ((session day setup : List ℕ)
         → IsWord session → IsWord day → IsWord setup → line.now ≢ head_of session day setup) }
 {
-    let (session, rest) = split_once(behind_tag(line)?, b' ')?;
+    let (session, rest) = split_once(after_tag(line)?, b' ')?;
     let (day, setup) = split_once(rest, b' ')?;
     Some((session, day, setup))
 }
 
-// What stands behind the tag of a line.
-fn behind_tag(line: &[u8]) -> Option<&[u8]>
+// What stands after the tag of a line.
+fn after_tag(line: &[u8]) -> Option<&[u8]>
     ensures some { IfSome result (λ rest. line.now ≡ codes "#hx1 " ++ rest.now) }
     ensures none { IfNone result ((rest : List ℕ) → line.now ≢ codes "#hx1 " ++ rest) }
 {
@@ -150,10 +150,10 @@ pub(crate) fn is_word(word: &[u8]) -> bool
 }
 
 /// Whether a text may be what a crash left of the first line of some day: each byte is zero or one
-/// of such a line, and those behind its line feed are zero.
+/// of such a line, and those after its line feed are zero.
 pub(crate) fn may_be_torn_head(text: &[u8]) -> bool {
-    let (line, behind) = split_once(text, b'\n').unwrap_or((text, &[]));
-    are_zeros(behind) && may_be_torn_line(line)
+    let (line, after) = split_once(text, b'\n').unwrap_or((text, &[]));
+    are_zeros(after) && may_be_torn_line(line)
 }
 
 fn are_zeros(bytes: &[u8]) -> bool {

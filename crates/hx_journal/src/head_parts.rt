@@ -15,7 +15,7 @@ pub struct HeadParts<'a> {
     pub setup: &'a [u8],
 }
 
-/// What a line says as the first of a journal, or none where it is no such line.
+/// What a line says as the first of a journal, or none if it is no such line.
 pub fn read_head(line: &[u8]) -> Option<HeadParts<'_>>
     ensures some { IfSome result (λ h.
         line.now ≡ head_of h.session.now h.day.now h.setup.now) }

@@ -6,14 +6,14 @@ ghost use Rattle.hx_journal.specs.Crashes.{Leaves, IsBetween};
 
 use crate::JournalError;
 
-/// A list of records that outlives a crash. What recovery reads after one is between what is kept
-/// and what was appended: it begins with the one, and is a beginning of the other.
+/// A list of records that outlives a crash. What recovery reads after one is between what is
+/// durable and what was appended: it begins with the one, and is a beginning of the other.
 pub trait Journal {
     /// The records that were appended.
     ghost appended: { Self → List (List ℕ) };
 
     /// The first of them, which are synced: each crash leaves these.
-    ghost kept: { Self → List (List ℕ) };
+    ghost durable: { Self → List (List ℕ) };
 
     /// Whether no sync has failed. A journal that is closed promises nothing but that it does
     /// nothing.
@@ -36,42 +36,41 @@ pub trait Journal {
 
         ensures appended { OnOk result (appended self.new ≡ appended self.old ++ bytes.now ∷ []) }
         ensures refused { OnErr result (appended self.new ≡ appended self.old) }
-        ensures kept { kept self.new ≡ kept self.old }
+        ensures durable { durable self.new ≡ durable self.old }
         ensures still { is_open self.new ≡ is_open self.old }
         ensures was_open { OnOk result (is_open self.old ≡ true) }
         ensures closed { IsErrOf result JournalError.Closed → is_open self.old ≡ false }
         ensures cause { IfErr result (λ e. IsCause (faults self.old) (faults self.new) e) }
 
-        // A crash at any moment of the call leaves all that was kept, and nothing that was not
+        // A crash at any moment of the call leaves all that was durable, and nothing that was not
         // appended.
         ensures any_moment { is_open self.old ≡ true → Leaves (moment self.old) (moment self.new)
             (left_since self.old) (left_since self.new)
-            (kept self.old) (appended self.old ++ bytes.now ∷ []) };
+            (durable self.old) (appended self.old ++ bytes.now ∷ []) };
 
-    /// Sees that all that was appended is kept from then on. After an `Err` of what is below the
-    /// journal is closed: a sync that failed is not tried again. After `Memory` it may be as it
-    /// was.
+    /// Makes all that was appended durable. After an `Err` of what is below the journal is closed:
+    /// a sync that failed is not tried again. After `Memory` it may be as it was.
     fn sync(&mut self) -> Result<(), JournalError>
-        ensures kept { OnOk result (kept self.new ≡ appended self.old) }
+        ensures durable { OnOk result (durable self.new ≡ appended self.old) }
         ensures appended { OnOk result (appended self.new ≡ appended self.old) }
         ensures still { OnOk result (is_open self.new ≡ true) }
         ensures was_open { OnOk result (is_open self.old ≡ true) }
         ensures refused { OnErr result (is_open self.new ≡ true
-            → (appended self.new ≡ appended self.old) × (kept self.new ≡ kept self.old)) }
+            → (appended self.new ≡ appended self.old) × (durable self.new ≡ durable self.old)) }
         ensures closed { IsErrOf result JournalError.Closed → is_open self.old ≡ false }
         ensures cause { IfErr result (λ e. IsCause (faults self.old) (faults self.new) e) }
 
         // The same, also of a call that fails, and after it for as long as nothing is called.
         ensures any_moment { is_open self.old ≡ true → Leaves (moment self.old) (moment self.new)
-            (left_since self.old) (left_since self.new) (kept self.old) (appended self.old) };
+            (left_since self.old) (left_since self.new) (durable self.old) (appended self.old) };
 
     /// Whether its calls touch no disk: then they may be made while others wait for a lock.
     fn is_quick(&self) -> bool;
 
-    /// After a crash now, recovery reads what is kept, and nothing that was not appended. It does
-    /// nothing.
+    /// After a crash now, recovery reads what is durable, and nothing that was not appended. It
+    /// does nothing.
     fn stands(&self)
         ensures { is_open self.now ≡ true → (records : List (List ℕ))
             → left_since self.now (moment self.now) records
-            → IsBetween (kept self.now) records (appended self.now) };
+            → IsBetween (durable self.now) records (appended self.now) };
 }

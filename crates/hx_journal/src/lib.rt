@@ -1,5 +1,5 @@
-//! The journal of a day: records, each on the disk before anybody is told of it, many of them with
-//! one write and one sync. The file is text, and a record is a line. What a crash leaves is a
+//! The journal of a day: records, each durable before it is published, many of them with one write
+//! and one sync (group commit). The file is text, and a record is a line. What a crash leaves is a
 //! beginning of the records that were appended, with all that were synced.
 //!
 //! What a crash may leave of a file is what `hx_disk` says of a `Device`. Against what that leaves

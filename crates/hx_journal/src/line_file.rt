@@ -9,16 +9,16 @@ use crate::{Device, DeviceError, JournalError};
 use std::alloc::{AllocError, Global};
 use std::marker::Model;
 
-/// No place in a file is larger.
+/// No offset in a file is larger.
 pub const MOST_BYTES: usize = 1 << 62;
 
 /// The lines of a file, and those that wait for the next sync.
 #[derive(Drop)]
 pub struct LineFile<D: Device> {
     device: D,
-    // The lines of the file end here; zeros may stand behind them.
+    // The lines of the file end here; zeros may stand after them.
     end: usize,
-    // The text of the lines that wait. Its memory is kept from one group to the next.
+    // The text of the lines that wait. Its memory is reused from one group to the next.
     group: Vec<u8>,
     count: usize,
     waiting: usize,
@@ -43,8 +43,8 @@ impl<D: Device> Model for LineFile<D> {
 }
 
 impl<D: Device> LineFile<D> {
-    /// Opens a file of which all is on the disk. What stands behind a place, up to which it has
-    /// whole lines, `count` of them, is cut off. `Err` gives the file back.
+    /// Opens a file of which all is on the disk. What stands after an offset, up to which it has whole lines, `count`
+    /// of them, is cut off. `Err` gives the file back.
     pub fn open(
         alloc: Global,
         mut device: D,
@@ -155,9 +155,8 @@ impl<D: Device> LineFile<D> {
         Ok(())
     }
 
-    /// Writes this number of zeros behind the lines and syncs, so that the groups to come lie in a file
-    /// that needs no growth: their syncs are cheaper then. No lines change. After a device's `Err`
-    /// the file refuses everything.
+    /// Writes `len` zeros after the lines and syncs, so that the groups to come lie in a file that needs no growth:
+    /// their syncs are cheaper then. No lines change. After a device's `Err` the file refuses everything.
     pub fn zeros_ahead(&mut self, alloc: Global, len: usize) -> Result<(), JournalError>
         ensures same { OnOk result ((self.new.is_open ≡ true)
             × (stored D.seen self.new ≡ stored D.seen self.old)
@@ -241,9 +240,9 @@ impl<D: Device> LineFile<D> {
     }
 }
 
-/// Cuts a file of which all is on the disk behind a place, up to which it has whole lines, and sees
-/// that the cut is on the disk. That has to be so before anything is written there: what stood
-/// behind the place would come back between the bytes of the next group.
+/// Cuts a file of which all is on the disk after an offset, up to which it has whole lines, and syncs the cut. That has
+/// to be so before anything is written there: what stood after the offset would come back between the bytes of the next
+/// group.
 pub(crate) fn repair<D: Device>(file: &mut D, end: usize) -> Result<(), DeviceError>
     requires inside { end ≤ length (D.seen file.old) }
     requires front { take end (D.seen file.old)
@@ -269,7 +268,7 @@ pub(crate) fn repair<D: Device>(file: &mut D, end: usize) -> Result<(), DeviceEr
     Ok(())
 }
 
-// Writes text behind the lines of a file, and syncs.
+// Writes text after the lines of a file, and syncs.
 fn store<D: Device>(device: &mut D, end: usize, text: &[u8]) -> Result<(), DeviceError>
     requires at_rest { IsAtRest (D.seen device.old) end }
     requires durable { Only (D.seen device.old) (D.may_leave device.old) }
@@ -293,7 +292,7 @@ fn store<D: Device>(device: &mut D, end: usize, text: &[u8]) -> Result<(), Devic
     Ok(())
 }
 
-// Writes zeros behind the lines of a file, and syncs.
+// Writes zeros after the lines of a file, and syncs.
 fn lay<D: Device>(disk: &mut D, end: usize, zeros: &[u8]) -> Result<(), DeviceError>
     requires at_rest { IsAtRest (D.seen disk.old) end }
     requires durable { Only (D.seen disk.old) (D.may_leave disk.old) }

@@ -1,4 +1,4 @@
-//! The lines that end a block: `#PLACE SIZE PREVIOUS SUM`, four numbers in decimal.
+//! The lines that end a block: `#OFFSET SIZE PREVIOUS SUM`, four numbers in decimal.
 ghost use Rattle.std.specs.Prelude.{◌≡◌, length, true, IfOk, OnOk};
 ghost use Rattle.hx_journal.specs.Lines.{IsLine};
 ghost use Rattle.hx_journal.specs.Records.{is_mark};
@@ -9,24 +9,24 @@ use hx_text::{read_number, split_once};
 use itoa::Buffer;
 use std::alloc::AllocError;
 
-/// Spells the line that ends a block, in place of what the vector has, and returns the block's sum:
-/// that of its lines and of the line itself up to the sum. `place` is the number of the block's
-/// first record in the day, and `previous` the sum of the block before.
+/// Spells the line that ends a block, over what the vector has, and returns the block's sum: that
+/// of its lines and of the line itself up to the sum. `offset` is the number of the block's first
+/// record in the day, and `previous` the sum of the block before.
 pub fn spell_mark(
     mark: &mut Vec<u8>,
-    place: u64,
+    offset: u64,
     lines: &[u8],
     previous: u32,
 ) -> Result<u32, AllocError>
     ensures spelled { IfOk result (λ sum.
-        mark.new.items ≡ mark_of place (length lines.now) previous sum) }
+        mark.new.items ≡ mark_of offset (length lines.now) previous sum) }
     ensures is_line { OnOk result (IsLine mark.new.items) }
     ensures is_mark { OnOk result (is_mark mark.new.items ≡ true) }
 {
     let mut buffer = Buffer::new();
     mark.clear();
     mark.push(b'#')?;
-    mark.extend_from_slice(buffer.format(place).as_bytes())?;
+    mark.extend_from_slice(buffer.format(offset).as_bytes())?;
     mark.push(b' ')?;
     mark.extend_from_slice(buffer.format(lines.len()).as_bytes())?;
     mark.push(b' ')?;
@@ -51,7 +51,7 @@ pub fn ends_whole_block(front: &[u8], line: &[u8]) -> bool {
 // Of a mark: the size of its block, its sum, and what of the line the sum is of.
 fn read_mark(line: &[u8]) -> Option<(usize, u64, &[u8])> {
     let numbers = line.strip_prefix(b"#")?;
-    let (_place, numbers) = split_once(numbers, b' ')?;
+    let (_offset, numbers) = split_once(numbers, b' ')?;
     let (size, numbers) = split_once(numbers, b' ')?;
     let (_previous, sum) = split_once(numbers, b' ')?;
     let signed = line.get(..line.len() - sum.len())?;

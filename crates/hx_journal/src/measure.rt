@@ -6,8 +6,8 @@ ghost use Rattle.hx_journal.specs.Records.{sealed};
 // What stands where nothing was written yet.
 const UNWRITTEN: u8 = 0;
 
-/// Where the whole blocks of a file end, and how many lines they have: up to the last mark before
-/// the first zero.
+/// The end of the whole blocks of a file, and their number of lines: up to the last mark before the
+/// first zero.
 pub fn measure(bytes: &[u8]) -> (usize, usize)
     ensures inside { result.0 ≤ length bytes.now }
     ensures front { take result.0 bytes.now ≡ text_of (sealed (lines_of bytes.now)) }
@@ -29,7 +29,7 @@ pub fn measure(bytes: &[u8]) -> (usize, usize)
     whole
 }
 
-// Where the whole blocks end, behind a line that begins with this byte: here where it is a mark.
+// The end of the whole blocks, after a line that begins with this byte: here if it is a mark.
 fn ends(first: u8, here: (usize, usize), before: (usize, usize)) -> (usize, usize)
     ensures mark { first ≡ 35 → result ≡ here }
     ensures other { first ≢ 35 → result ≡ before }

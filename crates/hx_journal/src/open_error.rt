@@ -11,8 +11,8 @@ use std::alloc::{AllocError, AllocFailed};
 pub enum OpenError {
     /// Memory lacks, or the device failed: open the file again.
     Journal(JournalError),
-    /// The file is not as the journal wrote it: the block whose first byte is at this place, or
-    /// what stands behind the last whole block from there on. Nothing was written.
+    /// The file is not as the journal wrote it: the block whose first byte is at this offset, or
+    /// what stands after the last whole block from there on. Nothing was written.
     Damaged { at: usize },
     /// The journal is that of another session, day or setup. Nothing was written.
     OtherHead(HeadPart),

@@ -19,14 +19,13 @@ use hx_text::split_once;
 use std::alloc::Global;
 
 impl<D: Device> FileJournal<D> {
-    /// Opens a file of which all is on the disk, with its bytes, as the journal of a day: gives it
-    /// with its records, as a tape. A file that is new, or whose first line was torn, gets its
-    /// first line. What a crash left behind the last whole block is cut off, since no sync of it
-    /// was answered. A crash at any moment of the call changes nothing of what is read. `Err` gives
-    /// the file back.
+    /// Opens a file of which all is on the disk, with its bytes, as the journal of a day: gives it with its records, as
+    /// a tape. A file that is new, or whose first line was torn, gets its first line. What a crash left after the last
+    /// whole block is cut off, since no sync of it was answered. A crash at any moment of the call changes nothing of
+    /// what is read. `Err` gives the file back.
     ///
-    /// Errors: `Damaged` where the file is not as the journal wrote it, before its torn end, and
-    /// `OtherHead` where it is that of another day; then nothing was written. `Journal` where
+    /// Errors: `Damaged` if the file is not as the journal wrote it, before its torn end, and
+    /// `OtherHead` if it is that of another day; then nothing was written. `Journal` if
     /// memory lacks or the device failed.
     pub fn open(
         alloc: Global,
@@ -119,7 +118,7 @@ fn write_head<D: Device>(lines: &mut LineFile<D>, head: &Head) -> Result<(), Jou
     lines.sync()
 }
 
-// Goes on with a file that has whole blocks up to a place, `count` lines.
+// Goes on with a file that has whole blocks up to an offset, `count` lines.
 fn resume<D: Device>(
     alloc: Global,
     device: D,
@@ -171,8 +170,8 @@ struct Blocks {
     sum: u32,
 }
 
-// Reads the blocks up to a place, and sees that they are those of this day, as they were written, and
-// that no whole block stands behind them.
+// Reads the blocks up to an offset, and checks that they are those of this day, as they were written, and that no whole
+// block stands after them.
 fn examine(alloc: Global, text: &[u8], end: usize, head: &Head) -> Result<Blocks, OpenError>
     requires inside { end ≤ length text.now }
     requires front { take end text.now ≡ text_of (sealed (lines_of text.now)) }

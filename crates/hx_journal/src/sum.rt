@@ -1,8 +1,8 @@
 //! Sums that find damage. They prove nothing, and no clause rests on one.
 
 // The remainders of the sixteen values of four bits, divided by the polynomial of CRC-32, lowest
-// bit first: in the first row where nothing stands behind them, in each next one where four zero
-// bits more do.
+// bit first: in the first row with nothing after them, in each next one with four zero bits more
+// after them.
 const REMAINDERS: [[u32; 16]; 8] = [
     [
         0x0000_0000,
@@ -151,7 +151,7 @@ const REMAINDERS: [[u32; 16]; 8] = [
 ];
 
 /// The CRC-32 (that of zip and Ethernet) of a text that goes on one with the first sum; of a whole
-/// text where that is 0. Four bytes are divided at a time: each of their halves has its remainder
+/// text if that is 0. Four bytes are divided at a time: each of their halves has its remainder
 /// by itself.
 pub fn crc32(before: u32, bytes: &[u8]) -> u32 {
     let (words, rest) = bytes.as_chunks::<4>();
@@ -175,9 +175,9 @@ fn word_divided(word: u32) -> u32 {
         ^ remainder(0, fourth >> 4)
 }
 
-// What remains of the low half of a byte, with this many halves behind it, fewer than eight.
-fn remainder(behind: usize, half: u8) -> u32 {
-    REMAINDERS[behind % 8][(half % 16) as usize]
+// What remains of the low half of a byte, with `after` halves after it, fewer than eight.
+fn remainder(after: usize, half: u8) -> u32 {
+    REMAINDERS[after % 8][(half % 16) as usize]
 }
 
 // Two steps of the division for each byte.

@@ -16,9 +16,9 @@ pub fn tape_of(alloc: Global, text: &[u8]) -> Result<(Vec<u8>, usize), AllocErro
     let mut tape = Vec::with_capacity(alloc, text.len())?;
     let mut count = 0;
     let mut rest = text;
-    while let Some((line, behind)) = split_once(rest, b'\n') {
+    while let Some((line, after)) = split_once(rest, b'\n') {
         count += copy_record(&mut tape, line)?;
-        rest = behind;
+        rest = after;
     }
     Ok((tape, count))
 }

@@ -1,6 +1,6 @@
-//! A journal that keeps nothing on a disk.
+//! A journal that stores nothing on a disk.
 ghost use Rattle.std.specs.Prelude.{◌≡◌, []};
-ghost use Rattle.hx_journal.specs.Unkept.{appended_in, kept_in};
+ghost use Rattle.hx_journal.specs.Unkept.{appended_in, durable_in};
 
 use crate::{CallLog, Journal, JournalError};
 
@@ -10,8 +10,8 @@ const SYNCED: u64 = 1;
 
 /// A journal that survives nothing, for tests and for an exchange without a journal. It has no
 /// bytes, and its calls do nothing at run time: only contracts know its records. What it says is
-/// kept is what an exchange may rest on while its process runs; after a crash there is nothing to
-/// recover.
+/// durable is what an exchange may rest on while its process runs; after a crash there is nothing
+/// to recover.
 #[derive(Drop)]
 pub struct Unkept {
     pub(crate) log: CallLog,
@@ -21,7 +21,7 @@ impl Unkept {
     /// A journal without records.
     pub fn new() -> Unkept
         ensures appended { appended_in result.log.events ≡ [] }
-        ensures kept { kept_in result.log.events ≡ [] }
+        ensures durable { durable_in result.log.events ≡ [] }
     {
         Unkept {
             log: CallLog::new(),
@@ -34,7 +34,7 @@ impl Journal for Unkept {
 
     ghost appended = { λ j. appended_in j.log.events };
 
-    ghost kept = { λ j. kept_in j.log.events };
+    ghost durable = { λ j. durable_in j.log.events };
 
     ghost is_open = { λ j. true };
 

@@ -1,4 +1,4 @@
-//! A cut of what stands behind the last whole block.
+//! A cut of what stands after the last whole block.
 ghost use Rattle.std.specs.Prelude.{◌≡◌, ◌↔◌, ◌+◌, ◌<◌, ◌≤◌, length, take, IfOk, IfSome, IsSome, IsNone};
 ghost use mathlib.Core.List.{IsPrefix};
 ghost use Rattle.hx_disk.specs.Device.{Only, LeavesOnly};
@@ -20,13 +20,12 @@ pub struct Cut {
     pub blocks: usize,
 }
 
-/// Cuts what stands behind the whole blocks that a survey of a file found, and sees that the cut is
-/// on the disk; or nothing, where there are zeros at most. A crash at any moment of the call leaves
-/// these blocks.
+/// Cuts what stands after the whole blocks that a survey of a file found, and syncs the cut; or
+/// nothing, if there are zeros at most. A crash at any moment of the call leaves these blocks.
 ///
-/// Errors: `NoJournal` where the file does not begin as a journal does; then nothing was cut.
-/// `Journal` where the file failed.
-pub fn cut_behind<D: Device>(
+/// Errors: `NoJournal` if the file does not begin as a journal does; then nothing was cut.
+/// `Journal` if the file failed.
+pub fn cut_after<D: Device>(
     file: &mut D,
     text: &[u8],
     survey: &Survey<'_>,
@@ -47,7 +46,7 @@ pub fn cut_behind<D: Device>(
     ensures cut { IfOk result (λ o. IfSome o (λ cut. (cut.at ≡ survey.now.end)
         × (cut.at + cut.bytes ≡ length text.now)
         × (D.seen file.new ≡ take cut.at text.now))) }
-    ensures kept { IfOk result (λ o. recovered (D.seen file.new)
+    ensures retained { IfOk result (λ o. recovered (D.seen file.new)
         ≡ recovered (before_damage text.now survey.now.damage)) }
     ensures any_moment { LeavesOnly D.moment D.left_since file.old file.new (λ c.
         IsPrefix (recovered (before_damage text.now survey.now.damage)) (recovered c)) }
@@ -63,7 +62,7 @@ pub fn cut_behind<D: Device>(
         Ok(()) => Ok(Some(Cut {
             at: survey.end,
             bytes: text.len() - survey.end,
-            blocks: survey.whole_behind,
+            blocks: survey.whole_after,
         })),
         Err(DeviceError::Memory) => Err(ToolError::NoMemory),
         Err(_) => Err(ToolError::Journal),

@@ -1,6 +1,6 @@
 //! Journals in files of the system.
 
-use crate::cutting::cut_behind;
+use crate::cutting::cut_after;
 use crate::fault::ToolError;
 use crate::reporting::report;
 use crate::taping::write_tape;
@@ -29,8 +29,8 @@ pub fn tape_file<R: AllocGlobal + Files, W: Write>(
     write_tape(rt.alloc(), &text, writer)
 }
 
-/// Cuts the journal of a file behind its last whole block, where it is damaged or torn, and writes
-/// what was cut: see `cut_behind`. A file that is not there is not made.
+/// Cuts the journal of a file after its last whole block, if it is damaged or torn, and writes what
+/// was cut: see `cut_after`. A file that is not there is not made.
 pub fn cut_file<R: AllocGlobal + Files<File = fs::File>, W: Write>(
     rt: &R,
     path: &str,
@@ -39,7 +39,7 @@ pub fn cut_file<R: AllocGlobal + Files<File = fs::File>, W: Write>(
     let _there = fs::metadata(rt, path)?;
     let (mut file, text) = open_file(rt, path)?;
     let survey = survey_of(rt.alloc(), &text)?;
-    let written = match cut_behind(&mut file, &text, &survey)? {
+    let written = match cut_after(&mut file, &text, &survey)? {
         Some(cut) => writeln!(writer, "{cut}"),
         None => writeln!(writer, "nothing to cut"),
     };

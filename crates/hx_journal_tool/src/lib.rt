@@ -9,7 +9,7 @@ mod reporting;
 mod taping;
 mod words;
 
-pub use cutting::{Cut, cut_behind};
+pub use cutting::{Cut, cut_after};
 pub use fault::ToolError;
 pub use files::{cut_file, report_file, tape_file};
 pub use reporting::report;

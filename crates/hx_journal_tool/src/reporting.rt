@@ -1,16 +1,16 @@
 //! How far a journal goes.
 
 use crate::fault::ToolError;
-use crate::words::Told;
+use crate::words::Reported;
 use hx_journal::{Survey, survey_of};
 use std::alloc::Global;
 use std::io::Write;
 
-/// Writes how far the journal goes whose file has these bytes: a fact on each line. Where it is
+/// Writes how far the journal goes whose file has these bytes: a fact on each line. If it is
 /// damaged, all of that is written, and the error names the byte.
 pub fn report<W: Write>(alloc: Global, text: &[u8], writer: &mut W) -> Result<(), ToolError> {
     let survey = survey_of(alloc, text)?;
-    if write!(writer, "{}", Told(&survey)).is_err() || writer.flush().is_err() {
+    if write!(writer, "{}", Reported(&survey)).is_err() || writer.flush().is_err() {
         return Err(ToolError::Write);
     }
     sound(&survey)

@@ -9,7 +9,7 @@ use hx_journal::survey_of;
 use std::alloc::Global;
 use std::io::Write;
 
-/// Writes the records of the whole blocks of a journal whose file has these bytes, as a tape. Where
+/// Writes the records of the whole blocks of a journal whose file has these bytes, as a tape. If
 /// it is damaged, those in front of the damage are written, and the error names its byte.
 pub fn write_tape<W: Write>(alloc: Global, text: &[u8], writer: &mut W) -> Result<(), ToolError>
     ensures whole { OnOk result (Appends (W.contents writer.old) (W.contents writer.new)

@@ -1,4 +1,4 @@
-//! What is told of a journal, in words.
+//! What is reported of a journal, in words.
 
 use crate::Cut;
 use hx_journal::{HeadParts, Survey};
@@ -18,7 +18,7 @@ impl Display for Word<'_> {
     }
 }
 
-// This many of something.
+// A number of something.
 #[derive(Clone, Copy)]
 struct Number<'a>(usize, &'a str);
 
@@ -50,17 +50,17 @@ impl Display for FirstLine<'_> {
     }
 }
 
-// What stands behind the blocks.
+// What stands after the blocks.
 #[derive(Clone, Copy)]
-struct Behind<'a>(&'a Survey<'a>);
+struct After<'a>(&'a Survey<'a>);
 
-impl Display for Behind<'_> {
+impl Display for After<'_> {
     fn fmt<W: fmt::Write>(&self, f: &mut fmt::Formatter<W>) -> fmt::Result {
-        let Behind(survey) = *self;
+        let After(survey) = *self;
         let torn = Number(survey.torn, "byte");
         match survey.damage {
             Some(_) => {
-                let blocks = Number(survey.whole_behind, "whole block");
+                let blocks = Number(survey.whole_after, "whole block");
                 writeln!(f, "behind the damage {torn}, {blocks}")?;
             }
             None => writeln!(f, "torn end {torn}")?,
@@ -71,11 +71,11 @@ impl Display for Behind<'_> {
 
 /// How far a journal goes: a fact on each line.
 #[derive(Clone, Copy)]
-pub struct Told<'a>(pub &'a Survey<'a>);
+pub struct Reported<'a>(pub &'a Survey<'a>);
 
-impl Display for Told<'_> {
+impl Display for Reported<'_> {
     fn fmt<W: fmt::Write>(&self, f: &mut fmt::Formatter<W>) -> fmt::Result {
-        let Told(survey) = *self;
+        let Reported(survey) = *self;
         write!(
             f,
             "{}events {}\nblocks {}\nwhole up to byte {}\n{}",
@@ -83,7 +83,7 @@ impl Display for Told<'_> {
             survey.records,
             survey.blocks,
             survey.end,
-            Behind(survey)
+            After(survey)
         )
     }
 }

@@ -1,6 +1,6 @@
 -- That the feed fits its fields.
 pub mod Orders
-pub mod Told
+pub mod EventOutput
 pub mod Entering
 pub mod Events
 pub mod Runs

@@ -1,9 +1,9 @@
 -- That quiet chains leave no trace.
-pub mod KeptViews
-pub mod KeptChoices
+pub mod RetainedViews
+pub mod RetainedChoices
 pub mod QuietBefore
 pub mod OneChain
-pub mod KeptWords
+pub mod RetainedWords
 pub mod Alike
 pub mod AlikeArrivals
 pub mod QuietArrivals
@@ -14,3 +14,4 @@ pub mod UnseenEvents
 pub mod StruckRuns
 pub mod StruckChoices
 pub mod StruckOfAll
+pub mod Partitions

@@ -1,7 +1,7 @@
 -- The book that a reader of the feed builds, and the live orders as the feed publishes them.
-unfoldable pub use Rattle.hx_books.specs.Books.{shown_book}
-pub use Rattle.hx_books.specs.Books.{taken_from, without, renewed, book_after, book_from}
-pub use Rattle.hx_books.specs.declared.ShownOrder.{ShownOrder}
+unfoldable pub use Rattle.hx_itch.specs.Books.{shown_book}
+pub use Rattle.hx_itch.specs.Books.{taken_from, without, renewed, book_after, book_from}
+pub use Rattle.hx_itch.specs.declared.shown_order.ShownOrder.{ShownOrder}
 use Rattle.std.specs.Prelude.{◌≡◌, ◌<◌, ◌==◌, if◌then◌else◌, List, map, Some, None}
 use Rattle.std.specs.List.{AllByRecursion}
 use Rattle.hx_members.specs.Setups.{Setup, symbol_of}

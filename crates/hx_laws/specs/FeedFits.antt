@@ -3,8 +3,8 @@ use Rattle.std.specs.Prelude.{◌≡◌, ◌<◌, ◌^◌, List, length, ⊤}
 use Rattle.std.specs.List.{AllByRecursion}
 use Rattle.hx_itch.specs.Message.{IsFeed}
 use Rattle.hx_members.specs.Setups.{Setup}
-use Rattle.hx_members.specs.declared.stock.Stock.{Stock}
-use Rattle.hx_members.specs.declared.stock.Member.{Member}
+use Rattle.hx_members.specs.Stock.{Stock}
+use Rattle.hx_members.specs.Member.{Member}
 use Rattle.hx_rules.specs.declared.event.Event.{Event}
 use Rattle.hx_rules.specs.declared.event.Event.TheVariants.{Message, Tick, Hours, Halt, Break}
 use Rattle.hx_rules.specs.Steps.{feed}
@@ -15,7 +15,7 @@ pub record FitsStock (s : Stock) : Type 0 where
   pub symbol : length s.symbol.0 ≡ 8
   pub tail : length s.tail ≡ 20
 
--- a member's firm has 4 bytes, and so has his limit
+-- a member's firm has 4 bytes, and so has its limit
 pub record FitsMember (m : Member) : Type 0 where
   pub firm : length m.firm.0 ≡ 4
   pub limit : m.limit < 2 ^ 32
@@ -26,7 +26,7 @@ pub record FitsSetup (setup : Setup) : Type 0 where
   pub stocks : AllByRecursion FitsStock setup.stocks
   pub members : AllByRecursion FitsMember setup.members
 
--- each value that the operator tells is one of its type
+-- each value that the operator gives is one of its type
 abbrev pub FitsEvent : Event → Type 0
 FitsEvent (Message member time bytes) = ⊤
 FitsEvent (Tick time) = ⊤

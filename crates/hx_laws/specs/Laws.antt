@@ -10,7 +10,7 @@ use Rattle.hx_rules.specs.declared.event.Event.{Event}
 use Rattle.hx_rules.specs.Orders.{Order, Token}
 use Rattle.hx_rules.specs.Markets.{Market}
 use Rattle.hx_rules.specs.Outputs.{nothing}
-use Rattle.hx_rules.specs.Steps.{with_record, step, run, told, feed, replies}
+use Rattle.hx_rules.specs.Steps.{with_record, step, run, output, feed, replies}
 use Rattle.hx_laws.specs.FeedBook.{shown_book, shown_orders, IsUncrossed}
 use Rattle.hx_laws.specs.QuietChains.{Choice, is_quiet, quiet_of_one, bears, strike, strike_one, strike_all, strike_but, lines_of_all, seen}
 
@@ -25,7 +25,7 @@ QuietBefore =
     → is_quiet (run setup (beginning ++ rest)) member token ≡ true
     → is_quiet (run setup beginning) member token ≡ true
 
--- the event is recorded, and has no other effect: nothing else changes, and nothing is told
+-- the event is recorded, and has no other effect: nothing else changes, and there is no output
 abbrev pub IsIdle : Setup → Market → Event → Type 0
 IsIdle setup market event = step setup market event ≡ nothing (with_record event market)
 
@@ -69,7 +69,7 @@ NotChosen =
 
 -- the chosen tokens are those of whole chains, none of which was displayed or has traded
 pub record AreQuietChains (chosen : Choice) (market : Market) : Type 0 where
-  -- a used token is chosen just where its chain's entered token is
+  -- a used token is chosen exactly if its chain's entered token is
   pub whole :
       (member : ℕ) (token : Token) → is_used market.tokens member token ≡ true
       → chosen member token ≡ chosen member (entered_of market.tokens member token)
@@ -78,20 +78,20 @@ pub record AreQuietChains (chosen : Choice) (market : Market) : Type 0 where
       → chosen member token ≡ true
       → is_loud market.chains member (entered_of market.tokens member token) ≡ false
 
--- no token of those who may look is chosen
+-- no token of the members that may look is chosen
 abbrev pub IsUnknownTo : (ℕ → Bool) → Choice → Type 0
 IsUnknownTo may_look chosen =
     (member : ℕ) → may_look member ≡ true → (token : Token) → chosen member token ≡ false
 
--- the general form: striking whole chains that are quiet in the end leaves the feed, and all
--- replies to those who may look, line by line
+-- the general form: striking whole chains that are quiet in the end leaves the feed, and all replies to the members
+-- that may look, line by line
 abbrev pub QuietChains : Type 0
 QuietChains =
     (setup : Setup) (events : List Event) (chosen : Choice) (may_look : ℕ → Bool)
     → AreQuietChains chosen (run setup events)
     → IsUnknownTo may_look chosen
-    → lines_of_all may_look (told setup events)
-    ≡ lines_of_all may_look (told setup (strike chosen events))
+    → lines_of_all may_look (output setup events)
+    ≡ lines_of_all may_look (output setup (strike chosen events))
 
 -- the headline: without the messages of a member's quiet chains everybody else sees the same
 abbrev pub OneMember : Type 0
@@ -171,7 +171,7 @@ abbrev pub AllMembers : Type 0
 AllMembers =
     (setup : Setup) (events : List Event) → feed setup events ≡ feed setup (strike_all setup events)
 
--- without the messages of all quiet chains but his own a member's replies are the same
+-- without the messages of all quiet chains but its own a member's replies are the same
 abbrev pub AllButOne : Type 0
 AllButOne =
     (setup : Setup) (member : ℕ) (events : List Event)

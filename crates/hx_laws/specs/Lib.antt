@@ -3,3 +3,4 @@ pub mod FeedBook
 pub mod Laws
 pub mod Recorded
 pub mod FeedFits
+pub mod Partitions

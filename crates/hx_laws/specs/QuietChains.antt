@@ -12,8 +12,8 @@ use Rattle.hx_rules.specs.Orders.{Token}
 use Rattle.hx_rules.specs.declared.event.Event.{Event}
 use Rattle.hx_rules.specs.declared.event.Event.TheVariants.{Message, Tick, Hours, Halt, Break}
 use Rattle.hx_rules.specs.Markets.{Market}
-use Rattle.hx_rules.specs.Outputs.{Reply, Told}
-use Rattle.hx_rules.specs.Steps.{run, told}
+use Rattle.hx_rules.specs.Outputs.{Reply, EventOutput}
+use Rattle.hx_rules.specs.Steps.{run, output}
 
 -- a choice of tokens of members
 abbrev pub Choice : Type 0
@@ -77,11 +77,11 @@ reply_lines may_look (r ∷ rs) =
     if may_look r.0 then ToMember r.0 r.1 ∷ reply_lines may_look rs else reply_lines may_look rs
 
 -- the lines of an event: the feed's, then the replies'
-abbrev pub lines_of : (ℕ → Bool) → Told → List Line
+abbrev pub lines_of : (ℕ → Bool) → EventOutput → List Line
 lines_of may_look t = map ToFeed t.feed ++ reply_lines may_look t.replies
 
 -- the lines of all events
-abbrev pub lines_of_all : (ℕ → Bool) → List Told → List Line
+abbrev pub lines_of_all : (ℕ → Bool) → List EventOutput → List Line
 lines_of_all may_look [] = []
 lines_of_all may_look (t ∷ ts) = lines_of may_look t ++ lines_of_all may_look ts
 
@@ -89,7 +89,7 @@ lines_of_all may_look (t ∷ ts) = lines_of may_look t ++ lines_of_all may_look 
 abbrev pub all_but : (m member : ℕ) → Bool
 all_but m member = not (member == m)
 
--- what everybody but one member sees: the feed, and all replies but those to that member. A line's
--- number is its place among the feed's, or among its member's
+-- what everybody but one member sees: the feed, and all replies but those to that member. A line's number is its index
+-- among the feed's, or among its member's
 unfoldable pub seen : (m : ℕ) → Setup → List Event → List Line
-seen m setup events = lines_of_all (all_but m) (told setup events)
+seen m setup events = lines_of_all (all_but m) (output setup events)

@@ -5,14 +5,16 @@
 ghost use Rattle.hx_laws.specs.FeedFits.{FeedFits};
 ghost use Rattle.hx_laws.specs.Laws.{QuietBefore, OneChain, NotChosen, QuietChains, OneMember, AnyPart, ChainsOfAny, FeedOfAnyChoice, RepliesOfAnyChoice, ListedIsChoice, QuietIsChoice, AllMembers, AllButOne, FeedIsBook, FeedIsUncrossed};
 
+pub mod partitions;
+
 /// A token that was used after the beginning of a history, and whose chain is quiet after the whole, was quiet after
 /// the beginning.
 pub fn quiet_before()
     ensures { QuietBefore }
 {}
 
-/// A message with an effect bears tokens of one chain only: its step changes more than the count of recorded events,
-/// or tells something, and then all its tokens are used afterwards, in one chain.
+/// A message with an effect bears tokens of one chain only: its step changes more than the count of recorded events, or
+/// has output, and then all its tokens are used afterwards, in one chain.
 pub fn one_chain()
     ensures { OneChain }
 {}
@@ -53,7 +55,7 @@ pub fn replies_alone()
     ensures { RepliesOfAnyChoice }
 {}
 
-/// What may be chosen: a list of tokens of one member that are those of whole quiet chains, and all his quiet chains.
+/// What may be chosen: a list of tokens of one member that are those of whole quiet chains, and all its quiet chains.
 pub fn choices()
     ensures listed { ListedIsChoice }
     ensures all { QuietIsChoice }

@@ -3,10 +3,10 @@ use Rattle.std.proofs.Common.{◌≡◌, ℕ, ◌+◌, ◌<◌, ◌≤◌, Bool,
 use Rattle.std.specs.Option.{IfSome, MatchOption}
 use Rattle.std.proofs.lemmas.Bool.{true≢false, eqb-false, cases_lt}
 use Rattle.hx_levels.specs.declared.level_book.levels.Level.{Level}
-use Rattle.hx_levels.specs.Rung.{LevelKey}
+use Rattle.hx_levels.specs.LevelKeys.{LevelKey}
 use Rattle.hx_levels.specs.Levels.{LevelStore, level_at, ends_in, first_at, IsFirstFrom, IsFirstLevel, IsEmptyLevel}
 
--- the first order of a level, where no level before it has one
+-- the first order of a level, if no level before it has one
 pub first_key : (levels : LevelStore) (from : LevelKey) (limit distance : ℕ) (level : Level) (found : Option ℕ)
     → from.distance ≤ distance → distance ≤ limit → level_at levels (record from { distance = distance }) ≡ Some level
     → ((d : ℕ) (s : Bool) → from.distance ≤ d → d < distance → first_at levels from.locate from.buy d s ≡ None)
@@ -36,7 +36,7 @@ first_key levels from limit distance level found above below there before = by l
       before = before;
     }
 
--- no order stands before the second level, where the first is empty
+-- there is no order before the second level, if the first is empty
 pub before_second : (levels : LevelStore) (from : LevelKey) (limit : ℕ) (e f : ℕ × Level) → IsFirstLevel levels from limit e → IsEmptyLevel e.1
     → IsFirstLevel levels (record from { distance = e.0 + 1 }) limit f
     → (d : ℕ) (s : Bool) → from.distance ≤ d → d < f.0 → first_at levels from.locate from.buy d s ≡ None

@@ -6,41 +6,41 @@ use Rattle.std.proofs.lemmas.Bool.{cond-true, cond-false, true≢false, false_fr
 use Rattle.std.proofs.lemmas.Map.Steps.{length-le_from_distinct_below}
 use Rattle.std.proofs.lemmas.List.{length-map}
 use Rattle.slab.specs.Slab.{Slab, get}
-use Rattle.hx_levels.specs.declared.order.Terms.{Terms}
+use Rattle.hx_book.specs.declared.order.Terms.{Terms}
 use Rattle.hx_levels.specs.declared.level_book.linked_orders.Ends.{Ends}
-use Rattle.hx_levels.specs.Rung.{LevelKey}
+use Rattle.hx_levels.specs.LevelKeys.{LevelKey}
 use Rattle.hx_levels.specs.Levels.{LevelStore}
-use Rattle.hx_levels.specs.declared.order.Order.{Order}
-use Rattle.hx_levels.specs.declared.order.Live.{Live}
-use Rattle.hx_levels.specs.declared.level_book.linked_orders.Node.{Node}
+use Rattle.hx_book.specs.declared.order.Order.{Order}
+use Rattle.hx_book.specs.declared.order.Live.{Live}
+use Rattle.hx_levels.specs.declared.level_book.linked_orders.LinkedOrder.{LinkedOrder}
 use Rattle.hx_levels.specs.declared.level_book.linked_orders.Links.{Links}
-use Rattle.hx_levels.specs.Lists.{head_of}
+use Rattle.hx_book.specs.Lists.{head_of}
 use Rattle.hx_levels.specs.Chain.{IsChain, links_to}
-use Rattle.hx_levels.specs.Nodes.{time_links}
-use Rattle.hx_levels.specs.Book.{is_under, has_key, order_of, KeysDiffer}
-use Rattle.hx_levels.proofs.Lists.{is_some-map}
+use Rattle.hx_levels.specs.OrderLinks.{time_links}
+use Rattle.hx_book.specs.Book.{is_under, has_key, order_of, KeysDiffer}
+use Rattle.hx_levels.proofs.Present.{is_some-map}
 use Rattle.hx_ranked.specs.Contents.{Contents as Ranked}
 use Rattle.hx_levels.specs.LevelBook.{keys_of, IsBook, step, walk, walked}
 
-abbrev pub IsStored : Slab Node → Live → Type 0
-IsStored nodes live = option_map (λ (node : Node). node.order) (get nodes live.key.0) ≡ Some live.order
+abbrev pub IsStored : Slab LinkedOrder → Live → Type 0
+IsStored linked_orders live = option_map (λ (linked_order : LinkedOrder). linked_order.order) (get linked_orders live.key.0) ≡ Some live.order
 
-walk-chain : (nodes : Slab Node) (n : ℕ) (prev last : Option ℕ) (orders : List Live) → length orders ≤ n → IsChain (time_links nodes) prev (keys_of orders) last
-    → AllByRecursion (IsStored nodes) orders → walk n nodes (head_of (keys_of orders)) ≡ orders
-walk-chain nodes zero prev last [] l c s = refl
-walk-chain nodes (suc n) prev last [] l c s = refl
-walk-chain nodes zero prev last (x ∷ xs) l c s = absurd (omega arith)
-walk-chain nodes (suc n) prev last (x ∷ xs) l c s =
-    at (get nodes x.key.0) c.0 s.0 (walk-chain nodes n (Some x.key.0) last xs (omega arith) c.1 s.1)
+walk-chain : (linked_orders : Slab LinkedOrder) (n : ℕ) (prev last : Option ℕ) (orders : List Live) → length orders ≤ n → IsChain (time_links linked_orders) prev (keys_of orders) last
+    → AllByRecursion (IsStored linked_orders) orders → walk n linked_orders (head_of (keys_of orders)) ≡ orders
+walk-chain linked_orders zero prev last [] l c s = refl
+walk-chain linked_orders (suc n) prev last [] l c s = refl
+walk-chain linked_orders zero prev last (x ∷ xs) l c s = absurd (omega arith)
+walk-chain linked_orders (suc n) prev last (x ∷ xs) l c s =
+    at (get linked_orders x.key.0) c.0 s.0 (walk-chain linked_orders n (Some x.key.0) last xs (omega arith) c.1 s.1)
   where
-    at : (o : Option Node) → option_map (λ (node : Node). node.time) o ≡ Some (record { before = prev; after = head_of (keys_of xs) })
-        → option_map (λ (node : Node). node.order) o ≡ Some x.order → walk n nodes (head_of (keys_of xs)) ≡ xs → step (walk n nodes) x.key.0 o ≡ x ∷ xs
+    at : (o : Option LinkedOrder) → option_map (λ (linked_order : LinkedOrder). linked_order.time) o ≡ Some (record { before = prev; after = head_of (keys_of xs) })
+        → option_map (λ (linked_order : LinkedOrder). linked_order.order) o ≡ Some x.order → walk n linked_orders (head_of (keys_of xs)) ≡ xs → step (walk n linked_orders) x.key.0 o ≡ x ∷ xs
     at None t o' ih = cc
-    at (Some node) t o' ih =
-        let e : node.time ≡ links_to prev (head_of (keys_of xs)) = cc in
-        let f : node.order ≡ x.order = cc in
-        ap (λ (v : Order). record { key = record { 0 = x.key.0 }; order = v } ∷ walk n nodes node.time.after) f
-        ∙ ap (λ (v : Links). x ∷ walk n nodes v.after) e ∙ ap (λ r. x ∷ r) ih
+    at (Some linked_order) t o' ih =
+        let e : linked_order.time ≡ links_to prev (head_of (keys_of xs)) = cc in
+        let f : linked_order.order ≡ x.order = cc in
+        ap (λ (v : Order). record { key = record { 0 = x.key.0 }; order = v } ∷ walk n linked_orders linked_order.time.after) f
+        ∙ ap (λ (v : Links). x ∷ walk n linked_orders v.after) e ∙ ap (λ r. x ∷ r) ih
 
 -- each order of the list is found under its key
 pub all_found : (orders : List Live) → KeysDiffer orders → AllByRecursion (λ live. order_of live.key.0 orders ≡ Some live.order) orders
@@ -57,12 +57,12 @@ all_found (x ∷ xs) d = (ap (option_map (λ live. live.order)) (cond-true (is_u
           later ys ys (λ z m. m) a.1 p.1,
         )
 
-all_stored : (nodes : Slab Node) (all ys : List Live) → ((key : ℕ) → option_map (λ (node : Node). node.order) (get nodes key) ≡ order_of key all)
-    → AllByRecursion (λ live. order_of live.key.0 all ≡ Some live.order) ys → AllByRecursion (IsStored nodes) ys
-all_stored nodes all [] s a = tt
-all_stored nodes all (y ∷ ys) s a = (s y.key.0 ∙ a.0, all_stored nodes all ys s a.1)
+all_stored : (linked_orders : Slab LinkedOrder) (all ys : List Live) → ((key : ℕ) → option_map (λ (linked_order : LinkedOrder). linked_order.order) (get linked_orders key) ≡ order_of key all)
+    → AllByRecursion (λ live. order_of live.key.0 all ≡ Some live.order) ys → AllByRecursion (IsStored linked_orders) ys
+all_stored linked_orders all [] s a = tt
+all_stored linked_orders all (y ∷ ys) s a = (s y.key.0 ∙ a.0, all_stored linked_orders all ys s a.1)
 
--- a key that has a node is below the number of slots
+-- a key that has a linked order is below the number of slots
 get_or-some : {X : Type 0} (xs : List (Option X)) (i : ℕ) → is_some (get_or xs i None) ≡ true → i < length xs
 get_or-some [] i h = cc
 get_or-some (x ∷ xs) zero h = omega arith
@@ -91,22 +91,22 @@ some_order q (y ∷ ys) h = at (is_under q y) refl (some_order q ys)
         or_parts_left true b n = absurd (true≢false n)
         or_parts_left false b n = refl
 
-fits : (nodes : Slab Node) (orders : List Live) → KeysDiffer orders → ((key : ℕ) → option_map (λ (node : Node). node.order) (get nodes key) ≡ order_of key orders) → length orders ≤ length nodes.slots
-fits nodes orders d s =
-    let l : length (keys_of orders) ≤ length nodes.slots = length-le_from_distinct_below (keys_of orders) (length nodes.slots) (keys_distinct orders d)
-    (λ q m. get_or-some nodes.slots q (sym (is_some-map (λ (node : Node). node.order) (get nodes q)) ∙ ap is_some (s q) ∙ some_order q orders m)) in
+fits : (linked_orders : Slab LinkedOrder) (orders : List Live) → KeysDiffer orders → ((key : ℕ) → option_map (λ (linked_order : LinkedOrder). linked_order.order) (get linked_orders key) ≡ order_of key orders) → length orders ≤ length linked_orders.slots
+fits linked_orders orders d s =
+    let l : length (keys_of orders) ≤ length linked_orders.slots = length-le_from_distinct_below (keys_of orders) (length linked_orders.slots) (keys_distinct orders d)
+    (λ q m. get_or-some linked_orders.slots q (sym (is_some-map (λ (linked_order : LinkedOrder). linked_order.order) (get linked_orders q)) ∙ ap is_some (s q) ∙ some_order q orders m)) in
     let e : length (keys_of orders) ≡ length orders = length-map orders (λ (live : Live). live.key.0) in
     omega arith
 
 -- what a book holds is what the walk meets
-pub walked-is : (nodes : Slab Node) (levels : LevelStore) (time : Ends) (place : Option Terms) (kept : Option LevelKey) (next : ℕ) (ranked : Ranked) (orders : List Live)
-    → IsBook nodes levels time place kept next ranked orders → walked nodes time ≡ orders
-walked-is nodes levels time place kept next ranked orders b =
-    ap (walk (length nodes.slots) nodes) b.in_time.first
-    ∙ walk-chain nodes (length nodes.slots) None time.last orders (fits nodes orders b.differ b.stored) b.in_time.chain
-    (all_stored nodes orders orders b.stored (all_found orders b.differ))
+pub walked-is : (linked_orders : Slab LinkedOrder) (levels : LevelStore) (time : Ends) (reserved : Option Terms) (retained : Option LevelKey) (next : ℕ) (ranked : Ranked) (orders : List Live)
+    → IsBook linked_orders levels time reserved retained next ranked orders → walked linked_orders time ≡ orders
+walked-is linked_orders levels time reserved retained next ranked orders b =
+    ap (walk (length linked_orders.slots) linked_orders) b.in_time.first
+    ∙ walk-chain linked_orders (length linked_orders.slots) None time.last orders (fits linked_orders orders b.differ b.stored) b.in_time.chain
+    (all_stored linked_orders orders orders b.stored (all_found orders b.differ))
 
-pub closed : (nodes : Slab Node) (levels : LevelStore) (time : Ends) (place : Option Terms) (kept : Option LevelKey) (next : ℕ) (ranked : Ranked) (orders : List Live)
-    → IsBook nodes levels time place kept next ranked orders → IsBook nodes levels time place kept next ranked (walked nodes time)
-closed nodes levels time place kept next ranked orders b =
-    subst (λ l. IsBook nodes levels time place kept next ranked l) (sym (walked-is nodes levels time place kept next ranked orders b)) b
+pub closed : (linked_orders : Slab LinkedOrder) (levels : LevelStore) (time : Ends) (reserved : Option Terms) (retained : Option LevelKey) (next : ℕ) (ranked : Ranked) (orders : List Live)
+    → IsBook linked_orders levels time reserved retained next ranked orders → IsBook linked_orders levels time reserved retained next ranked (walked linked_orders time)
+closed linked_orders levels time reserved retained next ranked orders b =
+    subst (λ l. IsBook linked_orders levels time reserved retained next ranked l) (sym (walked-is linked_orders levels time reserved retained next ranked orders b)) b

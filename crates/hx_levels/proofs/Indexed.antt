@@ -3,11 +3,11 @@ use Rattle.std.proofs.Common.{◌≡◌, ℕ, ◌-◌, ◌^◌, ◌<◌, Bool, t
 use Rattle.std.specs.List.{AllByRecursion, find}
 use Rattle.std.specs.Option.{option_map}
 use Rattle.std.proofs.lemmas.Bool.{cond-true, cond-false, eqb-false, and_parts}
-use Rattle.hx_levels.specs.declared.order.Live.{Live}
-use Rattle.hx_levels.specs.Lists.{drop_first}
-use Rattle.hx_levels.specs.Book.{is_under, is_conditional, with_less, reduced, terms_of}
-use Rattle.hx_levels.specs.LevelBook.{AreNumbered, AreIndexed, rank_at, rank_of, rung_of, least_of, entry_of, entry_at, is_waiting_at}
-use Rattle.hx_levels.proofs.Lists.{found_among, or_else}
+use Rattle.hx_book.specs.declared.order.Live.{Live}
+use Rattle.hx_book.specs.Lists.{drop_first}
+use Rattle.hx_book.specs.Book.{is_under, is_conditional, with_less, reduced, terms_of}
+use Rattle.hx_levels.specs.LevelBook.{AreNumbered, AreIndexed, rank_at, rank_of, level_key_of, least_of, entry_of, entry_at, is_waiting_at}
+use Rattle.hx_book.proofs.Lists.{found_among, or_else}
 use Rattle.hx_levels.proofs.Numbers.{AreSame, all-below, ranks-differ}
 use Rattle.hx_ranked.specs.declared.entry.Entry.{Entry}
 use Rattle.hx_ranked.specs.Ranked.{inserted, without, renewed, with_least, IsFree}
@@ -21,13 +21,13 @@ mapped f false x r = refl
 pub entry-step : (n : ℕ → ℕ) (rank : ℕ) (x : Live) (xs : List Live) → entry_at n rank (x ∷ xs) ≡ cond (is_waiting_at n rank x) (Some (entry_of n x)) (entry_at n rank xs)
 entry-step n rank x xs = mapped (entry_of n) (is_waiting_at n rank x) x (find (is_waiting_at n rank) xs)
 
--- orders whose numbers stay keep their entries
+-- orders whose numbers stay have the same entries
 pub entry-same : (n m : ℕ → ℕ) (rank : ℕ) (orders : List Live) → AreSame n m orders → entry_at m rank orders ≡ entry_at n rank orders
 entry-same n m rank [] e = refl
 entry-same n m rank (x ∷ xs) e =
     entry-step m rank x xs
-    ∙ ap (λ k. cond (is_conditional x.order && eqb (rank_at (rung_of (terms_of x.order)) x.order.shown k) rank)
-    (Some (record { rank = rank_at (rung_of (terms_of x.order)) x.order.shown k; key = x.key.0; least = least_of x.order; shares = x.order.shares }))
+    ∙ ap (λ k. cond (is_conditional x.order && eqb (rank_at (level_key_of (terms_of x.order)) x.order.shown k) rank)
+    (Some (record { rank = rank_at (level_key_of (terms_of x.order)) x.order.shown k; key = x.key.0; least = least_of x.order; shares = x.order.shares }))
     (entry_at m rank xs)) e.0
     ∙ ap (λ r. cond (is_waiting_at n rank x) (Some (entry_of n x)) r) (entry-same n m rank xs e.1)
     ∙ sym (entry-step n rank x xs)
@@ -60,10 +60,10 @@ none-at n rank (x ∷ xs) a =
 
 -- an order with another number has another rank
 apart : (n : ℕ → ℕ) (x y : Live) → n x.key.0 < n y.key.0 → n y.key.0 < 2 ^ 63 → eqb (rank_of n y) (rank_of n x) ≡ false
-apart n x y l b = ranks-differ (rung_of (terms_of y.order)) (rung_of (terms_of x.order)) y.order.shown x.order.shown (n y.key.0) (n x.key.0) b (omega arith) (λ e. let h : n y.key.0 ≡ n x.key.0 = e in omega arith)
+apart n x y l b = ranks-differ (level_key_of (terms_of y.order)) (level_key_of (terms_of x.order)) y.order.shown x.order.shown (n y.key.0) (n x.key.0) b (omega arith) (λ e. let h : n y.key.0 ≡ n x.key.0 = e in omega arith)
 
 apart_before : (n : ℕ → ℕ) (x y : Live) → n x.key.0 < n y.key.0 → n y.key.0 < 2 ^ 63 → eqb (rank_of n x) (rank_of n y) ≡ false
-apart_before n x y l b = ranks-differ (rung_of (terms_of x.order)) (rung_of (terms_of y.order)) x.order.shown y.order.shown (n x.key.0) (n y.key.0) (omega arith) b (λ e. let h : n x.key.0 ≡ n y.key.0 = e in omega arith)
+apart_before n x y l b = ranks-differ (level_key_of (terms_of x.order)) (level_key_of (terms_of y.order)) x.order.shown y.order.shown (n x.key.0) (n y.key.0) (omega arith) b (λ e. let h : n x.key.0 ≡ n y.key.0 = e in omega arith)
 
 none-later : (n : ℕ → ℕ) (x : Live) (orders : List Live) → AllByRecursion (λ y. n x.key.0 < n y.key.0) orders → AllByRecursion (λ y. n y.key.0 < 2 ^ 63) orders → NoneAt n (rank_of n x) orders
 none-later n x [] a b = tt

@@ -4,17 +4,17 @@ use Rattle.std.specs.List.{AllByRecursion, list_any, find, filter}
 use Rattle.std.specs.Option.{IfSome}
 use Rattle.std.proofs.lemmas.Bool.{cond_both, cond-true, cond-false, true≢false, or_left, or_right}
 use Rattle.std.proofs.lemmas.Bool.Decides.{nat_tests}
-use Rattle.hx_levels.specs.declared.order.Live.{Live}
-use Rattle.hx_levels.specs.declared.order.Terms.{Terms}
-use Rattle.hx_levels.specs.Rung.{LevelKey}
-use Rattle.hx_levels.specs.Rank.{first_of, higher}
+use Rattle.hx_book.specs.declared.order.Live.{Live}
+use Rattle.hx_book.specs.declared.order.Terms.{Terms}
+use Rattle.hx_levels.specs.LevelKeys.{LevelKey}
+use Rattle.hx_book.specs.Rank.{first_of, higher}
 use Rattle.hx_units.specs.Side.{is_buy}
-use Rattle.hx_levels.specs.Book.{is_ahead, crosses, terms_of}
-use Rattle.hx_levels.specs.LevelBook.{is_in, rung_of, contra, limit_of}
-use Rattle.hx_levels.proofs.Lists.{found_among}
+use Rattle.hx_book.specs.Book.{is_ahead, crosses, terms_of}
+use Rattle.hx_levels.specs.LevelBook.{is_in, level_key_of, contra, limit_of}
+use Rattle.hx_book.proofs.Lists.{found_among}
 use Rattle.hx_levels.proofs.Added.{is_in_own, is_in_at}
 
--- the first by rank, where the best of those that pass are known
+-- the first by rank, if the best of those that pass are known
 
 module _ (ahead : Live → Live → Bool) (T Q : Live → Bool) (P : Live → Type 0) (within : (y : Live) → Q y ≡ true → P y → T y ≡ true)
     (level : (x y : Live) → Q x ≡ true → Q y ≡ true → P x → P y → ahead y x ≡ false) where
@@ -72,11 +72,11 @@ module _ (ahead : Live → Live → Bool) (T Q : Live → Bool) (P : Live → Ty
 -- an order's queue has an order
 
 abbrev pub InClass : List Live → Live → Type 0
-InClass orders y = filter (is_in (rung_of (terms_of y.order)) y.order.shown) orders ≡ [] → ⊥
+InClass orders y = filter (is_in (level_key_of (terms_of y.order)) y.order.shown) orders ≡ [] → ⊥
 
-any_kept : (p : Live → Bool) (orders : List Live) → list_any p orders ≡ true → filter p orders ≡ [] → ⊥
-any_kept p [] h e = true≢false (sym h)
-any_kept p (x ∷ xs) h e = at (p x) h e (any_kept p xs)
+any_retained : (p : Live → Bool) (orders : List Live) → list_any p orders ≡ true → filter p orders ≡ [] → ⊥
+any_retained p [] h e = true≢false (sym h)
+any_retained p (x ∷ xs) h e = at (p x) h e (any_retained p xs)
   where
     at : (b : Bool) → (b || list_any p xs) ≡ true → cond b (x ∷ filter p xs) (filter p xs) ≡ [] → (list_any p xs ≡ true → filter p xs ≡ [] → ⊥) → ⊥
     at true g f ih = cc
@@ -85,7 +85,7 @@ any_kept p (x ∷ xs) h e = at (p x) h e (any_kept p xs)
 in_class : (all zs : List Live) → ((p : Live → Bool) → list_any p zs ≡ true → list_any p all ≡ true) → AllByRecursion (InClass all) zs
 in_class all [] lift = tt
 in_class all (z ∷ zs) lift = (
-  any_kept (is_in (rung_of (terms_of z.order)) z.order.shown) all (lift (is_in (rung_of (terms_of z.order)) z.order.shown) (or_left _ _ (is_in_own z))),
+  any_retained (is_in (level_key_of (terms_of z.order)) z.order.shown) all (lift (is_in (level_key_of (terms_of z.order)) z.order.shown) (or_left _ _ (is_in_own z))),
   in_class all zs (λ p h. lift p (or_right (p z) (list_any p zs) h)),
 )
 
@@ -99,7 +99,7 @@ both_all P Q (z ∷ zs) p q = ((p.0, q.0), both_all P Q zs p.1 q.1)
 -- distances
 
 abbrev pub distance_of : Live → ℕ
-distance_of y = (rung_of (terms_of y.order)).distance
+distance_of y = (level_key_of (terms_of y.order)).distance
 
 crossing : (buy other : Bool) (l m p q : ℕ) → p ≤ 1999999900 → (eqb m l && cond buy (not other) other && cond buy (leb p q) (leb q p)) ≡ true
     → (m ≡ l) × (other ≡ not buy) × (cond other (2000000000 - p) p ≤ cond buy q (2000000000 - q))
@@ -115,17 +115,17 @@ crossed true false l m p q b e o d = grind (arith, nat_tests)
 crossed false true l m p q b e o d = grind (arith, nat_tests)
 crossed false false l m p q b e o d = cc
 
-pub crosses-rung : (terms : Terms) (y : Live) → y.order.price ≤ 1999999900 → crosses terms y.order ≡ true
-    → (rung_of (terms_of y.order) ≡ contra terms (distance_of y)) × (distance_of y ≤ limit_of terms)
-crosses-rung terms y b h =
+pub crosses-level_key : (terms : Terms) (y : Live) → y.order.price ≤ 1999999900 → crosses terms y.order ≡ true
+    → (level_key_of (terms_of y.order) ≡ contra terms (distance_of y)) × (distance_of y ≤ limit_of terms)
+crosses-level_key terms y b h =
     let c = crossing (is_buy terms.side) (is_buy y.order.side) terms.locate y.order.locate y.order.price terms.price b h in (
       ap (λ n. record { locate = n; buy = is_buy y.order.side; distance = distance_of y }) c.0
           ∙ ap (λ t. record { locate = terms.locate; buy = t; distance = distance_of y }) c.1,
       c.2,
     )
 
-pub rung-crosses : (terms : Terms) (y : Live) (d : ℕ) → y.order.price ≤ 1999999900 → rung_of (terms_of y.order) ≡ contra terms d → d ≤ limit_of terms → crosses terms y.order ≡ true
-rung-crosses terms y d b e l =
+pub level_key-crosses : (terms : Terms) (y : Live) (d : ℕ) → y.order.price ≤ 1999999900 → level_key_of (terms_of y.order) ≡ contra terms d → d ≤ limit_of terms → crosses terms y.order ≡ true
+level_key-crosses terms y d b e l =
     crossed (is_buy terms.side) (is_buy y.order.side) terms.locate y.order.locate y.order.price terms.price b
     (ap (λ (r : LevelKey). r.locate) e) (ap (λ (r : LevelKey). r.buy) e) (subst (λ n. n ≤ limit_of terms) (sym (ap (λ (r : LevelKey). r.distance) e)) l)
 
@@ -143,7 +143,7 @@ ranks false true true false true p q a b h k = grind (arith, nat_tests)
 ranks false true true false false p q a b h k = grind (arith, nat_tests)
 
 -- of orders on the contra side rank goes by distance, and then by being shown
-pub ahead-distance : (terms : Terms) (x y : Live) (d e : ℕ) → x.order.price ≤ 1999999900 → y.order.price ≤ 1999999900 → rung_of (terms_of x.order) ≡ contra terms d → rung_of (terms_of y.order) ≡ contra terms e
+pub ahead-distance : (terms : Terms) (x y : Live) (d e : ℕ) → x.order.price ≤ 1999999900 → y.order.price ≤ 1999999900 → level_key_of (terms_of x.order) ≡ contra terms d → level_key_of (terms_of y.order) ≡ contra terms e
     → is_ahead terms.side x y ≡ (ltb d e || (eqb d e && x.order.shown && not y.order.shown))
 ahead-distance terms x y d e a b h k =
     ranks (is_buy terms.side) (is_buy x.order.side) (is_buy y.order.side) x.order.shown y.order.shown x.order.price y.order.price a b (ap (λ (r : LevelKey). r.buy) h) (ap (λ (r : LevelKey). r.buy) k)
@@ -153,8 +153,8 @@ ahead-distance terms x y d e a b h k =
 abbrev pub IsPriced : Live → Type 0
 IsPriced y = y.order.price ≤ 1999999900
 
-pub in_queue : (at : LevelKey) (s : Bool) (y : Live) → rung_of (terms_of y.order) ≡ at → y.order.shown ≡ s → is_in at s y ≡ true
-in_queue at s y e f = subst (λ r. is_in r s y ≡ true) e (subst (λ t. is_in (rung_of (terms_of y.order)) t y ≡ true) f (is_in_own y))
+pub in_queue : (at : LevelKey) (s : Bool) (y : Live) → level_key_of (terms_of y.order) ≡ at → y.order.shown ≡ s → is_in at s y ≡ true
+in_queue at s y e f = subst (λ r. is_in r s y ≡ true) e (subst (λ t. is_in (level_key_of (terms_of y.order)) t y ≡ true) f (is_in_own y))
 
 -- the first of the best queue is the first by rank of all that pass
 module _ (terms : Terms) (T : Live → Bool) (d : ℕ) (s : Bool) (orders : List Live) (priced : AllByRecursion IsPriced orders)
@@ -178,7 +178,7 @@ module _ (terms : Terms) (T : Live → Bool) (d : ℕ) (s : Bool) (orders : List
       → (x : Live) → is_in (contra terms d) s x ≡ true → IsPriced x → (is_ahead terms.side x y ≡ true) × (is_ahead terms.side y x ≡ false)
   below y t b o x q a =
       let u = is_in_at (contra terms d) s x q in
-      let v = (crosses-rung terms y b (cross y t)).0 in
+      let v = (crosses-level_key terms y b (cross y t)).0 in
       let e = ahead-distance terms x y d (distance_of y) a b u.0 v in
       let f = ahead-distance terms y x (distance_of y) d b a v u.0 in
       let r = ranked_so x.order.shown y.order.shown (distance_of y) o u.1 in

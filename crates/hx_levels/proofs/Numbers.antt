@@ -4,14 +4,14 @@ use Rattle.std.specs.List.{AllByRecursion, filter}
 use Rattle.std.specs.Option.{option_map, unwrap_or}
 use Rattle.std.proofs.lemmas.Bool.{cond_both}
 use Rattle.slab.specs.Slab.{Slab, get}
-use Rattle.hx_levels.specs.declared.order.Live.{Live}
-use Rattle.hx_levels.specs.declared.level_book.linked_orders.Node.{Node}
-use Rattle.hx_levels.specs.Lists.{drop_first}
-use Rattle.hx_levels.specs.Rung.{LevelKey, rung_number}
-use Rattle.hx_levels.specs.Book.{is_under, with_less, reduced, has_key}
+use Rattle.hx_book.specs.declared.order.Live.{Live}
+use Rattle.hx_levels.specs.declared.level_book.linked_orders.LinkedOrder.{LinkedOrder}
+use Rattle.hx_book.specs.Lists.{drop_first}
+use Rattle.hx_levels.specs.LevelKeys.{LevelKey, level_key_number}
+use Rattle.hx_book.specs.Book.{is_under, with_less, reduced, has_key}
 use Rattle.hx_levels.specs.LevelBook.{AreNumbered, number_in, rank_at}
-use Rattle.hx_levels.proofs.Lists.{all_dropped, all_filtered}
-use Rattle.hx_levels.proofs.Orders.{none_under}
+use Rattle.hx_book.proofs.Lists.{all_dropped, all_filtered}
+use Rattle.hx_book.proofs.Orders.{none_under}
 
 -- each order has the same number twice
 abbrev pub AreSame : (n m : ℕ → ℕ) → List Live → Type 0
@@ -70,21 +70,21 @@ numbered-filtered n next keep (x ∷ xs) a =
     cond_both (keep x) (x ∷ filter keep xs) (filter keep xs) (λ r. AreNumbered n next r)
     (λ _. (all_filtered (λ y. n x.key.0 < n y.key.0) keep xs a.0, a.1, numbered-filtered n next keep xs a.2)) (λ _. numbered-filtered n next keep xs a.2)
 
--- numbers in a slab of nodes
+-- numbers in a slab of linked orders
 
--- a change that keeps a node's number
-pub number-kept : (change : Node → Node) → ((node : Node) → (change node).number ≡ node.number) → (old new : Slab Node) (k : ℕ)
+-- a change that leaves a linked order's number
+pub number-retained : (change : LinkedOrder → LinkedOrder) → ((linked_order : LinkedOrder) → (change linked_order).number ≡ linked_order.number) → (old new : Slab LinkedOrder) (k : ℕ)
     → get new k ≡ option_map change (get old k) → number_in new k ≡ number_in old k
-number-kept change keeps old new k e = ap (λ o. unwrap_or (option_map (λ (n : Node). n.number) o) 0) e ∙ at (get old k)
+number-retained change keeps old new k e = ap (λ o. unwrap_or (option_map (λ (n : LinkedOrder). n.number) o) 0) e ∙ at (get old k)
   where
-    at : (o : Option Node) → unwrap_or (option_map (λ (n : Node). n.number) (option_map change o)) 0 ≡ unwrap_or (option_map (λ (n : Node). n.number) o) 0
+    at : (o : Option LinkedOrder) → unwrap_or (option_map (λ (n : LinkedOrder). n.number) (option_map change o)) 0 ≡ unwrap_or (option_map (λ (n : LinkedOrder). n.number) o) 0
     at None = refl
-    at (Some node) = keeps node
+    at (Some linked_order) = keeps linked_order
 
-pub number-is : (nodes : Slab Node) (k : ℕ) (node : Node) → get nodes k ≡ Some node → number_in nodes k ≡ node.number
-number-is nodes k node e = ap (λ o. unwrap_or (option_map (λ (n : Node). n.number) o) 0) e
+pub number-is : (linked_orders : Slab LinkedOrder) (k : ℕ) (linked_order : LinkedOrder) → get linked_orders k ≡ Some linked_order → number_in linked_orders k ≡ linked_order.number
+number-is linked_orders k linked_order e = ap (λ o. unwrap_or (option_map (λ (n : LinkedOrder). n.number) o) 0) e
 
--- where a key is none of the orders', what holds of all other keys holds of them
+-- if a key is none of the orders', what holds of all other keys holds of them
 pub all-other : (P : ℕ → Type 0) (key : ℕ) (orders : List Live) → has_key key orders ≡ false → ((k : ℕ) → eqb k key ≡ false → P k) → AllByRecursion (λ y. P y.key.0) orders
 all-other P key orders h p = each orders (none_under key orders h)
   where
@@ -94,7 +94,7 @@ all-other P key orders h p = each orders (none_under key orders h)
 
 -- ranks with different numbers differ
 pub ranks-differ : (a b : LevelKey) (s t : Bool) (m k : ℕ) → m < 2 ^ 63 → k < 2 ^ 63 → (m ≡ k → ⊥) → eqb (rank_at a s m) (rank_at b t k) ≡ false
-ranks-differ a b s t m k lm lk n = ne_eqb (rank_at a s m) (rank_at b t k) (λ e. n (by (rung_number a) (rung_number b) s t e))
+ranks-differ a b s t m k lm lk n = ne_eqb (rank_at a s m) (rank_at b t k) (λ e. n (by (level_key_number a) (level_key_number b) s t e))
   where
     by : (x y : ℕ) (u v : Bool) → x * 2 ^ 64 + (cond u 0 (2 ^ 63) + m) ≡ y * 2 ^ 64 + (cond v 0 (2 ^ 63) + k) → m ≡ k
     by x y true true e = omega arith

@@ -3,17 +3,17 @@ use Rattle.std.proofs.Common.{◌≡◌, ℕ, ◌+◌, ◌*◌, ◌^◌, ◌<◌
 use Rattle.std.specs.List.{AllByRecursion, find, filter}
 use Rattle.std.proofs.lemmas.Bool.{cond_both, cond-true, cond-false, true≢false, false_from_ne_true, cases_order}
 use Rattle.std.proofs.lemmas.Bool.Decides.{nat_tests}
-use Rattle.hx_levels.specs.declared.order.Live.{Live}
-use Rattle.hx_levels.specs.declared.order.Terms.{Terms}
-use Rattle.hx_levels.specs.Rank.{placed, by_rank, first_of}
-use Rattle.hx_levels.specs.Rung.{side_number}
-use Rattle.hx_levels.specs.Book.{is_under, is_ahead, crosses, ranked, has_key, KeysDiffer, is_conditional, unconditional}
-use Rattle.hx_levels.specs.LevelBook.{AreNumbered, rank_at, rank_of, contra}
-use Rattle.hx_levels.proofs.Lists.{all_weaker, all_filtered, once_filtered}
-use Rattle.hx_levels.proofs.Rank.{placed-all, all_ranked, first_of-find, first_of-filter, find-by_rank}
-use Rattle.hx_levels.proofs.Orders.{ahead_asym, ahead_skip, once_under}
-use Rattle.hx_levels.proofs.LevelRanks.{IsPriced, crosses-rung, distance_of, ahead-distance}
-use Rattle.hx_levels.proofs.LevelNext.{find-kept}
+use Rattle.hx_book.specs.declared.order.Live.{Live}
+use Rattle.hx_book.specs.declared.order.Terms.{Terms}
+use Rattle.hx_book.specs.Rank.{placed, by_rank, first_of}
+use Rattle.hx_levels.specs.LevelKeys.{side_number}
+use Rattle.hx_book.specs.Book.{is_under, is_ahead, crosses, ranked, has_key, KeysDiffer, is_conditional}
+use Rattle.hx_levels.specs.LevelBook.{AreNumbered, rank_at, rank_of, contra, unconditional}
+use Rattle.hx_book.proofs.Lists.{all_weaker, all_filtered, once_filtered}
+use Rattle.hx_book.proofs.Rank.{placed-all, all_ranked, first_of-find, first_of-filter, find-by_rank}
+use Rattle.hx_book.proofs.Orders.{ahead_asym, ahead_skip, once_under}
+use Rattle.hx_levels.proofs.LevelRanks.{IsPriced, crosses-level_key, distance_of, ahead-distance}
+use Rattle.hx_levels.proofs.LevelNext.{find-retained}
 use Rattle.hx_levels.proofs.Numbers.{numbered-filtered}
 use Rattle.hx_levels.proofs.Indexed.{all-small}
 use Rattle.hx_levels.proofs.Rising.{IsRisingBy}
@@ -79,17 +79,17 @@ less_earlier s d e m k sx sy lm lk mk h = elim (cases_order d e) [ inl q ↦ sam
 
 module _ (n : ℕ → ℕ) (terms : Terms) where
   rank_is : (y : Live) → IsCrossing n terms y → rank_of n y ≡ rank_at (contra terms (distance_of y)) y.order.shown (n y.key.0)
-  rank_is y c = ap (λ r. rank_at r y.order.shown (n y.key.0)) (crosses-rung terms y c.1 c.0).0
+  rank_is y c = ap (λ r. rank_at r y.order.shown (n y.key.0)) (crosses-level_key terms y c.1 c.0).0
 
   pub ahead_less : (x y : Live) → IsCrossing n terms x → IsCrossing n terms y → is_ahead terms.side x y ≡ true → rank_of n x < rank_of n y
   ahead_less x y c d a =
-      let e = ahead-distance terms x y (distance_of x) (distance_of y) c.1 d.1 (crosses-rung terms x c.1 c.0).0 (crosses-rung terms y d.1 d.0).0 in
+      let e = ahead-distance terms x y (distance_of x) (distance_of y) c.1 d.1 (crosses-level_key terms x c.1 c.0).0 (crosses-level_key terms y d.1 d.0).0 in
       subst (λ i. i < rank_of n y) (sym (rank_is x c)) (subst (λ i. rank_at (contra terms (distance_of x)) x.order.shown (n x.key.0) < i) (sym (rank_is y d))
       (less_ahead (side_number (contra terms 0)) (distance_of x) (distance_of y) (n x.key.0) (n y.key.0) x.order.shown y.order.shown c.2 d.2 (sym e ∙ a)))
 
   pub earlier_less : (x y : Live) → IsCrossing n terms x → IsCrossing n terms y → is_ahead terms.side y x ≡ false → n x.key.0 < n y.key.0 → rank_of n x < rank_of n y
   earlier_less x y c d a l =
-      let e = ahead-distance terms y x (distance_of y) (distance_of x) d.1 c.1 (crosses-rung terms y d.1 d.0).0 (crosses-rung terms x c.1 c.0).0 in
+      let e = ahead-distance terms y x (distance_of y) (distance_of x) d.1 c.1 (crosses-level_key terms y d.1 d.0).0 (crosses-level_key terms x c.1 c.0).0 in
       subst (λ i. i < rank_of n y) (sym (rank_is x c)) (subst (λ i. rank_at (contra terms (distance_of x)) x.order.shown (n x.key.0) < i) (sym (rank_is y d))
       (less_earlier (side_number (contra terms 0)) (distance_of x) (distance_of y) (n x.key.0) (n y.key.0) x.order.shown y.order.shown c.2 d.2 l (sym e ∙ a)))
 
@@ -110,9 +110,9 @@ module _ (n : ℕ → ℕ) (terms : Terms) where
       (all_ranked (is_ahead terms.side) (ahead_asym terms.side) (ahead_skip terms.side) (λ y. n x.key.0 < n y.key.0) xs b.0)
       (by_rank_rising next xs a.1 b.2)
 
-all_kept : (keep : Live → Bool) (xs : List Live) → AllByRecursion (λ x. keep x ≡ true) (filter keep xs)
-all_kept keep [] = tt
-all_kept keep (x ∷ xs) = cond_both (keep x) (x ∷ filter keep xs) (filter keep xs) (λ r. AllByRecursion (λ y. keep y ≡ true) r) (λ t. (t, all_kept keep xs)) (λ _. all_kept keep xs)
+all_retained : (keep : Live → Bool) (xs : List Live) → AllByRecursion (λ x. keep x ≡ true) (filter keep xs)
+all_retained keep [] = tt
+all_retained keep (x ∷ xs) = cond_both (keep x) (x ∷ filter keep xs) (filter keep xs) (λ r. AllByRecursion (λ y. keep y ≡ true) r) (λ t. (t, all_retained keep xs)) (λ _. all_retained keep xs)
 
 -- each order is found under its key
 pub all_own : (xs : List Live) → KeysDiffer xs → AllByRecursion (λ y. find (is_under y.key.0) xs ≡ Some y) xs
@@ -135,7 +135,7 @@ module _ (n : ℕ → ℕ) (next : ℕ) (terms : Terms) (orders : List Live) (di
     (priced : AllByRecursion IsPriced orders) (numbered : AreNumbered n next orders) (small : next < 2 ^ 63) where
   crossing : AllByRecursion (IsCrossing n terms) (filter (λ live. crosses terms live.order) orders)
   crossing =
-      together (filter (λ live. crosses terms live.order) orders) (all_kept (λ live. crosses terms live.order) orders)
+      together (filter (λ live. crosses terms live.order) orders) (all_retained (λ live. crosses terms live.order) orders)
       (all_filtered IsPriced (λ live. crosses terms live.order) orders priced)
       (all_filtered (λ y. n y.key.0 < 2 ^ 63) (λ live. crosses terms live.order) orders (all-small n next orders numbered small))
     where
@@ -155,7 +155,7 @@ pub ranked_found : (terms : Terms) (orders : List Live) (key : ℕ) (a : Live) �
 ranked_found terms orders key a d f c =
     find-by_rank (is_ahead terms.side) (ahead_asym terms.side) (ahead_skip terms.side) (is_under key) (filter (λ live. crosses terms live.order) orders)
     (once_filtered (λ live. crosses terms live.order) (is_under key) orders (once_under key orders d))
-    ∙ find-kept (λ live. crosses terms live.order) (is_under key) a orders f c
+    ∙ find-retained (λ live. crosses terms live.order) (is_under key) a orders f c
 
 -- each order by rank is found among them, and in the book
 pub ranked_own : (terms : Terms) (orders : List Live) → KeysDiffer orders
@@ -163,7 +163,7 @@ pub ranked_own : (terms : Terms) (orders : List Live) → KeysDiffer orders
 ranked_own terms orders d =
     all_ranked (is_ahead terms.side) (ahead_asym terms.side) (ahead_skip terms.side) (λ y. (find (is_under y.key.0) (ranked terms orders) ≡ Some y) × (find (is_under y.key.0) orders ≡ Some y))
     (filter (λ live. crosses terms live.order) orders)
-    (each (filter (λ live. crosses terms live.order) orders) (all_kept (λ live. crosses terms live.order) orders)
+    (each (filter (λ live. crosses terms live.order) orders) (all_retained (λ live. crosses terms live.order) orders)
     (all_filtered (λ y. find (is_under y.key.0) orders ≡ Some y) (λ live. crosses terms live.order) orders (all_own orders d)))
   where
     each : (zs : List Live) → AllByRecursion (λ y. crosses terms y.order ≡ true) zs → AllByRecursion (λ y. find (is_under y.key.0) orders ≡ Some y) zs
@@ -183,9 +183,9 @@ filter_twice p q (x ∷ xs) = at (p x) (q x) refl refl (filter_twice p q xs)
     at false true ea eb ih = cond-false (p x) _ _ ea ∙ ih
     at false false ea eb ih = ih
 
-pub kept_by_rank : (terms : Terms) (orders : List Live) (test : Live → Bool)
+pub retained_by_rank : (terms : Terms) (orders : List Live) (test : Live → Bool)
     → find (λ y. not (is_conditional y.order) && test y) (ranked terms orders) ≡ find test (ranked terms (unconditional orders))
-kept_by_rank terms orders test =
+retained_by_rank terms orders test =
     let C = filter (λ live. crosses terms live.order) orders in
     let keep : Live → Bool = λ y. not (is_conditional y.order) in
     sym (first_of-find (is_ahead terms.side) (ahead_asym terms.side) (ahead_skip terms.side) (λ y. keep y && test y) C)

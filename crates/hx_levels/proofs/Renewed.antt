@@ -1,10 +1,10 @@
--- No level is better than the distance kept for its stock and side, once the best of a side is found anew.
+-- No level is better than the distance stored for its stock and side, once the best of a side is found anew.
 use Rattle.std.proofs.Common.{◌≡◌, ℕ, ◌+◌, ◌*◌, ◌<◌, ◌≤◌, Bool, true, false, inl, inr, eqb, cond, List, length, set, None, sym, ap, ◌∙◌, subst, arith, eqb-true, refl}
 use Rattle.std.specs.Option.{IsSome, is_some}
 use Rattle.std.proofs.lemmas.Bool.{true≢false, eqb-false, cases_lt}
 use Rattle.std.proofs.lemmas.List.{get_or-set_other}
 use Rattle.std.proofs.lemmas.Grind.{get_or-set_at}
-use Rattle.hx_levels.specs.Rung.{LevelKey, side_number}
+use Rattle.hx_levels.specs.LevelKeys.{LevelKey, side_number}
 use Rattle.hx_levels.specs.Levels.{LevelStore, level_at}
 use Rattle.hx_levels.specs.Bests.{bound_of, NoneBetter}
 
@@ -14,7 +14,7 @@ same_number l m true false h = absurd (omega arith)
 same_number l m false true h = absurd (omega arith)
 same_number l m false false h = (omega arith, refl)
 
--- a rung of the same stock and side
+-- a level key of the same stock and side
 beside : (at q : LevelKey) → side_number q ≡ side_number at → record at { distance = q.distance } ≡ q
 beside at q h =
     let s = same_number q.locate at.locate q.buy at.buy h in

@@ -3,10 +3,10 @@ use Rattle.std.proofs.Common.{◌≡◌, ℕ, ◌+◌, ◌<◌, ◌≤◌, Bool,
 use Rattle.std.specs.List.{AllByRecursion, find}
 use Rattle.std.proofs.lemmas.Bool.{cond_both, cond-true, cond-false, true≢false, false_from_ne_true, and_parts, and_from}
 use Rattle.std.proofs.lemmas.Bool.Decides.{nat_tests}
-use Rattle.hx_levels.specs.declared.order.Live.{Live}
-use Rattle.hx_levels.specs.Lists.{behind_first}
-use Rattle.hx_levels.specs.Book.{is_under}
-use Rattle.hx_levels.proofs.Lists.{found_among, all_weaker}
+use Rattle.hx_book.specs.declared.order.Live.{Live}
+use Rattle.hx_book.specs.Lists.{after_first}
+use Rattle.hx_book.specs.Book.{is_under}
+use Rattle.hx_book.proofs.Lists.{found_among, all_weaker}
 
 pub find-same_all : (p q : Live → Bool) (xs : List Live) → AllByRecursion (λ x. p x ≡ q x) xs → find p xs ≡ find q xs
 find-same_all p q [] h = refl
@@ -61,7 +61,7 @@ module _ (r : Live → ℕ) where
 
   -- what stands after an order has a greater number
   pub after_is : (key : ℕ) (a : Live) (q : Live → Bool) (xs : List Live) → IsRisingBy xs → find (is_under key) xs ≡ Some a
-      → find q (behind_first (is_under key) xs) ≡ find (λ y. leb (r a + 1) (r y) && q y) xs
+      → find q (after_first (is_under key) xs) ≡ find (λ y. leb (r a + 1) (r y) && q y) xs
   after_is key a q [] h f = cc
   after_is key a q (x ∷ xs) h f = at (is_under key x) f (after_is key a q xs h.1)
     where
@@ -69,8 +69,8 @@ module _ (r : Live → ℕ) where
       below i j l = grind (arith, nat_tests)
 
       at : (b : Bool) → cond b (Some x) (find (is_under key) xs) ≡ Some a
-          → (find (is_under key) xs ≡ Some a → find q (behind_first (is_under key) xs) ≡ find (λ y. leb (r a + 1) (r y) && q y) xs)
-          → find q (cond b xs (behind_first (is_under key) xs)) ≡ cond (leb (r a + 1) (r x) && q x) (Some x) (find (λ y. leb (r a + 1) (r y) && q y) xs)
+          → (find (is_under key) xs ≡ Some a → find q (after_first (is_under key) xs) ≡ find (λ y. leb (r a + 1) (r y) && q y) xs)
+          → find q (cond b xs (after_first (is_under key) xs)) ≡ cond (leb (r a + 1) (r x) && q x) (Some x) (find (λ y. leb (r a + 1) (r y) && q y) xs)
       at true g ih =
           let e : x ≡ a = cc in
           from_all (r a + 1) q xs (subst (λ (z : Live). AllByRecursion (λ y. r z + 1 ≤ r y) xs) e (all_weaker (λ y. r x < r y) (λ y. r x + 1 ≤ r y) (λ y l. omega arith) xs h.0))
@@ -79,9 +79,9 @@ module _ (r : Live → ℕ) where
           let l : r x < r a = found_among (λ y. r x < r y) (is_under key) a xs h.0 g in
           ih g ∙ sym (ap (λ b. cond (b && q x) (Some x) (find (λ y. leb (r a + 1) (r y) && q y) xs)) (below (r x) (r a) (omega arith)))
 
-  pub rising_after : (test : Live → Bool) (xs : List Live) → IsRisingBy xs → IsRisingBy (behind_first test xs)
+  pub rising_after : (test : Live → Bool) (xs : List Live) → IsRisingBy xs → IsRisingBy (after_first test xs)
   rising_after test [] h = tt
-  rising_after test (x ∷ xs) h = cond_both (test x) xs (behind_first test xs) IsRisingBy (λ _. h.1) (λ _. rising_after test xs h.1)
+  rising_after test (x ∷ xs) h = cond_both (test x) xs (after_first test xs) IsRisingBy (λ _. h.1) (λ _. rising_after test xs h.1)
 
   -- the order with the least number of all that pass is the first that does
   pub found_least : (test : Live → Bool) (a : Live) (xs : List Live) → IsRisingBy xs → find (is_under a.key.0) xs ≡ Some a → test a ≡ true

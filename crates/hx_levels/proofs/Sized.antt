@@ -2,15 +2,15 @@
 use Rattle.std.proofs.Common.{◌≡◌, ℕ, ◌≤◌, ◌⊎◌, inl, inr, Bool, true, false, List, [], ◌∷◌, Option, Some, None, sym, subst, arith}
 use Rattle.std.specs.Option.{option_map, IfSome}
 use Rattle.std.proofs.lemmas.Bool.Decides.{nat_tests}
-use Rattle.hx_levels.specs.declared.order.Live.{Live}
+use Rattle.hx_book.specs.declared.order.Live.{Live}
 use Rattle.hx_levels.specs.declared.level_book.levels.Level.{Level}
 use Rattle.hx_levels.specs.declared.level_book.linked_orders.Ends.{Ends}
-use Rattle.hx_levels.specs.Rung.{LevelKey}
+use Rattle.hx_levels.specs.LevelKeys.{LevelKey}
 use Rattle.hx_levels.specs.Levels.{LevelStore, level_at, with_ends, joined}
-use Rattle.hx_levels.specs.Book.{terms_of}
-use Rattle.hx_levels.specs.LevelBook.{rung_of, AreSized}
+use Rattle.hx_book.specs.Book.{terms_of}
+use Rattle.hx_levels.specs.LevelBook.{level_key_of, AreSized}
 
--- a level, where there is one, says at least this number
+-- a level, if there is one, says at least this number
 abbrev pub Bounds : (shares : ℕ) → Option Level → Type 0
 Bounds shares o = IfSome o (λ level. shares ≤ level.most)
 
@@ -18,9 +18,9 @@ Bounds shares o = IfSome o (λ level. shares ≤ level.most)
 abbrev pub KeepBounds : LevelStore → LevelStore → Type 0
 KeepBounds levels levels' = (q : LevelKey) (n : ℕ) → Bounds n (level_at levels q) → Bounds n (level_at levels' q)
 
-pub sized_kept : (levels levels' : LevelStore) (orders : List Live) → KeepBounds levels levels' → AreSized levels orders → AreSized levels' orders
-sized_kept levels levels' [] k a = tt
-sized_kept levels levels' (x ∷ xs) k a = ((λ c. k (rung_of (terms_of x.order)) x.order.shares (a.0 c)), sized_kept levels levels' xs k a.1)
+pub sized_retained : (levels levels' : LevelStore) (orders : List Live) → KeepBounds levels levels' → AreSized levels orders → AreSized levels' orders
+sized_retained levels levels' [] k a = tt
+sized_retained levels levels' (x ∷ xs) k a = ((λ c. k (level_key_of (terms_of x.order)) x.order.shares (a.0 c)), sized_retained levels levels' xs k a.1)
 
 pub bounds_joined : (shown : Bool) (ends : Ends) (shares n : ℕ) (o : Option Level) → Bounds n o → Bounds n (option_map (joined shown ends shares) o)
 bounds_joined shown ends shares n None b = tt

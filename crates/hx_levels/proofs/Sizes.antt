@@ -6,17 +6,17 @@ use Rattle.std.proofs.lemmas.Bool.{cond-true, cond-false, eqb-false, true≢fals
 use Rattle.std.proofs.lemmas.Bool.Decides.{nat_tests}
 use Rattle.hx_levels.specs.declared.level_book.levels.Level.{Level}
 use Rattle.hx_levels.specs.declared.level_book.linked_orders.Ends.{Ends}
-use Rattle.hx_levels.specs.Rung.{LevelKey, rung_number, rung_of_number}
-use Rattle.hx_levels.specs.Levels.{LevelStore, level_at, with_ends, joined, with_most, or_empty}
+use Rattle.hx_levels.specs.LevelKeys.{LevelKey, level_key_number, level_key_of_number}
+use Rattle.hx_levels.specs.Levels.{LevelStore, level_at, with_ends, joined, with_most}
 use Rattle.hx_levels.specs.Sizes.{size_of, size_in, AreSizes}
-use Rattle.hx_levels.specs.LevelBook.{is_rung}
-use Rattle.hx_levels.proofs.Added.{same_rung, self_rung}
+use Rattle.hx_levels.specs.LevelBook.{is_level_key}
+use Rattle.hx_levels.proofs.Added.{same_level_key, self_level_key}
 use Rattle.hx_ranked.specs.declared.entry.Entry.{Entry}
 use Rattle.hx_ranked.specs.Ranked.{has_rank, IsFree, inserted, without, renewed, with_least}
 use Rattle.hx_ranked.proofs.Found.{find-inserted, find-without, find-renewed}
 
--- a number is that of its rung
-pub number_back : (n : ℕ) → rung_number (rung_of_number n) ≡ n
+-- a number is that of its level key
+pub number_back : (n : ℕ) → level_key_number (level_key_of_number n) ≡ n
 number_back n = at (eqb (n / 2 ^ 32 % 2) 1) refl
   where
     zero_left : (m : ℕ) → eqb (m % 2) 1 ≡ false → m % 2 ≡ 0
@@ -26,10 +26,10 @@ number_back n = at (eqb (n / 2 ^ 32 % 2) 1) refl
     at true e = let h = eqb-true (n / 2 ^ 32 % 2) 1 e in omega (arith, h)
     at false e = let h = zero_left (n / 2 ^ 32) e in omega (arith, h)
 
-pub one_number : (n m : ℕ) → rung_of_number n ≡ rung_of_number m → n ≡ m
-one_number n m h = sym (number_back n) ∙ ap rung_number h ∙ number_back m
+pub one_number : (n m : ℕ) → level_key_of_number n ≡ level_key_of_number m → n ≡ m
+one_number n m h = sym (number_back n) ∙ ap level_key_number h ∙ number_back m
 
--- of levels with as many shares
+-- of levels with equal shares
 size_same : (n : ℕ) (o p : Option Level) → option_map (λ (l : Level). l.most) p ≡ option_map (λ (l : Level). l.most) o → size_in n o ≡ size_in n p
 size_same n None None h = refl
 size_same n None (Some l) h = cc
@@ -47,16 +47,11 @@ size_some n l h = cond-false (eqb l.most 0) None (Some (size_of n l)) (ne_eqb l.
 -- the sizes of all levels but one stay, and that one's stays, too
 pub sizes_same : (levels levels' : LevelStore) (at : LevelKey) (entries : List Entry) → ((q : LevelKey) → (q ≡ at → ⊥) → level_at levels' q ≡ level_at levels q)
     → ((n : ℕ) → size_in n (level_at levels at) ≡ size_in n (level_at levels' at)) → AreSizes levels entries → AreSizes levels' entries
-sizes_same levels levels' at entries others same sizes n = sizes n ∙ by (is_rung (rung_of_number n) at) refl
+sizes_same levels levels' at entries others same sizes n = sizes n ∙ by (is_level_key (level_key_of_number n) at) refl
   where
-    by : (b : Bool) → is_rung (rung_of_number n) at ≡ b → size_in n (level_at levels (rung_of_number n)) ≡ size_in n (level_at levels' (rung_of_number n))
-    by true e = subst (λ v. size_in n (level_at levels v) ≡ size_in n (level_at levels' v)) (sym (same_rung (rung_of_number n) at e)) (same n)
-    by false e = ap (size_in n) (sym (others (rung_of_number n) (λ h. true≢false (sym (ap (λ v. is_rung v at) h ∙ self_rung at) ∙ e))))
-
--- a level that is made has none yet
-pub size_made : (n : ℕ) (o : Option Level) → size_in n o ≡ size_in n (or_empty o)
-size_made n None = refl
-size_made n (Some level) = refl
+    by : (b : Bool) → is_level_key (level_key_of_number n) at ≡ b → size_in n (level_at levels (level_key_of_number n)) ≡ size_in n (level_at levels' (level_key_of_number n))
+    by true e = subst (λ v. size_in n (level_at levels v) ≡ size_in n (level_at levels' v)) (sym (same_level_key (level_key_of_number n) at e)) (same n)
+    by false e = ap (size_in n) (sym (others (level_key_of_number n) (λ h. true≢false (sym (ap (λ v. is_level_key v at) h ∙ self_level_key at) ∙ e))))
 
 pub size_left : (shown : Bool) (ends : Ends) (n : ℕ) (o : Option Level) → size_in n o ≡ size_in n (option_map (with_ends shown ends) o)
 size_left shown ends n None = refl
@@ -84,16 +79,16 @@ without_free r (x ∷ xs) f = by (has_rank r x) f (without_free r xs)
     by true g ih = cc
     by false g ih = ap (λ l. x ∷ l) (ih g)
 
-module _ (levels levels' : LevelStore) (at : LevelKey) (r : ℕ) (entries : List Entry) (rung : rung_of_number r ≡ at)
+module _ (levels levels' : LevelStore) (at : LevelKey) (r : ℕ) (entries : List Entry) (level_key : level_key_of_number r ≡ at)
     (others : (q : LevelKey) → (q ≡ at → ⊥) → level_at levels' q ≡ level_at levels q) (sizes : AreSizes levels entries) where
-  elsewhere : (n : ℕ) → eqb n r ≡ false → find (has_rank n) entries ≡ size_in n (level_at levels' (rung_of_number n))
-  elsewhere n e = sizes n ∙ ap (size_in n) (sym (others (rung_of_number n) (λ h. eqb-false n r e (one_number n r (h ∙ sym rung)))))
+  elsewhere : (n : ℕ) → eqb n r ≡ false → find (has_rank n) entries ≡ size_in n (level_at levels' (level_key_of_number n))
+  elsewhere n e = sizes n ∙ ap (size_in n) (sym (others (level_key_of_number n) (λ h. eqb-false n r e (one_number n r (h ∙ sym level_key)))))
 
-  here : (n : ℕ) (o : Option Level) → level_at levels' at ≡ o → eqb n r ≡ true → size_in n o ≡ size_in n (level_at levels' (rung_of_number n))
-  here n o l e = ap (size_in n) (sym (ap (λ m. level_at levels' (rung_of_number m)) (eqb-true n r e) ∙ ap (level_at levels') rung ∙ l))
+  here : (n : ℕ) (o : Option Level) → level_at levels' at ≡ o → eqb n r ≡ true → size_in n o ≡ size_in n (level_at levels' (level_key_of_number n))
+  here n o l e = ap (size_in n) (sym (ap (λ m. level_at levels' (level_key_of_number m)) (eqb-true n r e) ∙ ap (level_at levels') level_key ∙ l))
 
   was_here : (n : ℕ) (o : Option Level) → level_at levels at ≡ o → eqb n r ≡ true → find (has_rank n) entries ≡ size_in n o
-  was_here n o l e = sizes n ∙ ap (size_in n) (ap (λ m. level_at levels (rung_of_number m)) (eqb-true n r e) ∙ ap (level_at levels) rung ∙ l)
+  was_here n o l e = sizes n ∙ ap (size_in n) (ap (λ m. level_at levels (level_key_of_number m)) (eqb-true n r e) ∙ ap (level_at levels) level_key ∙ l)
 
   pub free_rank : IfSome (level_at levels at) (λ l. l.most ≡ 0) → IsFree r entries
   free_rank none = was_here r (level_at levels at) refl (eq-eqb r r refl) ∙ size_none r (level_at levels at) none
@@ -116,25 +111,25 @@ module _ (levels levels' : LevelStore) (at : LevelKey) (r : ℕ) (entries : List
       own None e = refl
       own (Some l) e = on l (eqb l.most 0) e refl
 
-      kept : (l : Level) (z : Bool) → eqb n r ≡ false → option_map (with_least r 1 most) (cond z None (Some (size_of n l))) ≡ cond z None (Some (size_of n l))
-      kept l true e = refl
-      kept l false e = ap Some (cond-false (eqb n r) (record { rank = n; key = 0; least = 1; shares = most }) (size_of n l) e)
+      retained : (l : Level) (z : Bool) → eqb n r ≡ false → option_map (with_least r 1 most) (cond z None (Some (size_of n l))) ≡ cond z None (Some (size_of n l))
+      retained l true e = refl
+      retained l false e = ap Some (cond-false (eqb n r) (record { rank = n; key = 0; least = 1; shares = most }) (size_of n l) e)
 
       unmoved : (o : Option Level) → eqb n r ≡ false → option_map (with_least r 1 most) (size_in n o) ≡ size_in n o
       unmoved None e = refl
-      unmoved (Some l) e = kept l (eqb l.most 0) e
+      unmoved (Some l) e = retained l (eqb l.most 0) e
 
-      by : (b : Bool) → eqb n r ≡ b → option_map (with_least r 1 most) (find (has_rank n) entries) ≡ size_in n (level_at levels' (rung_of_number n))
+      by : (b : Bool) → eqb n r ≡ b → option_map (with_least r 1 most) (find (has_rank n) entries) ≡ size_in n (level_at levels' (level_key_of_number n))
       by true e =
           ap (option_map (with_least r 1 most)) (was_here n (level_at levels at) refl e) ∙ own (level_at levels at) e ∙ ap (size_in n) (sym changed)
           ∙ here n (level_at levels' at) refl e
-      by false e = ap (option_map (with_least r 1 most)) (elsewhere n e) ∙ unmoved (level_at levels' (rung_of_number n)) e
+      by false e = ap (option_map (with_least r 1 most)) (elsewhere n e) ∙ unmoved (level_at levels' (level_key_of_number n)) e
 
   -- a level is taken out
   pub sizes_gone : level_at levels' at ≡ None → AreSizes levels' (without r entries)
   sizes_gone none n = find-without n r entries ∙ by (eqb n r) refl
     where
-      by : (b : Bool) → eqb n r ≡ b → cond (eqb n r) None (find (has_rank n) entries) ≡ size_in n (level_at levels' (rung_of_number n))
+      by : (b : Bool) → eqb n r ≡ b → cond (eqb n r) None (find (has_rank n) entries) ≡ size_in n (level_at levels' (level_key_of_number n))
       by true e = cond-true (eqb n r) _ _ e ∙ here n None none e
       by false e = cond-false (eqb n r) _ _ e ∙ elsewhere n e
 
@@ -155,7 +150,7 @@ module _ (levels levels' : LevelStore) (at : LevelKey) (r : ℕ) (entries : List
     first_size : level.most ≡ 0 → AreSizes levels' (inserted (record { rank = r; key = 0; least = 1; shares = shares }) entries)
     first_size zero n = find-inserted n (record { rank = r; key = 0; least = 1; shares = shares }) entries (free_rank (subst (λ o. IfSome o (λ l. l.most ≡ 0)) (sym was) zero)) ∙ by (eqb n r) refl
       where
-        by : (b : Bool) → eqb n r ≡ b → cond (eqb r n) (Some (record { rank = r; key = 0; least = 1; shares = shares })) (find (has_rank n) entries) ≡ size_in n (level_at levels' (rung_of_number n))
+        by : (b : Bool) → eqb n r ≡ b → cond (eqb r n) (Some (record { rank = r; key = 0; least = 1; shares = shares })) (find (has_rank n) entries) ≡ size_in n (level_at levels' (level_key_of_number n))
         by true e =
             cond-true (eqb r n) _ _ (swapped n true e) ∙ ap (λ m. Some (record { rank = m; key = 0; least = 1; shares = shares })) (sym (eqb-true n r e)) ∙ size_is n
             ∙ here n (Some (joined shown ends shares level)) is e
@@ -164,16 +159,16 @@ module _ (levels levels' : LevelStore) (at : LevelKey) (r : ℕ) (entries : List
     next_size : (level.most ≡ 0 → ⊥) → AreSizes levels' (renewed r 1 shares entries)
     next_size some n = find-renewed n r 1 shares entries ∙ by (eqb n r) refl
       where
-        by : (b : Bool) → eqb n r ≡ b → option_map (with_least r 1 shares) (find (has_rank n) entries) ≡ size_in n (level_at levels' (rung_of_number n))
+        by : (b : Bool) → eqb n r ≡ b → option_map (with_least r 1 shares) (find (has_rank n) entries) ≡ size_in n (level_at levels' (level_key_of_number n))
         by true e =
             ap (option_map (with_least r 1 shares)) (was_here n (Some level) was e ∙ size_some n level some)
             ∙ ap Some (cond-true (eqb n r) (record { rank = n; key = 0; least = 1; shares = shares }) (size_of n level) e)
             ∙ size_is n ∙ here n (Some (joined shown ends shares level)) is e
         by false e =
-            ap (option_map (with_least r 1 shares)) (elsewhere n e) ∙ unmoved (level_at levels' (rung_of_number n))
+            ap (option_map (with_least r 1 shares)) (elsewhere n e) ∙ unmoved (level_at levels' (level_key_of_number n))
           where
-            kept : (k : ℕ) → with_least r 1 shares (record { rank = n; key = 0; least = 1; shares = k }) ≡ record { rank = n; key = 0; least = 1; shares = k }
-            kept k = cond-false (eqb n r) (record { rank = n; key = 0; least = 1; shares = shares }) (record { rank = n; key = 0; least = 1; shares = k }) e
+            retained : (k : ℕ) → with_least r 1 shares (record { rank = n; key = 0; least = 1; shares = k }) ≡ record { rank = n; key = 0; least = 1; shares = k }
+            retained k = cond-false (eqb n r) (record { rank = n; key = 0; least = 1; shares = shares }) (record { rank = n; key = 0; least = 1; shares = k }) e
 
             unmoved : (o : Option Level) → option_map (with_least r 1 shares) (size_in n o) ≡ size_in n o
             unmoved None = refl
@@ -181,7 +176,7 @@ module _ (levels levels' : LevelStore) (at : LevelKey) (r : ℕ) (entries : List
               where
                 on : (z : Bool) → option_map (with_least r 1 shares) (cond z None (Some (size_of n l))) ≡ cond z None (Some (size_of n l))
                 on true = refl
-                on false = ap Some (kept l.most)
+                on false = ap Some (retained l.most)
 
   pub sizes_first : (shown : Bool) (ends : Ends) (shares most : ℕ) → IsSome (level_at levels at) → level_at levels' at ≡ option_map (joined shown ends shares) (level_at levels at)
       → IfSome (level_at levels at) (λ l. most ≡ l.most) → most < shares → most ≡ 0 → AreSizes levels' (inserted (record { rank = r; key = 0; least = 1; shares = shares }) entries)

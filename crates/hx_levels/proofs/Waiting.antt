@@ -4,17 +4,17 @@ use Rattle.std.specs.List.{AllByRecursion, find, filter}
 use Rattle.std.specs.Option.{option_map, IfSome}
 use Rattle.std.proofs.lemmas.Bool.{cond-true, cond-false, true≢false, false_from_ne_true, and_parts, and_from}
 use Rattle.hx_units.specs.Side.{is_buy}
-use Rattle.hx_levels.specs.declared.order.Live.{Live}
-use Rattle.hx_levels.specs.declared.order.Key.{Key}
-use Rattle.hx_levels.specs.declared.order.Terms.{Terms}
-use Rattle.hx_levels.specs.Rung.{LevelKey, rung_number, side_number}
-use Rattle.hx_levels.specs.Book.{is_under, is_ahead, crosses, ranked, terms_of, KeysDiffer, is_conditional, rest_after, IsRanked}
-use Rattle.hx_levels.specs.LevelBook.{AreNumbered, AreIndexed, rank_at, rank_of, rung_of, contra, limit_of, first_rank, last_rank, entry_of, entry_at, is_waiting_at}
+use Rattle.hx_book.specs.declared.order.Live.{Live}
+use Rattle.hx_book.specs.declared.order.Key.{Key}
+use Rattle.hx_book.specs.declared.order.Terms.{Terms}
+use Rattle.hx_levels.specs.LevelKeys.{LevelKey, level_key_number, side_number}
+use Rattle.hx_book.specs.Book.{is_under, is_ahead, crosses, ranked, terms_of, KeysDiffer, is_conditional, rest_after, IsRanked}
+use Rattle.hx_levels.specs.LevelBook.{AreNumbered, AreIndexed, rank_at, rank_of, level_key_of, contra, limit_of, first_rank, last_rank, entry_of, entry_at, is_waiting_at}
 use Rattle.hx_levels.specs.Walks.{rank_after, rank_past}
-use Rattle.hx_levels.proofs.Lists.{all_weaker, all_filtered, found_among, find-none}
-use Rattle.hx_levels.proofs.Rank.{all_ranked}
-use Rattle.hx_levels.proofs.Orders.{ahead_asym, ahead_skip}
-use Rattle.hx_levels.proofs.LevelRanks.{IsPriced, crosses-rung, rung-crosses, distance_of}
+use Rattle.hx_book.proofs.Lists.{all_weaker, all_filtered, found_among, find-none}
+use Rattle.hx_book.proofs.Rank.{all_ranked}
+use Rattle.hx_book.proofs.Orders.{ahead_asym, ahead_skip}
+use Rattle.hx_levels.proofs.LevelRanks.{IsPriced, crosses-level_key, level_key-crosses, distance_of}
 use Rattle.hx_levels.proofs.Numbers.{ranks-differ}
 use Rattle.hx_levels.proofs.Indexed.{entry-step, all-small}
 use Rattle.hx_levels.proofs.Rising.{found_passes, found_least, from_all, after_is}
@@ -48,12 +48,12 @@ lower a b false m l h = omega arith
 -- an order that ranks between the first and the last rank of the terms crosses them
 pub range_crosses : (n : ℕ → ℕ) (terms : Terms) (y : Live) → IsPriced y → limit_of terms < 2 ^ 32 → n y.key.0 < 2 ^ 63 → first_rank terms ≤ rank_of n y → rank_of n y ≤ last_rank terms → crosses terms y.order ≡ true
 range_crosses n terms y p tp s f l =
-    let R = rung_of (terms_of y.order) in
-    let up : rung_number R ≤ rung_number (contra terms (limit_of terms)) = upper (rung_number (contra terms (limit_of terms))) (rung_number R) 0 y.order.shown (n y.key.0) s l in
-    let low : rung_number (contra terms 0) ≤ rung_number R = lower (rung_number (contra terms 0)) (rung_number R) y.order.shown (n y.key.0) s f in
+    let R = level_key_of (terms_of y.order) in
+    let up : level_key_number R ≤ level_key_number (contra terms (limit_of terms)) = upper (level_key_number (contra terms (limit_of terms))) (level_key_number R) 0 y.order.shown (n y.key.0) s l in
+    let low : level_key_number (contra terms 0) ≤ level_key_number R = lower (level_key_number (contra terms 0)) (level_key_number R) y.order.shown (n y.key.0) s f in
     let w = in_side (is_buy y.order.side) (not (is_buy terms.side)) y.order.locate terms.locate (distance_of y) (limit_of terms)
     (small_distance (is_buy y.order.side) y.order.price p) tp up low in
-    rung-crosses terms y (distance_of y) p
+    level_key-crosses terms y (distance_of y) p
     (ap (λ m. record { locate = m; buy = is_buy y.order.side; distance = distance_of y }) w.0
     ∙ ap (λ t. record { locate = terms.locate; buy = t; distance = distance_of y }) w.1) w.2
 
@@ -68,12 +68,12 @@ below a d e m false l s = omega arith
 -- and one that crosses them ranks there
 pub crosses_first : (n : ℕ → ℕ) (terms : Terms) (y : Live) → IsCrossing n terms y → first_rank terms ≤ rank_of n y
 crosses_first n terms y c =
-    subst (λ (r : LevelKey). first_rank terms ≤ rank_at r y.order.shown (n y.key.0)) (sym (crosses-rung terms y c.1 c.0).0)
+    subst (λ (r : LevelKey). first_rank terms ≤ rank_at r y.order.shown (n y.key.0)) (sym (crosses-level_key terms y c.1 c.0).0)
     (above (side_number (contra terms 0) * 2 ^ 32) (distance_of y) (n y.key.0) y.order.shown)
 
 pub crosses_last : (n : ℕ → ℕ) (terms : Terms) (y : Live) → IsCrossing n terms y → rank_of n y ≤ last_rank terms
 crosses_last n terms y c =
-    let r = crosses-rung terms y c.1 c.0 in
+    let r = crosses-level_key terms y c.1 c.0 in
     subst (λ (v : LevelKey). rank_at v y.order.shown (n y.key.0) ≤ last_rank terms) (sym r.0)
     (below (side_number (contra terms 0) * 2 ^ 32) (distance_of y) (limit_of terms) (n y.key.0) y.order.shown r.1 c.2)
 
@@ -90,7 +90,7 @@ own_entry n next (x ∷ xs) a l = (
     other : (y : Live) → n x.key.0 < n y.key.0 → n y.key.0 < 2 ^ 63 → is_waiting_at n (rank_of n y) x ≡ false
     other y g s = false_from_ne_true (is_waiting_at n (rank_of n y) x) (λ t.
         let p = and_parts (is_conditional x.order) (eqb (rank_of n x) (rank_of n y)) t in
-        true≢false (sym p.1 ∙ ranks-differ (rung_of (terms_of x.order)) (rung_of (terms_of y.order)) x.order.shown y.order.shown (n x.key.0) (n y.key.0) (omega arith) s
+        true≢false (sym p.1 ∙ ranks-differ (level_key_of (terms_of x.order)) (level_key_of (terms_of y.order)) x.order.shown y.order.shown (n x.key.0) (n y.key.0) (omega arith) s
         (λ e. let h : n x.key.0 ≡ n y.key.0 = e in omega arith)))
 
     later : (zs : List Live) → AllByRecursion (λ y. n x.key.0 < n y.key.0) zs → AllByRecursion (λ y. n y.key.0 < 2 ^ 63) zs

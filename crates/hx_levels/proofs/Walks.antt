@@ -5,31 +5,32 @@ use Rattle.std.specs.Option.{option_map, IfSome, IfNone}
 use Rattle.std.proofs.lemmas.Bool.{cond_both, cond-true, cond-false, true≢false, false_from_ne_true, and_parts, and_from}
 use Rattle.std.proofs.lemmas.Bool.Decides.{nat_tests}
 use Rattle.slab.specs.Slab.{Slab}
-use Rattle.hx_levels.specs.declared.order.Live.{Live}
-use Rattle.hx_levels.specs.declared.order.Key.{Key}
-use Rattle.hx_levels.specs.declared.order.Terms.{Terms}
-use Rattle.hx_levels.specs.declared.order.Walk.{Walk}
-use Rattle.hx_levels.specs.declared.level_book.linked_orders.Node.{Node}
+use Rattle.hx_book.specs.declared.order.Order.{Order}
+use Rattle.hx_book.specs.declared.order.Live.{Live}
+use Rattle.hx_book.specs.declared.order.Key.{Key}
+use Rattle.hx_book.specs.declared.order.Terms.{Terms}
+use Rattle.hx_book.specs.declared.order.Walk.{Walk}
+use Rattle.hx_levels.specs.declared.level_book.linked_orders.LinkedOrder.{LinkedOrder}
 use Rattle.hx_levels.specs.declared.level_book.linked_orders.Ends.{Ends}
-use Rattle.hx_levels.specs.Rung.{LevelKey}
+use Rattle.hx_levels.specs.LevelKeys.{LevelKey}
 use Rattle.hx_levels.specs.Levels.{LevelStore}
-use Rattle.hx_levels.specs.Lists.{behind_first}
-use Rattle.hx_levels.specs.Book.{is_under, is_ahead, crosses, ranked, has_key, KeysDiffer, is_conditional, unconditional, rest_after, IsRanked, IsWalk, next_qualifying, is_ready, next_ready, next_by_rank}
+use Rattle.hx_book.specs.Lists.{after_first}
+use Rattle.hx_book.specs.Book.{is_under, is_ahead, crosses, ranked, has_key, KeysDiffer, is_conditional, rest_after, IsRanked, IsWalk, qualifies, next_qualifying, is_ready, next_ready, next_by_rank}
 use Rattle.hx_levels.specs.declared.level_book.LevelBook.TheInside.{Inside}
-use Rattle.hx_levels.specs.LevelBook.{with_room, LevelContents, walked, AreNumbered, AreIndexed, IsBook, number_in, rank_of, limit_of, first_rank, last_rank, least_of, entry_of, entry_at}
+use Rattle.hx_levels.specs.LevelBook.{with_room, LevelContents, walked, AreNumbered, AreIndexed, IsBook, number_in, rank_of, limit_of, first_rank, last_rank, least_of, entry_of, entry_at, unconditional}
 use Rattle.hx_levels.specs.Walks.{rank_after, rank_past, rank_here, rank_until, is_from, is_waiting, is_waiting_until}
-use Rattle.hx_levels.proofs.Lists.{all_weaker, all_filtered, found_among, find-none}
-use Rattle.hx_levels.proofs.Rank.{all_ranked}
-use Rattle.hx_levels.proofs.Orders.{ahead_asym, ahead_skip}
+use Rattle.hx_book.proofs.Lists.{all_weaker, all_filtered, found_among, find-none}
+use Rattle.hx_book.proofs.Rank.{all_ranked}
+use Rattle.hx_book.proofs.Orders.{ahead_asym, ahead_skip}
 use Rattle.hx_levels.proofs.LevelRanks.{IsPriced}
 use Rattle.hx_levels.proofs.Added.{none_has}
-use Rattle.hx_levels.proofs.Keys.{differ-filtered}
+use Rattle.hx_levels.proofs.Parts.{differ-filtered}
 use Rattle.hx_levels.proofs.Numbers.{numbered-filtered}
-use Rattle.hx_levels.proofs.Next.{next-some}
+use Rattle.hx_book.proofs.Next.{next-some}
 use Rattle.hx_levels.proofs.Rising.{IsRisingBy, find-same, found_passes, find-both, from_all, after_is, rising_after, begins_later, sooner, found_by_two, all_fail, first_until, apart}
-use Rattle.hx_levels.proofs.Ranking.{IsCrossing, ranked_rising, ranked_crossing, ranked_found, ranked_own, kept_by_rank}
+use Rattle.hx_levels.proofs.Ranking.{IsCrossing, ranked_rising, ranked_crossing, ranked_found, ranked_own, retained_by_rank}
 use Rattle.hx_levels.proofs.Waiting.{range_crosses, crosses_first, crosses_last, own_entry, Finds, waiting_is, rest_from_rank}
-use Rattle.hx_levels.proofs.Qualifying.{has_found, is_qualifying, next-find}
+use Rattle.hx_book.proofs.Qualifying.{has_found, is_qualifying, next-find}
 use Rattle.hx_ranked.specs.declared.entry.Entry.{Entry}
 use Rattle.hx_ranked.specs.Contents.{Contents as RankedContents}
 use Rattle.hx_ranked.specs.Ranked.{IsRising, has_rank, is_within, first_within_of, is_from as is_entry_from}
@@ -44,17 +45,17 @@ pub record Facts (n : ℕ → ℕ) (entries : List Entry) (orders : List Live) :
   pub small : next < 2 ^ 63
   pub indexed : AreIndexed n entries orders
 
-pub facts : (nodes : Slab Node) (levels : LevelStore) (time : Ends) (place : Option Terms) (kept : Option LevelKey) (next : ℕ) (ranked : RankedContents) (orders : List Live)
-    → IsBook nodes levels time place kept next ranked orders → Facts (number_in nodes) ranked.entries orders
-facts nodes levels time place kept next ranked orders b =
+pub facts : (linked_orders : Slab LinkedOrder) (levels : LevelStore) (time : Ends) (reserved : Option Terms) (retained : Option LevelKey) (next : ℕ) (ranked : RankedContents) (orders : List Live)
+    → IsBook linked_orders levels time reserved retained next ranked orders → Facts (number_in linked_orders) ranked.entries orders
+facts linked_orders levels time reserved retained next ranked orders b =
     record { next = next; differ = b.differ; priced = b.priced; numbered = b.numbered; small = b.small; indexed = b.indexed }
 
 -- the same of what contracts see of it
-pub facts_at : (i : Inside) (now : LevelContents) → IsBook i.nodes i.ladders.levels i.time i.place i.kept i.next (with_room i.conditional i.ladders.sizes) (walked i.nodes i.time)
-    → record { orders = walked i.nodes i.time; place = i.place; nodes = i.nodes } ≡ now → Facts (number_in now.nodes) i.conditional.entries now.orders
+pub facts_at : (i : Inside) (now : LevelContents) → IsBook i.linked_orders i.sides.levels i.time i.reserved i.retained i.next (with_room i.conditional i.sides.sizes) (walked i.linked_orders i.time)
+    → record { orders = walked i.linked_orders i.time; reserved = i.reserved; linked_orders = i.linked_orders } ≡ now → Facts (number_in now.linked_orders) i.conditional.entries now.orders
 facts_at i now b e =
-    subst (λ (v : LevelContents). Facts (number_in v.nodes) i.conditional.entries v.orders) e
-    (facts i.nodes i.ladders.levels i.time i.place i.kept i.next (with_room i.conditional i.ladders.sizes) (walked i.nodes i.time) b)
+    subst (λ (v : LevelContents). Facts (number_in v.linked_orders) i.conditional.entries v.orders) e
+    (facts i.linked_orders i.sides.levels i.time i.reserved i.retained i.next (with_room i.conditional i.sides.sizes) (walked i.linked_orders i.time) b)
 
 pub has_ranked : (terms : Terms) (key : ℕ) (orders : List Live) → KeysDiffer orders → IsRanked terms key orders → has_key key orders ≡ true
 has_ranked terms key orders d r = (next-some terms key orders d r).has
@@ -80,9 +81,6 @@ here_found n key rank orders h e = at (find (is_under key) orders) refl e
     at (Some a) g i = i
 
 module _ (n : ℕ → ℕ) (entries : List Entry) (orders : List Live) (f : Facts n entries orders) (terms : Terms) where
-  line : List Live
-  line = ranked terms orders
-
   rising : IsRisingBy (rank_of n) (ranked terms orders)
   rising = ranked_rising n f.next terms orders f.differ f.priced f.numbered f.small
 
@@ -214,7 +212,7 @@ module _ (n : ℕ → ℕ) (entries : List Entry) (orders : List Live) (f : Fact
       conditional_is after r lim None
       (λ q v g. ap (λ b. b && leb v.rank (last_rank terms)) (none-of-all (is_entry_from (rank_after n terms after orders)) entries h q v g))
 
-  -- where the ranked blocks are empty no order waits
+  -- if the ranked blocks are empty no order waits
   pub none_waits : entries ≡ [] → (test : Live → Bool) → ((y : Live) → is_conditional y.order ≡ false → test y ≡ false) → (after : Option Key) → find test (rest_after after (ranked terms orders)) ≡ None
   none_waits empty test fails after = find-none test (rest_after after (ranked terms orders)) (all_rest after (ranked terms orders)
       (all_ranked (is_ahead terms.side) (ahead_asym terms.side) (ahead_skip terms.side) (λ y. test y ≡ false) (filter (λ live. crosses terms live.order) orders)
@@ -225,13 +223,13 @@ module _ (n : ℕ → ℕ) (entries : List Entry) (orders : List Live) (f : Fact
       no_entry : (y : Live) → entry_at n (rank_of n y) orders ≡ Some (entry_of n y) → ⊥
       no_entry y h = let g : None ≡ Some (entry_of n y) = ap (find (has_rank (rank_of n y))) (sym empty) ∙ f.indexed (rank_of n y) ∙ h in cc
 
-      all_behind : (P : Live → Type 0) (key : ℕ) (xs : List Live) → AllByRecursion P xs → AllByRecursion P (behind_first (is_under key) xs)
-      all_behind P key [] h = tt
-      all_behind P key (x ∷ xs) h = cond_both (is_under key x) xs (behind_first (is_under key) xs) (λ r. AllByRecursion P r) (λ _. h.1) (λ _. all_behind P key xs h.1)
+      all_after : (P : Live → Type 0) (key : ℕ) (xs : List Live) → AllByRecursion P xs → AllByRecursion P (after_first (is_under key) xs)
+      all_after P key [] h = tt
+      all_after P key (x ∷ xs) h = cond_both (is_under key x) xs (after_first (is_under key) xs) (λ r. AllByRecursion P r) (λ _. h.1) (λ _. all_after P key xs h.1)
 
       all_rest : (o : Option Key) (xs : List Live) → AllByRecursion (λ y. test y ≡ false) xs → AllByRecursion (λ y. test y ≡ false) (rest_after o xs)
       all_rest None xs h = h
-      all_rest (Some key) xs h = all_behind (λ y. test y ≡ false) key.0 xs h
+      all_rest (Some key) xs h = all_after (λ y. test y ≡ false) key.0 xs h
 
   -- orders that are not conditional
 
@@ -242,7 +240,7 @@ module _ (n : ℕ → ℕ) (entries : List Entry) (orders : List Live) (f : Fact
 
   -- an order that is not conditional stands among those that are not, too
   pub plain_ranked : (key : Key) (a : Live) → find (is_under key.0) (ranked terms orders) ≡ Some a → is_conditional a.order ≡ false → find (is_under key.0) (ranked terms (unconditional orders)) ≡ Some a
-  plain_ranked key a g c = sym (kept_by_rank terms orders (is_under key.0)) ∙ find-both (is_under key.0) (λ y. not (is_conditional y.order)) a (ranked terms orders) g (ap not c)
+  plain_ranked key a g c = sym (retained_by_rank terms orders (is_under key.0)) ∙ find-both (is_under key.0) (λ y. not (is_conditional y.order)) a (ranked terms orders) g (ap not c)
 
   move : (a b c : Bool) → (b && (a && c)) ≡ (a && (b && c))
   move true true c = refl
@@ -253,7 +251,7 @@ module _ (n : ℕ → ℕ) (entries : List Entry) (orders : List Live) (f : Fact
   -- after a conditional order, or before all
   pub ready_after_rank : (rank least : ℕ) → find (is_from n rank least) (ranked terms (unconditional orders)) ≡ find (λ y. leb rank (rank_of n y) && is_ready least y) (ranked terms orders)
   ready_after_rank rank least =
-      sym (kept_by_rank terms orders (is_from n rank least))
+      sym (retained_by_rank terms orders (is_from n rank least))
       ∙ find-same (λ y. not (is_conditional y.order) && is_from n rank least y) (λ y. leb rank (rank_of n y) && is_ready least y)
       (λ y. move (leb rank (rank_of n y)) (not (is_conditional y.order)) (leb least y.order.shares)) (ranked terms orders)
 
@@ -279,12 +277,12 @@ module _ (n : ℕ → ℕ) (entries : List Entry) (orders : List Live) (f : Fact
       → option_map (λ (y : Live). y.key) (find (is_from n 0 least) (rest_after after (ranked terms (unconditional orders)))) ≡ next_ready terms after least orders
   ready_plain None least r c =
       ap (option_map (λ (y : Live). y.key))
-      (from_zero least (ranked terms (unconditional orders)) ∙ sym (kept_by_rank terms orders (λ y. leb least y.order.shares)))
+      (from_zero least (ranked terms (unconditional orders)) ∙ sym (retained_by_rank terms orders (λ y. leb least y.order.shares)))
   ready_plain (Some key) least r c =
       let s = standing key r in
       let p = plain_ranked key s.0 s.2 (c s.0 s.1) in
       ap (option_map (λ (y : Live). y.key))
-      (from_zero least (behind_first (is_under key.0) (ranked terms (unconditional orders)))
+      (from_zero least (after_first (is_under key.0) (ranked terms (unconditional orders)))
       ∙ after_is (rank_of n) key.0 s.0 (λ y. leb least y.order.shares) (ranked terms (unconditional orders)) plain_rising p
       ∙ ready_after_rank (rank_of n s.0 + 1) least
       ∙ sym (after_is (rank_of n) key.0 s.0 (is_ready least) (ranked terms orders) rising s.2))
@@ -335,13 +333,13 @@ module _ (n : ℕ → ℕ) (entries : List Entry) (orders : List Live) (f : Fact
   pub in_rest : (after : Option Key) (test : Live → Bool) (a : Live) → find test (rest_after after (ranked terms orders)) ≡ Some a → IsOwn a
   in_rest after test a g = found_among IsOwn test a (rest_after after (ranked terms orders)) (all_rest after (ranked terms orders) (ranked_own terms orders f.differ)) g
     where
-      all_behind : (key : ℕ) (xs : List Live) → AllByRecursion IsOwn xs → AllByRecursion IsOwn (behind_first (is_under key) xs)
-      all_behind key [] h = tt
-      all_behind key (x ∷ xs) h = cond_both (is_under key x) xs (behind_first (is_under key) xs) (λ r. AllByRecursion IsOwn r) (λ _. h.1) (λ _. all_behind key xs h.1)
+      all_after : (key : ℕ) (xs : List Live) → AllByRecursion IsOwn xs → AllByRecursion IsOwn (after_first (is_under key) xs)
+      all_after key [] h = tt
+      all_after key (x ∷ xs) h = cond_both (is_under key x) xs (after_first (is_under key) xs) (λ r. AllByRecursion IsOwn r) (λ _. h.1) (λ _. all_after key xs h.1)
 
       all_rest : (o : Option Key) (xs : List Live) → AllByRecursion IsOwn xs → AllByRecursion IsOwn (rest_after o xs)
       all_rest None xs h = h
-      all_rest (Some key) xs h = all_behind key.0 xs h
+      all_rest (Some key) xs h = all_after key.0 xs h
 
   pub own_ranked : (a : Live) → IsOwn a → IsRanked terms a.key.0 orders
   own_ranked a own = has_found a.key.0 a (ranked terms orders) own.0
@@ -463,13 +461,13 @@ module _ (n : ℕ → ℕ) (entries : List Entry) (orders : List Live) (f : Fact
 
   all_until : (after : Option Key) → AllByRecursion (λ y. rank_of n y ≤ last_rank terms) (rest_after after (ranked terms orders))
   all_until None = all_last
-  all_until (Some key) = behind (ranked terms orders) all_last
+  all_until (Some key) = following (ranked terms orders) all_last
     where
-      behind : (xs : List Live) → AllByRecursion (λ y. rank_of n y ≤ last_rank terms) xs → AllByRecursion (λ y. rank_of n y ≤ last_rank terms) (behind_first (is_under key.0) xs)
-      behind [] h = tt
-      behind (x ∷ xs) h = cond_both (is_under key.0 x) xs (behind_first (is_under key.0) xs) (λ r. AllByRecursion (λ y. rank_of n y ≤ last_rank terms) r) (λ _. h.1) (λ _. behind xs h.1)
+      following : (xs : List Live) → AllByRecursion (λ y. rank_of n y ≤ last_rank terms) xs → AllByRecursion (λ y. rank_of n y ≤ last_rank terms) (after_first (is_under key.0) xs)
+      following [] h = tt
+      following (x ∷ xs) h = cond_both (is_under key.0 x) xs (after_first (is_under key.0) xs) (λ r. AllByRecursion (λ y. rank_of n y ≤ last_rank terms) r) (λ _. h.1) (λ _. following xs h.1)
 
-  -- the order that is ready next, and where it ranks
+  -- the order that is ready next, and its rank
   record ReadyAt (after : Option Key) (least : ℕ) (next : Option Key) (key : Key) : Type 0 where
     live : Live
     found : find (is_ready least) (rest_after after (ranked terms orders)) ≡ Some live
@@ -602,3 +600,14 @@ module _ (n : ℕ → ℕ) (entries : List Entry) (orders : List Live) (f : Fact
         ranked = subst (λ (o : Option Key). IfSome o (λ (v : Key). has_key v.0 (ranked terms orders) ≡ true)) (sym j.0) i;
         ahead = subst (λ (o : Option (Option Key)). IfSome o (λ next. next ≡ next_ready terms new.after (max 1 minimum) orders)) (sym j.1) tt;
       }
+
+-- none qualifies for fewer shares than the minimum, or for none
+pub none_for_few : (terms : Terms) (after : Option Key) (orders : List Live) (left minimum : ℕ) → left < max 1 minimum → None ≡ next_qualifying terms after left minimum orders
+none_for_few terms after orders left minimum l = ap (option_map (λ (live : Live). live.key)) (sym (find-none (is_qualifying left minimum) (rest_after after (ranked terms orders)) (all (rest_after after (ranked terms orders)))))
+  where
+    too_few : (x : Order) → qualifies left minimum x ≡ false
+    too_few x = grind (arith, nat_tests)
+
+    all : (xs : List Live) → AllByRecursion (λ x. is_qualifying left minimum x ≡ false) xs
+    all [] = tt
+    all (x ∷ xs) = (too_few x.order, all xs)

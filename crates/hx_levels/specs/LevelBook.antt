@@ -1,22 +1,22 @@
--- How the nodes, the levels and the links hold a list of live orders.
+-- How the linked orders, the levels and the links hold a list of live orders.
 use Rattle.std.specs.Prelude.{◌≡◌, ℕ, ◌+◌, ◌*◌, ◌^◌, ◌-◌, ◌<◌, ◌≤◌, ◌==◌, ◌&&◌, not, suc, zero, min, max, Bool, true, false, List, [], ◌∷◌, map, length, Option, Some, None, if◌then◌else◌}
 use Rattle.std.specs.List.{filter, find, AllByRecursion}
 use Rattle.std.specs.Option.{option_map, unwrap_or, IsSome, IfSome}
 use Rattle.slab.specs.Slab.{Slab, get, HasRoomFor}
-use Rattle.hx_levels.specs.declared.order.Key.{Key}
-use Rattle.hx_levels.specs.declared.order.Live.{Live}
-use Rattle.hx_levels.specs.declared.order.Terms.{Terms}
-use Rattle.hx_levels.specs.declared.level_book.linked_orders.Node.{Node}
+use Rattle.hx_book.specs.declared.order.Key.{Key}
+use Rattle.hx_book.specs.declared.order.Live.{Live}
+use Rattle.hx_book.specs.declared.order.Terms.{Terms}
+use Rattle.hx_levels.specs.declared.level_book.linked_orders.LinkedOrder.{LinkedOrder}
 use Rattle.hx_levels.specs.declared.level_book.linked_orders.Ends.{Ends}
 use Rattle.hx_levels.specs.declared.level_book.levels.Level.{Level}
 use Rattle.hx_levels.specs.Chain.{IsLinked}
-use Rattle.hx_levels.specs.Nodes.{time_links, queue_links, number_at}
-use Rattle.hx_levels.specs.Rung.{LevelKey, rung_number}
+use Rattle.hx_levels.specs.OrderLinks.{time_links, queue_links, number_at}
+use Rattle.hx_levels.specs.LevelKeys.{LevelKey, level_key_number}
 use Rattle.hx_levels.specs.Levels.{LevelStore, level_at, ends_in, IsEmptyLevel}
 use Rattle.hx_units.specs.Side.{is_buy}
 use Rattle.hx_units.specs.Limits.{greatest_price}
-use Rattle.hx_levels.specs.Book.{terms_of, order_of, KeysDiffer, is_conditional, unconditional}
-use Rattle.hx_levels.specs.declared.order.Order.{Order}
+use Rattle.hx_book.specs.Book.{terms_of, order_of, KeysDiffer, is_conditional}
+use Rattle.hx_book.specs.declared.order.Order.{Order}
 use Rattle.hx_ranked.specs.declared.entry.Entry.{Entry}
 use Rattle.hx_ranked.specs.Contents.{Contents as Ranked}
 use Rattle.hx_ranked.specs.Ranked.{has_rank}
@@ -30,8 +30,8 @@ abbrev pub to_key : ℕ → Key
 to_key n = record { 0 = n }
 
 -- the level of these terms. Of one stock and side the better price has the smaller distance
-abbrev pub rung_of : Terms → LevelKey
-rung_of terms =
+abbrev pub level_key_of : Terms → LevelKey
+level_key_of terms =
     record {
       locate = terms.locate;
       buy = is_buy terms.side;
@@ -43,13 +43,13 @@ abbrev pub is_same_bool : Bool → Bool → Bool
 is_same_bool a b = if a then b else not b
 
 -- whether two levels are the same
-abbrev pub is_rung : LevelKey → LevelKey → Bool
-is_rung a b = (a.locate == b.locate) && is_same_bool a.buy b.buy && (a.distance == b.distance)
+abbrev pub is_level_key : LevelKey → LevelKey → Bool
+is_level_key a b = (a.locate == b.locate) && is_same_bool a.buy b.buy && (a.distance == b.distance)
 
 -- the order is in the queue of this level, of those that are shown or of those that are not
 abbrev pub is_in : LevelKey → Bool → Live → Bool
 is_in at shown live =
-    is_rung (rung_of (terms_of live.order)) at && is_same_bool live.order.shown shown
+    is_level_key (level_key_of (terms_of live.order)) at && is_same_bool live.order.shown shown
 
 -- the keys of orders
 abbrev pub keys_of : List Live → List ℕ
@@ -60,17 +60,17 @@ abbrev pub queue : LevelKey → Bool → List Live → List ℕ
 queue at shown orders = keys_of (filter (is_in at shown) orders)
 
 -- the number of the order with a key: that of an order that came later is greater
-abbrev pub number_in : Slab Node → ℕ → ℕ
-number_in nodes key = unwrap_or (number_at nodes key) 0
+abbrev pub number_in : Slab LinkedOrder → ℕ → ℕ
+number_in linked_orders key = unwrap_or (number_at linked_orders key) 0
 
--- where an order ranks among all, as one number: by its level, shown before hidden, and by its own number
+-- the rank of an order among all, as one number: by its level, shown before hidden, and by its own number
 abbrev pub rank_at : LevelKey → (shown : Bool) → (number : ℕ) → ℕ
 rank_at at shown number =
-    rung_number at * 2 ^ 64 + ((if shown then 0 else 2 ^ 63) + number)
+    level_key_number at * 2 ^ 64 + ((if shown then 0 else 2 ^ 63) + number)
 
 -- the rank of a live order
 abbrev pub rank_of : (number : ℕ → ℕ) → Live → ℕ
-rank_of number live = rank_at (rung_of (terms_of live.order)) live.order.shown (number live.key.0)
+rank_of number live = rank_at (level_key_of (terms_of live.order)) live.order.shown (number live.key.0)
 
 -- the fewest shares for which an order may be executed
 abbrev pub least_of : Order → ℕ
@@ -100,7 +100,7 @@ abbrev pub AreIndexed : (number : ℕ → ℕ) → List Entry → List Live → 
 AreIndexed number entries orders =
     (rank : ℕ) → find (has_rank rank) entries ≡ entry_at number rank orders
 
--- ranked blocks, with room only where others have room, too
+-- ranked blocks, with room only if others have room, too
 abbrev pub with_room : Ranked → Ranked → Ranked
 with_room ranked others =
     record { entries = ranked.entries; has_room = ranked.has_room && others.has_room }
@@ -112,10 +112,14 @@ AreNumbered number next (x ∷ xs) =
     AllByRecursion (λ y. number x.key.0 < number y.key.0) xs × (number x.key.0 < next)
     × AreNumbered number next xs
 
--- an order that is not conditional has no more shares than its level says, where there is the level
+-- the orders that are not conditional
+abbrev pub unconditional : List Live → List Live
+unconditional orders = filter (λ live. not (is_conditional live.order)) orders
+
+-- an order that is not conditional has no more shares than its level says, if there is the level
 abbrev pub IsSized : LevelStore → Live → Type 0
 IsSized levels live = is_conditional live.order ≡ false
-    → IfSome (level_at levels (rung_of (terms_of live.order)))
+    → IfSome (level_at levels (level_key_of (terms_of live.order)))
     (λ level. live.order.shares ≤ level.most)
 
 -- so has each of these
@@ -132,50 +136,50 @@ HaveAtMost most orders = AllByRecursion (λ live. live.order.shares ≤ most) or
 
 -- the slab, the levels, the links and the ranked blocks hold these live orders and no others: an order that is not
 -- conditional stands in the queue of its level, a conditional one by its rank
-pub record IsBook (nodes : Slab Node) (levels : LevelStore) (time : Ends)
-    (place : Option Terms) (kept : Option LevelKey) (next : ℕ) (ranked : Ranked)
+pub record IsBook (linked_orders : Slab LinkedOrder) (levels : LevelStore) (time : Ends)
+    (reserved : Option Terms) (retained : Option LevelKey) (next : ℕ) (ranked : Ranked)
     (orders : List Live) : Type 0 where
   pub differ : KeysDiffer orders
-  pub stored : (key : ℕ) → option_map (λ node. node.order) (get nodes key) ≡ order_of key orders
-  pub in_time : IsLinked (time_links nodes) time (keys_of orders)
+  pub stored : (key : ℕ) → option_map (λ linked_order. linked_order.order) (get linked_orders key) ≡ order_of key orders
+  pub in_time : IsLinked (time_links linked_orders) time (keys_of orders)
   pub in_level : (at : LevelKey) (shown : Bool)
-      → IsLinked (queue_links nodes) (ends_in shown (level_at levels at))
+      → IsLinked (queue_links linked_orders) (ends_in shown (level_at levels at))
       (queue at shown (unconditional orders))
   pub priced : AllByRecursion (λ live. live.order.price ≤ greatest_price) orders
   pub sized : AreSized levels orders
-  pub numbered : AreNumbered (number_in nodes) next orders
-  pub indexed : AreIndexed (number_in nodes) ranked.entries orders
+  pub numbered : AreNumbered (number_in linked_orders) next orders
+  pub indexed : AreIndexed (number_in linked_orders) ranked.entries orders
   pub small : next < 2 ^ 63
-  pub room : (terms : Terms) → place ≡ Some terms
-      → HasRoomFor nodes 1 × IsSome (level_at levels (rung_of terms))
-      × (kept ≡ Some (rung_of terms)) × (ranked.has_room ≡ true) × (next + 1 < 2 ^ 63)
+  pub room : (terms : Terms) → reserved ≡ Some terms
+      → HasRoomFor linked_orders 1 × IsSome (level_at levels (level_key_of terms))
+      × (retained ≡ Some (level_key_of terms)) × (ranked.has_room ≡ true) × (next + 1 < 2 ^ 63)
   pub filled : (at : LevelKey) (level : Level) → level_at levels at ≡ Some level
       → IsEmptyLevel level
-      → kept ≡ Some at
+      → retained ≡ Some at
 
--- what contracts see of a book by levels: a book, and the nodes, which have the number of each order
+-- what contracts see of a book by levels: a book, and the linked orders, which have the number of each order
 pub record LevelContents : Type 0 where
   pub orders : List Live
-  pub place : Option Terms
-  pub nodes : Slab Node
+  pub reserved : Option Terms
+  pub linked_orders : Slab LinkedOrder
 
--- the order at a node, and those behind it
-abbrev pub step : (Option ℕ → List Live) → ℕ → Option Node → List Live
+-- the order at a linked order, and those after it
+abbrev pub step : (Option ℕ → List Live) → ℕ → Option LinkedOrder → List Live
 step rest key None = []
-step rest key (Some node) =
-    record { key = record { 0 = key }; order = node.order } ∷ rest node.time.after
+step rest key (Some linked_order) =
+    record { key = record { 0 = key }; order = linked_order.order } ∷ rest linked_order.time.after
 
 -- the orders met on the way along the links of time
-abbrev pub walk : ℕ → Slab Node → Option ℕ → List Live
-walk zero nodes next = []
-walk (suc n) nodes None = []
-walk (suc n) nodes (Some key) = step (walk n nodes) key (get nodes key)
+abbrev pub walk : ℕ → Slab LinkedOrder → Option ℕ → List Live
+walk zero linked_orders next = []
+walk (suc n) linked_orders None = []
+walk (suc n) linked_orders (Some key) = step (walk n linked_orders) key (get linked_orders key)
 
 -- all orders in time, from the first on
-abbrev pub walked : Slab Node → Ends → List Live
-walked nodes time = walk (length nodes.slots) nodes time.first
+abbrev pub walked : Slab LinkedOrder → Ends → List Live
+walked linked_orders time = walk (length linked_orders.slots) linked_orders time.first
 
--- the rungs that incoming terms cross: those of the other side up to the distance of the limit
+-- the level keys that incoming terms cross: those of the other side up to the distance of the limit
 abbrev pub contra : Terms → ℕ → LevelKey
 contra terms distance =
     record { locate = terms.locate; buy = not (is_buy terms.side); distance = distance }

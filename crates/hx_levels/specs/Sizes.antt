@@ -2,7 +2,7 @@
 use Rattle.std.specs.Prelude.{◌≡◌, ℕ, ◌==◌, List, Option, Some, None, if◌then◌else◌}
 use Rattle.std.specs.List.{find}
 use Rattle.hx_levels.specs.declared.level_book.levels.Level.{Level}
-use Rattle.hx_levels.specs.Rung.{rung_of_number}
+use Rattle.hx_levels.specs.LevelKeys.{level_key_of_number}
 use Rattle.hx_levels.specs.Levels.{LevelStore, level_at}
 use Rattle.hx_ranked.specs.declared.entry.Entry.{Entry}
 use Rattle.hx_ranked.specs.Ranked.{has_rank}
@@ -16,7 +16,7 @@ abbrev pub size_in : (number : ℕ) → Option Level → Option Entry
 size_in number None = None
 size_in number (Some level) = if level.most == 0 then None else Some (size_of number level)
 
--- the entries are those of the levels, each by the number of its rung
+-- the entries are those of the levels, each by the number of its level key
 abbrev pub AreSizes : LevelStore → List Entry → Type 0
 AreSizes levels entries =
-    (n : ℕ) → find (has_rank n) entries ≡ size_in n (level_at levels (rung_of_number n))
+    (n : ℕ) → find (has_rank n) entries ≡ size_in n (level_at levels (level_key_of_number n))

@@ -1,8 +1,8 @@
 //! The book by levels of price.
 ghost use Rattle.std.specs.Prelude.{◌≡◌, ◌+◌, ◌-◌, ◌≤◌, ◌++◌, ◌<◌, [], ◌∷◌, Option, Some, None, IfSome, OnOk, OnErr, true, false};
-ghost use Rattle.hx_levels.specs.LevelBook.{above_prices, rung_of, contra, limit_of, to_key};
+ghost use Rattle.hx_levels.specs.LevelBook.{above_prices, level_key_of, contra, limit_of, to_key};
 ghost use Rattle.hx_units.specs.Limits.{greatest_price};
-ghost use Rattle.hx_levels.specs.Book.{terms_of, has_key, order_of, is_conditional, KeysDiffer, next_by_time, without, reduced};
+ghost use Rattle.hx_book.specs.Book.{terms_of, has_key, order_of, is_conditional, KeysDiffer, next_by_time, without, reduced};
 ghost use Rattle.std.specs.Option.{option_copied, option_map, is_some};
 
 mod best_bounds;
@@ -15,7 +15,6 @@ mod sides;
 mod tightening;
 mod walking;
 
-use crate::book::Book;
 use crate::level_book::level_key::LevelKey;
 use crate::level_book::link::Link;
 use crate::level_book::linked_orders::{
@@ -23,7 +22,7 @@ use crate::level_book::linked_orders::{
 };
 use crate::level_book::sides::Sides;
 use crate::level_book::walking::{least_of, rank_at};
-use crate::order::{Key, Order, Terms, Walk};
+use hx_book::{Book, Key, Order, Terms, Walk};
 use hx_ranked::{Entry, RankedBlocks};
 use hx_units::{NoMemory, Price, Side};
 use std::alloc::Global;
@@ -39,17 +38,17 @@ const LAST_NUMBER: u64 = 9_223_372_036_854_775_807;
 // What it costs to read a block of the conditional orders for nothing, in orders passed over.
 const MISS: u64 = 16;
 
-/// A book by levels of price: the orders in a slab, linked in time order, and in queues by price and by
-/// whether they are shown. A call takes time in proportion to the logarithm of the number of levels at most, apart from
-/// walks, and from the entries of one block (256 at most) that move where a level or a conditional order comes or goes. A
-/// walk passes a level without a step if the bound on its orders' shares is below the incoming order's minimum.
+/// A book by levels of price: the orders in a slab, linked in time order, and in queues by price and by whether they
+/// are shown. A call takes time in proportion to the logarithm of the number of levels at most, apart from walks, and
+/// from the entries of one block (256 at most) that move when a level or a conditional order comes or goes. A walk
+/// passes a level without a step if the bound on its orders' shares is below the incoming order's minimum.
 pub struct LevelBook {
-    nodes: LinkedOrders,
-    ladders: Sides,
+    linked_orders: LinkedOrders,
+    sides: Sides,
     time: Ends,
-    place: Option<Terms>,
-    // The level of the reserved place. It stays also if it is empty.
-    kept: Option<LevelKey>,
+    reserved: Option<Terms>,
+    // The level of the reserved slot. It stays also if it is empty.
+    retained: Option<LevelKey>,
     // The number of the next order.
     next: u64,
     // The conditional orders by rank: they stand in no queue of a level.
@@ -58,15 +57,15 @@ pub struct LevelBook {
     passed: Cell<u64>,
 }
 
-// By hand, so that where a value is dropped its owner's proof sees one call.
+// By hand, so that when a value is dropped its owner's proof sees one call.
 impl Drop for LevelBook {
     fn drop(self) {
         let LevelBook {
-            nodes: _,
-            ladders: _,
+            linked_orders: _,
+            sides: _,
             time: _,
-            place: _,
-            kept: _,
+            reserved: _,
+            retained: _,
             next: _,
             conditional: _,
             passed: _,
@@ -80,39 +79,31 @@ impl Model for LevelBook {
     ghost Value = { LevelContents };
 
     ghost view = { λ b. record {
-      orders = walked b.nodes b.time;
-      place = b.place;
-      nodes = b.nodes;
+      orders = walked b.linked_orders b.time;
+      reserved = b.reserved;
+      linked_orders = b.linked_orders;
     } };
 
-    ghost invariant = { λ b. IsBook b.nodes b.ladders.levels b.time b.place b.kept b.next
-        (with_room b.conditional b.ladders.sizes) (walked b.nodes b.time) };
+    ghost invariant = { λ b. IsBook b.linked_orders b.sides.levels b.time b.reserved b.retained b.next
+        (with_room b.conditional b.sides.sizes) (walked b.linked_orders b.time) };
 }
 
 impl LevelBook {
-    /// An empty book with no reserved place, which takes its memory from `alloc`.
+    /// An empty book with no reserved slot, which takes its memory from `alloc`.
     pub fn new(alloc: Global) -> Self
         ensures orders { result.orders ≡ [] }
-        ensures place { result.place ≡ None }
+        ensures reserved { result.reserved ≡ None }
     {
         LevelBook {
-            nodes: LinkedOrders::new(alloc),
-            ladders: Sides::new(alloc),
+            linked_orders: LinkedOrders::new(alloc),
+            sides: Sides::new(alloc),
             time: Ends::none(),
-            place: None,
-            kept: None,
+            reserved: None,
+            retained: None,
             next: 0,
             conditional: RankedBlocks::new(alloc),
             passed: Cell::new(0),
         }
-    }
-
-    /// What all walks have cost beside the orders that they met, in orders passed over one by one for their few shares: a
-    /// level that is reached counts as eight, and a block that is read for nothing as sixteen. Contracts promise nothing
-    /// of it.
-    pub fn passed_over(&self) -> u64 {
-        let misses = self.conditional.misses().wrapping_mul(MISS);
-        self.passed.get().wrapping_add(misses)
     }
 }
 
@@ -120,58 +111,64 @@ impl LevelBook {
     // Puts an order last that is not conditional: it joins the queue of its level, which is there.
     #[inline(always)]
     fn add_to_queue(&mut self, order: Order) -> Key
-        requires place { self.old.place ≡ Some (terms_of order) }
+        requires reserved { self.old.reserved ≡ Some (terms_of order) }
         requires queued { is_conditional order ≡ false }
         ensures orders { self.new.orders ≡ self.old.orders
             ++ (record { key = result; order = order }) ∷ [] }
         ensures fresh { has_key result.0 self.old.orders ≡ false }
-        ensures place { self.new.place ≡ None }
+        ensures reserved { self.new.reserved ≡ None }
     {
         let _price = order.price.get();
-        let rung = rung_of(&order);
+        let level_key = level_key_of(&order);
         let number = self.next;
-        let key = store(&mut self.nodes, order);
+        let key = store(&mut self.linked_orders, order);
         let last = self
-            .ladders
-            .join_queue(rung, order.shown, key, order.shares);
-        link_last(&mut self.nodes, key, last, self.time.last, number);
+            .sides
+            .join_queue(level_key, order.shown, key, order.shares);
+        link_last(&mut self.linked_orders, key, last, self.time.last, number);
         self.time = self.time.with(key);
-        self.place = None;
-        self.kept = None;
+        self.reserved = None;
+        self.retained = None;
         self.next = number + 1;
         Key(key)
     }
 
-    // Puts a conditional order last: it is kept by its rank, and in no queue.
+    // Puts a conditional order last: it is stored by its rank, and in no queue.
     fn add_conditional(&mut self, order: Order) -> Key
-        requires place { self.old.place ≡ Some (terms_of order) }
+        requires reserved { self.old.reserved ≡ Some (terms_of order) }
         requires conditional { is_conditional order ≡ true }
         ensures orders { self.new.orders ≡ self.old.orders
             ++ (record { key = result; order = order }) ∷ [] }
         ensures fresh { has_key result.0 self.old.orders ≡ false }
-        ensures place { self.new.place ≡ None }
+        ensures reserved { self.new.reserved ≡ None }
     {
         let _price = order.price.get();
-        let rung = rung_of(&order);
+        let level_key = level_key_of(&order);
         let number = self.next;
-        let key = store(&mut self.nodes, order);
-        link_last(&mut self.nodes, key, Link::none(), self.time.last, number);
+        let key = store(&mut self.linked_orders, order);
+        link_last(
+            &mut self.linked_orders,
+            key,
+            Link::none(),
+            self.time.last,
+            number,
+        );
         self.conditional.insert(Entry {
-            rank: rank_at(rung, order.shown, number),
+            rank: rank_at(level_key, order.shown, number),
             key,
             least: least_of(&order),
             shares: order.shares,
         });
         self.time = self.time.with(key);
-        self.place = None;
+        self.reserved = None;
         self.next = number + 1;
         Key(key)
     }
 }
 
 // The level of an order.
-fn rung_of(order: &Order) -> LevelKey
-    ensures rung { result ≡ rung_of (terms_of order.now) }
+fn level_key_of(order: &Order) -> LevelKey
+    ensures level_key { result ≡ level_key_of (terms_of order.now) }
     ensures priced { order.now.price ≤ greatest_price }
 {
     let buy = order.side.is_buy();
@@ -190,7 +187,7 @@ impl LevelBook {
         ensures live { is_some result ≡ has_key key.0 self.now.orders }
         ensures keys { KeysDiffer self.now.orders }
     {
-        self.nodes.order(key.0)
+        self.linked_orders.order(key.0)
     }
 }
 
@@ -211,7 +208,7 @@ impl LevelBook {
     {
         match after {
             None => key_of(self.time.first),
-            Some(key) => key_of(self.nodes.links(key.0).time.after),
+            Some(key) => key_of(self.linked_orders.links(key.0).time.after),
         }
     }
 }
@@ -225,14 +222,15 @@ impl LevelBook {
             (λ order. is_conditional order ≡ false) }
         ensures was { order_of key.0 self.old.orders ≡ Some result }
         ensures orders { self.new.orders ≡ without key.0 self.old.orders }
-        ensures place { self.new.place ≡ self.old.place }
+        ensures reserved { self.new.reserved ≡ self.old.reserved }
     {
-        let node = unlink(&mut self.nodes, key.0);
-        let rung = rung_of(&node.order);
-        let shown = node.order.shown;
-        self.ladders.leave_level(rung, shown, node.queue, self.kept);
-        self.time = self.time.without(node.time);
-        node.order
+        let linked_order = unlink(&mut self.linked_orders, key.0);
+        let level_key = level_key_of(&linked_order.order);
+        let shown = linked_order.order.shown;
+        self.sides
+            .leave_level(level_key, shown, linked_order.queue, self.retained);
+        self.time = self.time.without(linked_order.time);
+        linked_order.order
     }
 
     // Takes a conditional order out.
@@ -242,14 +240,13 @@ impl LevelBook {
             (λ order. is_conditional order ≡ true) }
         ensures was { order_of key.0 self.old.orders ≡ Some result }
         ensures orders { self.new.orders ≡ without key.0 self.old.orders }
-        ensures place { self.new.place ≡ self.old.place }
+        ensures reserved { self.new.reserved ≡ self.old.reserved }
     {
-        let node = unlink_in_time(&mut self.nodes, key.0);
-        let rung = rung_of(&node.order);
-        self.conditional
-            .remove(rank_at(rung, node.order.shown, node.number));
-        self.time = self.time.without(node.time);
-        node.order
+        let linked_order = unlink_in_time(&mut self.linked_orders, key.0);
+        let level_key = level_key_of(&linked_order.order);
+        self.conditional.remove(rank_at(level_key, linked_order.order.shown, linked_order.number));
+        self.time = self.time.without(linked_order.time);
+        linked_order.order
     }
 
     // Takes shares off an order that is not conditional.
@@ -258,9 +255,9 @@ impl LevelBook {
         requires queued { IfSome (order_of key.0 self.old.orders)
             (λ order. is_conditional order ≡ false) }
         ensures orders { self.new.orders ≡ reduced key.0 by self.old.orders }
-        ensures place { self.new.place ≡ self.old.place }
+        ensures reserved { self.new.reserved ≡ self.old.reserved }
     {
-        take_shares(&mut self.nodes, key.0, by);
+        take_shares(&mut self.linked_orders, key.0, by);
     }
 
     // Takes shares off a conditional order.
@@ -270,40 +267,40 @@ impl LevelBook {
         requires conditional { IfSome (order_of key.0 self.old.orders)
             (λ order. is_conditional order ≡ true) }
         ensures orders { self.new.orders ≡ reduced key.0 by self.old.orders }
-        ensures place { self.new.place ≡ self.old.place }
+        ensures reserved { self.new.reserved ≡ self.old.reserved }
     {
-        let number = self.nodes.links(key.0).number;
-        take_shares(&mut self.nodes, key.0, by);
-        let order = self.nodes.order(key.0).unwrap();
-        let rank = rank_at(rung_of(order), order.shown, number);
+        let number = self.linked_orders.links(key.0).number;
+        take_shares(&mut self.linked_orders, key.0, by);
+        let order = self.linked_orders.order(key.0).unwrap();
+        let rank = rank_at(level_key_of(order), order.shown, number);
         self.conditional.renew(rank, least_of(order), order.shares);
     }
 
-    fn reserve_place(&mut self, terms: Terms) -> Result<(), NoMemory>
+    fn reserve_slot(&mut self, terms: Terms) -> Result<(), NoMemory>
         ensures orders { self.new.orders ≡ self.old.orders }
-        ensures ok { OnOk result (self.new.place ≡ Some terms) }
-        ensures err { OnErr result (self.new.place ≡ self.old.place) }
+        ensures ok { OnOk result (self.new.reserved ≡ Some terms) }
+        ensures err { OnErr result (self.new.reserved ≡ self.old.reserved) }
     {
-        let rung = rung_at(&terms);
+        let level_key = level_key_at(&terms);
         // Out of reach: a book would have to be given 2 ^ 63 orders.
         if self.next >= LAST_NUMBER {
             return Err(NoMemory);
         }
-        self.nodes.reserve()?;
+        self.linked_orders.reserve()?;
         self.conditional.reserve()?;
-        self.ladders.make_level(rung)?;
-        if let Some(old) = self.kept {
-            self.ladders.drop_empty(old, Some(rung));
+        self.sides.make_level(level_key)?;
+        if let Some(old) = self.retained {
+            self.sides.drop_empty(old, Some(level_key));
         }
-        self.kept = Some(rung);
-        self.place = Some(terms);
+        self.retained = Some(level_key);
+        self.reserved = Some(terms);
         Ok(())
     }
 }
 
 // The level of the terms.
-fn rung_at(terms: &Terms) -> LevelKey
-    ensures { result ≡ rung_of terms.now }
+fn level_key_at(terms: &Terms) -> LevelKey
+    ensures { result ≡ level_key_of terms.now }
 {
     let buy = terms.side.is_buy();
     let price = terms.price.get();
@@ -317,10 +314,10 @@ fn rung_at(terms: &Terms) -> LevelKey
 impl Book for LevelBook {
     ghost orders = { λ book. book.orders };
 
-    ghost place = { λ book. book.place };
+    ghost reserved = { λ book. book.reserved };
 
     fn reserve(&mut self, locate: u16, side: Side, price: Price) -> Result<(), NoMemory> {
-        self.reserve_place(Terms {
+        self.reserve_slot(Terms {
             locate,
             side,
             price,
@@ -376,7 +373,7 @@ impl Book for LevelBook {
     fn prepare_walk(&mut self, terms: &Terms, left: u32, minimum: u32) {
         // One share is in each level that is not empty: a walk with no greater minimum does not ask for the bounds.
         if minimum > 1 && minimum <= left {
-            self.tighten(terms, minimum);
+            self.tighten(terms, left, minimum);
         }
     }
 
@@ -393,5 +390,11 @@ impl Book for LevelBook {
 
     fn next_in_time(&self, after: Option<Key>) -> Option<Key> {
         self.time_after(after)
+    }
+
+    // A level that is reached counts as eight orders, and a block of conditional orders that is read for nothing as sixteen.
+    fn passed_over(&self) -> u64 {
+        let misses = self.conditional.misses().wrapping_mul(MISS);
+        self.passed.get().wrapping_add(misses)
     }
 }

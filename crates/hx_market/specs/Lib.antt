@@ -1,10 +1,4 @@
-pub mod OrderKeys
-pub mod Effects
-pub mod MarketModel
-pub mod Expiries
-pub mod Prepared
-pub mod Room
-pub mod Arrivals
+pub use Rattle.hx_market_core.specs.MarketModel
 pub use Rattle.hx_rules.specs.Letters
 pub use Rattle.hx_rules.specs.Limits
 pub use Rattle.hx_rules.specs.Orders

@@ -1,20 +1,7 @@
-//! The state machine of the market: each event is prepared, which may be refused, and then committed, which
-//! can't be. One committed event is one step of the market as `specs/` defines it.
+//! The market as the crates above see it: its events and outputs, the state machine that runs it, and the laws that
+//! hold of every run.
 #![tactic(auto)]
 
-mod commit;
-mod decision;
-mod effect;
-mod glance;
-mod live_orders;
-mod market;
-mod next_step;
-mod order_by_token;
-mod prepare;
-mod reports;
-mod state;
-
 pub use hx_laws as laws;
+pub use hx_market_core::{Market, Prepared};
 pub use hx_rules::{Bytes, Event, Output, PrepareError, decode_operator};
-pub use market::Market;
-pub use prepare::Prepared;

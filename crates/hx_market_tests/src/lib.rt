@@ -1,5 +1,7 @@
-//! The worked rows: the market's calls over worked days, books and setups. Nothing is called from here.
+//! The worked rows: worked days that compute on the definitions of the market, and the market's calls over worked days, books
+//! and setups. Nothing is called from here.
 #![tactic(auto)]
 
 #[cfg(test)]
 mod tests;
+pub mod worked_days;

@@ -4,29 +4,29 @@ use Rattle.std.specs.Option.{option_map, IfSome}
 use Rattle.std.specs.List.{find}
 use Rattle.std.proofs.lemmas.Bool.{cond-true, cond-false, cond_both, true≢false, false_from_ne_true, or_parts, ltb-true}
 use Rattle.std.proofs.lemmas.List.Sums.{sum_by-append}
-use Rattle.hx_levels.specs.declared.order.Live.{Live}
-use Rattle.hx_levels.specs.Rank.{higher}
-use Rattle.hx_levels.specs.Book.{outranks, is_ahead, is_under, has_key, reduced, without, order_of, lives, KeysDiffer}
-use Rattle.hx_levels.proofs.Keys.{differ-dropped}
+use Rattle.hx_book.specs.declared.order.Live.{Live}
+use Rattle.hx_book.specs.Rank.{higher}
+use Rattle.hx_book.specs.Book.{outranks, is_ahead, is_under, has_key, reduced, without, order_of, lives, KeysDiffer}
+use Rattle.hx_book.proofs.Keys.{differ-dropped}
 use Rattle.hx_match.specs.declared.fills.Incoming.{Incoming}
 use Rattle.hx_match.specs.declared.fills.Fill.{Fill}
-use Rattle.hx_match.specs.Matching.{PlaceOf, FillOf, Execution, MatchedOf, Matched, passes, behind, first_of_entries, first_entry, less_of, after_fill, matched_by, matched_entries, matched, matched_live, order_in, cut_live}
+use Rattle.hx_match.specs.Matching.{PositionOf, FillOf, Execution, MatchedOf, Matched, passes, later, first_of_entries, first_entry, less_of, after_fill, matched_by, matched_entries, matched, matched_live, order_in, cut_live}
 use Rattle.hx_match.specs.Executing.{fill_of, fills_of, taken, done_with, done_by, left_with, left_by, IsGoodWith, AreGood}
 use Rattle.hx_match.specs.Rules.{orders_of_matched}
 use Rattle.hx_match.proofs.Steps.{chosen, with_choice, fills_within, steps_of, shares_of}
 use Rattle.hx_match.proofs.First.{some_shares, none_passes}
 use Rattle.hx_match.proofs.Entries.{matched_of_map}
 
-abbrev Place : Type 0
-Place = PlaceOf Live
+abbrev Position : Type 0
+Position = PositionOf Live
 
-abbrev first : Incoming → ℕ → List Live → Option Place
+abbrev first : Incoming → ℕ → List Live → Option Position
 first inc r xs = first_entry order_in inc r xs
 
 abbrev M : ℕ → Incoming → ℕ → List Live → MatchedOf Live
 M n inc r xs = matched_entries order_in cut_live n inc r xs
 
-abbrev entry_of : Option Place → Option Live
+abbrev entry_of : Option Position → Option Live
 entry_of p = option_map (λ q. q.order) p
 
 -- the choice is the same
@@ -34,31 +34,31 @@ choice : (inc : Incoming) (r : ℕ) (xs : List Live) → entry_of (first inc r x
 choice inc r [] = refl
 choice inc r (x ∷ xs) = at (passes inc r x.order) (first inc r xs) (chosen inc r xs) (choice inc r xs)
   where
-    pick : (b : Bool) (p : Place) → entry_of (cond b (Some (behind x p)) (Some (record { front = []; order = x; back = xs }))) ≡ Some (cond b p.order x)
+    pick : (b : Bool) (p : Position) → entry_of (cond b (Some (later x p)) (Some (record { front = []; order = x; back = xs }))) ≡ Some (cond b p.order x)
     pick true p = refl
     pick false p = refl
 
-    at : (b : Bool) (p : Option Place) (c : Option Live) → entry_of p ≡ c
+    at : (b : Bool) (p : Option Position) (c : Option Live) → entry_of p ≡ c
         → entry_of (first_of_entries order_in inc x xs b p) ≡ cond b (higher (is_ahead inc.side) x c) c
     at false None c e = e
     at false (Some p) c e = e
     at true None c e = ap (higher (is_ahead inc.side) x) e
     at true (Some p) c e = pick (outranks inc.side p.order.order x.order) p ∙ ap (higher (is_ahead inc.side) x) e
 
--- where it stands, and that it passes
-abbrev IsRight : Incoming → ℕ → List Live → Place → Type 0
+-- its position, and that it passes
+abbrev IsRight : Incoming → ℕ → List Live → Position → Type 0
 IsRight inc r xs p = (xs ≡ p.front ++ p.order ∷ p.back) × (passes inc r p.order.order ≡ true)
 
 split : (inc : Incoming) (r : ℕ) (xs : List Live) → IfSome (first inc r xs) (IsRight inc r xs)
 split inc r [] = tt
 split inc r (x ∷ xs) = at (passes inc r x.order) refl (first inc r xs) (split inc r xs)
   where
-    at : (b : Bool) → passes inc r x.order ≡ b → (p : Option Place) → IfSome p (IsRight inc r xs) → IfSome (first_of_entries order_in inc x xs b p) (IsRight inc r (x ∷ xs))
+    at : (b : Bool) → passes inc r x.order ≡ b → (p : Option Position) → IfSome p (IsRight inc r xs) → IfSome (first_of_entries order_in inc x xs b p) (IsRight inc r (x ∷ xs))
     at false e None h = tt
     at false e (Some p) h = (ap (λ l. x ∷ l) h.0, h.1)
     at true e None h = (refl, e)
     at true e (Some p) h =
-        cond_both (outranks inc.side p.order.order x.order) (Some (behind x p)) (Some (record { front = []; order = x; back = xs }))
+        cond_both (outranks inc.side p.order.order x.order) (Some (later x p)) (Some (record { front = []; order = x; back = xs }))
         (λ o. IfSome o (IsRight inc r (x ∷ xs))) (λ _. (ap (λ l. x ∷ l) h.0, h.1)) (λ _. (refl, e))
 
 not_at : (k : ℕ) (ys : List Live) (x : Live) (back : List Live) → has_key k (ys ++ x ∷ back) ≡ false → is_under k x ≡ false
@@ -154,7 +154,7 @@ bridge zero m inc r (x ∷ xs) l k d = absurd (omega arith)
 bridge (suc n) zero inc r orders l k d = let z : r ≡ 0 = omega arith in subst (λ s. Same (fills_within (suc n) inc s orders) orders (M 0 inc s orders) s) (sym z) (empty (suc n) 0 inc orders)
 bridge (suc n) (suc m) inc r orders l k d = at (first inc r orders) (split inc r orders) (choice inc r orders) (λ s os. bridge n m inc s os)
   where
-    at : (p : Option Place) → IfSome p (IsRight inc r orders) → entry_of p ≡ chosen inc r orders
+    at : (p : Option Position) → IfSome p (IsRight inc r orders) → entry_of p ≡ chosen inc r orders
         → ((s : ℕ) (os : List Live) → length os ≤ n → s ≤ m → KeysDiffer os → Same (fills_within n inc s os) os (M m inc s os) s)
         → Same (with_choice (fills_within n inc) r orders (chosen inc r orders)) orders (matched_by order_in cut_live (M m inc) r orders p) r
     at None h e ih = subst (λ c. Same (with_choice (fills_within n inc) r orders c) orders (record { fills = []; rest = orders; left = r }) r) e (nothing r orders)
@@ -171,12 +171,12 @@ bridge (suc n) (suc m) inc r orders l k d = at (first inc r orders) (split inc r
         (subst (λ os. Same (fill_of (record { order = x; shares = f }) ∷ fills_within n inc (r - f) os) orders (matched_by order_in cut_live (M m inc) r orders (Some p)) r) (sym t)
         (cons_same x f (fills_within n inc (r - f) next) orders next (M m inc (r - f) next) r found t some (omega arith) rest))
       where
-        parts : (b : Bool) (p : Place) (x : Live) (f : ℕ) → AtEntry p.front x p.back
+        parts : (b : Bool) (p : Position) (x : Live) (f : ℕ) → AtEntry p.front x p.back
             → cond b (reduced x.key.0 f (p.front ++ x ∷ p.back)) (without x.key.0 (p.front ++ x ∷ p.back)) ≡ p.front ++ (cond b (cut_by f x ∷ []) [] ++ p.back)
         parts true p x f a = a.reduces f
         parts false p x f a = a.drops
 
-        go : (p : Place) (b : Bool) → ltb (min r p.order.order.shares) p.order.order.shares ≡ b → 0 < min r p.order.order.shares → AtEntry p.front p.order p.back → orders ≡ p.front ++ p.order ∷ p.back
+        go : (p : Position) (b : Bool) → ltb (min r p.order.order.shares) p.order.order.shares ≡ b → 0 < min r p.order.order.shares → AtEntry p.front p.order p.back → orders ≡ p.front ++ p.order ∷ p.back
             → ((s : ℕ) (os : List Live) → length os ≤ n → s ≤ m → KeysDiffer os → Same (fills_within n inc s os) os (M m inc s os) s)
             → Same (fills_within n inc (r - min r p.order.order.shares) (p.front ++ (cond b (cut_by (min r p.order.order.shares) p.order ∷ []) [] ++ p.back)))
             (p.front ++ (cond b (cut_by (min r p.order.order.shares) p.order ∷ []) [] ++ p.back))

@@ -4,3 +4,4 @@ pub mod First
 pub mod Entries
 pub mod Carried
 pub mod Unmet
+pub mod AnyShares

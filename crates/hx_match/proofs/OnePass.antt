@@ -6,16 +6,16 @@ use Rattle.std.specs.Option.{option_map}
 use Rattle.std.proofs.lemmas.Bool.{cond-true, cond-false, true≢false, false_from_ne_true, ltb-true}
 use Rattle.std.proofs.lemmas.Bool.Decides.{nat_tests}
 use Rattle.std.proofs.lemmas.List.Sums.{sum_by-append}
-use Rattle.hx_levels.specs.declared.order.Order.{Order}
-use Rattle.hx_levels.specs.declared.order.Live.{Live}
-use Rattle.hx_levels.specs.declared.order.Key.{Key}
-use Rattle.hx_levels.specs.Lists.{drop_first}
-use Rattle.hx_levels.specs.Rank.{by_rank}
-use Rattle.hx_levels.specs.Book.{crosses, is_ahead, is_under, ranked, reduced, without, order_of, KeysDiffer, qualifies, rest_after, next_qualifying}
-use Rattle.hx_levels.proofs.Lists.{found_among, filter-drop_first, once_filtered, once_dropped, length-drop_first, all_filtered}
-use Rattle.hx_levels.proofs.Rank.{by_rank-drop_first, first_of-find, first_of-filter, all_ranked}
-use Rattle.hx_levels.proofs.Orders.{ahead_asym, ahead_skip, once_under}
-use Rattle.hx_levels.proofs.Qualifying.{KeysOnce, ranked_once, Met, met, is_qualifying, walk-shorter, some_same}
+use Rattle.hx_book.specs.declared.order.Order.{Order}
+use Rattle.hx_book.specs.declared.order.Live.{Live}
+use Rattle.hx_book.specs.declared.order.Key.{Key}
+use Rattle.hx_book.specs.Lists.{drop_first}
+use Rattle.hx_book.specs.Rank.{by_rank}
+use Rattle.hx_book.specs.Book.{crosses, is_ahead, is_under, ranked, reduced, without, order_of, KeysDiffer, qualifies, rest_after, next_qualifying}
+use Rattle.hx_book.proofs.Lists.{found_among, filter-drop_first, once_filtered, once_dropped, length-drop_first, all_filtered}
+use Rattle.hx_book.proofs.Rank.{by_rank-drop_first, first_of-find, first_of-filter, all_ranked}
+use Rattle.hx_book.proofs.Orders.{ahead_asym, ahead_skip, once_under}
+use Rattle.hx_book.proofs.Qualifying.{KeysOnce, ranked_once, Met, met, is_qualifying, walk-shorter, some_same}
 use Rattle.hx_match.specs.declared.fills.Incoming.{Incoming}
 use Rattle.hx_match.specs.declared.fills.Fill.{Fill}
 use Rattle.hx_match.specs.Matching.{terms}
@@ -121,9 +121,9 @@ fills-pass (suc n) incoming r orders l o =
     step None e ih = refl
     step (Some x) e ih = ap (λ l. fill r x ∷ l) (rest x (ltb (min r x.order.shares) x.order.shares) refl e ih)
 
-told_taken : (k left : ℕ) (live : Live) (rest : List Live) (front all : List Fill) (f : Fill) → front ++ pass k left (live ∷ rest) ≡ all
+output_taken : (k left : ℕ) (live : Live) (rest : List Live) (front all : List Fill) (f : Fill) → front ++ pass k left (live ∷ rest) ≡ all
     → qualifies left k live.order ≡ true → f ≡ fill left live → (front ++ f ∷ []) ++ pass k (left - f.shares) rest ≡ all
-told_taken k left live rest front all f h q e =
+output_taken k left live rest front all f h q e =
     append_assoc front (f ∷ []) (pass k (left - f.shares) rest)
     ∙ ap (λ l. front ++ l) (ap (λ (v : Fill). v ∷ pass k (left - v.shares) rest) e ∙ sym (cond-true (qualifies left k live.order) _ _ q)) ∙ h
 
@@ -139,7 +139,7 @@ fill_is left key o live e h =
 
 -- the next order that qualifies is executed after those of `front`, and the pass goes on after it
 pub record Executed (incoming : Incoming) (after : Option Key) (left : ℕ) (key : Key) (orders : List Live) (front all : List Fill) (f : Fill) : Type 0 where
-  pub told : (front ++ f ∷ []) ++ pass incoming.minimum (left - f.shares) (rest_after (Some key) (ranked (terms incoming) orders)) ≡ all
+  pub output : (front ++ f ∷ []) ++ pass incoming.minimum (left - f.shares) (rest_after (Some key) (ranked (terms incoming) orders)) ≡ all
   pub total : left - f.shares + shares_of (front ++ f ∷ []) ≡ left + shares_of front
   pub shorter : length (rest_after (Some key) (ranked (terms incoming) orders)) < length (rest_after after (ranked (terms incoming) orders))
 
@@ -152,7 +152,7 @@ executed incoming after left key orders o front all f d n g e h =
     let same : f ≡ fill left m.live = e ∙ fill_is left key o m.live (some_same (sym g ∙ m.order)) m.has in
     let shares : f.shares ≡ min left m.live.order.shares = ap (λ (v : Fill). v.shares) same in
     record {
-      told = told_taken incoming.minimum left m.live rest front all f
+      output = output_taken incoming.minimum left m.live rest front all f
           (ap (λ l. front ++ l) (sym (ap (pass incoming.minimum left) m.rest ∙ pass-passed incoming.minimum left m.passed (m.live ∷ rest) m.idle)) ∙ h) m.passes same;
       total = (let s : shares_of (front ++ f ∷ []) ≡ shares_of front + shares_of (f ∷ []) = sum_by-append (λ (v : Fill). v.shares) front (f ∷ []) in omega arith);
       shorter = walk-shorter (terms incoming) after (is_qualifying left incoming.minimum) key orders m;

@@ -1,9 +1,9 @@
 -- The executions by key, step by step: a stepping stone from the one pass to the definition.
 use Rattle.std.specs.Prelude.{ℕ, zero, suc, ◌-◌, ◌&&◌, nat_lt, min, List, [], ◌∷◌, length, Option, Some, None, if◌then◌else◌}
 use Rattle.std.specs.List.{sum_by}
-use Rattle.hx_levels.specs.declared.order.Live.{Live}
-use Rattle.hx_levels.specs.Rank.{first_of}
-use Rattle.hx_levels.specs.Book.{crosses, is_ahead, reduced, without, qualifies}
+use Rattle.hx_book.specs.declared.order.Live.{Live}
+use Rattle.hx_book.specs.Rank.{first_of}
+use Rattle.hx_book.specs.Book.{crosses, is_ahead, reduced, without, qualifies}
 use Rattle.hx_match.specs.declared.fills.Incoming.{Incoming}
 use Rattle.hx_match.specs.declared.fills.Fill.{Fill}
 use Rattle.hx_match.specs.Matching.{terms}
@@ -21,7 +21,7 @@ abbrev pub with_choice : (ℕ → List Live → List Fill) → ℕ → List Live
 with_choice rest r orders None = []
 with_choice rest r orders (Some x) = let shares = min r x.order.shares in fill r x ∷ rest (r - shares) (executed shares x orders)
 
--- each step ends r or takes an order out, so as many steps as there are orders are enough
+-- each step ends r or takes an order out, so the number of orders is enough steps
 abbrev pub fills_within : ℕ → Incoming → ℕ → List Live → List Fill
 fills_within zero incoming r orders = []
 fills_within (suc steps) incoming r orders = with_choice (fills_within steps incoming) r orders (chosen incoming r orders)

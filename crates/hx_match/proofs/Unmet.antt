@@ -3,40 +3,40 @@ use Rattle.std.proofs.Common.{◌≡◌, ℕ, zero, suc, ◌-◌, min, Bool, tru
 use Rattle.std.specs.List.{AllByRecursion, filter, find}
 use Rattle.std.specs.Option.{option_map}
 use Rattle.std.proofs.lemmas.Bool.{or_parts, and_parts}
-use Rattle.hx_levels.specs.declared.order.Order.{Order}
-use Rattle.hx_levels.specs.declared.order.Live.{Live}
-use Rattle.hx_levels.specs.Book.{crosses, outranks, has_key, is_under, order_of, KeysDiffer, without, lives}
-use Rattle.hx_levels.proofs.Orders.{none_under}
+use Rattle.hx_book.specs.declared.order.Order.{Order}
+use Rattle.hx_book.specs.declared.order.Live.{Live}
+use Rattle.hx_book.specs.Book.{crosses, outranks, has_key, is_under, order_of, KeysDiffer, without, lives}
+use Rattle.hx_book.proofs.Orders.{none_under}
 use Rattle.hx_match.specs.declared.fills.Incoming.{Incoming}
 use Rattle.hx_match.specs.declared.fills.Fill.{Fill}
-use Rattle.hx_match.specs.Matching.{terms, passes, qualifies, PlaceOf, behind, first_of_entries, first_entry, less_of, FillOf, MatchedOf, matched_by, matched_entries, matched_live, order_in, cut_live}
+use Rattle.hx_match.specs.Matching.{terms, passes, qualifies, PositionOf, later, first_of_entries, first_entry, less_of, FillOf, MatchedOf, matched_by, matched_entries, matched_live, order_in, cut_live}
 use Rattle.hx_match.specs.Executing.{fill_of, fills_of, AreGood, done_by, left_by}
 use Rattle.hx_match.specs.Rules.{AreFills}
 use Rattle.hx_match.proofs.First.{all_append}
 use Rattle.hx_match.proofs.Carried.{carried}
-use Rattle.hx_levels.proofs.Keys.{differ-dropped}
+use Rattle.hx_book.proofs.Keys.{differ-dropped}
 
--- the entries that are not kept do not cross
+-- the entries that are not retained do not cross
 abbrev AreIdle : {X : Type 0} → (X → Order) → (X → Bool) → Incoming → List X → Type 0
 AreIdle order_of keep inc xs = AllByRecursion (λ x. keep x ≡ false → crosses (terms inc) (order_of x) ≡ false) xs
 
-kept_place : {X : Type 0} → (X → Bool) → PlaceOf X → PlaceOf X
-kept_place keep p = record { front = filter keep p.front; order = p.order; back = filter keep p.back }
+retained_position : {X : Type 0} → (X → Bool) → PositionOf X → PositionOf X
+retained_position keep p = record { front = filter keep p.front; order = p.order; back = filter keep p.back }
 
--- what the choice is of: the others are idle where they are not kept, and it passes
-abbrev IsIdleAt : {X : Type 0} → (X → Order) → (X → Bool) → Incoming → ℕ → Option (PlaceOf X) → Type 0
+-- what the choice is of: the others are idle if they are not retained, and it passes
+abbrev IsIdleAt : {X : Type 0} → (X → Order) → (X → Bool) → Incoming → ℕ → Option (PositionOf X) → Type 0
 IsIdleAt order_of keep inc r None = Unit {0}
 IsIdleAt order_of keep inc r (Some p) =
     AreIdle order_of keep inc p.front × (keep p.order ≡ false → crosses (terms inc) (order_of p.order) ≡ false) × (passes inc r (order_of p.order) ≡ true) × AreIdle order_of keep inc p.back
 
-idle_first : {X : Type 0} (order_of : X → Order) (keep : X → Bool) (inc : Incoming) (r : ℕ) (x : X) (xs : List X) (t : Bool) → passes inc r (order_of x) ≡ t → (o : Option (PlaceOf X))
+idle_first : {X : Type 0} (order_of : X → Order) (keep : X → Bool) (inc : Incoming) (r : ℕ) (x : X) (xs : List X) (t : Bool) → passes inc r (order_of x) ≡ t → (o : Option (PositionOf X))
     → (keep x ≡ false → crosses (terms inc) (order_of x) ≡ false) → AreIdle order_of keep inc xs → IsIdleAt order_of keep inc r o → IsIdleAt order_of keep inc r (first_of_entries order_of inc x xs t o)
 idle_first order_of keep inc r x xs false e None h k i = tt
 idle_first order_of keep inc r x xs false e (Some p) h k i = ((h, i.0), i.1, i.2, i.3)
 idle_first order_of keep inc r x xs true e None h k i = (tt, h, e, k)
 idle_first order_of keep inc r x xs true e (Some p) h k i = choose (outranks inc.side (order_of p.order) (order_of x))
   where
-    choose : (b : Bool) → IsIdleAt order_of keep inc r (cond b (Some (behind x p)) (Some (record { front = []; order = x; back = xs })))
+    choose : (b : Bool) → IsIdleAt order_of keep inc r (cond b (Some (later x p)) (Some (record { front = []; order = x; back = xs })))
     choose true = ((h, i.0), i.1, i.2, i.3)
     choose false = (tt, h, e, k)
 
@@ -44,22 +44,22 @@ idle_choice : {X : Type 0} (order_of : X → Order) (keep : X → Bool) (inc : I
 idle_choice order_of keep inc r [] h = tt
 idle_choice order_of keep inc r (x ∷ xs) h = idle_first order_of keep inc r x xs (passes inc r (order_of x)) refl (first_entry order_of inc r xs) h.0 h.1 (idle_choice order_of keep inc r xs h.1)
 
-kept_first : {X : Type 0} (order_of : X → Order) (keep : X → Bool) (inc : Incoming) (x : X) (xs : List X) (t : Bool) (o : Option (PlaceOf X)) → keep x ≡ true
-    → first_of_entries order_of inc x (filter keep xs) t (option_map (kept_place keep) o) ≡ option_map (kept_place keep) (first_of_entries order_of inc x xs t o)
-unfolding kept_place
-kept_first order_of keep inc x xs false None e = refl
-kept_first order_of keep inc x xs false (Some p) e = rw e refl
-kept_first order_of keep inc x xs true None e = refl
-kept_first order_of keep inc x xs true (Some p) e = choose (outranks inc.side (order_of p.order) (order_of x))
+retained_first : {X : Type 0} (order_of : X → Order) (keep : X → Bool) (inc : Incoming) (x : X) (xs : List X) (t : Bool) (o : Option (PositionOf X)) → keep x ≡ true
+    → first_of_entries order_of inc x (filter keep xs) t (option_map (retained_position keep) o) ≡ option_map (retained_position keep) (first_of_entries order_of inc x xs t o)
+unfolding retained_position
+retained_first order_of keep inc x xs false None e = refl
+retained_first order_of keep inc x xs false (Some p) e = rw e refl
+retained_first order_of keep inc x xs true None e = refl
+retained_first order_of keep inc x xs true (Some p) e = choose (outranks inc.side (order_of p.order) (order_of x))
   where
-    choose : (b : Bool) → cond b (Some (behind x (kept_place keep p))) (Some (record { front = []; order = x; back = filter keep xs }))
-        ≡ option_map (kept_place keep) (cond b (Some (behind x p)) (Some (record { front = []; order = x; back = xs })))
+    choose : (b : Bool) → cond b (Some (later x (retained_position keep p))) (Some (record { front = []; order = x; back = filter keep xs }))
+        ≡ option_map (retained_position keep) (cond b (Some (later x p)) (Some (record { front = []; order = x; back = xs })))
     choose true = rw e refl
     choose false = refl
 
-dropped_first : {X : Type 0} (order_of : X → Order) (keep : X → Bool) (inc : Incoming) (x : X) (xs : List X) (o : Option (PlaceOf X)) → keep x ≡ false
-    → option_map (kept_place keep) o ≡ option_map (kept_place keep) (first_of_entries order_of inc x xs false o)
-unfolding kept_place
+dropped_first : {X : Type 0} (order_of : X → Order) (keep : X → Bool) (inc : Incoming) (x : X) (xs : List X) (o : Option (PositionOf X)) → keep x ≡ false
+    → option_map (retained_position keep) o ≡ option_map (retained_position keep) (first_of_entries order_of inc x xs false o)
+unfolding retained_position
 dropped_first order_of keep inc x xs None e = refl
 dropped_first order_of keep inc x xs (Some p) e = rw e refl
 
@@ -70,18 +70,18 @@ not_passing inc r x e = at (crosses (terms inc) x) (qualifies inc r x) e
     at false b e = refl
     at true b e = absurd (let z : true ≡ false = e in cc)
 
--- the choice among the entries that are kept is the choice among all
-first_kept : {X : Type 0} (order_of : X → Order) (keep : X → Bool) (inc : Incoming) (r : ℕ) (xs : List X) → AreIdle order_of keep inc xs
-    → first_entry order_of inc r (filter keep xs) ≡ option_map (kept_place keep) (first_entry order_of inc r xs)
-first_kept order_of keep inc r [] h = refl
-first_kept {X = X} order_of keep inc r (x ∷ xs) h = at (keep x) refl (first_kept order_of keep inc r xs h.1)
+-- the choice among the entries that are retained is the choice among all
+first_retained : {X : Type 0} (order_of : X → Order) (keep : X → Bool) (inc : Incoming) (r : ℕ) (xs : List X) → AreIdle order_of keep inc xs
+    → first_entry order_of inc r (filter keep xs) ≡ option_map (retained_position keep) (first_entry order_of inc r xs)
+first_retained order_of keep inc r [] h = refl
+first_retained {X = X} order_of keep inc r (x ∷ xs) h = at (keep x) refl (first_retained order_of keep inc r xs h.1)
   where
-    at : (b : Bool) → keep x ≡ b → first_entry order_of inc r (filter keep xs) ≡ option_map (kept_place keep) (first_entry order_of inc r xs)
-        → first_entry order_of inc r (cond b (x ∷ filter keep xs) (filter keep xs)) ≡ option_map (kept_place keep) (first_entry order_of inc r (x ∷ xs))
-    at true e ih = ap (λ (o : Option (PlaceOf X)). first_of_entries order_of inc x (filter keep xs) (passes inc r (order_of x)) o) ih ∙ kept_first order_of keep inc x xs (passes inc r (order_of x)) (first_entry order_of inc r xs) e
+    at : (b : Bool) → keep x ≡ b → first_entry order_of inc r (filter keep xs) ≡ option_map (retained_position keep) (first_entry order_of inc r xs)
+        → first_entry order_of inc r (cond b (x ∷ filter keep xs) (filter keep xs)) ≡ option_map (retained_position keep) (first_entry order_of inc r (x ∷ xs))
+    at true e ih = ap (λ (o : Option (PositionOf X)). first_of_entries order_of inc x (filter keep xs) (passes inc r (order_of x)) o) ih ∙ retained_first order_of keep inc x xs (passes inc r (order_of x)) (first_entry order_of inc r xs) e
     at false e ih =
         ih ∙ dropped_first order_of keep inc x xs (first_entry order_of inc r xs) e
-        ∙ ap (λ b. option_map (kept_place keep) (first_of_entries order_of inc x xs b (first_entry order_of inc r xs))) (sym (not_passing inc r (order_of x) (h.0 e)))
+        ∙ ap (λ b. option_map (retained_position keep) (first_of_entries order_of inc x xs b (first_entry order_of inc r xs))) (sym (not_passing inc r (order_of x) (h.0 e)))
 
 filter-append : {X : Type 0} (keep : X → Bool) (xs ys : List X) → filter keep (xs ++ ys) ≡ filter keep xs ++ filter keep ys
 filter-append keep [] ys = refl
@@ -91,7 +91,7 @@ filter-append keep (x ∷ xs) ys = at (keep x) (filter-append keep xs ys)
     at true e = ap (λ l. x ∷ l) e
     at false e = e
 
--- what an execution leaves of a kept entry is kept
+-- what an execution leaves of a retained entry is retained
 filter-less : {X : Type 0} (order_of : X → Order) (cut : X → ℕ → X) (keep : X → Bool) → ((x : X) (n : ℕ) → keep (cut x n) ≡ keep x) → (x : X) (f : ℕ) → keep x ≡ true → filter keep (less_of order_of cut x f) ≡ less_of order_of cut x f
 filter-less order_of cut keep same x f e = at (ltb f (order_of x).shares)
   where
@@ -110,26 +110,26 @@ record SameMatch (X : Type 0) (a b : MatchedOf X) : Type 0 where
   pub fills : a.fills ≡ b.fills
   pub left : a.left ≡ b.left
 
--- the executions among the entries that are kept are the executions among all
-matched_kept : {X : Type 0} (order_of : X → Order) (cut : X → ℕ → X) (keep : X → Bool) → ((x : X) (n : ℕ) → keep (cut x n) ≡ keep x) → (n : ℕ) (inc : Incoming) (r : ℕ) (xs : List X) → AreIdle order_of keep inc xs
+-- the executions among the entries that are retained are the executions among all
+matched_retained : {X : Type 0} (order_of : X → Order) (cut : X → ℕ → X) (keep : X → Bool) → ((x : X) (n : ℕ) → keep (cut x n) ≡ keep x) → (n : ℕ) (inc : Incoming) (r : ℕ) (xs : List X) → AreIdle order_of keep inc xs
     → SameMatch X (matched_entries order_of cut n inc r (filter keep xs)) (matched_entries order_of cut n inc r xs)
-unfolding matched_entries kept_place
-matched_kept order_of cut keep same zero inc r xs h = record { fills = refl; left = refl }
-matched_kept {X = X} order_of cut keep same (suc n) inc r xs h =
-    subst (λ (o : Option (PlaceOf X)). SameMatch X (matched_by order_of cut (matched_entries order_of cut n inc) r (filter keep xs) o) (matched_by order_of cut (matched_entries order_of cut n inc) r xs (first_entry order_of inc r xs)))
-    (sym (first_kept order_of keep inc r xs h)) (choose (first_entry order_of inc r xs) (idle_choice order_of keep inc r xs h) (λ s ys k. matched_kept order_of cut keep same n inc s ys k))
+unfolding matched_entries retained_position
+matched_retained order_of cut keep same zero inc r xs h = record { fills = refl; left = refl }
+matched_retained {X = X} order_of cut keep same (suc n) inc r xs h =
+    subst (λ (o : Option (PositionOf X)). SameMatch X (matched_by order_of cut (matched_entries order_of cut n inc) r (filter keep xs) o) (matched_by order_of cut (matched_entries order_of cut n inc) r xs (first_entry order_of inc r xs)))
+    (sym (first_retained order_of keep inc r xs h)) (choose (first_entry order_of inc r xs) (idle_choice order_of keep inc r xs h) (λ s ys k. matched_retained order_of cut keep same n inc s ys k))
   where
-    kept : (p : PlaceOf X) → IsIdleAt order_of keep inc r (Some p) → (b : Bool) → keep p.order ≡ b → b ≡ true
-    kept p i true e = refl
-    kept p i false e = absurd (let z : true ≡ false = sym (and_parts (crosses (terms inc) (order_of p.order)) (qualifies inc r (order_of p.order)) i.2).0 ∙ i.1 e in cc)
+    retained : (p : PositionOf X) → IsIdleAt order_of keep inc r (Some p) → (b : Bool) → keep p.order ≡ b → b ≡ true
+    retained p i true e = refl
+    retained p i false e = absurd (let z : true ≡ false = sym (and_parts (crosses (terms inc) (order_of p.order)) (qualifies inc r (order_of p.order)) i.2).0 ∙ i.1 e in cc)
 
-    choose : (o : Option (PlaceOf X)) → IsIdleAt order_of keep inc r o
+    choose : (o : Option (PositionOf X)) → IsIdleAt order_of keep inc r o
         → ((s : ℕ) (ys : List X) → AreIdle order_of keep inc ys → SameMatch X (matched_entries order_of cut n inc s (filter keep ys)) (matched_entries order_of cut n inc s ys))
-        → SameMatch X (matched_by order_of cut (matched_entries order_of cut n inc) r (filter keep xs) (option_map (kept_place keep) o)) (matched_by order_of cut (matched_entries order_of cut n inc) r xs o)
+        → SameMatch X (matched_by order_of cut (matched_entries order_of cut n inc) r (filter keep xs) (option_map (retained_position keep) o)) (matched_by order_of cut (matched_entries order_of cut n inc) r xs o)
     choose None i ih = record { fills = refl; left = refl }
     choose (Some p) i ih =
         let f : ℕ = min r (order_of p.order).shares in
-        let k : keep p.order ≡ true = (let t = kept p i (keep p.order) refl in t) in
+        let k : keep p.order ≡ true = (let t = retained p i (keep p.order) refl in t) in
         let ys : List X = p.front ++ (less_of order_of cut p.order f ++ p.back) in
         let idle : AreIdle order_of keep inc ys = all_append _ p.front (less_of order_of cut p.order f ++ p.back) i.0 (all_append _ (less_of order_of cut p.order f) p.back (idle-less order_of cut keep same inc p.order f k) i.3) in
         let e : filter keep ys ≡ filter keep p.front ++ (less_of order_of cut p.order f ++ filter keep p.back) =
@@ -182,7 +182,7 @@ idle_but inc key x (y ∷ ys) h e c = at (is_under key y) refl e (λ f. idle_but
 pub unmet : (inc : Incoming) (key : ℕ) (x : Order) (xs : List Live) → KeysDiffer xs → order_of key xs ≡ Some x → crosses (terms inc) x ≡ false
     → AreFills inc (without key xs) (fills_of inc xs) (matched_live inc xs).left
 unmet inc key x xs h e c =
-    let m = matched_kept order_in cut_live (is_other key) (λ l n. refl) inc.shares inc inc.shares xs (idle_but inc key x xs h e c) in
+    let m = matched_retained order_in cut_live (is_other key) (λ l n. refl) inc.shares inc inc.shares xs (idle_but inc key x xs h e c) in
     let w : without key xs ≡ filter (is_other key) xs = others_of key xs h in
     let fills : fills_of inc (without key xs) ≡ fills_of inc xs = ap (λ l. fills_of inc l) w ∙ ap (λ (l : List (FillOf Live)). map fill_of l) m.fills in
     let left : (matched_live inc (without key xs)).left ≡ (matched_live inc xs).left = ap (λ l. (matched_live inc l).left) w ∙ m.left in

@@ -1,8 +1,8 @@
 -- The fills of a plan, by key: the executions that they are, one after another.
 use Rattle.std.specs.Prelude.{◌≡◌, ℕ, ◌<◌, ◌≤◌, nat_lt, List, [], ◌∷◌, Option, Some, None, if◌then◌else◌, map}
-use Rattle.hx_levels.specs.declared.order.Order.{Order}
-use Rattle.hx_levels.specs.declared.order.Live.{Live}
-use Rattle.hx_levels.specs.Book.{order_of, reduced, without}
+use Rattle.hx_book.specs.declared.order.Order.{Order}
+use Rattle.hx_book.specs.declared.order.Live.{Live}
+use Rattle.hx_book.specs.Book.{order_of, reduced, without}
 use Rattle.hx_match.specs.declared.fills.Fill.{Fill}
 use Rattle.hx_match.specs.declared.fills.Incoming.{Incoming}
 use Rattle.hx_match.specs.Matching.{FillOf, Execution, matched_live}
@@ -15,7 +15,7 @@ fill_of f = record { key = f.order.key; shares = f.shares; price = f.order.order
 abbrev pub fills_of : Incoming → List Live → List Fill
 fills_of incoming orders = map fill_of (matched_live incoming orders).fills
 
--- the list after this many shares of x, which stands under the key, are executed: they are off, or x is out
+-- the list after `shares` shares of x, which is under the key, are executed: they are off, or x is out
 abbrev pub taken : (key shares : ℕ) → Order → List Live → List Live
 taken key shares x orders =
     if nat_lt shares x.shares then reduced key shares orders else without key orders

@@ -1,9 +1,9 @@
 -- Which resting orders an incoming order executes, and for how many shares.
 use Rattle.std.specs.Prelude.{ℕ, zero, suc, ◌-◌, min, Bool, true, false, if◌then◌else◌, ◌&&◌, nat_lt, List, [], ◌∷◌, ◌++◌, Option, Some, None}
-use Rattle.hx_levels.specs.declared.order.Order.{Order}
-use Rattle.hx_levels.specs.declared.order.Live.{Live}
-use Rattle.hx_levels.specs.declared.order.Terms.{Terms}
-use Rattle.hx_levels.specs.Book.{terms_at, crosses, outranks, qualifies as book_qualifies}
+use Rattle.hx_book.specs.declared.order.Order.{Order}
+use Rattle.hx_book.specs.declared.order.Live.{Live}
+use Rattle.hx_book.specs.declared.order.Terms.{Terms}
+use Rattle.hx_book.specs.Book.{terms_at, crosses, outranks, qualifies as book_qualifies}
 use Rattle.hx_match.specs.declared.fills.Incoming.{Incoming}
 
 -- the stock, side and price of an incoming order
@@ -22,35 +22,35 @@ passes incoming r x = crosses (terms incoming) x && qualifies incoming r x
 -- an entry's order, and `cut` the entry with other open shares.
 
 -- an entry of a list, with those before it and those after it
-pub record PlaceOf (X : Type 0) : Type 0 where
+pub record PositionOf (X : Type 0) : Type 0 where
   pub front : List X
   pub order : X
   pub back : List X
 
--- the place in the list that x begins
-abbrev pub behind : {X : Type 0} → X → PlaceOf X → PlaceOf X
-behind x p = record { front = x ∷ p.front; order = p.order; back = p.back }
+-- the position in the list that x begins
+abbrev pub later : {X : Type 0} → X → PositionOf X → PositionOf X
+later x p = record { front = x ∷ p.front; order = p.order; back = p.back }
 
 -- x, which passes or not and which xs follow, against the first by rank of xs
 abbrev pub first_of_entries : {X : Type 0} → (X → Order) → Incoming → X → List X → Bool
-    → Option (PlaceOf X) → Option (PlaceOf X)
+    → Option (PositionOf X) → Option (PositionOf X)
 first_of_entries order_of incoming x xs false None = None
-first_of_entries order_of incoming x xs false (Some p) = Some (behind x p)
+first_of_entries order_of incoming x xs false (Some p) = Some (later x p)
 first_of_entries order_of incoming x xs true None =
     Some (record { front = []; order = x; back = xs })
 first_of_entries order_of incoming x xs true (Some p) =
-    if outranks incoming.side (order_of p.order) (order_of x) then Some (behind x p)
+    if outranks incoming.side (order_of p.order) (order_of x) then Some (later x p)
     else Some (record { front = []; order = x; back = xs })
 
 -- the first by rank of the entries whose orders cross and qualify
 abbrev pub first_entry : {X : Type 0} → (X → Order) → Incoming → (left : ℕ) → List X
-    → Option (PlaceOf X)
+    → Option (PositionOf X)
 first_entry order_of incoming r [] = None
 first_entry order_of incoming r (x ∷ xs) =
     first_of_entries order_of incoming x xs (passes incoming r (order_of x))
     (first_entry order_of incoming r xs)
 
--- the entry with f open shares less, or none where none are left
+-- the entry with f open shares less, or none if none are left
 abbrev pub less_of : {X : Type 0} → (X → Order) → (X → ℕ → X) → X → ℕ → List X
 less_of order_of cut x f =
     if nat_lt f (order_of x).shares then cut x ((order_of x).shares - f) ∷ [] else []
@@ -70,18 +70,18 @@ pub record MatchedOf (X : Type 0) : Type 0 where
 abbrev pub after_fill : {X : Type 0} → FillOf X → MatchedOf X → MatchedOf X
 after_fill fill m = record { fills = fill ∷ m.fills; rest = m.rest; left = m.left }
 
--- with r open shares and the first by rank: it is executed, and `next` tells what follows with the shares and the list
+-- with r open shares and the first by rank: it is executed, and `next` says what follows with the shares and the list
 -- that are left
 abbrev pub matched_by : {X : Type 0} → (X → Order) → (X → ℕ → X) → (ℕ → List X → MatchedOf X)
-    → (left : ℕ) → List X → Option (PlaceOf X) → MatchedOf X
+    → (left : ℕ) → List X → Option (PositionOf X) → MatchedOf X
 matched_by order_of cut next r xs None = record { fills = []; rest = xs; left = r }
 matched_by order_of cut next r xs (Some p) =
     let f = min r (order_of p.order).shares in
     after_fill (record { order = p.order; shares = f })
     (next (r - f) (p.front ++ (less_of order_of cut p.order f ++ p.back)))
 
--- as long as an entry passes, the first by rank is executed. Each execution takes a share, so there are at most n where
--- r is n
+-- as long as an entry passes, the first by rank is executed. Each execution takes a share, so there are at most n if r
+-- is n
 unfoldable pub matched_entries : {X : Type 0} → (X → Order) → (X → ℕ → X) → (n : ℕ) → Incoming
     → (left : ℕ) → List X → MatchedOf X
 matched_entries order_of cut zero incoming r xs = record { fills = []; rest = xs; left = r }
@@ -91,8 +91,8 @@ matched_entries order_of cut (suc n) incoming r xs =
 
 -- The same of a list of orders.
 
-abbrev pub Place : Type 0
-Place = PlaceOf Order
+abbrev pub Position : Type 0
+Position = PositionOf Order
 
 abbrev pub Execution : Type 0
 Execution = FillOf Order
@@ -108,7 +108,7 @@ abbrev pub with_shares : Order → ℕ → Order
 with_shares x n = record x { shares = n }
 
 -- the first by rank of the orders that cross and qualify
-abbrev pub first_by_rank : Incoming → (left : ℕ) → List Order → Option Place
+abbrev pub first_by_rank : Incoming → (left : ℕ) → List Order → Option Position
 first_by_rank incoming r xs = first_entry itself incoming r xs
 
 -- the executions of an incoming order with r open shares against these orders, in time order

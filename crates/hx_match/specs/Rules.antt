@@ -1,25 +1,25 @@
 -- What the definition of the executions promises.
 use Rattle.std.specs.Prelude.{◌≡◌, ℕ, true, false, List, ◌∷◌, ◌++◌, Option, Some, None, map}
 use Rattle.std.specs.List.{AllByRecursion}
-use Rattle.hx_levels.specs.declared.order.Order.{Order}
-use Rattle.hx_levels.specs.declared.order.Live.{Live}
-use Rattle.hx_levels.specs.Book.{outranks, crosses, lives, order_of, KeysDiffer, without}
+use Rattle.hx_book.specs.declared.order.Order.{Order}
+use Rattle.hx_book.specs.declared.order.Live.{Live}
+use Rattle.hx_book.specs.Book.{outranks, crosses, lives, order_of, KeysDiffer, without}
 use Rattle.hx_match.specs.declared.fills.Incoming.{Incoming}
 use Rattle.hx_match.specs.declared.fills.Fill.{Fill}
 use Rattle.hx_match.specs.Executing.{fills_of, AreGood, done_by, left_by}
-use Rattle.hx_match.specs.Matching.{terms, matched_live, Place, MatchedOf, Matched, passes, first_by_rank, matched, matched_entries, itself, with_shares, order_in, cut_live}
+use Rattle.hx_match.specs.Matching.{terms, matched_live, Position, MatchedOf, Matched, passes, first_by_rank, matched, matched_entries, itself, with_shares, order_in, cut_live}
 
--- of the orders that pass, the one at the place is before all others: it outranks those before it in the list, and none
--- after it outranks it
-pub record IsBeforeAll (incoming : Incoming) (r : ℕ) (p : Place) : Type 0 where
+-- of the orders that pass, the one at the position is before all others: it outranks those before it in the list, and
+-- none after it outranks it
+pub record IsBeforeAll (incoming : Incoming) (r : ℕ) (p : Position) : Type 0 where
   pub itself : passes incoming r p.order ≡ true
   pub front : AllByRecursion (λ y. passes incoming r y ≡ true
       → outranks incoming.side p.order y ≡ true) p.front
   pub back : AllByRecursion (λ y. passes incoming r y ≡ true
       → outranks incoming.side y p.order ≡ false) p.back
 
--- the choice is right: none where none passes, else the one before all others
-abbrev pub IsRightChoice : Incoming → ℕ → List Order → Option Place → Type 0
+-- the choice is right: none if none passes, else the one before all others
+abbrev pub IsRightChoice : Incoming → ℕ → List Order → Option Position → Type 0
 IsRightChoice incoming r xs None = AllByRecursion (λ y. passes incoming r y ≡ false) xs
 IsRightChoice incoming r xs (Some p) =
     (xs ≡ p.front ++ (p.order ∷ p.back)) × IsBeforeAll incoming r p
@@ -53,9 +53,9 @@ MatchedOfMap =
     → matched_entries itself with_shares n incoming r (lives orders)
     ≡ orders_of_matched order_in (matched_entries order_in cut_live n incoming r orders)
 
--- the fills, by key, are the executions of the incoming order against the orders of a book, and so much of it is left:
--- they can be carried out one after another, what they execute is what is matched of the orders, and so are the orders
--- that then stay
+-- the fills, by key, are the executions of the incoming order against the orders of a book, and `left` shares of it are
+-- left: they can be carried out one after another, what they execute is what is matched of the orders, and so are the
+-- orders that then stay
 pub record AreFills (incoming : Incoming) (orders : List Live) (fills : List Fill) (left : ℕ)
     : Type 0 where
   pub good : AreGood fills orders

@@ -1,6 +1,6 @@
 //! What a plan is made of.
 
-use hx_levels::Key;
+use hx_book::Key;
 use hx_units::{Price, Side};
 
 /// What matching reads of an incoming order.

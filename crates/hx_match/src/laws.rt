@@ -1,7 +1,7 @@
 //! Laws of the definition of the executions.
 ghost use Rattle.hx_match.specs.Rules.{FirstIsRight, NoneIsLeft, MatchedOfMap, UncrossedIsNotMet};
 
-/// What is executed next is before all other orders that cross and qualify; nothing is, exactly where none does.
+/// What is executed next is before all other orders that cross and qualify; nothing is, exactly if none does.
 pub fn first()
     ensures { FirstIsRight }
 {}

@@ -1,20 +1,19 @@
 //! The one pass over the orders that cross.
 ghost use Rattle.std.specs.Prelude.{List, ◌≡◌, ◌<◌, ◌++◌, length, IfOk, IfErr, OnOk, OnErr, min};
-ghost use Rattle.hx_levels.specs.Book.{KeysDiffer, lives};
+ghost use Rattle.hx_book.specs.Book.{KeysDiffer, lives};
 ghost use Rattle.hx_match.specs.Matching.{matched, matched_live};
 ghost use Rattle.hx_match.specs.Executing.{fills_of, AreGood, done_by, left_by};
 ghost use Rattle.hx_match.specs.Rules.{AreFills};
 ghost use Rattle.hx_match.specs.declared.fills.Fill.{Fill};
 
 use crate::fills::{Fill, Incoming, Plan};
-use hx_levels::{Book, Key, Order, Terms, Walk};
+use hx_book::{Book, Key, Order, Terms, Walk};
 use hx_units::NoMemory;
 use std::alloc::Global;
 
-/// The executions of an incoming order against a book, in one pass over the orders that cross, by rank.
-/// The book stays as it is. The fills can be carried out one after another: what they execute, and the
-/// orders that then stay, are those of the rules. `NoMemory` where the list of fills cannot grow: with no
-/// fill it takes no memory.
+/// The executions of an incoming order against a book, in one pass over the orders that cross, by rank. The book stays
+/// as it is. The fills can be carried out one after another: what they execute, and the orders that then stay, are
+/// those of the rules. `NoMemory` if the list of fills cannot grow: with no fill it takes no memory.
 pub fn plan<B: Book>(alloc: Global, book: &B, incoming: &Incoming) -> Result<Plan, NoMemory>
     ensures fills { IfOk result (λ plan.
         plan.fills.items ≡ fills_of incoming.now (B.orders book.now)) }
@@ -35,8 +34,8 @@ pub fn plan<B: Book>(alloc: Global, book: &B, incoming: &Incoming) -> Result<Pla
     Ok(Plan { fills, left })
 }
 
-/// The same into a list of earlier executions, which go: it takes memory only where the list has to grow. After
-/// `NoMemory` the list holds the first executions, as many as there was room for.
+/// The same into a list of earlier executions, which go: it takes memory only if the list has to grow. After `NoMemory`
+/// the list holds the first executions, as far as there was room.
 #[inline(always)]
 pub fn plan_into<B: Book>(
     fills: &mut Vec<Fill>,

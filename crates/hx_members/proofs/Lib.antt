@@ -1,14 +1,2 @@
-pub mod ChainLaws
-pub mod TokenLaws
-pub mod PushLaws
-pub mod UpdateLaws
-pub mod SetupLaws
-pub mod Words
-pub mod Spelling
-pub mod Growing
-pub mod WholeSetups
-pub mod SetupLines
-pub mod BadLines
-pub mod TextLaws
-pub mod Packing
-pub mod Indexes
+pub use Rattle.hx_tokens.proofs.ChainLaws
+pub use Rattle.hx_setup.proofs.BadLines

@@ -1,8 +1,8 @@
 -- The codes of the hours (ITCH 5.0, System Event Message).
 use Rattle.std.specs.Prelude.{ℕ, zero, suc, List, [], ◌∷◌, Option, None, slice_get}
 use Rattle.hx_units.specs.Letters.{letter}
-use Rattle.hx_metrics.specs.declared.hours.Hours.{Hours}
-use Rattle.hx_metrics.specs.declared.hours.Hours.TheVariants.{StartOfMessages, StartOfSystemHours, StartOfMarketHours, EndOfMarketHours, EndOfSystemHours, EndOfMessages}
+use Rattle.hx_metrics.specs.declared.phase.Hours.{Hours}
+use Rattle.hx_metrics.specs.declared.phase.Hours.TheVariants.{StartOfMessages, StartOfSystemHours, StartOfMarketHours, EndOfMarketHours, EndOfSystemHours, EndOfMessages}
 
 -- in their order
 abbrev pub codes_of_a_day : List Hours
@@ -10,7 +10,7 @@ codes_of_a_day =
     StartOfMessages ∷ StartOfSystemHours ∷ StartOfMarketHours
     ∷ EndOfMarketHours ∷ EndOfSystemHours ∷ EndOfMessages ∷ []
 
--- the last of this many
+-- the last of the first codes of the day, by their number
 abbrev pub last_of : ℕ → Option Hours
 last_of zero = None
 last_of (suc before) = slice_get codes_of_a_day before

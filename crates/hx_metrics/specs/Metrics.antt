@@ -1,11 +1,11 @@
 -- The figures of a venue as metrics: a row each, by the naming rules of Prometheus (base units, and
--- `_total` behind what is counted). What is not known is left out.
+-- the suffix `_total` for what is counted). What is not known is left out.
 use Prim.Native.String.{String}
 use Rattle.std.specs.Prelude.{ℕ, Bool, List, [], ◌++◌, ◌==◌, Option, Some, None, option_map, codes}
 use Rattle.std.specs.Fmt.{decimal}
 use Rattle.hx_metrics.specs.declared.rows.Kind.TheVariants.{Counter, Gauge}
-use Rattle.hx_metrics.specs.declared.hours.Hours.{Hours}
-use Rattle.hx_metrics.specs.declared.hours.Hours.TheVariants.{StartOfMessages, StartOfSystemHours, StartOfMarketHours, EndOfMarketHours, EndOfSystemHours, EndOfMessages}
+use Rattle.hx_metrics.specs.declared.phase.Hours.{Hours}
+use Rattle.hx_metrics.specs.declared.phase.Hours.TheVariants.{StartOfMessages, StartOfSystemHours, StartOfMarketHours, EndOfMarketHours, EndOfSystemHours, EndOfMessages}
 use Rattle.hx_metrics.specs.declared.figures.Figures.{Figures}
 use Rattle.hx_metrics.specs.Hours.{letter_of}
 use Rattle.hx_metrics.specs.Rows.{title, row, sample, seconds, flag}
@@ -44,21 +44,21 @@ hours_rows (Some last) =
 abbrev pub session_rows : Figures → List ℕ
 session_rows f =
     gauge "hx_sessions" "Sessions that are logged in." f.sessions
-    ++ gauge "hx_places" "Sessions that can be logged in at a time." f.places
-    ++ gauge "hx_places_left" "Places that are free." f.places_left
+    ++ gauge "hx_places" "Sessions that can be logged in at a time." f.slots
+    ++ gauge "hx_places_left" "Places that are free." f.slots_left
 
 abbrev pub login_rows : Figures → List ℕ
 login_rows f =
     counter "hx_logins_accepted_total" "Logins that were accepted." f.logins_accepted
     ++ counter "hx_logins_refused_total" "Logins that were refused." f.logins_refused
-    ++ counter "hx_closed_at_door_total" "Connections closed before their login." f.closed_at_door
+    ++ counter "hx_closed_at_door_total" "Connections closed before their login." f.closed_at_acceptor
 
 abbrev pub event_rows : Figures → List ℕ
 event_rows f =
     counter "hx_events_total" "Events that are recorded." f.events
     ++ counter "hx_replies_total" "Replies to members." f.replies
     ++ seconds_gauge "hx_last_event_age_seconds" "Seconds since the last event." f.last_event_age
-    ++ hours_rows f.hours
+    ++ hours_rows f.phase
 
 abbrev pub feed_rows : Figures → List ℕ
 feed_rows f =

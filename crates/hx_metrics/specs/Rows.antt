@@ -14,12 +14,12 @@ title name kind help =
     codes "# HELP " ++ name ++ codes " " ++ help ++ codes "\n"
     ++ codes "# TYPE " ++ name ++ codes " " ++ word kind ++ codes "\n"
 
--- a metric with one sample; nothing where its value is not known
+-- a metric with one sample; nothing if its value is not known
 unfoldable pub row : (name : List ℕ) → Kind → (help : List ℕ) → Option (List ℕ) → List ℕ
 row name kind help None = []
 row name kind help (Some value) = title name kind help ++ name ++ codes " " ++ value ++ codes "\n"
 
--- one of several samples, told apart by the label `code`
+-- one of several samples, with the label `code`
 unfoldable pub sample : (name : List ℕ) → (code : ℕ) → (value : List ℕ) → List ℕ
 sample name code value =
     name ++ codes "{code=\"" ++ code ∷ codes "\"} " ++ value ++ codes "\n"

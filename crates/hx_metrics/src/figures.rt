@@ -1,9 +1,9 @@
-//! What a venue tells of itself.
+//! The figures that a venue shows.
 
-use crate::hours::Hours;
+use crate::phase::Hours;
 
-/// What a venue tells of itself at one moment. A total only grows while the process lives. What is
-/// not known is none.
+/// The figures that a venue shows at one moment. A total only grows while the process lives. What
+/// is not known is none.
 ///
 /// The events are all of them: who reads their number learns that somebody entered an order, also
 /// one that is neither shown nor traded. So the figures are the operator's alone.
@@ -12,15 +12,15 @@ pub struct Figures {
     /// Sessions that are logged in.
     pub sessions: Option<u64>,
     /// Sessions that can be logged in at a time.
-    pub places: Option<u64>,
-    /// Places that are free.
-    pub places_left: Option<u64>,
+    pub slots: Option<u64>,
+    /// Session slots that are free.
+    pub slots_left: Option<u64>,
     /// Logins that were accepted, in total.
     pub logins_accepted: Option<u64>,
     /// Logins that were refused, in total.
     pub logins_refused: Option<u64>,
-    /// Connections that were closed at the door, in total.
-    pub closed_at_door: Option<u64>,
+    /// Connections that the acceptor closed, in total.
+    pub closed_at_acceptor: Option<u64>,
     /// Events that are recorded, in total.
     pub events: Option<u64>,
     /// Nanoseconds since the last event; none before the first.
@@ -44,5 +44,5 @@ pub struct Figures {
     /// Whether the journal waits for room on its disk.
     pub journal_full: Option<bool>,
     /// The last code of the hours; none before the first.
-    pub hours: Option<Hours>,
+    pub phase: Option<Hours>,
 }

@@ -3,7 +3,7 @@ ghost use Rattle.std.specs.Prelude.{◌≡◌, ◌++◌, IfOk, OnOk};
 ghost use Rattle.hx_metrics.specs.Metrics.{state, hours_rows, session_rows, login_rows, event_rows, feed_rows, request_rows, journal_rows, metrics_text};
 
 use crate::figures::Figures;
-use crate::hours::Hours;
+use crate::phase::Hours;
 use crate::rows::Kind::{Counter, Gauge};
 use crate::rows::{flag, write_flag, write_number, write_sample, write_time, write_title};
 use std::alloc::{AllocError, Global};
@@ -23,14 +23,14 @@ fn write_sessions(text: &mut Vec<u8>, figures: &Figures) -> Result<(), AllocErro
         "hx_places",
         Gauge,
         "Sessions that can be logged in at a time.",
-        figures.places,
+        figures.slots,
     )?;
     write_number(
         text,
         "hx_places_left",
         Gauge,
         "Places that are free.",
-        figures.places_left,
+        figures.slots_left,
     )
 }
 
@@ -56,7 +56,7 @@ fn write_logins(text: &mut Vec<u8>, figures: &Figures) -> Result<(), AllocError>
         "hx_closed_at_door_total",
         Counter,
         "Connections closed before their login.",
-        figures.closed_at_door,
+        figures.closed_at_acceptor,
     )
 }
 
@@ -84,7 +84,7 @@ fn write_events(text: &mut Vec<u8>, figures: &Figures) -> Result<(), AllocError>
         "Seconds since the last event.",
         figures.last_event_age,
     )?;
-    write_hours(text, figures.hours)
+    write_hours(text, figures.phase)
 }
 
 fn write_feed(text: &mut Vec<u8>, figures: &Figures) -> Result<(), AllocError>

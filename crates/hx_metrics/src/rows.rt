@@ -64,7 +64,7 @@ fn write_decimal(text: &mut Vec<u8>, number: u64) -> Result<(), AllocError>
 }
 
 // All digits but the first.
-fn behind_first(digits: &[u8]) -> &[u8]
+fn after_first(digits: &[u8]) -> &[u8]
     requires { 0 < length digits.now }
     ensures { result.now ≡ drop 1 digits.now }
 {
@@ -78,10 +78,10 @@ fn write_seconds(text: &mut Vec<u8>, nanos: u64) -> Result<(), AllocError>
     text.extend_from_slice(b".")?;
     let mut digits = Buffer::new();
     let fraction = digits.format(SECOND + nanos % SECOND).as_bytes();
-    text.extend_from_slice(behind_first(fraction))
+    text.extend_from_slice(after_first(fraction))
 }
 
-/// Writes a number, where it is known.
+/// Writes a number, if it is known.
 #[tactic(auto, unfolding(crate::specs::Rows::row))]
 pub fn write_number(
     text: &mut Vec<u8>,
@@ -101,7 +101,7 @@ pub fn write_number(
     text.extend_from_slice(b"\n")
 }
 
-/// Writes a time in nanoseconds as seconds, where it is known.
+/// Writes a time in nanoseconds as seconds, if it is known.
 #[tactic(auto, unfolding(crate::specs::Rows::row))]
 pub fn write_time(
     text: &mut Vec<u8>,
@@ -121,7 +121,7 @@ pub fn write_time(
     text.extend_from_slice(b"\n")
 }
 
-/// Writes whether something holds, where it is known.
+/// Writes whether something holds, if it is known.
 #[tactic(auto, unfolding(crate::specs::Rows::row))]
 pub fn write_flag(
     text: &mut Vec<u8>,
@@ -141,7 +141,7 @@ pub fn write_flag(
     text.extend_from_slice(b"\n")
 }
 
-/// Writes one of several samples, told apart by the label `code`.
+/// Writes one of several samples, with the label `code`.
 pub fn write_sample(text: &mut Vec<u8>, name: &str, code: u8, value: &str) -> Result<(), AllocError>
     ensures { OnOk result (text.new.items ≡ text.old.items ++ sample name.now code value.now) }
 {
@@ -153,7 +153,7 @@ pub fn write_sample(text: &mut Vec<u8>, name: &str, code: u8, value: &str) -> Re
     text.extend_from_slice(b"\n")
 }
 
-/// 1 where it holds, else 0.
+/// 1 if it holds, else 0.
 pub fn flag(holds: bool) -> &'static str
     ensures { result.now ≡ flag holds }
 {

@@ -9,13 +9,13 @@ use crate::figures::Figures;
 pub enum Health {
     /// It does.
     Ready,
-    /// Its journal waits for room: nothing is told until there is room.
+    /// Its journal waits for room: nothing is published until there is room.
     Waiting,
-    /// Its journal has failed: nothing more is told.
+    /// Its journal has failed: nothing more is published.
     Stopped,
 }
 
-/// A venue that tells of itself while it works. A call must not wait for long: all who ask wait
+/// A venue that shows its figures while it works. A call must not wait for long: all clients wait
 /// with it.
 pub trait Watched {
     // The figures that it may show.
@@ -32,6 +32,6 @@ pub trait Watched {
     fn health(&self) -> Health
         ensures { is_in self.now result };
 
-    /// Whether the day is over: then nobody is answered any more.
+    /// Whether the day is over: then no request is answered any more.
     fn is_over(&self) -> bool;
 }

@@ -15,7 +15,7 @@ use Rattle.hx_mold.proofs.Laws.{header_is, header_spelled, header_again, header_
 eq_no : (a b : ℕ) → eqb a b ≡ false → a ≡ b → ⊥
 eq_no a b unequal e = let same : eqb a b ≡ true = eq-eqb a b e in cc
 
--- what holds where a test says yes and where it says no
+-- what holds if a test says yes and if it says no
 by_test : {A : Type 0} (P : A → Type 0) (b : Bool) (x y : A) → (b ≡ true → P x) → (b ≡ false → P y) → P (cond b x y)
 by_test P true x y f g = f refl
 by_test P false x y f g = g refl

@@ -176,7 +176,7 @@ IsFront-take n front ms large h = record {
   longest = λ others more is fits. h.longest others (take (n - length others) more) (take_front n ms others more (omega (arith, fits_few others fits)) is) fits;
 }
 
--- where as many are asked for as there can be, the front is one of all the messages from the number on
+-- if the largest number is asked for, the front is one of all the messages from the number on
 pub next_front : (sent : ℕ) (front ms : List (List ℕ)) → IsFront front (wanted (sent + 1) 65535 ms) → IsFront front (drop sent ms)
 next_front sent front ms h =
     let at : sent + 1 - 1 ≡ sent = omega arith in

@@ -16,8 +16,8 @@ pub record IsFront (front messages : List (List ℕ)) : Type 0 where
   pub longest : (others more : List (List ℕ)) → messages ≡ others ++ more
       → length (blocks others) ≤ room → length others ≤ length front
 
--- The messages are cut into these packets, the first message having this number: no packet where there is
--- no message; else a packet of the longest front that fits, then the packets of the rest.
+-- The messages are cut into these packets, the first message having this number: no packet if there is no message; else
+-- a packet of the longest front that fits, then the packets of the rest.
 abbrev pub CutsInto : (session : List ℕ) → (first : ℕ) → (messages packets : List (List ℕ)) → Type 0
 CutsInto session first messages [] = messages ≡ []
 CutsInto session first messages (p ∷ packets) =
@@ -31,7 +31,7 @@ message_at zero messages = None
 message_at (suc k) messages =
     if nat_le (suc k) (length messages) then Some (slice_index_or messages k []) else None
 
--- the messages that are asked for, at most this many from the first number on (MoldUDP64 1.00, Request Packet)
+-- the messages that are asked for, at most `most` from the first number on (MoldUDP64 1.00, Request Packet)
 abbrev pub wanted : (first most : ℕ) → List (List ℕ) → List (List ℕ)
 wanted n most messages = take most (drop (n - 1) messages)
 

@@ -8,11 +8,11 @@ use Rattle.hx_mold.specs.declared.request.Request.{Request}
 use Rattle.hx_mold.specs.Packets.{header_size, end_count}
 use Rattle.hx_mold.specs.Counting.{is_whole, messages_in}
 
--- the packet, where nothing stands behind its header
+-- the packet, if nothing follows its header
 abbrev pub if_bare : (rest : List ℕ) → MoldPacket → Option MoldPacket
 if_bare rest packet = if length rest == 0 then Some packet else None
 
--- the packet of these fields and what follows them, none where there is none
+-- the packet of these fields and what follows them, none if there is none
 abbrev pub packet_with : (session : List ℕ) → (sequence count : ℕ) → (rest : List ℕ)
     → Option MoldPacket
 packet_with session sequence count rest =
@@ -21,13 +21,13 @@ packet_with session sequence count rest =
     else if is_whole count rest then Some (mold.Blocks session sequence (messages_in count rest))
     else None
 
--- the same of this many bytes, which are none where they are fewer than a header's
+-- the same of `size` bytes, which are none if they are fewer than a header's
 abbrev pub packet_from : (size : ℕ) → (session : List ℕ) → (sequence count : ℕ) → (rest : List ℕ)
     → Option MoldPacket
 packet_from size session sequence count rest =
     if nat_le header_size size then packet_with session sequence count rest else None
 
--- the packet that the bytes are, none where they are none
+-- the packet that the bytes are, none if they are none
 abbrev pub packet_of : List ℕ → Option MoldPacket
 packet_of bytes =
     packet_from (length bytes) (text_at 0 10 bytes) (number_at 10 8 bytes) (number_at 18 2 bytes)

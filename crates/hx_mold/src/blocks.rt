@@ -24,7 +24,7 @@ fn split_block(bytes: &[u8]) -> Option<(&[u8], &[u8])>
     Some((&bytes[2..end], &bytes[end..]))
 }
 
-// Whether the bytes are this many blocks and nothing else.
+// Whether the bytes are `count` blocks and nothing else.
 pub(crate) fn are_blocks(count: u16, bytes: &[u8]) -> bool
     ensures { result ≡ is_whole count bytes.now }
 {

@@ -31,13 +31,13 @@ pub trait Messages {
         ensures count { result ≡ length (messages self.new) }
         ensures few { result < 2 ^ 64 - 1 };
 
-    /// The message of number `n`, or none where `n` is 0 or above what was counted last. It changes nothing.
+    /// The message of number `n`, or none if `n` is 0 or above what was counted last. It changes nothing.
     fn get(&mut self, n: u64) -> Option<ArrayVec<u8, 44>>
         ensures found { option_map (λ m. m.items) result ≡ message_at n (messages self.old) }
         ensures same { self.new ≡ self.old };
 }
 
-// Appends a message's block where it fits.
+// Appends a message's block if it fits.
 fn add(body: &mut ArrayVec<u8, 1380>, message: &ArrayVec<u8, 44>) -> bool
     ensures yes { result ≡ true →
         (body.new.items ≡ body.old.items ++ block message.now.items)
@@ -85,10 +85,9 @@ fn fill(body: &mut ArrayVec<u8, 1380>, messages: &[ArrayVec<u8, 44>]) -> u16
     count
 }
 
-/// The packets of these messages, the first of which has the number `first`: the messages in order, each
-/// packet of at most 1,400 bytes and of as many messages as fit, and no packet where there is no message
-/// (MoldUDP64 1.00, Downstream Packet). It takes memory where there is a message, and fails only for want
-/// of it.
+/// The packets of these messages, the first of which has the number `first`: the messages in order, each packet full of
+/// messages up to 1,400 bytes, and no packet if there is no message (MoldUDP64 1.00, Downstream Packet). It takes
+/// memory if there is a message, and fails only when out of memory.
 pub fn cut(
     alloc: Global,
     session: [u8; 10],
@@ -111,7 +110,7 @@ pub fn cut(
     Ok(packets)
 }
 
-// Writes the blocks of the messages from a number on that fit, at most this many.
+// Writes the blocks of the messages from a number on that fit, at most `most` of them.
 fn collect<M: Messages>(
     body: &mut ArrayVec<u8, 1380>,
     messages: &mut M,
@@ -141,9 +140,9 @@ fn collect<M: Messages>(
     count
 }
 
-/// The packet of the messages from number `first` on, at most `most` of them and as many as fit into 1,400
-/// bytes, and how many it brings; or none for number 0, for 0 messages, and where message `first` is not
-/// there yet. The messages are counted once, first. It takes no memory.
+/// The packet of the messages from number `first` on, at most `most` of them and as far as they fit into 1,400 bytes,
+/// and how many it brings; or none for number 0, for 0 messages, and if message `first` is not there yet. The messages
+/// are counted once, first. It takes no memory.
 pub fn gather<M: Messages>(
     session: [u8; 10],
     messages: &mut M,
@@ -170,10 +169,9 @@ pub fn gather<M: Messages>(
     Some((finish(session, first, count, &body), count))
 }
 
-/// The answer to a request (MoldUDP64 1.00, Request Packet): one packet with as many messages as were asked
-/// for, are there and fit into 1,400 bytes, from the one asked for on; or none for another session, for
-/// count 0, for number 0, and for a number that is not there yet. The messages are counted once, first. It
-/// takes no memory.
+/// The answer to a request (MoldUDP64 1.00, Request Packet): one packet with the messages that were asked for, from the
+/// first one on, as far as they are there and fit into 1,400 bytes; or none for another session, for count 0, for
+/// number 0, and for a number that is not there yet. The messages are counted once, first. It takes no memory.
 pub fn answer<M: Messages>(
     session: [u8; 10],
     messages: &mut M,

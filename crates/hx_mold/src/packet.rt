@@ -39,9 +39,8 @@ pub enum MoldPacket<'a> {
     },
 }
 
-/// The packet that the bytes are, or none where they are no packet: where the header or a block is cut, or
-/// bytes follow the last block, or the header of a heartbeat or an end of session (MoldUDP64 1.00,
-/// Downstream Packet).
+/// The packet that the bytes are, or none if they are no packet: if the header or a block is cut, or bytes follow the
+/// last block, or the header of a heartbeat or an end of session (MoldUDP64 1.00, Downstream Packet).
 pub fn decode_packet(bytes: &[u8]) -> Option<MoldPacket<'_>>
     ensures found { IfSome result (λ p. SpellsPacket bytes.now p) }
     ensures only { (p : MoldPacket) → SpellsPacket bytes.now p → result ≡ Some p }

@@ -1,4 +1,4 @@
--- Texts that are cut at the first place of a byte.
+-- Texts that are cut at the first index of a byte.
 use Rattle.std.proofs.Common.{◌≡◌, ◌+◌, ◌<◌, ℕ, suc, List, [], ◌∷◌, ◌++◌, length, drop, get_or, Bool, true, false, eqb, Option, Some, None, Bor, refl, sym, arith}
 use Rattle.std.specs.Prelude.{◌||◌, All, IfSome, IfNone}
 use Rattle.std.specs.List.{list_any, position_or_len, before_first, after_first}
@@ -30,25 +30,22 @@ pub first_word : (a c : List ℕ) → Lacks 32 a → 0 < length a → words_of (
 first_word a c lacks some =
     rw (slice_split_at is_space a 32 c (none_passes 32 a lacks) refl, lt-ltb 0 (length a) some) refl
 
-pub no_first_word : (a c : List ℕ) → Lacks 32 a → a ≡ [] → words_of (a ++ 32 ∷ c) ≡ words_of c
-no_first_word a c lacks none = rw none refl
-
 pub last_word : (a : List ℕ) → Lacks 32 a → 0 < length a → words_of a ≡ a ∷ []
 last_word a lacks some =
     rw (slice_split_none is_space a (none_passes 32 a lacks), lt-ltb 0 (length a) some) refl
 
--- ---- the first place
+-- ---- the first index
 
 module _ (p : ℕ → Bool) where
-  place_cut : (a : List ℕ) (b : ℕ) (c : List ℕ) → All (λ x. p x ≡ false) a → p b ≡ true → position_or_len p (a ++ b ∷ c) ≡ length a
-  place_cut [] b c none e = rw e refl
-  place_cut (x ∷ a) b c none e =
-      rw (All-head (λ x. p x ≡ false) x a none, place_cut a b c (All-tail (λ x. p x ≡ false) x a none) e) (omega arith)
+  index_cut : (a : List ℕ) (b : ℕ) (c : List ℕ) → All (λ x. p x ≡ false) a → p b ≡ true → position_or_len p (a ++ b ∷ c) ≡ length a
+  index_cut [] b c none e = rw e refl
+  index_cut (x ∷ a) b c none e =
+      rw (All-head (λ x. p x ≡ false) x a none, index_cut a b c (All-tail (λ x. p x ≡ false) x a none) e) (omega arith)
 
-  place_none : (a : List ℕ) → All (λ x. p x ≡ false) a → position_or_len p a ≡ length a
-  place_none [] none = refl
-  place_none (x ∷ a) none =
-      rw (All-head (λ x. p x ≡ false) x a none, place_none a (All-tail (λ x. p x ≡ false) x a none)) (omega arith)
+  index_none : (a : List ℕ) → All (λ x. p x ≡ false) a → position_or_len p a ≡ length a
+  index_none [] none = refl
+  index_none (x ∷ a) none =
+      rw (All-head (λ x. p x ≡ false) x a none, index_none a (All-tail (λ x. p x ≡ false) x a none)) (omega arith)
 
   drop_cut : (a : List ℕ) (b : ℕ) (c : List ℕ) → drop (suc (length a)) (a ++ b ∷ c) ≡ c
   drop_cut [] b c = refl
@@ -56,15 +53,15 @@ module _ (p : ℕ → Bool) where
 
   pub before_cut : (a : List ℕ) (b : ℕ) (c : List ℕ) → All (λ x. p x ≡ false) a → p b ≡ true → before_first p (a ++ b ∷ c) ≡ a
   before_cut a b c none e =
-      rw (place_cut a b c none e, take-append-le (length a) a (b ∷ c) (omega arith)) (take_all (length a) a (omega arith))
+      rw (index_cut a b c none e, take-append-le (length a) a (b ∷ c) (omega arith)) (take_all (length a) a (omega arith))
 
   pub after_cut : (a : List ℕ) (b : ℕ) (c : List ℕ) → All (λ x. p x ≡ false) a → p b ≡ true → after_first p (a ++ b ∷ c) ≡ c
   after_cut a b c none e =
       let one : length a + 1 ≡ suc (length a) = omega arith in
-      rw (place_cut a b c none e, one) (drop_cut a b c)
+      rw (index_cut a b c none e, one) (drop_cut a b c)
 
   pub before_none : (a : List ℕ) → All (λ x. p x ≡ false) a → before_first p a ≡ a
-  before_none a none = rw (place_none a none) (take_all (length a) a (omega arith))
+  before_none a none = rw (index_none a none) (take_all (length a) a (omega arith))
 
   pub any_cut : (a : List ℕ) (b : ℕ) (c : List ℕ) → p b ≡ true → list_any p (a ++ b ∷ c) ≡ true
   any_cut [] b c e = rw e refl

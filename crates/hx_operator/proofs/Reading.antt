@@ -8,7 +8,7 @@ use Rattle.hx_text.specs.Cuts.{Lacks}
 use Rattle.hx_operator.specs.declared.entry.Entry.{Entry}
 use Rattle.hx_operator.specs.declared.entry.Wrong.{Wrong}
 use Rattle.hx_operator.specs.Marks.{is_line_feed, lines_of}
-use Rattle.hx_operator.specs.Schedules.{entry_of, fault_behind, fault_after, fault_of, are_in_order, said, entries_of, AreOfSchedule, IsFirstFault}
+use Rattle.hx_operator.specs.Schedules.{entry_of, fault_later, fault_after, fault_of, are_in_order, said, entries_of, AreOfSchedule, IsFirstFault}
 use Rattle.hx_operator.proofs.Cuts.{none_passes}
 
 -- ---- lists that grow at their end
@@ -27,7 +27,7 @@ order_snoc : (es : List Entry) (e : Entry) → are_in_order es ≡ true → faul
 order_snoc [] e ordered none = refl
 order_snoc (x ∷ []) e ordered none = rw none refl
 order_snoc (x ∷ y ∷ more) e ordered none =
-    let t = and_parts (is_none (fault_behind x y)) (are_in_order (y ∷ more)) ordered in
+    let t = and_parts (is_none (fault_later x y)) (are_in_order (y ∷ more)) ordered in
     rw (t.0, order_snoc (y ∷ more) e t.1 none) refl
 
 -- ---- one line more
@@ -55,23 +55,13 @@ line_cut line others lacks = slice_split_at is_line_feed line 10 others (none_pa
 pub line_last : (line : List ℕ) → Lacks 10 line → lines_of line ≡ line ∷ []
 line_last line lacks = slice_split_none is_line_feed line (none_passes 10 line lacks)
 
--- this many lines of the text are read, and the rest is not
+-- the lines in front of line `number` of the text are read, and the rest is not
 pub record ReadsOn (text rest : List ℕ) (number : ℕ) (es : List Entry) : Type 0 where
   pub before : List (List ℕ)
   pub lines : lines_of text ≡ before ++ lines_of rest
   pub number_is : number ≡ length before + 1
   pub few : length before + length rest ≤ length text
   pub of_schedule : AreOfSchedule before es
-
-pub begins : (text : List ℕ) → ReadsOn text text 1 []
-begins text =
-    record {
-      before = [];
-      lines = refl;
-      number_is = refl;
-      few = omega arith;
-      of_schedule = record { readable = refl; entries_are = refl; in_order = refl };
-    }
 
 length_snoc : {A : Type 0} (xs : List A) (x : A) → length (xs ++ x ∷ []) ≡ suc (length xs)
 length_snoc [] x = refl
@@ -97,12 +87,12 @@ ends text rest number es h lacks none =
     let lines : lines_of text ≡ h.before ++ rest ∷ [] = h.lines ∙ ap (λ ls. h.before ++ ls) (line_last rest lacks) in
     rw lines (line_more h.before rest es (entry_of rest) refl none h.of_schedule)
 
-pub fails : (text rest line : List ℕ) (behind : List (List ℕ)) (number : ℕ) (es : List Entry) (w : Wrong) → ReadsOn text rest number es → lines_of rest ≡ line ∷ behind → fault_of es (entry_of line) ≡ Some w → IsFirstFault (lines_of text) number w
-fails text rest line behind number es w h is fault =
+pub fails : (text rest line : List ℕ) (after : List (List ℕ)) (number : ℕ) (es : List Entry) (w : Wrong) → ReadsOn text rest number es → lines_of rest ≡ line ∷ after → fault_of es (entry_of line) ≡ Some w → IsFirstFault (lines_of text) number w
+fails text rest line after number es w h is fault =
     record {
       before = h.before;
       bad = line;
-      behind = behind;
+      after = after;
       lines_are = h.lines ∙ ap (λ ls. h.before ++ ls) is;
       number_is = h.number_is;
       entries = es;
@@ -112,10 +102,10 @@ fails text rest line behind number es w h is fault =
 
 -- ---- the last entry
 
--- what is wrong with an entry behind the one that may be there
+-- what is wrong with an entry after the one that may be there
 abbrev pub fault_last : Option Entry → Entry → Option Wrong
 fault_last None e = None
-fault_last (Some x) e = fault_behind x e
+fault_last (Some x) e = fault_later x e
 
 pub last_decides : (es : List Entry) (e : Entry) → fault_after es e ≡ fault_last (slice_get es (length es - 1)) e
 last_decides [] e = refl
@@ -124,7 +114,7 @@ last_decides (x ∷ y ∷ more) e =
     let one : length (x ∷ y ∷ more) - 1 ≡ suc (length (y ∷ more) - 1) = omega arith in
     rw one (last_decides (y ∷ more) e)
 
--- ---- what an answer says where there is none
+-- ---- what an answer says if there is none
 
 pub where_none : {A : Type 0} (r : Option A) (P : Type 0) → r ≡ None → IfNone r P → P
 where_none None P is h = h

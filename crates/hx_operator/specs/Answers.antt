@@ -26,7 +26,7 @@ pub record AreAnswer (bytes : List ℕ) (is_ok : Bool) (text : List ℕ) : Type 
   pub lines : List ℕ
   pub whole : text ≡ lines ++ line_feed ∷ []
 
--- a text as an answer goes out: its last line ended, and an empty line behind it
+-- a text as an answer goes out: its last line ended, and an empty line after it
 abbrev pub ended : List ℕ → List ℕ
 ended text =
     (if ends_with nat_eq text (line_feed ∷ []) then text else text ++ line_feed ∷ [])

@@ -7,11 +7,11 @@ use Rattle.hx_rules.specs.Letters.{start_of_messages, start_of_system_hours, sta
 use Rattle.hx_operator.specs.declared.command.Command.{Command}
 use Rattle.hx_operator.specs.declared.command.Command.TheVariants.{Start, Open, Close, End, Code, Halt, Resume, Break, Tick, Status, Disconnect, Allow, Refuse, Help}
 
--- no reason is told
+-- no reason is given
 abbrev pub no_reason : List ℕ
 no_reason = replicate 4 space
 
--- what a command tells the market, in this order: it may be nothing
+-- the events of a command, in this order: there may be none
 abbrev pub events_of : Command → (time : ℕ) → List Event
 events_of Start time =
     event.Hours time start_of_messages ∷ event.Hours time start_of_system_hours ∷ []

@@ -10,11 +10,11 @@ use Rattle.hx_units.specs.declared.names.Symbol.{Symbol}
 use Rattle.hx_members.specs.Setups.{is_visible, is_capital_or_digit}
 use Rattle.hx_rules.specs.Hours.{hours_codes}
 
--- a text of this many characters at most, filled with spaces on its right
+-- a text of at most `size` characters, filled with spaces on its right
 abbrev pub filled : (size : ℕ) → List ℕ → List ℕ
 filled size text = text ++ replicate (size - length text) space
 
--- a text of 1 to this many characters
+-- a text of 1 to `most` characters
 abbrev pub is_short : (most : ℕ) → List ℕ → Bool
 is_short most text = nat_lt 0 (length text) && nat_le (length text) most
 

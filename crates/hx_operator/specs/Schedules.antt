@@ -36,29 +36,29 @@ entry_of line = entry_of_words (words_of (before_first is_hash line))
 
 -- ---- The order of the day
 
--- the place of a code among O, S, Q, M, E and C
-abbrev pub place_of : (code : ℕ) → ℕ
-place_of code = position_or_len (λ c. c == code) hours_codes
+-- the index of a code among O, S, Q, M, E and C
+abbrev pub index_of : (code : ℕ) → ℕ
+index_of code = position_or_len (λ c. c == code) hours_codes
 
--- what is wrong with an entry behind another one
-abbrev pub fault_behind : Entry → Entry → Option Wrong
-fault_behind last next =
-    if nat_le (place_of next.code) (place_of last.code) then Some wrong.OutOfOrder
+-- what is wrong with an entry after another one
+abbrev pub fault_later : Entry → Entry → Option Wrong
+fault_later last next =
+    if nat_le (index_of next.code) (index_of last.code) then Some wrong.OutOfOrder
     else if nat_lt next.time last.time then Some wrong.Early
     else None
 
--- what is wrong with an entry behind these: the last of them decides
+-- what is wrong with an entry after these: the last of them decides
 abbrev pub fault_after : List Entry → Entry → Option Wrong
 fault_after [] next = None
-fault_after (last ∷ []) next = fault_behind last next
+fault_after (last ∷ []) next = fault_later last next
 fault_after (entry ∷ other ∷ more) next = fault_after (other ∷ more) next
 
--- each entry may stand behind the one before it
+-- each entry may stand after the one before it
 abbrev pub are_in_order : List Entry → Bool
 are_in_order [] = true
 are_in_order (entry ∷ []) = true
 are_in_order (entry ∷ other ∷ more) =
-    is_none (fault_behind entry other) && are_in_order (other ∷ more)
+    is_none (fault_later entry other) && are_in_order (other ∷ more)
 
 -- ---- A text
 
@@ -77,7 +77,7 @@ pub record AreOfSchedule (lines : List (List ℕ)) (entries : List Entry) : Type
   pub entries_are : entries ≡ entries_of lines
   pub in_order : are_in_order entries ≡ true
 
--- what is wrong with a line behind those that say these entries
+-- what is wrong with a line after those that say these entries
 abbrev pub fault_of : List Entry → Result (Option Entry) Wrong → Option Wrong
 fault_of entries (Err e) = Some e
 fault_of entries (Ok None) = None
@@ -87,8 +87,8 @@ fault_of entries (Ok (Some next)) = fault_after entries next
 pub record IsFirstFault (lines : List (List ℕ)) (number : ℕ) (fault : Wrong) : Type 0 where
   pub before : List (List ℕ)
   pub bad : List ℕ
-  pub behind : List (List ℕ)
-  pub lines_are : lines ≡ before ++ bad ∷ behind
+  pub after : List (List ℕ)
+  pub lines_are : lines ≡ before ++ bad ∷ after
   pub number_is : number ≡ length before + 1
   pub entries : List Entry
   pub of_schedule : AreOfSchedule before entries
@@ -112,8 +112,8 @@ left_of now [] = []
 left_of now (entry ∷ entries) =
     if nat_le entry.time now then entries else entry ∷ entries
 
--- what is left of a schedule where the first codes of the day, this many, are past
-abbrev pub behind_past : (past : ℕ) → List Entry → List Entry
-behind_past past [] = []
-behind_past past (entry ∷ entries) =
-    if nat_lt (place_of entry.code) past then behind_past past entries else entry ∷ entries
+-- what is left of a schedule if the first `past` codes of the day are past
+abbrev pub after_past : (past : ℕ) → List Entry → List Entry
+after_past past [] = []
+after_past past (entry ∷ entries) =
+    if nat_lt (index_of entry.code) past then after_past past entries else entry ∷ entries

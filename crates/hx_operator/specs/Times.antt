@@ -6,19 +6,19 @@ use Rattle.hx_units.specs.Letters.{letter}
 use Rattle.hx_operator.specs.declared.entry.Wrong.{Wrong}
 use Rattle.hx_operator.specs.declared.entry.Wrong.TheVariants as wrong
 
--- the number that the two digits at a place write
-abbrev pub number_at : List ℕ → (place : ℕ) → ℕ
-number_at text place =
-    10 * (slice_index text place - letter "0") + (slice_index text (place + 1) - letter "0")
+-- the number that the two digits at an index write
+abbrev pub number_at : List ℕ → (index : ℕ) → ℕ
+number_at text index =
+    10 * (slice_index text index - letter "0") + (slice_index text (index + 1) - letter "0")
 
--- two digits stand at the place, and their number is below a bound
-abbrev pub is_number_at : (bound : ℕ) → List ℕ → (place : ℕ) → Bool
-is_number_at bound text place =
-    is_ascii_digit (slice_index text place) && is_ascii_digit (slice_index text (place + 1))
-    && nat_lt (number_at text place) bound
+-- two digits stand at the index, and their number is below a bound
+abbrev pub is_number_at : (bound : ℕ) → List ℕ → (index : ℕ) → Bool
+is_number_at bound text index =
+    is_ascii_digit (slice_index text index) && is_ascii_digit (slice_index text (index + 1))
+    && nat_lt (number_at text index) bound
 
-abbrev pub is_colon_at : List ℕ → (place : ℕ) → Bool
-is_colon_at text place = slice_index text place == letter ":"
+abbrev pub is_colon_at : List ℕ → (index : ℕ) → Bool
+is_colon_at text index = slice_index text index == letter ":"
 
 -- HH:MM:SS stands in front
 abbrev pub begins_with_clock : List ℕ → Bool
@@ -34,7 +34,7 @@ clock_seconds text = 3600 * number_at text 0 + 60 * number_at text 3 + number_at
 abbrev pub is_utc : List ℕ → Bool
 is_utc text = (length text == 8) || ((length text == 9) && (slice_index text 8 == letter "Z"))
 
--- +HH:MM or -HH:MM follows: the clock is ahead of UTC, or behind it
+-- +HH:MM or -HH:MM follows: the clock is ahead of UTC, or lags it
 abbrev pub has_offset : List ℕ → Bool
 has_offset text =
     (length text == 14) && (slice_index text 8 == letter "+" || slice_index text 8 == letter "-")
@@ -46,7 +46,7 @@ offset_seconds text = 3600 * number_at text 9 + 60 * number_at text 12
 abbrev pub day_seconds : ℕ
 day_seconds = 86400
 
--- the seconds since midnight in UTC, where that is of the same day
+-- the seconds since midnight in UTC, if that is of the same day
 abbrev pub shifted : (is_ahead : Bool) → (offset seconds : ℕ) → Result ℕ Wrong
 shifted is_ahead offset seconds =
     if is_ahead

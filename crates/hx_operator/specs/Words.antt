@@ -1,4 +1,5 @@
--- What an operator says: a command in words, and behind a halt a text in double quotes for his log.
+-- What an operator says: a command in words, and after a halt a text in double quotes for the
+-- operator's log.
 use Rattle.std.specs.Prelude.{ℕ, Bool, false, not, bytes_eq, codes, if◌then◌else◌, List, [], ◌∷◌, Option, Some, None, Result, Ok, Err}
 use Rattle.std.specs.List.{before_first, after_first}
 use Rattle.std.specs.Option.{option_map_or}
@@ -113,8 +114,8 @@ abbrev pub begins_with_halt : List (List ℕ) → Bool
 begins_with_halt [] = false
 begins_with_halt (word ∷ more) = bytes_eq word (codes "halt")
 
--- a command with a text in quotes behind it: these words stand in front of the first quote, and the
--- rest behind it
+-- a command with a text in quotes after it: these words stand in front of the first quote, and the
+-- rest after it
 abbrev pub with_note : List (List ℕ) → (rest : List ℕ) → Result Command WordError
 with_note words rest =
     if not (has_quote rest) then Err wrong.OpenQuote

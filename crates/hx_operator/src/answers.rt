@@ -15,7 +15,7 @@ pub struct Answer<'a> {
     pub text: &'a [u8],
 }
 
-/// Ends an answer: its last line, where it has no line feed yet, and an empty line. It takes memory.
+/// Ends an answer: its last line, if it has no line feed yet, and an empty line. It takes memory.
 pub fn end_answer(answer: &mut Vec<u8>) -> Result<(), AllocError>
     ensures { OnOk result (answer.new.items ≡ ended answer.old.items) }
 {
@@ -49,7 +49,7 @@ fn before_line_feed(text: &[u8]) -> Option<&[u8]>
     }
 }
 
-/// The answer of these bytes, where they are one from its first line to its end.
+/// The answer of these bytes, if they are one from its first line to its end.
 pub fn read_answer(bytes: &[u8]) -> Option<Answer<'_>>
     ensures some { IfSome result (λ answer. AreAnswer bytes.now answer.is_ok answer.text.now) }
     ensures none { IfNone result

@@ -1,7 +1,7 @@
 //! The client that says the operator's words to a server.
 
 use crate::answers::read_answer;
-use crate::visitor::LONGEST;
+use crate::peer::LONGEST;
 use std::alloc::{AllocError, Global};
 use std::io;
 use std::io::{ErrorKind, Read, Write};
@@ -84,8 +84,8 @@ impl From<io::Error> for OperateError {
     }
 }
 
-// Appends a word. One behind the first that has a space and no quotes is put in quotes: a shell has
-// taken them off.
+// Appends a word. A word after the first that has a space and no quotes is put in quotes: a shell
+// has taken them off.
 fn write_word(line: &mut Vec<u8>, word: &[u8]) -> Result<(), AllocError> {
     let is_first = line.is_empty();
     if !is_first {

@@ -19,7 +19,7 @@ pub enum Command {
     Halt {
         /// The stock.
         stock: Symbol,
-        /// Why, as the feed tells it.
+        /// The reason that the feed gives.
         reason: [u8; 4],
     },
     /// A stock trades again.

@@ -1,6 +1,6 @@
 //! The lines of a schedule.
 ghost use Rattle.std.specs.Prelude.{◌≡◌};
-ghost use Rattle.hx_operator.specs.Schedules.{entry_of, place_of, fault_behind};
+ghost use Rattle.hx_operator.specs.Schedules.{entry_of, index_of, fault_later};
 
 use crate::marks::{before_comment, has_word, next_word};
 use crate::names::code_of;
@@ -37,7 +37,7 @@ pub enum Wrong {
     /// More follows the code.
     #[error("too many words")]
     TooMany,
-    /// The code is not behind that of the line before: O, S, Q, M, E, C.
+    /// The code is not after that of the line before: O, S, Q, M, E, C.
     #[error("out of the order O, S, Q, M, E, C")]
     OutOfOrder,
     /// The time is before that of the line before.
@@ -65,9 +65,9 @@ pub(crate) fn entry_of(line: &[u8]) -> Result<Option<Entry>, Wrong>
     Ok(Some(Entry { time, code }))
 }
 
-/// The place of a code in the order of the day: 0 to 5, and 6 of no code.
-pub(crate) fn place_of(code: u8) -> u8
-    ensures { result ≡ place_of code }
+/// The index of a code in the order of the day: 0 to 5, and 6 of no code.
+pub(crate) fn index_of(code: u8) -> u8
+    ensures { result ≡ index_of code }
 {
     match code {
         b'O' => 0,
@@ -80,11 +80,11 @@ pub(crate) fn place_of(code: u8) -> u8
     }
 }
 
-/// What is wrong with an entry behind another one.
-pub(crate) fn fault_behind(last: Entry, next: Entry) -> Option<Wrong>
-    ensures { result ≡ fault_behind last next }
+/// What is wrong with an entry after another one.
+pub(crate) fn fault_later(last: Entry, next: Entry) -> Option<Wrong>
+    ensures { result ≡ fault_later last next }
 {
-    if place_of(next.code) <= place_of(last.code) {
+    if index_of(next.code) <= index_of(last.code) {
         return Some(Wrong::OutOfOrder);
     }
     if next.time < last.time {

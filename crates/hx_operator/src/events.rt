@@ -25,7 +25,7 @@ fn one(alloc: Global, event: Event) -> Result<Vec<Event>, AllocError>
 }
 
 // A code of the hours.
-fn hours(alloc: Global, time: u64, code: u8) -> Result<Vec<Event>, AllocError>
+fn phase(alloc: Global, time: u64, code: u8) -> Result<Vec<Event>, AllocError>
     ensures { IfOk result (λ events. events.items ≡ event.Hours time code ∷ []) }
 {
     one(alloc, Event::Hours { time, code })
@@ -36,7 +36,7 @@ fn both(alloc: Global, time: u64, first: u8, second: u8) -> Result<Vec<Event>, A
     ensures { IfOk result (λ events.
         events.items ≡ event.Hours time first ∷ event.Hours time second ∷ []) }
 {
-    let mut events = hours(alloc, time, first)?;
+    let mut events = phase(alloc, time, first)?;
     events.push(Event::Hours { time, code: second })?;
     Ok(events)
 }
@@ -62,17 +62,17 @@ fn halt(
     )
 }
 
-/// What a command tells the market, at this time, in nanoseconds since midnight: no event, one, or
-/// two in their order. It takes memory.
+/// The events of a command for the market, at this time, in nanoseconds since midnight: no event,
+/// one, or two in their order. It takes memory.
 pub fn events_of(alloc: Global, command: Command, time: u64) -> Result<Vec<Event>, AllocError>
     ensures { IfOk result (λ events. events.items ≡ events_of command time) }
 {
     match command {
         Command::Start => both(alloc, time, b'O', b'S'),
-        Command::Open => hours(alloc, time, b'Q'),
-        Command::Close => hours(alloc, time, b'M'),
+        Command::Open => phase(alloc, time, b'Q'),
+        Command::Close => phase(alloc, time, b'M'),
         Command::End => both(alloc, time, b'E', b'C'),
-        Command::Code(code) => hours(alloc, time, code),
+        Command::Code(code) => phase(alloc, time, code),
         Command::Halt { stock, reason } => halt(alloc, time, stock, HALTED, reason),
         Command::Resume { stock } => halt(alloc, time, stock, TRADING, NO_REASON),
         Command::Break { number } => one(alloc, Event::Break { time, number }),

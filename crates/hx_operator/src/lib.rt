@@ -1,5 +1,5 @@
-//! The operator of a served day: what he says in words, what a schedule says for him, the socket by
-//! which a server hears him, and the client that speaks to it.
+//! The operator of a served day: an operator's words, a schedule that speaks for the operator, the
+//! socket on which a server reads the words, and its client.
 #![tactic(auto)]
 
 mod answers;
@@ -10,10 +10,10 @@ mod events;
 mod fault;
 mod marks;
 mod names;
+mod peer;
 mod schedule;
 mod socket;
 mod times;
-mod visitor;
 mod words;
 
 pub use answers::{Answer, end_answer, read_answer};
@@ -22,7 +22,7 @@ pub use command::{Command, HELP};
 pub use entry::{Entry, Wrong};
 pub use events::events_of;
 pub use fault::WordError;
+pub use peer::{Directed, LONGEST};
 pub use schedule::{Schedule, ScheduleError, read_schedule};
 pub use socket::{OperatorSocket, SocketError};
-pub use visitor::{Directed, LONGEST};
 pub use words::{note_of, read_command};

@@ -5,7 +5,7 @@ ghost use Rattle.hx_operator.specs.Marks.{is_quote, is_hash, has_quote, has_word
 
 use hx_text::split_once;
 
-/// The first word of a text, and the text behind it.
+/// The first word of a text, and the text after it.
 pub(crate) fn next_word(text: &[u8]) -> Option<(&[u8], &[u8])>
     ensures some { IfSome result (λ p. words_of text.now ≡ p.0.now ∷ words_of p.1.now) }
     ensures none { IfNone result (words_of text.now ≡ []) }
@@ -30,7 +30,7 @@ pub(crate) fn has_word(text: &[u8]) -> bool
     next_word(text).is_some()
 }
 
-/// What stands in front of the first double quote, and behind it.
+/// What stands in front of the first double quote, and after it.
 pub(crate) fn split_at_quote(text: &[u8]) -> Option<(&[u8], &[u8])>
     ensures some { IfSome result (λ p. (has_quote text.now ≡ true)
         × (p.0.now ≡ before_first is_quote text.now)

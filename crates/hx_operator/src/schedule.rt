@@ -2,9 +2,9 @@
 ghost use Rattle.std.specs.Prelude.{◌≡◌, ◌++◌, List, IfOk, IfErr, IfNone, OnSome, Some};
 ghost use Rattle.hx_operator.specs.declared.schedule.ScheduleError.TheVariants.{NoMemory as OutOfMemory};
 ghost use Rattle.hx_operator.specs.Marks.{lines_of};
-ghost use Rattle.hx_operator.specs.Schedules.{entry_of, said, fault_after, fault_of, due_of, left_of, behind_past, AreOfSchedule, IsFault};
+ghost use Rattle.hx_operator.specs.Schedules.{entry_of, said, fault_after, fault_of, due_of, left_of, after_past, AreOfSchedule, IsFault};
 
-use crate::entry::{Entry, Wrong, entry_of, fault_behind, place_of};
+use crate::entry::{Entry, Wrong, entry_of, fault_later, index_of};
 use hx_text::split_once;
 use std::alloc::{AllocError, Global};
 use std::marker::Model;
@@ -65,10 +65,10 @@ impl Schedule {
 
     /// Passes over the first n codes of the day, of O, S, Q, M, E and C: they are past.
     pub fn skip(&mut self, past: u8)
-        ensures { self.new ≡ behind_past past self.old }
+        ensures { self.new ≡ after_past past self.old }
     {
         while let Some(first) = self.left.first()
-            && place_of(first.code) < past
+            && index_of(first.code) < past
         {
             self.left.remove(0);
         }
@@ -82,12 +82,12 @@ impl Schedule {
     }
 }
 
-// What is wrong with an entry behind these.
+// What is wrong with an entry after these.
 fn fault_after(entries: &[Entry], next: Entry) -> Option<Wrong>
     ensures { result ≡ fault_after entries.now next }
 {
     let last = *entries.last()?;
-    fault_behind(last, next)
+    fault_later(last, next)
 }
 
 // Takes what a line says, or answers what is wrong with it.
@@ -95,7 +95,7 @@ fn take_line(entries: &mut Vec<Entry>, line: &[u8]) -> Result<Option<Wrong>, All
     ensures fault { IfOk result (λ wrong. wrong ≡ fault_of entries.old.items (entry_of line.now)) }
     ensures taken { IfOk result (λ wrong. IfNone wrong
         (entries.new.items ≡ entries.old.items ++ said (entry_of line.now))) }
-    ensures kept { IfOk result (λ wrong. OnSome wrong (entries.new.items ≡ entries.old.items)) }
+    ensures retained { IfOk result (λ wrong. OnSome wrong (entries.new.items ≡ entries.old.items)) }
 {
     let entry = match entry_of(line) {
         Ok(Some(entry)) => entry,

@@ -1,6 +1,6 @@
 //! The socket by which a server hears its operator.
 
-use crate::visitor::{Directed, Visitor};
+use crate::peer::{Directed, Peer};
 use std::alloc::{AllocError, Global};
 use std::io::ErrorKind;
 use std::net::Net;
@@ -12,10 +12,10 @@ use std::time::{Clock, Instant};
 use std::{fs, io};
 use thiserror::Error;
 
-// This many are heard at once. Who comes while there are as many waits.
+// The number of connections that are read at once; all later ones wait.
 const ROOM: usize = 8;
 
-// This many connections may wait.
+// The number of connections that may wait.
 const BACKLOG: i32 = 64;
 
 // Its owner may read and write: who may write to a socket's file may connect.
@@ -70,7 +70,7 @@ pub struct OperatorSocket {
     listener: UnixListener,
     path: String,
     file: FileId,
-    visitors: Vec<Visitor>,
+    peers: Vec<Peer>,
 }
 
 // Removes the file of a socket that nobody listens on.
@@ -124,7 +124,7 @@ fn settle<R: Files>(
     Ok((listener, file))
 }
 
-// Makes the file, and listens. Where that fails the file is removed again.
+// Makes the file, and listens. If that fails the file is removed again.
 fn bind<R: Net + Files>(
     rt: &R,
     path: &str,
@@ -148,7 +148,7 @@ impl OperatorSocket {
         rt: &R,
         path: &str,
     ) -> Result<OperatorSocket, SocketError> {
-        let visitors = Vec::with_capacity(rt.alloc(), ROOM)?;
+        let peers = Vec::with_capacity(rt.alloc(), ROOM)?;
         let name = String::from_str(rt.alloc(), path)?;
         let Ok(address) = SocketAddr::from_pathname(path) else {
             return Err(SocketError::Path);
@@ -159,14 +159,14 @@ impl OperatorSocket {
             listener,
             path: name,
             file,
-            visitors,
+            peers,
         })
     }
 
-    // Takes those who have come, as far as there is room.
+    // Accepts the connections that have come, as far as there is room.
     fn welcome<R: Clock>(&mut self, rt: &R, alloc: Global) {
         for _ in 0..ROOM {
-            if self.visitors.len() >= ROOM {
+            if self.peers.len() >= ROOM {
                 return;
             }
             let Ok((stream, _)) = self.listener.accept() else {
@@ -176,32 +176,32 @@ impl OperatorSocket {
                 return;
             };
             if stream.set_nonblocking(true).is_ok() {
-                let _ = self.visitors.push(Visitor::new(alloc, stream, came));
+                let _ = self.peers.push(Peer::new(alloc, stream, came));
             }
         }
     }
 
-    /// Takes those who have come, reads what is there, has each whole line carried out, and writes
-    /// the answers. It waits for nobody: call it some times a second.
+    /// Accepts the connections that have come, reads what is there, has each whole line carried out, and
+    /// writes the answers. It waits for no connection: call it some times a second.
     ///
     /// Each connection has one line, of at most `LONGEST` bytes, and five seconds. At most eight are
     /// open at once, and the others wait.
     pub fn turn<R: Clock, D: Directed>(&mut self, rt: &R, alloc: Global, directed: &mut D) {
         self.welcome(rt, alloc);
-        let mut place = 0;
+        let mut index = 0;
         for _ in 0..ROOM {
-            let Some(visitor) = self.visitors.get_mut(place) else {
+            let Some(peer) = self.peers.get_mut(index) else {
                 return;
             };
-            if visitor.attend(rt, directed) {
-                place += 1;
+            if peer.attend(rt, directed) {
+                index += 1;
             } else {
-                self.visitors.remove(place);
+                self.peers.remove(index);
             }
         }
     }
 
-    /// Ends: the file is removed, where it is still this socket's, and the connections are closed.
+    /// Ends: the file is removed, if it is still this socket's, and the connections are closed.
     pub fn close<R: Files>(self, rt: &R) {
         if file_id(rt, self.path.as_str()).is_ok_and(|file| file == self.file) {
             let _ = fs::remove_file(rt, self.path.as_str());

@@ -8,13 +8,13 @@ use crate::entry::Wrong;
 const DAY: u64 = 86_400;
 
 // A number below a bound, in two digits.
-fn number_at(text: &[u8], place: usize, bound: u64) -> Option<u64>
-    requires { place + 1 < length text.now }
-    ensures { MatchOption result (is_number_at bound text.now place ≡ false)
-        (λ n. (is_number_at bound text.now place ≡ true)
-        × (n ≡ number_at text.now place) × (n < bound)) }
+fn number_at(text: &[u8], index: usize, bound: u64) -> Option<u64>
+    requires { index + 1 < length text.now }
+    ensures { MatchOption result (is_number_at bound text.now index ≡ false)
+        (λ n. (is_number_at bound text.now index ≡ true)
+        × (n ≡ number_at text.now index) × (n < bound)) }
 {
-    let (tens, ones) = (text[place], text[place + 1]);
+    let (tens, ones) = (text[index], text[index + 1]);
     if !tens.is_ascii_digit() || !ones.is_ascii_digit() {
         return None;
     }
@@ -31,13 +31,13 @@ fn clock_of(text: &[u8]) -> Option<u64>
     if text.len() < 8 || text[2] != b':' || text[5] != b':' {
         return None;
     }
-    let hours = number_at(text, 0, 24)?;
+    let phase = number_at(text, 0, 24)?;
     let minutes = number_at(text, 3, 60)?;
     let seconds = number_at(text, 6, 60)?;
-    Some(3600 * hours + 60 * minutes + seconds)
+    Some(3600 * phase + 60 * minutes + seconds)
 }
 
-// The seconds of +HH:MM or -HH:MM behind it.
+// The seconds of +HH:MM or -HH:MM after it.
 fn offset_of(text: &[u8]) -> Option<u64>
     ensures { MatchOption result (has_offset text.now ≡ false)
         (λ n. (has_offset text.now ≡ true)
@@ -46,12 +46,12 @@ fn offset_of(text: &[u8]) -> Option<u64>
     if text.len() != 14 || (text[8] != b'+' && text[8] != b'-') || text[11] != b':' {
         return None;
     }
-    let hours = number_at(text, 9, 24)?;
+    let phase = number_at(text, 9, 24)?;
     let minutes = number_at(text, 12, 60)?;
-    Some(3600 * hours + 60 * minutes)
+    Some(3600 * phase + 60 * minutes)
 }
 
-// The time in UTC of a clock that is ahead of it, or behind it.
+// The time in UTC of a clock that is ahead of it, or lags it.
 fn shifted(is_ahead: bool, offset: u64, seconds: u64) -> Result<u64, Wrong>
     requires offset { offset < 86400 }
     requires seconds { seconds < 86400 }

@@ -145,7 +145,7 @@ fn halt_of(text: &[u8]) -> Result<Command, WordError>
     Ok(Command::Halt { stock, reason })
 }
 
-// The command of a text, behind its first word.
+// The command of a text, after its first word.
 fn with_more(kind: Kind, text: &[u8]) -> Result<Command, WordError>
     ensures { result ≡ with_more kind (words_of text.now) }
 {
@@ -183,14 +183,14 @@ fn command_of_words(text: &[u8]) -> Result<Command, WordError>
     }
 }
 
-// The command in front of a quote, behind which the rest stands.
+// The command in front of a quote, after which the rest stands.
 fn with_note(front: &[u8], rest: &[u8]) -> Result<Command, WordError>
     ensures { result ≡ with_note (words_of front.now) rest.now }
 {
-    let Some((_note, behind)) = split_at_quote(rest) else {
+    let Some((_note, after)) = split_at_quote(rest) else {
         return Err(WordError::OpenQuote);
     };
-    if has_word(behind) {
+    if has_word(after) {
         return Err(WordError::TooMany);
     }
     match next_word(front) {
@@ -199,8 +199,8 @@ fn with_note(front: &[u8], rest: &[u8]) -> Result<Command, WordError>
     }
 }
 
-/// The command that a text says: its words are parted by one or more spaces, and behind a halt a text
-/// in double quotes may follow, for the operator's log.
+/// The command that a text says: its words are parted by one or more spaces, and after a halt a text in double quotes
+/// may follow, for the operator's log.
 ///
 /// Errors: what is wrong with it, the first thing from the left in most cases.
 pub fn read_command(text: &[u8]) -> Result<Command, WordError>
@@ -218,6 +218,6 @@ pub fn note_of(text: &[u8]) -> Option<&[u8]>
     ensures none { IfNone result (note_of text.now ≡ None) }
 {
     let (_front, rest) = split_at_quote(text)?;
-    let (note, _behind) = split_at_quote(rest)?;
+    let (note, _after) = split_at_quote(rest)?;
     Some(note)
 }

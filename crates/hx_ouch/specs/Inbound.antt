@@ -14,7 +14,7 @@ use Rattle.hx_ouch.specs.declared.inbound.Inbound.TheVariants as variant
 abbrev pub is_enter : List ℕ → Bool
 is_enter bytes = is_message 49 enter_order bytes
 
--- what its bytes say: each field at its place
+-- what its bytes say: each field at its offset
 abbrev pub enter_of : List ℕ → Enter
 enter_of bytes = record {
   token = record { 0 = text_at 1 14 bytes };
@@ -55,7 +55,7 @@ pub record IsEnter (m : Enter) : Type 0 where
 abbrev pub is_replace : List ℕ → Bool
 is_replace bytes = is_message 47 replace_order bytes
 
--- what its bytes say: each field at its place
+-- what its bytes say: each field at its offset
 abbrev pub replace_of : List ℕ → Replace
 replace_of bytes = record {
   existing_token = record { 0 = text_at 1 14 bytes };
@@ -89,7 +89,7 @@ pub record IsReplace (m : Replace) : Type 0 where
 abbrev pub is_cancel : List ℕ → Bool
 is_cancel bytes = is_message 19 cancel_order bytes
 
--- what its bytes say: each field at its place
+-- what its bytes say: each field at its offset
 abbrev pub cancel_of : List ℕ → Cancel
 cancel_of bytes = record {
   token = record { 0 = text_at 1 14 bytes };

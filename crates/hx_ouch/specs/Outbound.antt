@@ -18,7 +18,7 @@ use Rattle.hx_ouch.specs.declared.outbound.Outbound.TheVariants as variant
 abbrev pub is_system_event : List ℕ → Bool
 is_system_event bytes = is_message 10 system_event bytes
 
--- what its bytes say: each field at its place
+-- what its bytes say: each field at its offset
 abbrev pub system_event_of : List ℕ → SystemEvent
 system_event_of bytes = record {
   time = number_at 1 8 bytes;
@@ -39,7 +39,7 @@ pub record IsSystemEvent (m : SystemEvent) : Type 0 where
 abbrev pub is_accepted : List ℕ → Bool
 is_accepted bytes = is_message 66 accepted bytes
 
--- what its bytes say: each field at its place
+-- what its bytes say: each field at its offset
 abbrev pub accepted_of : List ℕ → Accepted
 accepted_of bytes = record {
   time = number_at 1 8 bytes;
@@ -87,7 +87,7 @@ pub record IsAccepted (m : Accepted) : Type 0 where
 abbrev pub is_replaced : List ℕ → Bool
 is_replaced bytes = is_message 80 replaced bytes
 
--- what its bytes say: each field at its place
+-- what its bytes say: each field at its offset
 abbrev pub replaced_of : List ℕ → Replaced
 replaced_of bytes = record {
   time = number_at 1 8 bytes;
@@ -136,7 +136,7 @@ pub record IsReplaced (m : Replaced) : Type 0 where
 abbrev pub is_canceled : List ℕ → Bool
 is_canceled bytes = is_message 28 canceled bytes
 
--- what its bytes say: each field at its place
+-- what its bytes say: each field at its offset
 abbrev pub canceled_of : List ℕ → Canceled
 canceled_of bytes = record {
   time = number_at 1 8 bytes;
@@ -162,7 +162,7 @@ pub record IsCanceled (m : Canceled) : Type 0 where
 abbrev pub is_executed : List ℕ → Bool
 is_executed bytes = is_message 40 executed bytes
 
--- what its bytes say: each field at its place
+-- what its bytes say: each field at its offset
 abbrev pub executed_of : List ℕ → Executed
 executed_of bytes = record {
   time = number_at 1 8 bytes;
@@ -192,7 +192,7 @@ pub record IsExecuted (m : Executed) : Type 0 where
 abbrev pub is_rejected : List ℕ → Bool
 is_rejected bytes = is_message 24 rejected bytes
 
--- what its bytes say: each field at its place
+-- what its bytes say: each field at its offset
 abbrev pub rejected_of : List ℕ → Rejected
 rejected_of bytes = record {
   time = number_at 1 8 bytes;
@@ -215,7 +215,7 @@ pub record IsRejected (m : Rejected) : Type 0 where
 abbrev pub is_broken_trade : List ℕ → Bool
 is_broken_trade bytes = is_message 32 broken_trade bytes
 
--- what its bytes say: each field at its place
+-- what its bytes say: each field at its offset
 abbrev pub broken_trade_of : List ℕ → BrokenTrade
 broken_trade_of bytes = record {
   time = number_at 1 8 bytes;

@@ -86,9 +86,9 @@ pub enum Inbound {
     Cancel(Cancel),
 }
 
-/// The message that the bytes are, or none where their type and length are not those of one.
+/// The message that the bytes are, or none if their type and length are not those of one.
 pub fn decode_in(bytes: &[u8]) -> Option<Inbound>
-    // Which message it is, from the places of its fields; none exactly for another type or length.
+    // Which message it is, from the offsets of its fields; none exactly for another type or length.
     ensures exact { result ≡ inbound_of bytes.now }
     ensures readable { IsSome result ↔ IsTrue (is_inbound bytes.now) }
 

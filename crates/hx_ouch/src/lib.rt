@@ -1,4 +1,4 @@
-//! OUCH 4.2 messages as bytes: orders from a member, and the replies to him.
+//! OUCH 4.2 messages as bytes: orders from a member, and the replies to it.
 //!
 //! No byte of a field makes a message unreadable: what a field must be is for the market to say.
 //! Nothing here takes memory.

@@ -173,9 +173,9 @@ pub enum Outbound {
     BrokenTrade(BrokenTrade),
 }
 
-/// The reply that the bytes are, or none where their type and length are not those of one.
+/// The reply that the bytes are, or none if their type and length are not those of one.
 pub fn decode_out(bytes: &[u8]) -> Option<Outbound>
-    // Which message it is, from the places of its fields; none exactly for another type or length.
+    // Which message it is, from the offsets of its fields; none exactly for another type or length.
     ensures exact { result ≡ outbound_of bytes.now }
     ensures readable { IsSome result ↔ IsTrue (is_outbound bytes.now) }
 

@@ -20,16 +20,16 @@ length-filter-le : (p : Entry → Bool) (xs : List Entry) → length (filter p x
 length-filter-le p [] = omega arith
 length-filter-le p (x ∷ xs) = elim (p x) as (λ b. length (cond b (x ∷ filter p xs) (filter p xs)) ≤ length (x ∷ xs)) [ true ↦ omega (arith, length-filter-le p xs) | false ↦ omega (arith, length-filter-le p xs) ]
 
-pub rank-kept : (r least shares : ℕ) (e : Entry) → (with_least r least shares e).rank ≡ e.rank
-rank-kept r least shares e = elim (has_rank r e) as (λ b. (cond b (record e { least = least; shares = shares }) e).rank ≡ e.rank) [ true ↦ refl | false ↦ refl ]
+pub rank-retained : (r least shares : ℕ) (e : Entry) → (with_least r least shares e).rank ≡ e.rank
+rank-retained r least shares e = elim (has_rank r e) as (λ b. (cond b (record e { least = least; shares = shares }) e).rank ≡ e.rank) [ true ↦ refl | false ↦ refl ]
 
 every-renewed : (r least shares k : ℕ) (xs : List Entry) → Every (λ e. k < e.rank) xs → Every (λ e. k < e.rank) (renewed r least shares xs)
 every-renewed r least shares k [] a = tt
-every-renewed r least shares k (x ∷ xs) a = (subst (λ m. k < m) (sym (rank-kept r least shares x)) a.0, every-renewed r least shares k xs a.1)
+every-renewed r least shares k (x ∷ xs) a = (subst (λ m. k < m) (sym (rank-retained r least shares x)) a.0, every-renewed r least shares k xs a.1)
 
 rising-renewed : (r least shares : ℕ) (xs : List Entry) → IsRising xs → IsRising (renewed r least shares xs)
 rising-renewed r least shares [] a = tt
-rising-renewed r least shares (x ∷ xs) a = (subst (λ m. Every (λ e. m < e.rank) (renewed r least shares xs)) (sym (rank-kept r least shares x)) (every-renewed r least shares x.rank xs a.0), rising-renewed r least shares xs a.1)
+rising-renewed r least shares (x ∷ xs) a = (subst (λ m. Every (λ e. m < e.rank) (renewed r least shares xs)) (sym (rank-retained r least shares x)) (every-renewed r least shares x.rank xs a.0), rising-renewed r least shares xs a.1)
 
 module _ (bs : List (List Entry)) (are : AreBlocks bs) (i : ℕ) (b : List Entry) (within : i < length bs) (read : b ≡ get_or bs i b) where
   pub rising-block : IsRising b
@@ -108,7 +108,7 @@ module _ (bs : List (List Entry)) (are : AreBlocks bs) (i : ℕ) (b : List Entry
 pub remove-set : {X : Type 0} (xs : List X) (i : ℕ) (x : X) → remove (set xs i x) i ≡ remove xs i
 remove-set xs i x = rw (take-set xs i x, drop-set-lt (suc i) xs i x (omega arith)) refl
 
--- one entry less if there was one of the rank, else as many
+-- one entry less if there was one of the rank, else the same number
 pub length-without : (r : ℕ) (xs : List Entry) → IsRising xs → length (without r xs) + length (option_to_list (find (has_rank r) xs)) ≡ length xs
 length-without r [] a = refl
 length-without r (x ∷ xs) a = length-without-by r x xs a (length-without r xs a.1) (has_rank r x) refl

@@ -1,4 +1,5 @@
--- Blocks of which each two neighbours hold more than half a block's capacity: what keeps them so, and how many there are.
+-- Blocks of which each two neighbours hold more than half a block's capacity: what preserves that, and how many there
+-- are.
 use Rattle.std.proofs.Common.{◌≡◌, ℕ, suc, ◌+◌, ◌*◌, ◌<◌, ◌≤◌, List, [], ◌∷◌, ◌++◌, length, get_or, set, take, drop, ap, sym, subst, ◌∙◌, arith, add-one}
 use Rattle.std.proofs.lemmas.List.{set_split, drop_more, take_more, length-append, take-append-drop, take_all, length-drop, length-take-le, take_at, drop_at, take-set, drop-set-lt, drop-drop}
 use Rattle.std.specs.List.{remove}

@@ -1,4 +1,4 @@
--- On entries in blocks: where a rank stands among them, and what a change of a block leaves.
+-- Entries in blocks: the position of a rank among them, and what a change of a block leaves.
 use Rattle.std.proofs.Common.{◌≡◌, ℕ, suc, ◌+◌, ◌<◌, ◌≤◌, List, [], ◌∷◌, ◌++◌, length, get_or, set, take, drop, false, Some, None, refl, ap, sym, subst, ◌∙◌, arith, add-one, append_assoc, nat_le, ◌&&◌, Bool, true}
 use Rattle.std.specs.List.{insert, remove}
 use Rattle.std.proofs.lemmas.List.{append-nil, take-append-drop, drop_more, take_more, set_split}

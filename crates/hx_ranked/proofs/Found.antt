@@ -6,7 +6,7 @@ use Rattle.std.proofs.lemmas.Bool.Decides.{nat_tests}
 use Rattle.hx_ranked.specs.declared.entry.Entry.{Entry}
 use Rattle.hx_ranked.specs.Ranked.{Every, IsRising, IsFree, has_rank, is_within, first_within_of, inserted, without, with_least, renewed}
 use Rattle.hx_ranked.proofs.Lists.{none-here, none-every}
-use Rattle.hx_ranked.proofs.Changed.{rank-kept}
+use Rattle.hx_ranked.proofs.Changed.{rank-retained}
 
 -- after an insertion the entry is found under its rank, and the others as before
 pub find-inserted : (q : ℕ) (e : Entry) (xs : List Entry) → IsFree e.rank xs → find (has_rank q) (inserted e xs) ≡ cond (has_rank q e) (Some e) (find (has_rank q) xs)
@@ -42,7 +42,7 @@ find-without q r (x ∷ xs) = by (has_rank r x) refl (has_rank q x) refl (eqb q 
 pub find-renewed : (q r least shares : ℕ) (xs : List Entry) → find (has_rank q) (renewed r least shares xs) ≡ option_map (with_least r least shares) (find (has_rank q) xs)
 find-renewed q r least shares [] = refl
 find-renewed q r least shares (x ∷ xs) =
-    rw (rank-kept r least shares x) (by (has_rank q x) (find-renewed q r least shares xs))
+    rw (rank-retained r least shares x) (by (has_rank q x) (find-renewed q r least shares xs))
   where
     by : (b : Bool) → find (has_rank q) (renewed r least shares xs) ≡ option_map (with_least r least shares) (find (has_rank q) xs) → cond b (Some (with_least r least shares x)) (find (has_rank q) (renewed r least shares xs)) ≡ option_map (with_least r least shares) (cond b (Some x) (find (has_rank q) xs))
     by true rest = refl

@@ -53,7 +53,7 @@ pub none-every : {X : Type 0} (p : X → Bool) (xs : List X) → find p xs ≡ N
 none-every p [] a = tt
 none-every p (x ∷ xs) a = let h = none-here p x xs a in (h.0, none-every p xs h.1)
 
--- a filter that each element passes keeps all
+-- a filter that each element passes retains all
 pub filter-all : {X : Type 0} (p : X → Bool) (xs : List X) → Every (λ x. p x ≡ true) xs → filter p xs ≡ xs
 filter-all p [] a = refl
 filter-all p (x ∷ xs) a = rw a.0 (ap (λ t. x ∷ t) (filter-all p xs a.1))

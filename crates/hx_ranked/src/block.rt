@@ -10,9 +10,9 @@ use std::marker::Model;
 /// The number of entries that a block can hold.
 pub const CAPACITY: usize = 256;
 
-/// A run of entries in the order of their ranks, with three summaries: the rank of the first, the smallest least execution
-/// and the most shares. A search passes a block by its summaries, without a look at its list. The list has its capacity
-/// from the start and never grows.
+/// A run of entries in the order of their ranks, with three summaries: the rank of the first, the smallest least
+/// execution and the most shares. A search passes a block by its summaries, without reading its list. The list has its
+/// capacity from the start and never grows.
 #[derive(Drop)]
 pub struct Block {
     entries: Vec<Entry>,

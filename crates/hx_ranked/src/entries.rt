@@ -37,8 +37,39 @@ pub fn most_shares(entries: &[Entry]) -> u32
     most
 }
 
+// The smallest of the least executions, none of which is below the given bound. An entry with that value ends the
+// search.
+fn smallest_from(entries: &[Entry], floor: u32) -> u32
+    requires { floor ≤ smallest_least entries.now }
+    ensures { result ≡ smallest_least entries.now }
+{
+    let mut least = u32::MAX;
+    for entry in entries {
+        if entry.least == floor {
+            return floor;
+        }
+        least = least.min(entry.least);
+    }
+    least
+}
+
+// The most shares of an entry, none of which has more than a ceiling. An entry at the ceiling ends the search.
+fn most_up_to(entries: &[Entry], ceiling: u32) -> u32
+    requires { most_shares entries.now ≤ ceiling }
+    ensures { result ≡ most_shares entries.now }
+{
+    let mut most = 0;
+    for entry in entries {
+        if entry.shares == ceiling {
+            return ceiling;
+        }
+        most = most.max(entry.shares);
+    }
+    most
+}
+
 /// The smallest of the least executions after one of them, or none, was `old` and is `new`, from the smallest before. It
-/// reads the entries only if that one may have been the smallest.
+/// reads the entries only if that one may have been the smallest, and up to the next one that is as small.
 pub fn smallest_after(entries: &[Entry], before: u32, old: u32, new: u32) -> u32
     requires changed { min new before ≡ min old (smallest_least entries.now) }
     requires same { old ≡ new → before ≡ smallest_least entries.now }
@@ -51,11 +82,11 @@ pub fn smallest_after(entries: &[Entry], before: u32, old: u32, new: u32) -> u32
     if smallest < old {
         return smallest;
     }
-    smallest_least(entries)
+    smallest_from(entries, smallest)
 }
 
 /// The most shares of an entry after those of one, or of none, were `old` and are `new`, from the most before. It reads
-/// the entries only if that one may have had the most.
+/// the entries only if that one may have had the most, and up to the next one that has the same shares.
 pub fn most_after(entries: &[Entry], before: u32, old: u32, new: u32) -> u32
     requires changed { max new before ≡ max old (most_shares entries.now) }
     requires same { old ≡ new → before ≡ most_shares entries.now }
@@ -68,7 +99,7 @@ pub fn most_after(entries: &[Entry], before: u32, old: u32, new: u32) -> u32
     if most > old {
         return most;
     }
-    most_shares(entries)
+    most_up_to(entries, most)
 }
 
 /// The index of the first entry that does not rank before a rank, by binary search.

@@ -2,8 +2,8 @@
 ghost use Rattle.std.specs.Prelude.{◌≡◌};
 ghost use Rattle.hx_ranked.specs.Ranked.{is_within};
 
-/// An order in the index: its rank, the key under which the book keeps it, its least execution (the fewest shares that it
-/// accepts to trade at once) and its open shares. Both are numbers of shares.
+/// An order in the index: its rank, its key in the book, its least execution (the fewest shares that it accepts to
+/// trade at once) and its open shares. Both are numbers of shares.
 #[derive(Clone, Copy, Debug, PartialEq, Eq)]
 pub struct Entry {
     pub rank: u128,

@@ -93,7 +93,7 @@ impl RankedBlocks {
     pub fn reserve(&mut self) -> Result<(), NoMemory>
         ensures entries { self.new.entries ≡ self.old.entries }
         ensures room { OnOk result (self.new.has_room ≡ true) }
-        ensures kept { self.old.has_room ≡ true → IsOk result }
+        ensures retained { self.old.has_room ≡ true → IsOk result }
     {
         if self.len == usize::MAX {
             return Err(NoMemory);

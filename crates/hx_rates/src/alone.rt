@@ -12,31 +12,31 @@ use std::alloc::Global;
 use std::rt::Clock;
 use std::time::Instant;
 
-/// How many messages the log of a feed has room for.
+/// The number of messages for which the log of a feed has room.
 pub const CAPACITY: u64 = 1_000_000;
 
-// How many messages of the feed and how many replies were told.
+// The numbers of feed messages and of replies in the output.
 #[derive(Clone, Copy)]
-struct Told {
+struct EventOutput {
     feed: u64,
     replies: u64,
 }
 
-// Plays all events into the same lists, which are emptied before each.
-fn play_all(
+// Applies all events; their output goes into the same lists, which are emptied before each.
+fn apply_all(
     market: &mut Market<LevelBook>,
     output: &mut Output,
     events: &[Event],
-) -> Result<Told, PrepareError> {
+) -> Result<EventOutput, PrepareError> {
     let (mut feed, mut replies) = (0u64, 0u64);
     for event in events {
         output.feed.clear();
         output.replies.clear();
-        market.play(event, output)?;
+        market.apply(event, output)?;
         feed = feed.saturating_add(output.feed.len() as u64);
         replies = replies.saturating_add(output.replies.len() as u64);
     }
-    Ok(Told { feed, replies })
+    Ok(EventOutput { feed, replies })
 }
 
 /// The market alone: no log, no history, and no rows of replies.
@@ -51,16 +51,16 @@ pub fn market_rate<R: Print + Eprint + Clock>(
         replies: Vec::new(alloc),
     };
     let begun = Instant::now(rt)?;
-    let told = play_all(&mut market, &mut output, events)?;
+    let outputs = apply_all(&mut market, &mut output, events)?;
     report(rt, begun, "the market alone", events.len() as u64, "events")?;
-    println!(rt; "feed {}, replies {}", told.feed, told.replies)?;
+    println!(rt; "feed {}, replies {}", outputs.feed, outputs.replies)?;
     Ok(())
 }
 
 // Each event is submitted on its own.
 fn record_all(desk: &mut Desk, log: &Log<Entry>, events: &[Event]) -> Result<(), DeskError>
     requires log { desk.old.log ≡ log.now }
-    requires told { desk.old.told ≡ length desk.old.history }
+    requires outputs { desk.old.published_end ≡ length desk.old.history }
 {
     for event in events {
         desk.submit(log, 1, event)?;
@@ -68,7 +68,7 @@ fn record_all(desk: &mut Desk, log: &Log<Entry>, events: &[Event]) -> Result<(),
     Ok(())
 }
 
-// Reports at what rate a desk records events.
+// Reports the rate at which a desk records events.
 fn report_desk<R: Print + Eprint + Clock>(
     rt: &R,
     desk: &mut Desk,
@@ -76,7 +76,7 @@ fn report_desk<R: Print + Eprint + Clock>(
     events: &[Event],
 ) -> Result<(), Failure>
     requires log { desk.old.log ≡ log.now }
-    requires told { desk.old.told ≡ length desk.old.history }
+    requires outputs { desk.old.published_end ≡ length desk.old.history }
 {
     let begun = Instant::now(rt)?;
     record_all(desk, log, events)?;

@@ -18,7 +18,7 @@ pub enum Failure {
     /// A line of the tape is no event.
     #[error("a line of the tape is no event")]
     Tape,
-    /// A growth was refused.
+    /// There is no memory for a growth.
     #[error("no memory")]
     NoMemory,
     /// The setup of the day is refused.

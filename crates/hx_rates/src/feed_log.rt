@@ -21,7 +21,7 @@ fn numbered(n: u64) -> ArrayVec<u8, 44> {
     message
 }
 
-// Publishes this number of messages; whether there was room.
+// Publishes this number of messages. Returns whether there was room.
 fn write(log: &Log<u64>, mut writer: Writer<u64>, messages: u64) -> bool
     requires { writer.log ≡ log.now }
 {
@@ -33,7 +33,7 @@ fn write(log: &Log<u64>, mut writer: Writer<u64>, messages: u64) -> bool
     staged
 }
 
-// Reads until it has read this number of messages; whether they are the numbers from 0 on, in order.
+// Reads until it has read this number of messages. Returns whether they are the numbers from 0 on, in order.
 fn read(log: &Log<u64>, mut reader: Reader<u64>, messages: u64) -> bool
     requires { reader.log ≡ log.now }
 {

@@ -29,7 +29,7 @@ use std::sync::ledger::Blank;
 use std::thread::Threads;
 use std::time::Instant;
 
-/// How many passes send, 1 to 64, and how many events each of their calls has, at least one.
+/// The number of passes that send, 1 to 64, and the number of events of each of their calls, at least one.
 #[derive(Clone, Copy)]
 pub struct Sending {
     passes: u16,
@@ -39,7 +39,7 @@ pub struct Sending {
 }
 
 impl Sending {
-    /// This many passes and this many events a call.
+    /// `passes` passes and `each` events a call.
     pub fn of(passes: u64, each: u64) -> Result<Sending, Failure> {
         if passes == 0 || passes > u64::from(MEMBERS) || each == 0 {
             return Err(Failure::Words);
@@ -81,7 +81,7 @@ fn send<
     passes_of(alloc, senders)
 }
 
-// Ends the exchange, whose history must have this many events.
+// Ends the exchange, whose history must have `count` events.
 fn end<V: Venue, J: Journal + Drop>(
     exchange: Exchange<V, J>,
     passes: Vec<Pass<V>>,
@@ -110,12 +110,12 @@ fn run<
 ) -> Result<(), Failure>
     requires feed { IsNewLog V.log founding.logs.feed }
     requires admitted { IsNewLog V.admitted founding.logs.admitted }
-    requires kept { IsNewLog V.kept founding.logs.kept }
+    requires durable { IsNewLog V.durable founding.logs.durable }
     requires of_setup { founding.setup ≡ V.setup }
     requires before { founding.recovered.events.items ≡ V.before }
     requires journal { J.appended founding.recovered.journal
         ≡ lines record_of (restored V.before) }
-    requires safe { (J.kept founding.recovered.journal ≡ J.appended founding.recovered.journal)
+    requires safe { (J.durable founding.recovered.journal ≡ J.appended founding.recovered.journal)
         × (J.is_open founding.recovered.journal ≡ true) }
     requires blank { (founding.blank.name ≡ V.name) × (founding.blank.parts ≡ V.parts) }
     requires passes { sending.passes ≡ V.parts }
@@ -144,15 +144,15 @@ fn run<
 fn new_logs(alloc: Global) -> Result<Logs, NoMemory>
     ensures feed { IfOk result (λ logs. IsNewLog logs.feed.0 logs.feed) }
     ensures admitted { IfOk result (λ logs. IsNewLog logs.admitted.0 logs.admitted) }
-    ensures kept { IfOk result (λ logs. IsNewLog logs.kept.0 logs.kept) }
+    ensures durable { IfOk result (λ logs. IsNewLog logs.durable.0 logs.durable) }
 {
     let (log, pen, _) = Log::<Entry>::new(alloc, CAPACITY)?;
     let (admitted, register, _) = Log::<Entry>::new(alloc, 1)?;
-    let (kept, keeper, _) = Log::<Entry>::new(alloc, 1)?;
+    let (durable, keeper, _) = Log::<Entry>::new(alloc, 1)?;
     Ok(Logs {
         feed: (log, pen),
         admitted: (admitted, register),
-        kept: (kept, keeper),
+        durable: (durable, keeper),
     })
 }
 
@@ -166,7 +166,7 @@ fn found<J: Journal + Drop + Send, R: Threads + Wait + Print + Eprint + Clock + 
 ) -> Result<(), Failure>
     requires journal { J.appended recovered.journal
         ≡ lines record_of (restored recovered.events.items) }
-    requires safe { (J.kept recovered.journal ≡ J.appended recovered.journal)
+    requires safe { (J.durable recovered.journal ≡ J.appended recovered.journal)
         × (J.is_open recovered.journal ≡ true) }
 {
     let founding = Founding {
@@ -193,7 +193,7 @@ pub fn memory_rate<R: Threads + Wait + Print + Eprint + Clock + Sync>(
 }
 
 // An exchange over a journal in a file, which is new.
-fn found_kept<F: RawFile + Drop + Send, R: Threads + Wait + Print + Eprint + Clock + Sync>(
+fn found_durable<F: RawFile + Drop + Send, R: Threads + Wait + Print + Eprint + Clock + Sync>(
     rt: &R,
     alloc: Global,
     journal: FileJournal<Noted<F>>,
@@ -201,7 +201,7 @@ fn found_kept<F: RawFile + Drop + Send, R: Threads + Wait + Print + Eprint + Clo
     events: Vec<Event>,
 ) -> Result<(), Failure>
     requires appended { records_of (appended (λ d. seen_of d.log.events) journal) ≡ [] }
-    requires kept { records_of (stored (λ d. seen_of d.log.events) journal) ≡ [] }
+    requires durable { records_of (stored (λ d. seen_of d.log.events) journal) ≡ [] }
     requires is_open { journal.is_open ≡ true }
 {
     let recovered = Recovered {
@@ -211,11 +211,11 @@ fn found_kept<F: RawFile + Drop + Send, R: Threads + Wait + Print + Eprint + Clo
     found(rt, alloc, recovered, sending, events)
 }
 
-/// An exchange over a new journal in a file of the system, which is synced for all who wait.
+/// An exchange over a new journal in a file of the system, which is synced for all waiting threads.
 pub fn file_rate<
     R: Threads + Wait + Print + Eprint + Clock + Files<File = fs::File> + AllocGlobal + Sync,
 >(rt: &R, alloc: Global, path: &str, sending: Sending, events: Vec<Event>) -> Result<(), Failure> {
     let (file, bytes) = HostFile::open(rt, path)?;
     let journal = new_journal(alloc, file, &bytes)?;
-    found_kept(rt, alloc, journal, sending, events)
+    found_durable(rt, alloc, journal, sending, events)
 }

@@ -13,10 +13,10 @@ use std::fs;
 use std::rt::{Clock, Files};
 use std::time::Instant;
 
-// A record of as many bytes as the line of an Enter Order Message has.
+// A record with the number of bytes of an Enter Order Message's line.
 const RECORD: [u8; 115] = [b'7'; 115];
 
-/// How many groups there are, and how many records each has.
+/// The number of groups, and the number of records of each.
 #[derive(Clone, Copy)]
 pub struct Groups {
     pub groups: u64,
@@ -49,7 +49,7 @@ fn rate<R: Print + Eprint + Clock>(
 }
 
 /// The journal of a new file, which has no records.
-#[tactic(auto, using(crate::proofs::NoRecords::none_kept, crate::proofs::NoRecords::none_appended))]
+#[tactic(auto, using(crate::proofs::NoRecords::none_durable, crate::proofs::NoRecords::none_appended))]
 pub fn new_journal<F: RawFile + Drop>(
     alloc: Global,
     file: F,
@@ -57,7 +57,7 @@ pub fn new_journal<F: RawFile + Drop>(
 ) -> Result<FileJournal<Noted<F>>, Failure>
     ensures appended { IfOk result (λ j.
         records_of (appended (λ d. seen_of d.log.events) j) ≡ []) }
-    ensures kept { IfOk result (λ j. records_of (stored (λ d. seen_of d.log.events) j) ≡ []) }
+    ensures durable { IfOk result (λ j. records_of (stored (λ d. seen_of d.log.events) j) ≡ []) }
     ensures is_open { IfOk result (λ j. j.is_open ≡ true) }
 {
     let head = Head::new(alloc, b"HX00000001", b"20260711", b"rates")?;

@@ -1,11 +1,11 @@
-//! Measures parts of the exchange without sockets. What was done stands on standard output, and how long each of it
-//! took, in nanoseconds, on standard error. The words say what is measured:
+//! Measures parts of the exchange without sockets. Standard output has what was done, and standard error how long each
+//! of it took, in nanoseconds. The words say what is measured:
 //!
 //! - `market`, `desk`: the events of a tape, through the market alone or through a desk;
-//! - `exchange PASSES EACH [FILE]`: the events of a tape through an exchange, by this many passes, in a thread each, with
-//!   this many events a call; over a journal in a file, if one is named;
+//! - `exchange PASSES EACH [FILE]`: the events of a tape through an exchange, by `PASSES` passes, in a thread each,
+//!   with `EACH` events a call; over a journal in a file, if one is named;
 //! - `log MESSAGES`: messages through the log of a feed;
-//! - `reader ORDERS RESTING`: the feed of this many orders through a vendor's screen, with this many of them at rest;
+//! - `reader ORDERS RESTING`: the feed of `ORDERS` orders through a vendor's screen, with `RESTING` of them at rest;
 //! - `transport MESSAGES`: packets through a framer, and messages through a publisher;
 //! - `journal FILE GROUPS RECORDS AHEAD`: groups of records through a journal in a file, with zeros laid ahead;
 //! - `small`: a little of each of these.
@@ -125,7 +125,7 @@ fn of_journal<R: AllocGlobal + Print + Eprint + Files<File = fs::File> + Clock>(
     )
 }
 
-// What the words behind the program's name ask for.
+// What the words after the program's name ask for.
 fn measure<
     R: AllocGlobal
         + Input

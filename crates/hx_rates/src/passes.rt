@@ -19,7 +19,7 @@ pub struct Sender<V: Venue> {
 }
 
 impl<V: Venue> Sender<V> {
-    // Submits several events, in as many turns at the lock as they take; whether they are recorded.
+    // Submits several events, in the number of turns at the lock that they take. Returns whether they are recorded.
     fn call_all<R: Wait, J: Journal + Drop>(
         &mut self,
         rt: &R,
@@ -35,12 +35,13 @@ impl<V: Venue> Sender<V> {
                 Ok(submitted) => left = submitted.rest,
                 Err(_) => return false,
             }
-            exchange.ring_feed();
+            exchange.wake_feed();
         }
         true
     }
 
-    // Submits the events of one call; whether they are recorded. One event is a `submit`, more are a `submit_all`.
+    // Submits the events of one call. Returns whether they are recorded. One event is a `submit`, more are a
+    // `submit_all`.
     fn call<R: Wait, J: Journal + Drop>(
         &mut self,
         rt: &R,
@@ -92,7 +93,7 @@ fn add(
     Ok(())
 }
 
-/// A sender for each pass, with as many events a call. The members take turns: each pass has its own.
+/// A sender for each pass, with `each` events a call. The members take turns: each pass has its own.
 pub fn hire<V: Venue>(
     alloc: Global,
     passes: Vec<Pass<V>>,

@@ -12,7 +12,7 @@ use std::time::{Clock, Instant};
 
 const SESSION: [u8; 10] = *b"HX00000001";
 
-// How many messages the screen keeps that came too early.
+// The number of messages that the screen stores which came too early.
 const PLACES: usize = 4_096;
 
 type Message = ArrayVec<u8, 44>;
@@ -65,7 +65,7 @@ fn turn(messages: &mut Vec<Message>, number: u64, resting: u64) -> Result<(), No
     Ok(())
 }
 
-// The feed of this number of orders, in packets, and how many messages it has.
+// The feed of this number of orders, in packets, and the number of its messages.
 fn packets_of(alloc: Global, orders: u64, resting: u64) -> Result<(Vec<Packet>, u64), NoMemory> {
     let mut messages = Vec::new(alloc);
     for number in 1..=orders {
@@ -75,7 +75,7 @@ fn packets_of(alloc: Global, orders: u64, resting: u64) -> Result<(Vec<Packet>, 
     Ok((cut(alloc, SESSION, 1, &messages)?, count))
 }
 
-// Hands out all that has come. How many messages.
+// Hands out all that has come. Returns the number of messages.
 fn show(screen: &mut Screen) -> u64 {
     let mut count = 0u64;
     for _ in 0..u64::MAX {
@@ -87,7 +87,7 @@ fn show(screen: &mut Screen) -> u64 {
     count
 }
 
-// Shows all packets. How many messages.
+// Shows all packets. Returns the number of messages.
 fn show_all(screen: &mut Screen, packets: &[Packet]) -> u64 {
     let mut shown = 0u64;
     for packet in packets {
@@ -97,7 +97,7 @@ fn show_all(screen: &mut Screen, packets: &[Packet]) -> u64 {
     shown
 }
 
-// The rate of a screen that is sent packets of this many messages.
+// The rate of a screen that is sent packets with `count` messages in all.
 fn show_rate<R: Print + Eprint + Clock>(
     rt: &R,
     screen: &mut Screen,
@@ -113,7 +113,7 @@ fn show_rate<R: Print + Eprint + Clock>(
     Err(Failure::Wrong)
 }
 
-/// The rate of a screen that is sent the feed of this number of orders, with at most this many of them in the book.
+/// The rate of a screen that is sent the feed of this number of orders, with at most `resting` of them in the book.
 pub fn screen_rate<R: Print + Eprint + Clock>(
     rt: &R,
     alloc: Global,

@@ -17,7 +17,7 @@ const HEAD: &str = "session HX00000001\nstart open\n\
 /// The most members of a tape.
 pub const MEMBERS: u16 = 64;
 
-/// The setup of an open day with two stocks and 64 members, each of whom may send as many messages as he likes.
+/// The setup of an open day with two stocks and 64 members, each of which may send any number of messages.
 pub fn day_setup(alloc: Global) -> Result<Setup, Failure> {
     let mut text = String::from_str(alloc, HEAD)?;
     for number in 1..=MEMBERS {

@@ -20,7 +20,7 @@ const PACKET: usize = ENTER + 3;
 
 const READ: usize = 8_192;
 
-// A stream of packets, each of which carries as many bytes as an Enter Order Message.
+// A stream of packets, each of which carries the number of bytes of an Enter Order Message.
 fn stream(alloc: Global, packets: u64) -> Result<Vec<u8>, NoMemory> {
     let packet = frame(b'U', &[b'O'; ENTER]);
     let mut bytes = Vec::new(alloc);
@@ -30,7 +30,7 @@ fn stream(alloc: Global, packets: u64) -> Result<Vec<u8>, NoMemory> {
     Ok(bytes)
 }
 
-// How many packets a framer gives of a stream.
+// The number of packets that a framer gives of a stream.
 fn framed(alloc: Global, bytes: &[u8]) -> u64 {
     let mut framer = Framer::new();
     let mut count = 0u64;
@@ -63,7 +63,7 @@ fn publisher(alloc: Global, count: u64) -> Result<Publisher<ListMessages>, NoMem
     Ok(Publisher::new(SESSION, messages, 0))
 }
 
-// How many packets a publisher sends until it has sent all.
+// The number of packets that a publisher sends until it has sent all.
 fn published(publisher: &mut Publisher<ListMessages>) -> u64 {
     let mut count = 0u64;
     for _ in 0..u64::MAX {

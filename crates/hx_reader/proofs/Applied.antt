@@ -2,8 +2,8 @@
 use Rattle.std.proofs.Common.{◌≡◌, ℕ, ◌+◌, ◌<◌, suc, length, take, drop, get_or, refl, sym, ap, ◌∙◌, subst, List, [], ◌∷◌, ◌++◌, None, true, add-one}
 use Rattle.std.proofs.Math.Seq.{take-suc, split_at}
 use Rattle.hx_itch.specs.declared.message.Feed.{Feed}
-use Rattle.hx_books.specs.declared.ShownOrder.{ShownOrder}
-use Rattle.hx_books.specs.Books.{book_after, book_from}
+use Rattle.hx_itch.specs.declared.shown_order.ShownOrder.{ShownOrder}
+use Rattle.hx_itch.specs.Books.{book_after, book_from}
 use Rattle.hx_reader.specs.declared.fault.ApplyError.{ApplyError}
 use Rattle.hx_reader.specs.declared.fault.ApplyError.TheVariants as errors
 use Rattle.hx_reader.specs.Faults.{fault_of, adds, IsCause, AreFaultless, StopsAt}
@@ -35,7 +35,7 @@ stops old a b xs i d error h so is cause memory =
     record {
       before = take i xs;
       message = get_or xs i d;
-      behind = drop (suc i) xs;
+      later = drop (suc i) xs;
       split = split_at xs i d h;
       faultless = so.1;
       applied = is ∙ so.0;

@@ -2,7 +2,7 @@
 use Rattle.std.proofs.Common.{◌≡◌, ℕ, nat_lt, List, Bool, false, Option, Some, None, is_some, cond, ap, ◌∙◌, Ok, Err}
 use Rattle.std.specs.declared.result.Result.{Result}
 use Rattle.std.specs.Result.{OnOk, IfErr}
-use Rattle.hx_books.specs.declared.ShownOrder.{ShownOrder}
+use Rattle.hx_itch.specs.declared.shown_order.ShownOrder.{ShownOrder}
 use Rattle.hx_reader.specs.declared.fault.ApplyError.{ApplyError}
 use Rattle.hx_reader.specs.declared.fault.ApplyError.TheVariants as errors
 use Rattle.hx_reader.specs.Faults.{order_of, has, if_known, if_unknown, if_short, if_misplaced, is_clash, IsCause}
@@ -34,7 +34,7 @@ misplaced_as r q book b c h e =
 pub clash_as : (r q : ℕ) (es : Entries) (o : Option ℕ) → (r ≡ q → ⊥) → IsFound es r o → is_clash r q (orders_in es) ≡ is_some o
 clash_as r q es o ne h = ap (λ b. cond b false (has r (orders_in es))) (not_same r q ne) ∙ has_found r es o h
 
--- where the only error is want of memory
+-- if the only error is want of memory
 pub cause_none : (r : Result (Unit {0}) ApplyError) (fault : Option ApplyError) → IfErr r (λ e. e ≡ errors.NoMemory) → fault ≡ None → IfErr r (λ e. IsCause e fault)
 cause_none (Ok v) fault h none = tt
 cause_none (Err e) fault h none = rw h none

@@ -3,7 +3,7 @@ use Rattle.std.proofs.Common.{◌≡◌, ℕ, ◌<◌, ◌==◌, [], ◌∷◌, 
 use Rattle.std.specs.Option.{IsSome}
 use Rattle.std.specs.Map.{lookup, remove_entry, set_value}
 use Rattle.std.proofs.lemmas.Bool.Decides.{Decides-eqb, eqb_tells}
-use Rattle.hx_books.specs.declared.ShownOrder.{ShownOrder}
+use Rattle.hx_itch.specs.declared.shown_order.ShownOrder.{ShownOrder}
 use Rattle.hx_reader.specs.Tables.{Entries, is_number, order_at, AreBelow, HasNone, AreSame, IsFound}
 use Rattle.hx_reader.proofs.Tables.{is_itself, is_other, is_below, is_only, all_left, all_more, all_set, all_found}
 
@@ -25,7 +25,7 @@ pub the_order : (o : Option ShownOrder) → IsSome o → (x : ShownOrder) × (o 
 the_order None h = absurd (let e : false ≡ true = h in cc)
 the_order (Some x) h = (x, refl)
 
--- ---- where an order comes last
+-- an order comes last
 
 at_last : (n : ℕ) (x : ShownOrder) (es : Entries) → HasNone x.reference es → AreBelow n es → AreSame x.reference n es
 at_last n x [] h b = tt
@@ -63,7 +63,7 @@ finds_more f g n x es all below none here others q = elim (eqb_tells q x.referen
         let o = the_order (order_at k es) h.1 in
         (all_more (λ e. is_number k e.0 ≡ (e.1.reference == q)) (n, x) es h.0 (is_below k n (all_found (λ e. e.0 < n) k o.0 es o.1 below) ∙ sym (not_same x.reference q (λ e. ne (sym e)))), some_more k (n, x) es h.1)
 
--- ---- where an order leaves
+-- an order leaves
 
 none_left : (q k : ℕ) (es : Entries) → AreSame q k es → order_at k es ≡ None → HasNone q es
 none_left q k [] h gone = tt
@@ -113,7 +113,7 @@ finds_less f g r k es all there gone here others q = elim (eqb_tells q r) [
       some_left k m es (λ e. ne (one_reference q r m es h.0 (subst (λ i. AreSame r i es) e found.0) h.1)) h.1,
     )
 
--- ---- where an order loses shares
+-- an order loses shares
 
 some_set : (p : ℕ → Bool) (m : ℕ) (w : ShownOrder) (es : Entries) → IsSome (order_at m es) → IsSome (order_at m (set_value p es w))
 some_set p m w [] h = h

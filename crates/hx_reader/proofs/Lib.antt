@@ -1,7 +1,7 @@
 pub mod Windows
 pub mod Orders
 pub mod Repeats
-pub mod RungLaws
+pub mod LevelKeyLaws
 pub mod LevelLaws
 pub mod Tables
 pub mod Found

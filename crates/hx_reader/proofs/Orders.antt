@@ -8,13 +8,13 @@ use Rattle.std.proofs.lemmas.Slice.Eq.{bytes_eq-Decides}
 use Rattle.hx_mold.specs.declared.packet.MoldPacket.{MoldPacket}
 use Rattle.hx_mold.specs.declared.packet.MoldPacket.TheVariants as mold
 use Rattle.hx_mold.specs.Reading.{packet_of}
-use Rattle.hx_reader.specs.Readings.{Reading, opening, is_vacant, filled, placed, all_placed, told_to, comes, session_of, packet_comes, received, first_kept, ready, vacated, handed}
+use Rattle.hx_reader.specs.Readings.{Reading, opening, is_vacant, filled, placed, all_placed, delivered_to, comes, session_of, packet_comes, received, first_retained, ready, vacated, handed}
 use Rattle.hx_reader.specs.Runs.{Step, Comes, IsAsked, after, gives, after_all, given, IsSo, TellsOf, IsBeginning, InOrder, Whole}
 
 abbrev pub Window : Type 0
 Window = List (Option (List ℕ))
 
--- what is kept stands in the feed, the first place for message number o + 1
+-- what is stored is in the feed, the first slot for message number o + 1
 abbrev pub Agrees : List (List ℕ) → ℕ → Window → Type 0
 Agrees feed o window = (i : ℕ) (x : List ℕ) → slice_get window i ≡ Some (Some x) → slice_get feed (o + i) ≡ Some x
 
@@ -23,9 +23,9 @@ pub record Holds (feed : List (List ℕ)) (session : List ℕ) (out : List (List
   pub same : r.session ≡ session
   pub front : IsBeginning out feed
   pub next : r.next ≡ length out + 1
-  pub kept : Agrees feed (length out) r.window
-  pub told : r.told ≤ length feed + 1
-  pub ended : r.ended ≡ true → r.told ≡ length feed + 1
+  pub retained : Agrees feed (length out) r.window
+  pub delivered : r.delivered ≤ length feed + 1
+  pub ended : r.ended ≡ true → r.delivered ≡ length feed + 1
 
 some_same : {A : Type 0} (x y : A) → Some x ≡ Some y → x ≡ y
 some_same x y h = cc
@@ -55,14 +55,14 @@ module _ (feed : List (List ℕ)) (session : List ℕ) where
       at false true t = h
       at false false t =
           let below : r.next ≤ n = ltb-false n r.next t in
-          let place : length out + (n - r.next) ≡ k = omega (arith, h.next, e, below) in
+          let slot : length out + (n - r.next) ≡ k = omega (arith, h.next, e, below) in
           record {
             same = h.same;
             front = h.front;
             next = h.next;
-            told = h.told;
+            delivered = h.delivered;
             ended = h.ended;
-            kept = filled_agrees feed (length out) (n - r.next) m r.window (ap (slice_get feed) place ∙ there) h.kept;
+            retained = filled_agrees feed (length out) (n - r.next) m r.window (ap (slice_get feed) slot ∙ there) h.retained;
           }
 
   abbrev EachAt : ℕ → List (List ℕ) → Type 0
@@ -88,30 +88,30 @@ module _ (feed : List (List ℕ)) (session : List ℕ) where
   stands_within : (before ms rest : List (List ℕ)) (n : ℕ) → feed ≡ before ++ ms ++ rest → n ≡ length before + 1 → n + length ms ≤ length feed + 1
   stands_within before ms rest n e at = omega (arith, at, ap length e, length-append (before ++ ms) rest, length-append before ms)
 
-  told_holds : (out : List (List ℕ)) (n : ℕ) (r : Reading) → n ≤ length feed + 1 → Holds feed session out r → Holds feed session out (told_to n r)
-  told_holds out n r le h = record {
+  delivered_holds : (out : List (List ℕ)) (n : ℕ) (r : Reading) → n ≤ length feed + 1 → Holds feed session out r → Holds feed session out (delivered_to n r)
+  delivered_holds out n r le h = record {
     same = h.same;
     front = h.front;
     next = h.next;
-    kept = h.kept;
-    told = omega (arith, le, h.told);
-    ended = λ yes. (let t : r.told ≡ length feed + 1 = h.ended yes in omega (arith, le, t));
+    retained = h.retained;
+    delivered = omega (arith, le, h.delivered);
+    ended = λ yes. (let t : r.delivered ≡ length feed + 1 = h.ended yes in omega (arith, le, t));
   }
 
   comes_holds : (out : List (List ℕ)) (p : MoldPacket) (r : Reading) → IsSo feed p → Holds feed session out r → Holds feed session out (comes r p)
   comes_holds out (mold.Blocks s n ms) r so h = at (nat_lt n (2 ^ 64 - 65535))
     where
-      at : (b : Bool) → Holds feed session out (if b then told_to (n + length ms) (all_placed n ms r) else r)
-      at true = told_holds out (n + length ms) (all_placed n ms r) (stands_within so.0 ms so.1 n so.2 so.3) (all_placed_holds out n ms r (each_at so.0 ms so.1 n so.2 so.3) h)
+      at : (b : Bool) → Holds feed session out (if b then delivered_to (n + length ms) (all_placed n ms r) else r)
+      at true = delivered_holds out (n + length ms) (all_placed n ms r) (stands_within so.0 ms so.1 n so.2 so.3) (all_placed_holds out n ms r (each_at so.0 ms so.1 n so.2 so.3) h)
       at false = h
-  comes_holds out (mold.Heartbeat s n) r so h = told_holds out n r so h
+  comes_holds out (mold.Heartbeat s n) r so h = delivered_holds out n r so h
   comes_holds out (mold.EndOfSession s n) r so h = record {
     same = h.same;
     front = h.front;
     next = h.next;
-    kept = h.kept;
-    told = omega (arith, so, h.told);
-    ended = λ _. omega (arith, so, h.told);
+    retained = h.retained;
+    delivered = omega (arith, so, h.delivered);
+    ended = λ _. omega (arith, so, h.delivered);
   }
 
   received_holds : (out bytes : _) (r : Reading) → TellsOf feed session (Comes bytes) → Holds feed session out r → Holds feed session out (received r bytes)
@@ -143,13 +143,13 @@ module _ (feed : List (List ℕ)) (session : List ℕ) where
       nothing : Holds feed session (out ++ []) r
       nothing = subst (λ l. Holds feed session l r) (sym (append-nil out)) h
 
-      at : (w : Window) → r.window ≡ w → Holds feed session (out ++ option_to_list (first_kept r.next w)) (handed r (first_kept r.next w))
+      at : (w : Window) → r.window ≡ w → Holds feed session (out ++ option_to_list (first_retained r.next w)) (handed r (first_retained r.next w))
       at [] e = nothing
       at (None ∷ w) e = nothing
       at (Some m ∷ w) e = by (r.next == 18446744073709551615)
         where
           there : slice_get feed (length out) ≡ Some m
-          there = ap (slice_get feed) (omega arith) ∙ h.kept 0 m (ap (λ l. slice_get l 0) e)
+          there = ap (slice_get feed) (omega arith) ∙ h.retained 0 m (ap (λ l. slice_get l 0) e)
 
           more : (rest : List (List ℕ)) × (h.front.0 ≡ m ∷ rest)
           more = tail_of out h.front.0 m (ap (λ l. slice_get l (length out)) h.front.1 ∙ there)
@@ -163,8 +163,8 @@ module _ (feed : List (List ℕ)) (session : List ℕ) where
             same = h.same;
             front = (more.0, append_assoc out (m ∷ []) more.0 ∙ ap (λ l. out ++ l) (sym more.1) ∙ h.front.1);
             next = omega (arith, h.next, longer);
-            kept = λ i x k. ap (slice_get feed) (omega (arith, longer)) ∙ h.kept (suc i) x (ap (λ l. slice_get l (suc i)) e ∙ before_vacant w i x (ap (λ l. slice_get (vacated l) i) (sym e) ∙ k));
-            told = h.told;
+            retained = λ i x k. ap (slice_get feed) (omega (arith, longer)) ∙ h.retained (suc i) x (ap (λ l. slice_get l (suc i)) e ∙ before_vacant w i x (ap (λ l. slice_get (vacated l) i) (sym e) ∙ k));
+            delivered = h.delivered;
             ended = h.ended;
           }
 
@@ -192,8 +192,8 @@ module _ (feed : List (List ℕ)) (session : List ℕ) where
     same = refl;
     front = (feed, refl);
     next = refl;
-    kept = vacant size;
-    told = omega arith;
+    retained = vacant size;
+    delivered = omega arith;
     ended = λ h. absurd (let e : false ≡ true = h in cc);
   }
 
@@ -212,5 +212,5 @@ pub whole : Whole
 whole feed session size steps all is =
     let r = after_all (opening session size) steps in
     let h = run_holds feed session [] steps (opening session size) all (opening_holds feed session size) in
-    let b = both r.ended r.told r.next is in
+    let b = both r.ended r.delivered r.next is in
     finish (given (opening session size) steps) h.front.0 feed h.front.1 (omega (arith, h.ended b.0, b.1, h.next))

@@ -5,7 +5,7 @@ use Rattle.std.proofs.lemmas.Slice.Eq.{bytes_eq-Decides}
 use Rattle.hx_mold.specs.declared.packet.MoldPacket.{MoldPacket}
 use Rattle.hx_mold.specs.declared.packet.MoldPacket.TheVariants as mold
 use Rattle.hx_mold.specs.Reading.{packet_of}
-use Rattle.hx_reader.specs.Readings.{Reading, is_vacant, filled, placed, all_placed, told_to, comes, session_of, packet_comes, received}
+use Rattle.hx_reader.specs.Readings.{Reading, is_vacant, filled, placed, all_placed, delivered_to, comes, session_of, packet_comes, received}
 use Rattle.hx_reader.specs.Runs.{IsOld, AreOld, BringsNothing, NothingNew}
 
 same_filled : (k : ℕ) (m : List ℕ) (w : List (Option (List ℕ))) → is_vacant (slice_get w k) ≡ false → filled k m w ≡ w
@@ -26,20 +26,20 @@ unfolding all_placed
 same_all n [] r h = refl
 same_all n (m ∷ ms) r h = ap (λ s. all_placed (n + 1) ms s) (same_placed n m r h.0) ∙ same_all (n + 1) ms r h.1
 
-same_told : (n : ℕ) (r : Reading) → n ≤ r.told → told_to n r ≡ r
-same_told n r le = ap (λ t. record r { told = t }) (let e : max r.told n ≡ r.told = omega arith in e)
+same_delivered : (n : ℕ) (r : Reading) → n ≤ r.delivered → delivered_to n r ≡ r
+same_delivered n r le = ap (λ t. record r { delivered = t }) (let e : max r.delivered n ≡ r.delivered = omega arith in e)
 
 same_comes : (r : Reading) (p : MoldPacket) → BringsNothing r (Some p) → session_of p ≡ r.session → comes r p ≡ r
 same_comes r (mold.Blocks s n ms) (inl no_ours) same = absurd (no_ours same)
 same_comes r (mold.Blocks s n ms) (inr h) same = at (nat_lt n (2 ^ 64 - 65535))
   where
-    at : (b : Bool) → (if b then told_to (n + length ms) (all_placed n ms r) else r) ≡ r
-    at true = ap (λ s. told_to (n + length ms) s) (same_all n ms r h.0) ∙ same_told (n + length ms) r h.1
+    at : (b : Bool) → (if b then delivered_to (n + length ms) (all_placed n ms r) else r) ≡ r
+    at true = ap (λ s. delivered_to (n + length ms) s) (same_all n ms r h.0) ∙ same_delivered (n + length ms) r h.1
     at false = refl
 same_comes r (mold.Heartbeat s n) (inl no_ours) same = absurd (no_ours same)
-same_comes r (mold.Heartbeat s n) (inr le) same = same_told n r le
+same_comes r (mold.Heartbeat s n) (inr le) same = same_delivered n r le
 same_comes r (mold.EndOfSession s n) (inl no_ours) same = absurd (no_ours same)
-same_comes r (mold.EndOfSession s n) (inr h) same = ap (λ t. record r { told = t; ended = true }) (let e : max r.told n ≡ r.told = omega (arith, h.1) in e) ∙ ap (λ b. record r { ended = b }) (sym h.0)
+same_comes r (mold.EndOfSession s n) (inr h) same = ap (λ t. record r { delivered = t; ended = true }) (let e : max r.delivered n ≡ r.delivered = omega (arith, h.1) in e) ∙ ap (λ b. record r { ended = b }) (sym h.0)
 
 pub nothing_new : NothingNew
 unfolding received

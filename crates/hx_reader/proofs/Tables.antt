@@ -1,4 +1,4 @@
--- How a book is kept, and what each change makes of it.
+-- The tables that store a book, and what each change makes of them.
 use Rattle.std.proofs.Common.{◌≡◌, ℕ, ◌-◌, ◌<◌, ◌==◌, nat_lt, List, [], ◌∷◌, ◌++◌, Bool, true, false, Some, None, cond, refl, sym, ap, subst, ◌∙◌, arith}
 use Rattle.std.specs.Option.{IsSome}
 use Rattle.std.specs.Ordering.{nat_cmp}
@@ -7,8 +7,8 @@ use Rattle.std.specs.List.{AllByRecursion}
 use Rattle.std.specs.Map.{lookup, remove_entry, set_value}
 use Rattle.std.specs.BTreeMap.{insert_entry}
 use Rattle.std.proofs.lemmas.Bool.Decides.{nat_tests}
-use Rattle.hx_books.specs.declared.ShownOrder.{ShownOrder}
-use Rattle.hx_books.specs.Books.{taken_from, without, renewed}
+use Rattle.hx_itch.specs.declared.shown_order.ShownOrder.{ShownOrder}
+use Rattle.hx_itch.specs.Books.{taken_from, without, renewed}
 use Rattle.hx_reader.specs.Faults.{order_of}
 use Rattle.hx_reader.specs.Tables.{Entries, orders_in, is_number, order_at, AreBelow, HasNone, AreSame}
 
@@ -64,7 +64,7 @@ pub all_more : (P : ℕ × ShownOrder → Type 0) (e : ℕ × ShownOrder) (es : 
 all_more P e [] h i = (i, tt)
 all_more P e (f ∷ es) h i = (h.0, all_more P e es h.1 i)
 
--- and where what holds does not look at the shares, once an order lost some
+-- and if what holds does not depend on the shares, once an order lost some
 pub all_set : (P : ℕ × ShownOrder → Type 0) (p : ℕ → Bool) (n : ℕ) (x : ShownOrder) (es : Entries) → ((k : ℕ) → P (k, x) → P (k, record x { shares = n })) → lookup p es ≡ Some x
     → AllByRecursion P es → AllByRecursion P (set_value p es (record x { shares = n }))
 all_set P p n x [] keep there h = h
@@ -127,7 +127,7 @@ taken_some q k n x (e ∷ es) h there lt =
     at true z ih = ap (λ b. cond b (record x { shares = x.shares - n } ∷ orders_in es) (orders_in es)) (sym lt) ∙ ap left (sym (some_same e.1 x z))
     at false z ih = ap (λ l. e.1 ∷ l) (ih z)
 
--- the order that takes the place of another
+-- the order that replaces another
 pub renewed_is : (k reference shares price : ℕ) (x : ShownOrder) (book : List ShownOrder) → order_of k book ≡ Some x
     → renewed k reference shares price book ≡ record x { reference = reference; shares = shares; price = price } ∷ []
 renewed_is k reference shares price x [] there = absurd (let e : None ≡ Some x = there in cc)

@@ -1,6 +1,6 @@
--- What a book tells of a price.
+-- The content of a book at a price.
 use Rattle.std.specs.Prelude.{ℕ, List}
-use Rattle.hx_books.specs.declared.ShownOrder.{ShownOrder}
+use Rattle.hx_itch.specs.declared.shown_order.ShownOrder.{ShownOrder}
 use Rattle.hx_reader.specs.declared.level.PriceLevel.{PriceLevel}
 use Rattle.hx_reader.specs.Prices.{orders_at, shares_at}
 

@@ -2,8 +2,8 @@
 use Rattle.std.specs.Prelude.{◌≡◌, ℕ, ◌==◌, nat_lt, if◌then◌else◌, Bool, true, false, is_some, List, [], ◌∷◌, ◌++◌, Option, Some, None}
 use Rattle.hx_itch.specs.declared.message.Feed.{Feed}
 use Rattle.hx_itch.specs.declared.message.Feed.TheVariants.{AddOrder, AddOrderWithAttribution, OrderExecuted, OrderCancel, OrderDelete, OrderReplace, Trade, SystemEvent, StockDirectory, StockTradingAction, BrokenTrade}
-use Rattle.hx_books.specs.declared.ShownOrder.{ShownOrder}
-use Rattle.hx_books.specs.Books.{book_after, book_from}
+use Rattle.hx_itch.specs.declared.shown_order.ShownOrder.{ShownOrder}
+use Rattle.hx_itch.specs.Books.{book_after, book_from}
 use Rattle.hx_reader.specs.declared.fault.ApplyError.{ApplyError}
 use Rattle.hx_reader.specs.declared.fault.ApplyError.TheVariants as errors
 
@@ -71,7 +71,7 @@ adds (StockDirectory d) = false
 adds (StockTradingAction h) = false
 adds (BrokenTrade b) = false
 
--- an error names the fault; want of memory is told only where there is none
+-- an error names the fault; want of memory is reported only if there is none
 abbrev pub IsCause : ApplyError → (fault : Option ApplyError) → Type 0
 IsCause errors.Unknown fault = fault ≡ Some errors.Unknown
 IsCause errors.Known fault = fault ≡ Some errors.Known
@@ -89,8 +89,8 @@ pub record StopsAt (old : List ShownOrder) (messages : List Feed) (new : List Sh
     (error : ApplyError) : Type 0 where
   pub before : List Feed
   pub message : Feed
-  pub behind : List Feed
-  pub split : messages ≡ before ++ message ∷ behind
+  pub later : List Feed
+  pub split : messages ≡ before ++ message ∷ later
   pub faultless : AreFaultless old before
   pub applied : new ≡ book_from old before
   pub cause : IsCause error (fault_of new message)

@@ -3,7 +3,7 @@ pub mod Runs
 pub mod Faults
 pub mod Prices
 pub mod Levels
-pub mod Rungs
+pub mod LevelKeys
 pub mod Tables
 pub mod Depth
 pub mod Screens

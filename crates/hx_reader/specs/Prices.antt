@@ -1,7 +1,7 @@
 -- The prices of a stock in a book, and what stands at each.
 use Rattle.std.specs.Prelude.{◌≡◌, ℕ, suc, ◌+◌, ◌≤◌, ◌==◌, ◌&&◌, nat_lt, if◌then◌else◌, Bool, ◌⊎◌, List, [], ◌∷◌, Option, Some, None}
 use Rattle.std.specs.List.{AllByRecursion, filter}
-use Rattle.hx_books.specs.declared.ShownOrder.{ShownOrder}
+use Rattle.hx_itch.specs.declared.shown_order.ShownOrder.{ShownOrder}
 
 -- whether an order is of this side of this stock
 abbrev pub is_on : (locate side : ℕ) → ShownOrder → Bool
@@ -39,12 +39,12 @@ abbrev pub IsAmong : ℕ → List ℕ → Type 0
 IsAmong p [] = ⊥
 IsAmong p (q ∷ ps) = (p ≡ q) ⊎ IsAmong p ps
 
--- the highest of these prices, none where there is no price
+-- the highest of these prices, none if there is no price
 abbrev pub IsHighest : List ℕ → Option ℕ → Type 0
 IsHighest ps None = ps ≡ []
 IsHighest ps (Some p) = IsAmong p ps × AllByRecursion (λ q. q ≤ p) ps
 
--- the lowest of these prices, none where there is no price
+-- the lowest of these prices, none if there is no price
 abbrev pub IsLowest : List ℕ → Option ℕ → Type 0
 IsLowest ps None = ps ≡ []
 IsLowest ps (Some p) = IsAmong p ps × AllByRecursion (λ q. p ≤ q) ps

@@ -21,22 +21,22 @@ pub record Reading : Type 0 where
   pub session : List ℕ
   -- the number of the message that is handed out next
   pub next : ℕ
-  -- the number after the last message that a packet told of
-  pub told : ℕ
-  -- whether the session's end was told
+  -- the number after the last message that a packet announced
+  pub delivered : ℕ
+  -- whether the session's end was announced
   pub ended : Bool
-  -- message number next + i, where it has come and was not handed out; the length never changes
+  -- message number next + i, if it has come and was not handed out; the length never changes
   pub window : List (Option (List ℕ))
 
--- a reader of the session that has seen nothing, with this many places
-abbrev pub opening : (session : List ℕ) → (places : ℕ) → Reading
-opening session places =
+-- a reader of the session that has seen nothing, with `indices` slots
+abbrev pub opening : (session : List ℕ) → (indices : ℕ) → Reading
+opening session indices =
     record {
       session = session;
       next = 1;
-      told = 1;
+      delivered = 1;
       ended = false;
-      window = replicate places None;
+      window = replicate indices None;
     }
 
 -- ---- what a datagram does
@@ -45,20 +45,20 @@ opening session places =
 abbrev pub slots : List (Option (ArrayVec ℕ)) → List (Option (List ℕ))
 slots xs = map (λ x. option_map (λ m. m.items) x) xs
 
--- whether a place of the window is there, and nothing in it
+-- whether a slot of the window is there, and nothing in it
 abbrev pub is_vacant : Option (Option (List ℕ)) → Bool
 is_vacant (Some None) = true
 is_vacant (Some (Some m)) = false
 is_vacant None = false
 
--- the window with a message at a place, where the place is there and vacant
-unfoldable pub filled : (place : ℕ) → (message : List ℕ) → List (Option (List ℕ))
+-- the window with a message in a slot, if the slot is there and vacant
+unfoldable pub filled : (slot : ℕ) → (message : List ℕ) → List (Option (List ℕ))
     → List (Option (List ℕ))
-filled place m window =
-    if is_vacant (slice_get window place) then slice_set window place (Some m) else window
+filled slot m window =
+    if is_vacant (slice_get window slot) then slice_set window slot (Some m) else window
 
--- message n has come: it is kept where it was not handed out yet, has a place, and is no longer than
--- any message of the feed
+-- message n has come: it is stored if it was not handed out yet, has a slot, and is no longer than any message of the
+-- feed
 unfoldable pub placed : (n : ℕ) → (message : List ℕ) → Reading → Reading
 placed n m r =
     if nat_lt n r.next || nat_lt longest (length m)
@@ -70,19 +70,19 @@ unfoldable pub all_placed : (n : ℕ) → List (List ℕ) → Reading → Readin
 all_placed n [] r = r
 all_placed n (m ∷ ms) r = all_placed (n + 1) ms (placed n m r)
 
--- a packet tells that the next message after those that there are has number n
-abbrev pub told_to : (n : ℕ) → Reading → Reading
-told_to n r = record r { told = max r.told n }
+-- a packet announces that the next message after those that there are has number n
+abbrev pub delivered_to : (n : ℕ) → Reading → Reading
+delivered_to n r = record r { delivered = max r.delivered n }
 
 -- a packet of the reader's session; none of a feed has so high a number that its messages could pass
 -- the last one
 abbrev pub comes : Reading → MoldPacket → Reading
 comes r (mold.Blocks session n messages) =
     if nat_lt n (2 ^ 64 - end_count)
-    then told_to (n + length messages) (all_placed n messages r)
+    then delivered_to (n + length messages) (all_placed n messages r)
     else r
-comes r (mold.Heartbeat session n) = told_to n r
-comes r (mold.EndOfSession session n) = record r { told = max r.told n; ended = true }
+comes r (mold.Heartbeat session n) = delivered_to n r
+comes r (mold.EndOfSession session n) = record r { delivered = max r.delivered n; ended = true }
 
 -- the session that a packet names
 abbrev pub session_of : MoldPacket → List ℕ
@@ -101,39 +101,38 @@ received r bytes = packet_comes r (packet_of bytes)
 
 -- ---- what is handed out
 
--- the first message of the window, where it has come
-abbrev pub first_kept : (next : ℕ) → List (Option (List ℕ)) → Option (List ℕ)
-first_kept n [] = None
-first_kept n (None ∷ window) = None
-first_kept n (Some m ∷ window) = if n == last_number then None else Some m
+-- the first message of the window, if it has come
+abbrev pub first_retained : (next : ℕ) → List (Option (List ℕ)) → Option (List ℕ)
+first_retained n [] = None
+first_retained n (None ∷ window) = None
+first_retained n (Some m ∷ window) = if n == last_number then None else Some m
 
--- the next message, where it has come
+-- the next message, if it has come
 abbrev pub ready : Reading → Option (List ℕ)
-ready r = first_kept r.next r.window
+ready r = first_retained r.next r.window
 
--- the window from its second place on, with a vacant one at the end
+-- the window from its second slot on, with a vacant one at the end
 abbrev pub vacated : List (Option (List ℕ)) → List (Option (List ℕ))
 vacated [] = []
 vacated (x ∷ xs) = xs ++ None ∷ []
 
--- the reading once its next message is handed out, and itself where that has not come
+-- the reading once its next message is handed out, and itself if that has not come
 abbrev pub handed : Reading → Option (List ℕ) → Reading
 handed r None = r
 handed r (Some m) = record r { next = r.next + 1; window = vacated r.window }
 
 -- ---- what is missing
 
--- how many places at the front are vacant
+-- the number of vacant slots at the front
 abbrev pub gap : List (Option (List ℕ)) → ℕ
 gap [] = 0
 gap (None ∷ window) = suc (gap window)
 gap (Some m ∷ window) = 0
 
--- how many messages are missing from the next one on, up to one that is kept, of those that were
--- told of and have a place; a request counts up to a number of its own (MoldUDP64 1.00, Request
--- Packet)
+-- the number of messages missing from the next one on, up to one that is stored, of those that were announced and have
+-- a slot; a request counts up to a number of its own (MoldUDP64 1.00, Request Packet)
 abbrev pub missing : Reading → ℕ
-missing r = min (min (gap r.window) (r.told - r.next)) end_count
+missing r = min (min (gap r.window) (r.delivered - r.next)) end_count
 
 -- what is to be asked for
 abbrev pub request_of : Reading → Option Request
@@ -144,4 +143,4 @@ request_of r =
 
 -- the session has ended, and all its messages were handed out
 abbrev pub is_whole : Reading → Bool
-is_whole r = r.ended && nat_le r.told r.next
+is_whole r = r.ended && nat_le r.delivered r.next

@@ -39,8 +39,8 @@ StandsAt feed n messages =
     (before rest : List (List ℕ))
     × (feed ≡ before ++ messages ++ rest) × (n ≡ length before + 1)
 
--- what a packet of the session says is so of the feed: messages stand where it says, a heartbeat's
--- number is at most one above the feed's length, and the session's end tells the length
+-- what a packet of the session says is so of the feed: messages have the numbers that it says, a heartbeat's number is
+-- at most one above the feed's length, and the session's end gives the length
 abbrev pub IsSo : (feed : List (List ℕ)) → MoldPacket → Type 0
 IsSo feed (mold.Blocks session n messages) = StandsAt feed n messages
 IsSo feed (mold.Heartbeat session n) = n ≤ length feed + 1
@@ -62,19 +62,19 @@ IsBeginning xs feed = (rest : List (List ℕ)) × (xs ++ rest ≡ feed)
 -- beginning of the feed.
 abbrev pub InOrder : Type 0
 InOrder =
-    (feed : List (List ℕ)) (session : List ℕ) (places : ℕ) (steps : List Step)
+    (feed : List (List ℕ)) (session : List ℕ) (indices : ℕ) (steps : List Step)
     → AllByRecursion (TellsOf feed session) steps
-    → IsBeginning (given (opening session places) steps) feed
+    → IsBeginning (given (opening session indices) steps) feed
 
--- And where the reader says that it is whole, it is the whole feed.
+-- And if the reader says that it is whole, it is the whole feed.
 abbrev pub Whole : Type 0
 Whole =
-    (feed : List (List ℕ)) (session : List ℕ) (places : ℕ) (steps : List Step)
+    (feed : List (List ℕ)) (session : List ℕ) (indices : ℕ) (steps : List Step)
     → AllByRecursion (TellsOf feed session) steps
-    → is_whole (after_all (opening session places) steps) ≡ true
-    → given (opening session places) steps ≡ feed
+    → is_whole (after_all (opening session indices) steps) ≡ true
+    → given (opening session indices) steps ≡ feed
 
--- message n would change nothing: it was handed out, or is kept, or has no place
+-- message n would change nothing: it was handed out, or is stored, or has no slot
 abbrev pub IsOld : Reading → (n : ℕ) → Type 0
 IsOld r n = (n < r.next) ⊎ (is_vacant (slice_get r.window (n - r.next)) ≡ false)
 
@@ -87,10 +87,10 @@ AreOld r n (m ∷ messages) = IsOld r n × AreOld r (n + 1) messages
 abbrev pub BringsNothing : Reading → Option MoldPacket → Type 0
 BringsNothing r None = Unit {0}
 BringsNothing r (Some (mold.Blocks session n messages)) =
-    (session ≢ r.session) ⊎ (AreOld r n messages × (n + length messages ≤ r.told))
-BringsNothing r (Some (mold.Heartbeat session n)) = (session ≢ r.session) ⊎ (n ≤ r.told)
+    (session ≢ r.session) ⊎ (AreOld r n messages × (n + length messages ≤ r.delivered))
+BringsNothing r (Some (mold.Heartbeat session n)) = (session ≢ r.session) ⊎ (n ≤ r.delivered)
 BringsNothing r (Some (mold.EndOfSession session n)) =
-    (session ≢ r.session) ⊎ ((r.ended ≡ true) × (n ≤ r.told))
+    (session ≢ r.session) ⊎ ((r.ended ≡ true) × (n ≤ r.delivered))
 
 -- Bytes that are no packet, packets of other sessions, and packets that bring nothing new change
 -- nothing.

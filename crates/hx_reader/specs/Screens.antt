@@ -2,7 +2,7 @@
 use Rattle.std.specs.Prelude.{ℕ, ◌≡◌, List, true, Option, Some, None, is_some, Result, Ok, Err}
 use Rattle.hx_itch.specs.declared.message.Feed.{Feed}
 use Rattle.hx_itch.specs.Message.{feed_message_of}
-use Rattle.hx_books.specs.Books.{book_after}
+use Rattle.hx_itch.specs.Books.{book_after}
 use Rattle.hx_reader.specs.declared.fault.ApplyError.{ApplyError}
 use Rattle.hx_reader.specs.declared.fault.ApplyError.TheVariants as errors
 use Rattle.hx_reader.specs.declared.fault.ScreenError.{ScreenError}

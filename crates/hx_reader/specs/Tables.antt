@@ -1,12 +1,12 @@
--- How a book is kept: its orders under numbers in time, the number of each reference, and the levels.
+-- The tables that store a book: its orders under numbers in time, the number of each reference, and the levels.
 use Rattle.std.specs.Prelude.{◌≡◌, ℕ, ◌<◌, ◌==◌, Bool, false, nat_eq, List, map, IsSome, Option, Some, None}
 use Rattle.std.specs.List.{AllByRecursion}
 use Rattle.std.specs.Ordering.{nat_cmp}
 use Rattle.std.specs.BTreeMap.{BTreeMap, is_at}
 use Rattle.std.specs.Map.{lookup}
 use Rattle.std.specs.HashMap.{HashMap, get}
-use Rattle.hx_books.specs.declared.ShownOrder.{ShownOrder}
-use Rattle.hx_reader.specs.declared.levels.Rung.{Rung}
+use Rattle.hx_itch.specs.declared.shown_order.ShownOrder.{ShownOrder}
+use Rattle.hx_reader.specs.declared.levels.LevelKey.{LevelKey}
 use Rattle.hx_reader.specs.declared.levels.Level.{Level}
 use Rattle.hx_reader.specs.declared.table.Table.{Table}
 use Rattle.hx_reader.specs.Levels.{level_at, level_in}
@@ -48,11 +48,11 @@ IsFound es reference (Some number) =
 
 -- each reference leads to its order
 abbrev pub AreFound : {S : Type 0} → HashMap ℕ ℕ S → Entries → Type 0
-AreFound places es = (reference : ℕ) → IsFound es reference (get nat_eq places reference)
+AreFound indices es = (reference : ℕ) → IsFound es reference (get nat_eq indices reference)
 
 -- each level is that of the orders at its price
-abbrev pub AreLevels : BTreeMap Rung Level → Entries → Type 0
-AreLevels levels es = (q : Rung) → level_at levels q ≡ level_in q (orders_in es)
+abbrev pub AreLevels : BTreeMap LevelKey Level → Entries → Type 0
+AreLevels levels es = (q : LevelKey) → level_at levels q ≡ level_in q (orders_in es)
 
 -- the orders of a table, in time order
 abbrev pub book_in : Table → List ShownOrder
@@ -61,5 +61,5 @@ book_in t = orders_in t.orders.entries
 -- what holds of every table
 pub record IsTable (t : Table) : Type 0 where
   pub below : AreBelow t.next t.orders.entries
-  pub found : AreFound t.places t.orders.entries
+  pub found : AreFound t.indices t.orders.entries
   pub levels : AreLevels t.levels t.orders.entries

@@ -1,9 +1,9 @@
-//! The book that the feed tells.
+//! The book of the feed.
 ghost use Rattle.std.specs.Prelude.{◌≡◌, ◌++◌, List, [], ◌∷◌, OnOk, OnErr, IfErr, IfSome, None, option_copied, option_map, true};
 ghost use Rattle.hx_units.specs.Letters.{letter};
-ghost use Rattle.hx_books.specs.declared.ShownOrder.{ShownOrder};
+ghost use Rattle.hx_itch.specs.declared.shown_order.ShownOrder.{ShownOrder};
 ghost use Rattle.hx_itch.specs.declared.message.Feed.TheVariants as variant;
-ghost use Rattle.hx_books.specs.Books.{book_after, book_from};
+ghost use Rattle.hx_itch.specs.Books.{book_after, book_from};
 ghost use Rattle.hx_reader.specs.Faults.{order_of, fault_of, adds, IsCause, AreFaultless, StopsAt};
 ghost use Rattle.hx_reader.specs.declared.fault.ApplyError.TheVariants as errors;
 ghost use Rattle.hx_reader.specs.Prices.{prices, below, above, IsHighest, IsLowest};
@@ -14,16 +14,15 @@ use crate::depth::{highest_below, lowest_above};
 use crate::fault::ApplyError;
 use crate::level::PriceLevel;
 use crate::table::Table;
-use hx_books::ShownOrder;
-use hx_itch::{AddOrder, AddOrderWithAttribution, Feed};
+use hx_itch::{AddOrder, AddOrderWithAttribution, Feed, ShownOrder};
 use indexmap::IndexMap;
 use std::alloc::Global;
 use std::collections::BTreeMap;
 use std::marker::Model;
 
-/// The book that the feed tells (TotalView-ITCH 5.0), each order under its reference, with what
-/// stands at each price. No call walks over the orders: each takes time in proportion to the logarithm
-/// of their number at most. Contracts see it as the list of its orders, the oldest first.
+/// The book of the feed (TotalView-ITCH 5.0), each order under its reference, with the orders and shares at each price.
+/// No call walks over the orders: each takes time in proportion to the logarithm of their number at most. Contracts see
+/// it as the list of its orders, the oldest first.
 #[derive(Drop)]
 pub struct FeedBook {
     table: Table,
@@ -31,7 +30,7 @@ pub struct FeedBook {
 
 impl Model for FeedBook {
     ghost use Rattle.std.specs.Prelude.{List};
-    ghost use Rattle.hx_books.specs.declared.ShownOrder.{ShownOrder};
+    ghost use Rattle.hx_itch.specs.declared.shown_order.ShownOrder.{ShownOrder};
 
     ghost Value = { List ShownOrder };
 
@@ -81,7 +80,7 @@ impl FeedBook {
     {
         FeedBook {
             table: Table {
-                places: IndexMap::new(alloc),
+                indices: IndexMap::new(alloc),
                 orders: BTreeMap::new(alloc),
                 levels: BTreeMap::new(alloc),
                 next: 0,
@@ -89,9 +88,8 @@ impl FeedBook {
         }
     }
 
-    /// Applies the feed's next message. It takes memory where the message adds an order. A message
-    /// that is none of a feed with this book is an error, and so is want of memory; at an error the
-    /// book is as it was.
+    /// Applies the feed's next message. It takes memory if the message adds an order. A message that is none of a feed
+    /// with this book is an error, and so is want of memory; at an error the book is as it was.
     pub fn apply(&mut self, message: &Feed) -> Result<(), ApplyError>
         ensures ok { OnOk result (self.new ≡ book_after self.old message.now) }
         ensures fits { OnOk result (fault_of self.old message.now ≡ None) }
@@ -134,9 +132,9 @@ impl FeedBook {
         order(&self.table, reference)
     }
 
-    /// The best bid of a stock, or the best below a price: the highest such price of its buys, with
-    /// the orders and shares that stand there, or none where there is no such buy. From one price to
-    /// the next below, it tells the depth of the stock. It takes no memory.
+    /// The best bid of a stock, or the best below a price: the highest such price of its buys, with the number of
+    /// orders and of shares there, or none if there is no such buy. Called from one price to the next below, it gives
+    /// the depth of the stock. It takes no memory.
     pub fn bid(&self, locate: u16, under: Option<u32>) -> Option<PriceLevel>
         ensures price { IsHighest (below under (prices locate (letter "B") self.now))
             (option_map (λ l. l.price) result) }
@@ -145,9 +143,8 @@ impl FeedBook {
         highest_below(&self.table, locate, under)
     }
 
-    /// The best offer of a stock, or the best above a price: the lowest such price of its sells, with
-    /// the orders and shares that stand there, or none where there is no such sell. It takes no
-    /// memory.
+    /// The best offer of a stock, or the best above a price: the lowest such price of its sells, with the number of
+    /// orders and of shares there, or none if there is no such sell. It takes no memory.
     pub fn offer(&self, locate: u16, over: Option<u32>) -> Option<PriceLevel>
         ensures price { IsLowest (above over (prices locate (letter "S") self.now))
             (option_map (λ l. l.price) result) }

@@ -1,8 +1,7 @@
-//! What a message does to the orders of a book. Each call leaves the book as it was where it answers
-//! an error.
+//! What a message does to the orders of a book. Each call leaves the book as it was if it returns an error.
 ghost use Rattle.std.specs.Prelude.{◌≡◌, ◌++◌, [], ◌∷◌, Some, None, OnOk, OnErr, IfErr, option_copied, nat_eq, ◌⊎◌, false};
 ghost use Rattle.indexmap.specs.IndexMap.{get};
-ghost use Rattle.hx_books.specs.Books.{taken_from, without, book_after};
+ghost use Rattle.hx_itch.specs.Books.{taken_from, without, book_after};
 ghost use Rattle.hx_itch.specs.declared.message.Feed.TheVariants as variant;
 ghost use Rattle.hx_reader.specs.Faults.{order_of, fault_of, if_known, if_unknown, if_short, is_clash, IsCause};
 ghost use Rattle.hx_reader.specs.declared.fault.ApplyError.TheVariants as errors;
@@ -10,16 +9,15 @@ ghost use Rattle.hx_reader.specs.Tables.{book_in, IsFound, IsTable};
 
 use crate::fault::ApplyError;
 use crate::table::{Table, push, take_off, take_out};
-use hx_books::ShownOrder;
-use hx_itch::OrderReplace;
+use hx_itch::{OrderReplace, ShownOrder};
 
 // The number of the order of a reference.
 fn number_of(table: &Table, reference: u64) -> Option<u64>
     requires { IsTable table.now }
-    ensures place { get nat_eq table.now.places reference ≡ result }
+    ensures slot { get nat_eq table.now.indices reference ≡ result }
     ensures found { IsFound table.now.orders.entries reference result }
 {
-    match table.places.get(&reference) {
+    match table.indices.get(&reference) {
         Some(number) => Some(*number),
         None => None,
     }
@@ -39,7 +37,7 @@ pub fn order(table: &Table, reference: u64) -> Option<&ShownOrder>
 // An order comes last.
 fn append(table: &mut Table, order: ShownOrder) -> Result<(), ApplyError>
     requires table { IsTable table.old }
-    requires free { get nat_eq table.old.places order.reference ≡ None }
+    requires free { get nat_eq table.old.indices order.reference ≡ None }
     ensures table { IsTable table.new }
     ensures ok { OnOk result (book_in table.new ≡ book_in table.old ++ order ∷ []) }
     ensures err { OnErr result (book_in table.new ≡ book_in table.old) }
@@ -49,10 +47,10 @@ fn append(table: &mut Table, order: ShownOrder) -> Result<(), ApplyError>
     let Some(next) = last.checked_add(1) else {
         return Err(ApplyError::NoMemory);
     };
-    table.places.reserve(1)?;
+    table.indices.reserve(1)?;
     push(&mut table.orders, &mut table.levels, last, order)?;
     table.next = next;
-    match table.places.insert(order.reference, last) {
+    match table.indices.insert(order.reference, last) {
         Ok(_) => Ok(()),
         Err(_) => unreachable!(),
     }
@@ -77,12 +75,12 @@ pub fn add(table: &mut Table, order: ShownOrder) -> Result<(), ApplyError>
 // The order that a reference leads to leaves.
 fn remove(table: &mut Table, reference: u64, number: u64)
     requires table { IsTable table.old }
-    requires place { get nat_eq table.old.places reference ≡ Some number }
+    requires slot { get nat_eq table.old.indices reference ≡ Some number }
     ensures table { IsTable table.new }
     ensures book { book_in table.new ≡ without reference (book_in table.old) }
 {
     let _ = take_out(&mut table.orders, &mut table.levels, number);
-    table.places.swap_remove(&reference);
+    table.indices.swap_remove(&reference);
 }
 
 /// An order leaves. It takes no memory.
@@ -101,7 +99,7 @@ pub fn delete(table: &mut Table, reference: u64) -> Result<(), ApplyError>
     Ok(())
 }
 
-/// Shares are taken off an order, which leaves where none are left. It takes no memory.
+/// Shares are taken off an order, which leaves if none are left. It takes no memory.
 pub fn take(table: &mut Table, reference: u64, shares: u32) -> Result<(), ApplyError>
     requires { IsTable table.old }
     ensures table { IsTable table.new }
@@ -129,7 +127,7 @@ fn is_taken(table: &Table, reference: u64, original: u64) -> bool
     requires { IsTable table.now }
     ensures clash { result ≡ is_clash reference original (book_in table.now) }
     ensures free { result ≡ false → (reference ≡ original)
-        ⊎ (get nat_eq table.now.places reference ≡ None) }
+        ⊎ (get nat_eq table.now.indices reference ≡ None) }
 {
     if reference == original {
         return false;
@@ -145,9 +143,9 @@ fn exchange(
     order: ShownOrder,
 ) -> Result<(), ApplyError>
     requires table { IsTable table.old }
-    requires place { get nat_eq table.old.places original ≡ Some number }
+    requires slot { get nat_eq table.old.indices original ≡ Some number }
     requires free { (order.reference ≡ original)
-        ⊎ (get nat_eq table.old.places order.reference ≡ None) }
+        ⊎ (get nat_eq table.old.indices order.reference ≡ None) }
     ensures table { IsTable table.new }
     ensures ok { OnOk result (book_in table.new
         ≡ without original (book_in table.old) ++ order ∷ []) }
@@ -158,12 +156,12 @@ fn exchange(
     let Some(next) = last.checked_add(1) else {
         return Err(ApplyError::NoMemory);
     };
-    table.places.reserve(1)?;
+    table.indices.reserve(1)?;
     push(&mut table.orders, &mut table.levels, last, order)?;
     let _ = take_out(&mut table.orders, &mut table.levels, number);
-    table.places.swap_remove(&original);
+    table.indices.swap_remove(&original);
     table.next = next;
-    match table.places.insert(order.reference, last) {
+    match table.indices.insert(order.reference, last) {
         Ok(_) => Ok(()),
         Err(_) => unreachable!(),
     }

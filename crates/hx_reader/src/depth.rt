@@ -1,4 +1,4 @@
-//! The best prices of a stock, and those behind them.
+//! The best prices of a stock, and those after them.
 ghost use Rattle.std.specs.Prelude.{◌≡◌, ◌+◌, Option, Some, None, IsSome, IfSome, IfNone, option_map, false};
 ghost use Rattle.std.specs.BTreeMap.Range.{IsInRange, IsLeBy};
 ghost use Rattle.std.specs.Ordering.{is_lt};
@@ -6,70 +6,74 @@ ghost use Rattle.std.specs.declared.ops.Bound.TheVariants.{Included, Excluded};
 ghost use Rattle.hx_units.specs.Letters.{letter};
 ghost use Rattle.hx_reader.specs.Prices.{prices, below, above, IsHighest, IsLowest};
 ghost use Rattle.hx_reader.specs.Depth.{level_of};
-ghost use Rattle.hx_reader.specs.Levels.{rung_cmp, level_at, rung_at, bids_end, offers_begin, IsBefore};
+ghost use Rattle.hx_reader.specs.Levels.{level_key_cmp, level_at, level_key_at, bids_end, offers_begin, IsBefore};
 ghost use Rattle.hx_reader.specs.Tables.{book_in, IsTable};
 
 use crate::level::PriceLevel;
-use crate::levels::{Level, Rung};
+use crate::levels::{Level, LevelKey};
 use crate::table::Table;
 use std::collections::BTreeMap;
 use std::ops::Bound;
 
-// The last level from one rung up to another, which is left out.
-fn last_between(levels: &BTreeMap<Rung, Level>, from: Rung, to: Rung) -> Option<(Rung, Level)>
-    requires { IsLeBy rung_cmp from to }
-    ensures found { IfSome result (λ e. (IsInRange rung_cmp (Included from) (Excluded to) e.0)
+// The last level from one level key up to another, which is left out.
+fn last_between(
+    levels: &BTreeMap<LevelKey, Level>,
+    from: LevelKey,
+    to: LevelKey,
+) -> Option<(LevelKey, Level)>
+    requires { IsLeBy level_key_cmp from to }
+    ensures found { IfSome result (λ e. (IsInRange level_key_cmp (Included from) (Excluded to) e.0)
         × (level_at levels.now e.0 ≡ Some e.1)) }
-    ensures greatest { IfSome result (λ e. (q : Rung)
-        → IsInRange rung_cmp (Included from) (Excluded to) q
-        → IsSome (level_at levels.now q) → is_lt (rung_cmp e.0 q) ≡ false) }
-    ensures none { IfNone result ((q : Rung)
-        → IsInRange rung_cmp (Included from) (Excluded to) q → level_at levels.now q ≡ None) }
+    ensures greatest { IfSome result (λ e. (q : LevelKey)
+        → IsInRange level_key_cmp (Included from) (Excluded to) q
+        → IsSome (level_at levels.now q) → is_lt (level_key_cmp e.0 q) ≡ false) }
+    ensures none { IfNone result ((q : LevelKey)
+        → IsInRange level_key_cmp (Included from) (Excluded to) q → level_at levels.now q ≡ None) }
 {
     let range = (Bound::Included(from), Bound::Excluded(to));
     match levels.range(range).next_back() {
-        Some((rung, level)) => Some((*rung, *level)),
+        Some((level_key, level)) => Some((*level_key, *level)),
         None => None,
     }
 }
 
-// The first level from a bound up to a rung, which is left out.
+// The first level from a bound up to a level key, which is left out.
 fn first_between(
-    levels: &BTreeMap<Rung, Level>,
-    from: Bound<Rung>,
-    to: Rung,
-) -> Option<(Rung, Level)>
+    levels: &BTreeMap<LevelKey, Level>,
+    from: Bound<LevelKey>,
+    to: LevelKey,
+) -> Option<(LevelKey, Level)>
     requires { IsBefore from to }
-    ensures found { IfSome result (λ e. (IsInRange rung_cmp from (Excluded to) e.0)
+    ensures found { IfSome result (λ e. (IsInRange level_key_cmp from (Excluded to) e.0)
         × (level_at levels.now e.0 ≡ Some e.1)) }
-    ensures least { IfSome result (λ e. (q : Rung) → IsInRange rung_cmp from (Excluded to) q
-        → IsSome (level_at levels.now q) → IsLeBy rung_cmp e.0 q) }
-    ensures none { IfNone result ((q : Rung)
-        → IsInRange rung_cmp from (Excluded to) q → level_at levels.now q ≡ None) }
+    ensures least { IfSome result (λ e. (q : LevelKey) → IsInRange level_key_cmp from (Excluded to) q
+        → IsSome (level_at levels.now q) → IsLeBy level_key_cmp e.0 q) }
+    ensures none { IfNone result ((q : LevelKey)
+        → IsInRange level_key_cmp from (Excluded to) q → level_at levels.now q ≡ None) }
 {
     match levels.range((from, Bound::Excluded(to))).next() {
-        Some((rung, level)) => Some((*rung, *level)),
+        Some((level_key, level)) => Some((*level_key, *level)),
         None => None,
     }
 }
 
-// A level, as it is told.
-fn told(rung: Rung, level: Level) -> PriceLevel
+// A level, as it is delivered.
+fn delivered(level_key: LevelKey, level: Level) -> PriceLevel
     ensures { result
-        ≡ record { price = rung.price; shares = level.shares; orders = level.orders } }
+        ≡ record { price = level_key.price; shares = level.shares; orders = level.orders } }
 {
     PriceLevel {
-        price: rung.price,
+        price: level_key.price,
         shares: level.shares,
         orders: level.orders,
     }
 }
 
-// Where the rungs of a stock's buys begin.
-fn bids_begin(locate: u16) -> Rung
-    ensures { result ≡ rung_at locate (letter "B") 0 }
+// Where the level keys of a stock's buys begin.
+fn bids_begin(locate: u16) -> LevelKey
+    ensures { result ≡ level_key_at locate (letter "B") 0 }
 {
-    Rung {
+    LevelKey {
         locate,
         side: b'B',
         price: 0,
@@ -77,16 +81,16 @@ fn bids_begin(locate: u16) -> Rung
 }
 
 // Where those below a limit end, or all.
-fn bids_end(locate: u16, under: Option<u32>) -> Rung
+fn bids_end(locate: u16, under: Option<u32>) -> LevelKey
     ensures { result ≡ bids_end locate (letter "B") under }
 {
     match under {
-        Some(price) => Rung {
+        Some(price) => LevelKey {
             locate,
             side: b'B',
             price,
         },
-        None => Rung {
+        None => LevelKey {
             locate,
             side: b'B' + 1,
             price: 0,
@@ -94,17 +98,17 @@ fn bids_end(locate: u16, under: Option<u32>) -> Rung
     }
 }
 
-// Where the rungs of a stock's sells above a limit begin, or all.
-fn offers_begin(locate: u16, over: Option<u32>) -> Bound<Rung>
+// The bound at which the level keys of a stock's sells above a limit begin, or all.
+fn offers_begin(locate: u16, over: Option<u32>) -> Bound<LevelKey>
     ensures { result ≡ offers_begin locate (letter "S") over }
 {
     match over {
-        Some(price) => Bound::Excluded(Rung {
+        Some(price) => Bound::Excluded(LevelKey {
             locate,
             side: b'S',
             price,
         }),
-        None => Bound::Included(Rung {
+        None => Bound::Included(LevelKey {
             locate,
             side: b'S',
             price: 0,
@@ -112,11 +116,11 @@ fn offers_begin(locate: u16, over: Option<u32>) -> Bound<Rung>
     }
 }
 
-// Where the rungs of a stock's sells end.
-fn offers_end(locate: u16) -> Rung
-    ensures { result ≡ rung_at locate (letter "S" + 1) 0 }
+// Where the level keys of a stock's sells end.
+fn offers_end(locate: u16) -> LevelKey
+    ensures { result ≡ level_key_at locate (letter "S" + 1) 0 }
 {
-    Rung {
+    LevelKey {
         locate,
         side: b'S' + 1,
         price: 0,
@@ -134,7 +138,7 @@ pub fn highest_below(table: &Table, locate: u16, under: Option<u32>) -> Option<P
     let from = bids_begin(locate);
     let to = bids_end(locate, under);
     match last_between(&table.levels, from, to) {
-        Some((rung, level)) => Some(told(rung, level)),
+        Some((level_key, level)) => Some(delivered(level_key, level)),
         None => None,
     }
 }
@@ -150,7 +154,7 @@ pub fn lowest_above(table: &Table, locate: u16, over: Option<u32>) -> Option<Pri
     let from = offers_begin(locate, over);
     let to = offers_end(locate);
     match first_between(&table.levels, from, to) {
-        Some((rung, level)) => Some(told(rung, level)),
+        Some((level_key, level)) => Some(delivered(level_key, level)),
         None => None,
     }
 }

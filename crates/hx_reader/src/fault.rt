@@ -28,7 +28,7 @@ pub enum ScreenError {
     /// The bytes are no message of TotalView-ITCH 5.0: they are passed over.
     #[error("the bytes are no message")]
     Unreadable,
-    /// The message was not applied: where there is no memory it stays the next one, else it is passed over.
+    /// The message was not applied: if there is no memory it stays the next one, else it is passed over.
     #[error(transparent)]
     Apply(ApplyError),
 }

@@ -9,7 +9,7 @@ pub fn in_order()
     ensures { InOrder }
 {}
 
-/// And where the reader says that it is whole, it is the whole feed.
+/// And if the reader says that it is whole, it is the whole feed.
 pub fn whole()
     ensures { Whole }
 {}

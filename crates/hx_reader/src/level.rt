@@ -1,4 +1,4 @@
-//! A price of a book, as it is told.
+//! A price of a book, as it is delivered.
 
 /// A price of a stock's side, with what stands there.
 #[derive(Clone, Copy, Debug, PartialEq, Eq)]

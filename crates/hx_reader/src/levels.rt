@@ -3,7 +3,7 @@ ghost use Rattle.std.specs.Prelude.{◌≡◌, ◌≤◌, ◌+◌, ◌-◌, ℕ,
 ghost use Rattle.std.specs.BTreeMap.Range.{IsInRange, IsLeBy, IsLtBy};
 ghost use Rattle.std.specs.Ordering.{is_lt};
 ghost use Rattle.std.specs.declared.ops.Bound.TheVariants.{Included, Excluded};
-ghost use Rattle.hx_reader.specs.Levels.{rung_cmp, level_at, grown, reduced, lessened};
+ghost use Rattle.hx_reader.specs.Levels.{level_key_cmp, level_at, grown, reduced, lessened};
 
 use hx_units::NoMemory;
 use std::collections::BTreeMap;
@@ -11,7 +11,7 @@ use std::ops::Bound;
 
 /// A stock, a side and a price.
 #[derive(Clone, Copy, Debug, PartialEq, Eq, PartialOrd, Ord)]
-pub struct Rung {
+pub struct LevelKey {
     pub locate: u16,
     pub side: u8,
     pub price: u32,
@@ -35,10 +35,14 @@ fn with_one_more(level: Level, shares: u32) -> Option<Level>
 }
 
 /// An order comes to a price.
-pub fn join(levels: &mut BTreeMap<Rung, Level>, at: Rung, shares: u32) -> Result<(), NoMemory>
+pub fn join(
+    levels: &mut BTreeMap<LevelKey, Level>,
+    at: LevelKey,
+    shares: u32,
+) -> Result<(), NoMemory>
     ensures ok { OnOk result (level_at levels.new at ≡ grown shares (level_at levels.old at)) }
-    ensures others { (q : Rung) → (q ≡ at → ⊥) → level_at levels.new q ≡ level_at levels.old q }
-    ensures err { OnErr result ((q : Rung) → level_at levels.new q ≡ level_at levels.old q) }
+    ensures others { (q : LevelKey) → (q ≡ at → ⊥) → level_at levels.new q ≡ level_at levels.old q }
+    ensures err { OnErr result ((q : LevelKey) → level_at levels.new q ≡ level_at levels.old q) }
 {
     if let Some(level) = levels.get_mut(&at) {
         let Some(grown) = with_one_more(*level, shares) else {
@@ -58,23 +62,23 @@ pub fn join(levels: &mut BTreeMap<Rung, Level>, at: Rung, shares: u32) -> Result
 }
 
 /// An order at a price loses shares.
-pub fn reduce(levels: &mut BTreeMap<Rung, Level>, at: Rung, shares: u32)
+pub fn reduce(levels: &mut BTreeMap<LevelKey, Level>, at: LevelKey, shares: u32)
     requires there { IsSome (level_at levels.old at) }
     requires enough { IfSome (level_at levels.old at) (λ l. shares ≤ l.shares) }
     ensures changed { level_at levels.new at ≡ reduced shares (level_at levels.old at) }
-    ensures others { (q : Rung) → (q ≡ at → ⊥) → level_at levels.new q ≡ level_at levels.old q }
+    ensures others { (q : LevelKey) → (q ≡ at → ⊥) → level_at levels.new q ≡ level_at levels.old q }
 {
     let level = levels.get_mut(&at).unwrap();
     level.shares -= shares as u64;
 }
 
 /// An order leaves a price.
-pub fn leave(levels: &mut BTreeMap<Rung, Level>, at: Rung, shares: u32)
+pub fn leave(levels: &mut BTreeMap<LevelKey, Level>, at: LevelKey, shares: u32)
     requires there { IsSome (level_at levels.old at) }
     requires enough { IfSome (level_at levels.old at) (λ l. shares ≤ l.shares) }
     requires some { IfSome (level_at levels.old at) (λ l. 1 ≤ l.orders) }
     ensures changed { level_at levels.new at ≡ lessened shares (level_at levels.old at) }
-    ensures others { (q : Rung) → (q ≡ at → ⊥) → level_at levels.new q ≡ level_at levels.old q }
+    ensures others { (q : LevelKey) → (q ≡ at → ⊥) → level_at levels.new q ≡ level_at levels.old q }
 {
     let level = levels.get_mut(&at).unwrap();
     if level.orders > 1 {

@@ -1,5 +1,5 @@
-//! The reader's side of the feed: its messages out of packets that are lost, repeated and reordered,
-//! and the book that they tell.
+//! The reader's side of the feed: its messages out of packets that are lost, repeated and reordered, and the book that
+//! they make.
 #![tactic(auto)]
 
 mod book;

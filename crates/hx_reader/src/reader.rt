@@ -1,7 +1,7 @@
 //! The feed's messages in order, each once, out of its packets.
 ghost use Rattle.std.specs.Prelude.{◌≡◌, ◌≤◌, ◌<◌, ◌+◌, ◌-◌, ◌^◌, ◌↔◌, IsTrue, IfOk, true, option_map, option_copied, List, ℕ, length};
 ghost use Rattle.std.specs.VecDeque.{deque_len};
-ghost use Rattle.hx_reader.specs.Readings.{Reading, opening, longest, last_number, slots, filled, placed, all_placed, told_to, comes, session_of, received, ready, handed, gap, request_of, is_whole};
+ghost use Rattle.hx_reader.specs.Readings.{Reading, opening, longest, last_number, slots, filled, placed, all_placed, delivered_to, comes, session_of, received, ready, handed, gap, request_of, is_whole};
 ghost use Rattle.hx_mold.specs.Packets.{IsPacket, end_count};
 
 use arrayvec::ArrayVec;
@@ -17,7 +17,7 @@ const LONGEST: usize = 44;
 // The most messages that a request can ask for.
 const MOST: u64 = 65_535;
 
-// A message's bytes, kept.
+// A copy of a message's bytes.
 fn text_of(message: &[u8]) -> ArrayVec<u8, 44>
     requires { length message.now ≤ longest }
     ensures { result.items ≡ message.now }
@@ -27,21 +27,21 @@ fn text_of(message: &[u8]) -> ArrayVec<u8, 44>
     text
 }
 
-// Puts a message into a vacant place of the window.
-fn fill(window: &mut VecDeque<Option<ArrayVec<u8, 44>>>, place: usize, message: &[u8])
+// Puts a message into a vacant slot of the window.
+fn fill(window: &mut VecDeque<Option<ArrayVec<u8, 44>>>, slot: usize, message: &[u8])
     requires { length message.now ≤ longest }
-    ensures { slots window.new.items ≡ filled place message.now (slots window.old.items) }
+    ensures { slots window.new.items ≡ filled slot message.now (slots window.old.items) }
 {
-    if place >= window.len() {
+    if slot >= window.len() {
         return;
     }
-    if window[place].is_some() {
+    if window[slot].is_some() {
         return;
     }
-    window[place] = Some(text_of(message));
+    window[slot] = Some(text_of(message));
 }
 
-// How many places at the front of the window are vacant.
+// The number of vacant slots at the front of the window.
 #[tactic(auto, using(crate::proofs::Windows::gap_more, crate::proofs::Windows::gap_over, crate::proofs::Windows::gap_past))]
 fn vacant_front(window: &VecDeque<Option<ArrayVec<u8, 44>>>) -> usize
     ensures gap { result ≡ gap (slots window.now.items) }
@@ -65,14 +65,14 @@ fn session(packet: &MoldPacket<'_>) -> [u8; 10]
     }
 }
 
-/// Takes the feed's messages out of its packets (MoldUDP64 1.00, Downstream Packet), which may be
-/// lost, come again, in another order, or be none. It keeps as many messages ahead of the next one as
-/// it has places, and no more. Contracts see it as what it knows.
+/// Takes the feed's messages out of its packets (MoldUDP64 1.00, Downstream Packet), which may be lost, come again, in
+/// another order, or be none. It stores messages from the next one on, one in each of its slots, and no more. Contracts
+/// see it as what it knows.
 #[derive(Drop)]
 pub struct FeedReader {
     session: [u8; 10],
     next: u64,
-    told: u64,
+    delivered: u64,
     ended: bool,
     window: VecDeque<Option<ArrayVec<u8, 44>>>,
 }
@@ -83,27 +83,27 @@ impl Model for FeedReader {
     ghost view = { λ r. record {
       session = r.session;
       next = r.next;
-      told = r.told;
+      delivered = r.delivered;
       ended = r.ended;
       window = slots r.window.items;
     } };
 }
 
 impl FeedReader {
-    /// A reader of a session that has seen nothing, with this many places, each for one message. It
-    /// takes all its memory here; its only error is that there is none.
+    /// A reader of a session that has seen nothing, with `indices` slots, each for one message. It takes all its memory
+    /// here; its only error is that there is none.
     #[tactic(auto, using(crate::proofs::Windows::slots_replicate))]
-    pub fn new(alloc: Global, session: [u8; 10], places: usize) -> Result<Self, NoMemory>
-        ensures { IfOk result (λ r. r ≡ opening session places) }
+    pub fn new(alloc: Global, session: [u8; 10], indices: usize) -> Result<Self, NoMemory>
+        ensures { IfOk result (λ r. r ≡ opening session indices) }
     {
-        let mut window = VecDeque::with_capacity(alloc, places)?;
-        while window.len() < places {
+        let mut window = VecDeque::with_capacity(alloc, indices)?;
+        while window.len() < indices {
             window.push_back(None)?;
         }
         Ok(FeedReader {
             session,
             next: 1,
-            told: 1,
+            delivered: 1,
             ended: false,
             window,
         })
@@ -111,7 +111,7 @@ impl FeedReader {
 
     // A message has come.
     #[tactic(auto, unfolding(crate::specs::Readings::placed))]
-    fn place(&mut self, number: u64, message: &[u8])
+    fn slot(&mut self, number: u64, message: &[u8])
         ensures { self.new ≡ placed number message.now self.old }
     {
         if number < self.next {
@@ -125,24 +125,24 @@ impl FeedReader {
 
     // Messages have come.
     #[tactic(auto, using(crate::proofs::Windows::placed_first, crate::proofs::Windows::placed_none))]
-    fn place_all(&mut self, first: u64, messages: &mut Blocks<'_>) -> u64
+    fn index_all(&mut self, first: u64, messages: &mut Blocks<'_>) -> u64
         requires { first + length messages.old < 2 ^ 64 }
         ensures placed { self.new ≡ all_placed first messages.old self.old }
         ensures number { result ≡ first + length messages.old }
     {
         let mut number = first;
         while let Some(message) = messages.next() {
-            self.place(number, message);
+            self.slot(number, message);
             number += 1;
         }
         number
     }
 
-    // A packet tells that the next message after those that there are has this number.
+    // A packet announces that the next message after those that there are has this number.
     fn tell(&mut self, next: u64)
-        ensures { self.new ≡ told_to next self.old }
+        ensures { self.new ≡ delivered_to next self.old }
     {
-        self.told = self.told.max(next);
+        self.delivered = self.delivered.max(next);
     }
 
     // A packet of the reader's session comes.
@@ -157,7 +157,7 @@ impl FeedReader {
                 ..
             } => {
                 if sequence <= u64::MAX - MOST {
-                    let end = self.place_all(sequence, &mut messages);
+                    let end = self.index_all(sequence, &mut messages);
                     self.tell(end);
                 }
             }
@@ -169,9 +169,8 @@ impl FeedReader {
         }
     }
 
-    /// Takes a datagram. Bytes that are no packet, packets of other sessions, messages that were
-    /// handed out or are kept already, and those that have no place change nothing. It takes no
-    /// memory.
+    /// Takes a datagram. Bytes that are no packet, packets of other sessions, messages that were handed out or are
+    /// stored already, and those that have no slot change nothing. It takes no memory.
     #[tactic(auto, unfolding(crate::specs::Readings::received))]
     pub fn receive(&mut self, datagram: &[u8])
         ensures { self.new ≡ received self.old datagram.now }
@@ -185,7 +184,7 @@ impl FeedReader {
         self.take_packet(packet);
     }
 
-    /// The feed's next message, or none where it has not come. It changes nothing, and takes no memory.
+    /// The feed's next message, or none if it has not come. It changes nothing, and takes no memory.
     pub fn peek(&self) -> Option<&ArrayVec<u8, 44>>
         ensures { option_map (λ m. m.items) (option_copied result) ≡ ready self.now }
     {
@@ -195,7 +194,7 @@ impl FeedReader {
         self.window[0].as_ref()
     }
 
-    /// Hands out the feed's next message, or none where it has not come. It takes no memory.
+    /// Hands out the feed's next message, or none if it has not come. It takes no memory.
     pub fn hand_out(&mut self) -> Option<ArrayVec<u8, 44>>
         ensures message { option_map (λ m. m.items) result ≡ ready self.old }
         ensures after { self.new ≡ handed self.old (ready self.old) }
@@ -209,17 +208,16 @@ impl FeedReader {
         first
     }
 
-    /// The request for the messages that are missing from the next one on, up to one that is kept
-    /// (MoldUDP64 1.00, Request Packet), or none where none is missing that a packet has told of. It
-    /// takes no memory.
+    /// The request for the messages that are missing from the next one on, up to one that is stored (MoldUDP64 1.00,
+    /// Request Packet), or none if none is missing that a packet has announced. It takes no memory.
     pub fn request(&self) -> Option<Request>
         ensures { result ≡ request_of self.now }
     {
-        if self.told <= self.next {
+        if self.delivered <= self.next {
             return None;
         }
-        let behind = self.told - self.next;
-        let count = (vacant_front(&self.window) as u64).min(behind).min(MOST);
+        let later = self.delivered - self.next;
+        let count = (vacant_front(&self.window) as u64).min(later).min(MOST);
         if count == 0 {
             return None;
         }
@@ -230,19 +228,18 @@ impl FeedReader {
         })
     }
 
-    /// The number of the message that is handed out next, all before it having been; and the number
-    /// after the last message that a packet has told of, which is how far the feed is known to be. It
-    /// takes no memory.
+    /// The number of the message that is handed out next, all before it having been; and the number after the last
+    /// message that a packet has announced, which is how far the feed is known to be. It takes no memory.
     pub fn progress(&self) -> (u64, u64)
-        ensures { result ≡ (self.now.next, self.now.told) }
+        ensures { result ≡ (self.now.next, self.now.delivered) }
     {
-        (self.next, self.told)
+        (self.next, self.delivered)
     }
 
     /// Whether the session has ended and all its messages were handed out. It takes no memory.
     pub fn is_whole(&self) -> bool
         ensures { result ≡ is_whole self.now }
     {
-        self.ended && self.told <= self.next
+        self.ended && self.delivered <= self.next
     }
 }

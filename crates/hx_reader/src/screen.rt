@@ -21,14 +21,14 @@ pub struct Screen {
 }
 
 impl Screen {
-    /// A screen of a session that has seen nothing, whose reader has this many places. It takes memory;
-    /// its only error is that there is none.
-    pub fn new(alloc: Global, session: [u8; 10], places: usize) -> Result<Screen, NoMemory>
-        ensures reader { IfOk result (λ s. s.reader ≡ opening session places) }
+    /// A screen of a session that has seen nothing, whose reader has `indices` slots. It takes memory; its only error
+    /// is that there is none.
+    pub fn new(alloc: Global, session: [u8; 10], indices: usize) -> Result<Screen, NoMemory>
+        ensures reader { IfOk result (λ s. s.reader ≡ opening session indices) }
         ensures book { IfOk result (λ s. s.book ≡ []) }
     {
         Ok(Screen {
-            reader: FeedReader::new(alloc, session, places)?,
+            reader: FeedReader::new(alloc, session, indices)?,
             book: FeedBook::new(alloc),
         })
     }
@@ -41,10 +41,9 @@ impl Screen {
         self.reader.receive(datagram);
     }
 
-    /// Hands out the next message, applied to the book, or none where it has not come. Bytes that are
-    /// no message, and a message that is none of a feed with this book, are gone with their error, and
-    /// the book is as it was. Where there is no memory for the order that the message adds, nothing
-    /// changes: the next step hands out the same message.
+    /// Hands out the next message, applied to the book, or none if it has not come. Bytes that are no message, and a
+    /// message that is none of a feed with this book, are gone with their error, and the book is as it was. If there is
+    /// no memory for the order that the message adds, nothing changes: the next step hands out the same message.
     pub fn step(&mut self) -> Result<Option<Feed>, ScreenError>
         ensures { StepGives self.old self.new result }
     {
@@ -67,9 +66,9 @@ impl Screen {
         }
     }
 
-    // Passes the next message, which was not applied. Where memory was wanted it stays.
+    // Passes the next message, which was not applied. If memory was wanted it stays.
     fn pass(&mut self, error: ApplyError)
-        ensures kept { error ≡ errors.NoMemory → self.new.reader ≡ self.old.reader }
+        ensures retained { error ≡ errors.NoMemory → self.new.reader ≡ self.old.reader }
         ensures gone { error ≢ errors.NoMemory → self.new.reader
             ≡ handed self.old.reader (ready self.old.reader) }
         ensures book { self.new.book ≡ self.old.book }

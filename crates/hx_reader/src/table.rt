@@ -1,11 +1,11 @@
-//! How a book is kept: its orders under numbers in time, the number of each reference, and the levels.
+//! The tables that store a book: its orders under numbers in time, the number of each reference, and the levels.
 ghost use Rattle.std.specs.Prelude.{◌≡◌, ◌≤◌, ◌<◌, ◌-◌, ◌++◌, [], ◌∷◌, Some, None, IsSome, OnOk, OnErr};
 ghost use Rattle.std.specs.Map.{remove_entry, set_value};
 ghost use Rattle.hx_reader.specs.Tables.{is_number, order_at, AreBelow, AreLevels};
-ghost use Rattle.hx_reader.specs.Rungs.{rung_of};
+ghost use Rattle.hx_reader.specs.LevelKeys.{level_key_of};
 
-use crate::levels::{Level, Rung, join, leave, reduce};
-use hx_books::ShownOrder;
+use crate::levels::{Level, LevelKey, join, leave, reduce};
+use hx_itch::ShownOrder;
 use hx_units::NoMemory;
 use indexmap::IndexMap;
 use std::collections::BTreeMap;
@@ -14,17 +14,17 @@ use std::collections::BTreeMap;
 /// time order.
 #[derive(Drop)]
 pub struct Table {
-    pub places: IndexMap<u64, u64>,
+    pub indices: IndexMap<u64, u64>,
     pub orders: BTreeMap<u64, ShownOrder>,
-    pub levels: BTreeMap<Rung, Level>,
+    pub levels: BTreeMap<LevelKey, Level>,
     pub next: u64,
 }
 
-/// The rung of an order.
-pub fn rung_of(order: &ShownOrder) -> Rung
-    ensures { result ≡ rung_of order.now }
+/// The level key of an order.
+pub fn level_key_of(order: &ShownOrder) -> LevelKey
+    ensures { result ≡ level_key_of order.now }
 {
-    Rung {
+    LevelKey {
         locate: order.locate,
         side: order.side,
         price: order.price,
@@ -34,7 +34,7 @@ pub fn rung_of(order: &ShownOrder) -> Rung
 /// An order comes last.
 pub fn push(
     orders: &mut BTreeMap<u64, ShownOrder>,
-    levels: &mut BTreeMap<Rung, Level>,
+    levels: &mut BTreeMap<LevelKey, Level>,
     number: u64,
     order: ShownOrder,
 ) -> Result<(), NoMemory>
@@ -45,7 +45,7 @@ pub fn push(
     ensures levels { AreLevels levels.new orders.new.entries }
 {
     orders.insert(number, order)?;
-    match join(levels, rung_of(&order), order.shares) {
+    match join(levels, level_key_of(&order), order.shares) {
         Ok(()) => Ok(()),
         Err(error) => {
             orders.remove(&number);
@@ -57,7 +57,7 @@ pub fn push(
 /// An order leaves.
 pub fn take_out(
     orders: &mut BTreeMap<u64, ShownOrder>,
-    levels: &mut BTreeMap<Rung, Level>,
+    levels: &mut BTreeMap<LevelKey, Level>,
     number: u64,
 ) -> ShownOrder
     requires there { IsSome (order_at number orders.old.entries) }
@@ -68,14 +68,14 @@ pub fn take_out(
     ensures levels { AreLevels levels.new orders.new.entries }
 {
     let order = orders.remove(&number).unwrap();
-    leave(levels, rung_of(&order), order.shares);
+    leave(levels, level_key_of(&order), order.shares);
     order
 }
 
 /// Takes shares off an order that has more, and else does nothing. The order as it was.
 pub fn take_off(
     orders: &mut BTreeMap<u64, ShownOrder>,
-    levels: &mut BTreeMap<Rung, Level>,
+    levels: &mut BTreeMap<LevelKey, Level>,
     number: u64,
     shares: u32,
 ) -> ShownOrder
@@ -92,7 +92,7 @@ pub fn take_off(
     let was = *order;
     if was.shares > shares {
         order.shares = was.shares - shares;
-        reduce(levels, rung_of(&was), shares);
+        reduce(levels, level_key_of(&was), shares);
     }
     was
 }

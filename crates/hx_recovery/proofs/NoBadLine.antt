@@ -29,7 +29,7 @@ line_fits e h =
       hex_length e.bytes,
     )
 
--- what has no such byte ends before the first of them
+-- a text without this byte ends before the first of them
 within : (b : ℕ) (a x c y : List ℕ) → Lacks b a → a ++ x ≡ c ++ b ∷ y → length a ≤ length c
 within b [] x c y p e = omega arith
 within b (a ∷ as') x [] y p e = absurd (All-head (λ n. n ≢ b) a as' p (cc))

@@ -6,8 +6,8 @@ use Rattle.hx_ouch.specs.declared.outbound.Outbound.{Outbound}
 use Rattle.hx_members.specs.Setups.{Setup}
 use Rattle.hx_refs.specs.Numbers.{raised}
 use Rattle.hx_rules.specs.declared.event.Event.{Event}
-use Rattle.hx_market.specs.Outputs.{Reply, Told}
-use Rattle.hx_market.specs.Steps.{told, feed_of, feed, replies_among, replies_of, replies}
+use Rattle.hx_market.specs.Outputs.{Reply, EventOutput}
+use Rattle.hx_market.specs.Steps.{output, feed_of, feed, replies_among, replies_of, replies}
 use Rattle.hx_market.specs.QuietChains.{Line, reply_lines, lines_of_all}
 use Rattle.hx_market.specs.QuietChains.Line.{ToFeed, ToMember}
 use Rattle.hx_desk.specs.Entries.{feed_spelled}
@@ -19,8 +19,8 @@ use Rattle.hx_replay.specs.Quiet.{feed_among}
 use Rattle.hx_replay.proofs.Few.{raised-length}
 use Rattle.hx_recovery.specs.Served.{feed_text, reply_text}
 
--- all lines of what events told
-abbrev all_lines : List Told → List Line
+-- all lines of the output of events
+abbrev all_lines : List EventOutput → List Line
 all_lines ts = lines_of_all (λ member. true) ts
 
 -- ---- the feed
@@ -53,7 +53,7 @@ unfolding fed
 fed_replies [] = refl
 fed_replies (r ∷ rs) = fed_replies rs
 
-fed_all : (ts : List Told) → fed (all_lines ts) ≡ feed_of ts
+fed_all : (ts : List EventOutput) → fed (all_lines ts) ≡ feed_of ts
 unfolding fed
 fed_all [] = refl
 fed_all (t ∷ ts) =
@@ -66,11 +66,11 @@ fed_all (t ∷ ts) =
     ∙ append_assoc t.feed [] (fed (all_lines ts))
     ∙ ap (λ (l : List Feed). t.feed ++ l) (fed_all ts)
 
-pub feed_told : (setup : Setup) (events : List Event) → texts_of (feed_among (output_lines setup events)) ≡ feed_text 0 (feed_spelled (feed setup events))
+pub feed_output : (setup : Setup) (events : List Event) → texts_of (feed_among (output_lines setup events)) ≡ feed_text 0 (feed_spelled (feed setup events))
 unfolding output_lines feed
-feed_told setup events =
-    fed_text 0 (replicate 4096 0) (all_lines (told setup events))
-    ∙ ap (λ (l : List Feed). feed_text 0 (feed_spelled l)) (fed_all (told setup events))
+feed_output setup events =
+    fed_text 0 (replicate 4096 0) (all_lines (output setup events))
+    ∙ ap (λ (l : List Feed). feed_text 0 (feed_spelled l)) (fed_all (output setup events))
 
 -- ---- the replies to a member
 
@@ -130,7 +130,7 @@ unfolding his
 his_replies m [] = refl
 his_replies m (r ∷ rs) = ap (λ (l : List Outbound). cond (eqb r.0 m) (r.1 ∷ l) l) (his_replies m rs)
 
-his_all : (m : ℕ) (ts : List Told) → his m (all_lines ts) ≡ replies_of m ts
+his_all : (m : ℕ) (ts : List EventOutput) → his m (all_lines ts) ≡ replies_of m ts
 unfolding his
 his_all m [] = refl
 his_all m (t ∷ ts) =
@@ -151,10 +151,10 @@ many : (k : ℕ) → length {A = ℕ} (replicate k 0) ≡ k
 many zero = refl
 many (suc k) = ap (λ n. suc n) (many k)
 
-pub replies_told : (setup : Setup) (m : ℕ) (events : List Event) → m < 4096
+pub replies_output : (setup : Setup) (m : ℕ) (events : List Event) → m < 4096
     → texts_of (filter (λ line. is_to m line) (output_lines setup events)) ≡ reply_text m 0 (replies_spelled (replies setup m events))
 unfolding output_lines replies
-replies_told setup m events lt =
-    his_text m 0 (replicate 4096 0) (all_lines (told setup events)) (subst (λ k. m < k) (sym (many 4096)) lt)
-    ∙ ap (λ k. reply_text m k (replies_spelled (his m (all_lines (told setup events))))) (none_yet 4096 m)
-    ∙ ap (λ (l : List Outbound). reply_text m 0 (replies_spelled l)) (his_all m (told setup events))
+replies_output setup m events lt =
+    his_text m 0 (replicate 4096 0) (all_lines (output setup events)) (subst (λ k. m < k) (sym (many 4096)) lt)
+    ∙ ap (λ k. reply_text m k (replies_spelled (his m (all_lines (output setup events))))) (none_yet 4096 m)
+    ∙ ap (λ (l : List Outbound). reply_text m 0 (replies_spelled l)) (his_all m (output setup events))

@@ -15,7 +15,7 @@ use Rattle.hx_engine.specs.Journals.{lines}
 use Rattle.hx_engine.proofs.Records.{recorded}
 use Rattle.hx_recovery.proofs.Restored.{lines_restored}
 
--- one more record, and the text behind it
+-- one more record, and the text after it
 one_more : (events : List Event) (event : Event) (rest : List ℕ) → text_of (map record_of (events ++ event ∷ [])) ++ rest ≡ text_of (map record_of events) ++ (record_of event ++ 10 ∷ rest)
 one_more [] event rest = append_assoc (record_of event) (10 ∷ []) rest
 one_more (e ∷ events) event rest = append_assoc (record_of e) (10 ∷ text_of (map record_of (events ++ event ∷ []))) rest ∙ (ap (λ v. record_of e ++ 10 ∷ v) (one_more events event rest) ∙ sym (append_assoc (record_of e) (10 ∷ text_of (map record_of events)) (record_of event ++ 10 ∷ rest)))
@@ -33,14 +33,14 @@ are_lines (e ∷ events) = ((recorded e).0, are_lines events)
 pub tape_records : (events : List Event) (tape : List ℕ) (records : List (List ℕ)) → tape ≡ text_of (map record_of events) → lines_of tape ≡ records → records ≡ lines record_of (restored events)
 tape_records events tape records is read = sym read ∙ (ap lines_of is ∙ (lines_of-text (map record_of events) (are_lines events) ∙ sym (lines_restored events)))
 
--- an opened journal keeps the records of the events of its tape
-pub kept_as : {D : Type 0} (seen : D → List ℕ) (file head tape : List ℕ) (journal : LineFileState D) (events : List Event) → IsOpened seen file head tape journal → tape ≡ text_of (map record_of events) → records_of (stored seen journal) ≡ lines record_of (restored events)
-kept_as seen file head tape journal events opened is = opened.kept ∙ tape_records events tape (recovered file) is opened.records_are
+-- an opened journal holds the records of the events of its tape
+pub durable_as : {D : Type 0} (seen : D → List ℕ) (file head tape : List ℕ) (journal : LineFileState D) (events : List Event) → IsOpened seen file head tape journal → tape ≡ text_of (map record_of events) → records_of (stored seen journal) ≡ lines record_of (restored events)
+durable_as seen file head tape journal events opened is = opened.durable ∙ tape_records events tape (recovered file) is opened.records_are
 
 -- and has no others
 pub appended_as : {D : Type 0} (seen : D → List ℕ) (file head tape : List ℕ) (journal : LineFileState D) (events : List Event) → IsOpened seen file head tape journal → tape ≡ text_of (map record_of events) → records_of (appended seen journal) ≡ lines record_of (restored events)
 appended_as seen file head tape journal events opened is =
-    ap records_of (ap (λ w. stored seen journal ++ w) opened.waiting ∙ append-nil (stored seen journal)) ∙ kept_as seen file head tape journal events opened is
+    ap records_of (ap (λ w. stored seen journal ++ w) opened.waiting ∙ append-nil (stored seen journal)) ∙ durable_as seen file head tape journal events opened is
 
 -- the events are those of the records that recovery reads
 pub read_as : {D : Type 0} (seen : D → List ℕ) (file head tape : List ℕ) (journal : LineFileState D) (events : List Event) → IsOpened seen file head tape journal → tape ≡ text_of (map record_of events) → map record_of events ≡ recovered file

@@ -52,7 +52,7 @@ read_is_resumed left before = (
 
 -- ---- beginnings
 
--- where records begin with those of a history, the events that are read begin with its events
+-- if records begin with those of a history, the events that are read begin with its events
 pub events_begin : (history : List Entry) (left : List (List ℕ)) (before : List Event)
     → AreReadBack (events_of history) → IsPrefix (lines record_of history) left → AreReadFrom left before
     → IsPrefix (events_of history) before
@@ -65,7 +65,7 @@ events_begin (e ∷ history) (text ∷ left) (x ∷ before) back p read =
     let rest = events_begin history left before back.1 (p.0, cc (p.1)) read.1 in
     (rest.0, cc (first, rest.1))
 
--- where they are a beginning of those of a history, so are the events
+-- if they are a beginning of those of a history, so are the events
 pub events_begun : (left : List (List ℕ)) (before : List Event) (history : List Entry)
     → AreReadBack (events_of history) → IsPrefix left (lines record_of history) → AreReadFrom left before
     → IsPrefix before (events_of history)

@@ -23,7 +23,7 @@ use Rattle.hx_replay.proofs.Strikes.{recorded}
 use Rattle.hx_replay.proofs.Texts.{feed_texts, member_texts}
 use Rattle.hx_recovery.specs.Recovery.{AreReadBack}
 use Rattle.hx_recovery.specs.Served.{tape_of, IsReplayOf, ReplayIsSuch, TellsTheSame, feed_text, reply_text, ServedDayReplays, NoLineStops}
-use Rattle.hx_recovery.proofs.OutputLines.{feed_told, replies_told}
+use Rattle.hx_recovery.proofs.OutputLines.{feed_output, replies_output}
 use Rattle.hx_recovery.proofs.Telling.{replies_of_ledger}
 use Rattle.hx_recovery.proofs.NoBadLine.{first_ones, not_badly}
 
@@ -82,12 +82,12 @@ tells setup history output is = record {
   feed_lines =
       ap lines_of_feed is
       ∙ feed_texts (output_lines setup (events_of history))
-      ∙ feed_told setup (events_of history)
+      ∙ feed_output setup (events_of history)
       ∙ ap (feed_text 0) (sym (published_is setup history));
   member_lines = λ member low.
       ap (lines_with (of_member member)) is
       ∙ member_texts member low (output_lines setup (events_of history))
-      ∙ replies_told setup member (events_of history) low
+      ∙ replies_output setup member (events_of history) low
       ∙ ap (reply_text member 0) (sym (replies_of_ledger setup member history));
 }
 

@@ -1,4 +1,4 @@
--- The records of events that an exchange goes on from.
+-- The records of events that an exchange resumes from.
 use Rattle.std.proofs.Common.{◌≡◌, List, [], ◌∷◌, map, refl, ap}
 use Rattle.hx_rules.specs.declared.event.Event.{Event}
 use Rattle.hx_tape_lines.specs.Text.{record_of}

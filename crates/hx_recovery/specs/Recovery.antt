@@ -1,4 +1,4 @@
--- What an exchange tells that goes on from the records which a crash left.
+-- The output of an exchange that resumes from the records which a crash left.
 use Rattle.std.specs.Prelude.{◌≡◌, ◌↔◌, ℕ, false, List, [], ◌∷◌, ◌++◌}
 use Rattle.std.specs.List.{AllByRecursion}
 use mathlib.Core.List.{IsPrefix}
@@ -40,19 +40,19 @@ AreReadFrom (text ∷ texts) (event ∷ events) = IsLineOf text event × AreRead
 abbrev pub SentIsReadBack : Type 0
 SentIsReadBack = (event : Event) → CanBeSent event → IsReadBack event
 
--- An exchange may go on from events that were read from the records left: its journal keeps the
--- records of these events and no others. And events that are read back are read from their records.
+-- An exchange may resume from events that were read from the records left: its journal holds the records of these
+-- events and no others. And events that are read back are read from their records.
 abbrev pub ReadIsResumed : Type 0
 ReadIsResumed =
     (left : List (List ℕ)) (before : List Event)
     → AreReadFrom left before
     ↔ ((left ≡ lines record_of (restored before)) × AreReadBack before)
 
--- ---- what is told again
+-- ---- what is published again
 
--- A history tells again what was known, and only then more: its events, its feed message by
--- message, and the replies to each member begin with those that were known.
-pub record IsToldAgain (setup : Setup) (known : Entries Entry) (history : List Entry) : Type 0 where
+-- A history publishes again what was known, and only then more: its events, its feed message by message, and the
+-- replies to each member begin with those that were known.
+pub record IsPublishedAgain (setup : Setup) (known : Entries Entry) (history : List Entry) : Type 0 where
   pub same_events : IsPrefix (events_of (history_of known)) (events_of history)
   pub same_feed : IsPrefix (feed known) (feed (ledger setup history))
   pub same_replies :
@@ -66,34 +66,34 @@ pub record GoesOnFrom (known : Entries Entry) (before : List Event) : Type 0 whe
   pub covered : IsPrefix (lines record_of (history_of known)) left
   pub read : AreReadFrom left before
 
--- an exchange that goes on from these events tells all that was known again
-abbrev pub ToldAgainAtOnce : Type 0
-ToldAgainAtOnce =
+-- an exchange that resumes from these events publishes all that was known again
+abbrev pub PublishedAgainAtOnce : Type 0
+PublishedAgainAtOnce =
     (setup : Setup) (known : Entries Entry) (before : List Event)
     → IsWhole setup known
     → AreReadBack (events_of (history_of known))
     → GoesOnFrom known before
-    → IsToldAgain setup known (restored before)
+    → IsPublishedAgain setup known (restored before)
 
--- and so it does with whatever it records from then on
-abbrev pub ToldIsToldAgain : Type 0
-ToldIsToldAgain =
+-- and it still does so whatever it records from then on
+abbrev pub PublishedIsPublishedAgain : Type 0
+PublishedIsPublishedAgain =
     (setup : Setup) (known : Entries Entry) (before : List Event) (history : List Entry)
     → IsWhole setup known
     → AreReadBack (events_of (history_of known))
     → GoesOnFrom known before
     → IsPrefix (restored before) history
-    → IsToldAgain setup known history
+    → IsPublishedAgain setup known history
 
 -- ---- what a crash leaves
 
--- Also where a batch is being written: what is left begins with the records of what is told, and so
--- with those of what anybody knows.
+-- At any moment, also while a batch is written: what is left begins with the records of what is published, and so with
+-- those of what anybody knows.
 abbrev pub AtAnyMoment : Type 0
 AtAnyMoment =
-    (known : Entries Entry) (told : List Entry) (left most : List (List ℕ))
-    → IsPrefix (history_of known) told
-    → IsBetween (lines record_of told) left most
+    (known : Entries Entry) (output : List Entry) (left most : List (List ℕ))
+    → IsPrefix (history_of known) output
+    → IsBetween (lines record_of output) left most
     → IsPrefix (lines record_of (history_of known)) left
 
 -- A receipt for what a reader knows has its entries without their messages: what is left for the
@@ -104,26 +104,25 @@ VouchedIsCovered =
     → GoesOnFrom (unspoken (history_of known)) before
     → GoesOnFrom known before
 
--- The events are a beginning of the history's, the market accepts them where it accepts the
--- history, and all that an exchange tells which goes on from them is a beginning of what the
--- history tells.
+-- The events are a beginning of the history's, the market accepts them if it accepts the history, and all that an
+-- exchange publishes which resumes from them is a beginning of what the history publishes.
 pub record IsOfHistory (setup : Setup) (before : List Event) (history : List Entry) : Type 0 where
   pub begins : IsPrefix before (events_of history)
   pub accepted : AreRecorded setup (events_of history) → AreRecorded setup before
-  pub told : IsToldAgain setup (ledger setup (restored before)) history
+  pub output : IsPublishedAgain setup (ledger setup (restored before)) history
 
 -- so are events that were read from what a crash left of the records of a history
 abbrev pub LeftIsOfTheHistory : Type 0
 LeftIsOfTheHistory =
-    (setup : Setup) (kept left : List (List ℕ)) (before : List Event) (history : List Entry)
+    (setup : Setup) (durable left : List (List ℕ)) (before : List Event) (history : List Entry)
     → AreReadBack (events_of history)
-    → IsBetween kept left (lines record_of history)
+    → IsBetween durable left (lines record_of history)
     → AreReadFrom left before
     → IsOfHistory setup before history
 
 -- ---- quiet orders
 
--- the feed and each part of the replies to a member tell nothing of quiet chains
+-- the feed and each part of the replies to a member disclose nothing of quiet chains
 pub record HasNoTrace (setup : Setup) (history : List Entry) : Type 0 where
   pub in_feed : IsFeedWithoutTrace setup (events_of history) (feed (ledger setup history))
   pub in_replies :
@@ -137,9 +136,9 @@ QuietStaysQuiet =
     (setup : Setup) (before : List Event) (since : List Entry)
     → HasNoTrace setup (restored before ++ since)
 
--- What was known is a beginning of what is told without the messages of quiet chains: of the feed,
--- and of the replies to each member of whom no token is struck.
-pub record IsToldWithout
+-- What was known is a beginning of the output without the messages of quiet chains: of the feed, and of the replies to
+-- each member of whom no token is struck.
+pub record IsPublishedWithout
     (setup : Setup) (known : Entries Entry) (chosen : Choice) (events : List Event)
     : Type 0 where
   pub in_feed : IsPrefix (feed known) (feed_spelled (market.feed setup (strike chosen events)))
@@ -149,7 +148,7 @@ pub record IsToldWithout
       → IsPrefix (known_replies setup member known)
       (replies_spelled (market.replies setup member (strike chosen events)))
 
--- Also what was told before the crash tells nothing of chains that are quiet in the end.
+-- Also what was published before the crash discloses nothing of chains that are quiet in the end.
 abbrev pub NothingAcross : Type 0
 NothingAcross =
     (setup : Setup) (known : Entries Entry) (before : List Event) (history : List Entry)
@@ -159,4 +158,4 @@ NothingAcross =
     → GoesOnFrom known before
     → IsPrefix (restored before) history
     → AreQuietChains chosen (market.run setup (events_of history))
-    → IsToldWithout setup known chosen (events_of history)
+    → IsPublishedWithout setup known chosen (events_of history)

@@ -34,7 +34,7 @@ pub record IsReplayOf (setup : Setup) (text output : List ℕ) : Type 0 where
   pub text_is : tape entries ≡ text
   pub output_is : output ≡ output_all (start setup) entries
 
--- so is what the contract of `replay` says where it answers Ok, of a reader that has this text
+-- the contract of `replay` says so, if it answers Ok, of a reader that has this text
 abbrev pub ReplayIsSuch : Type 0
 ReplayIsSuch =
     (setup : Setup) (counts : Counts) (text : List ℕ) (left old new : Option (List ℕ))
@@ -56,9 +56,9 @@ reply_text member n (reply ∷ replies) =
     ++ (space ∷ (decimal (n + 1) ++ (space ∷ (encode_lower reply ++ line_feed ∷ []))))))
     ++ reply_text member (n + 1) replies
 
--- An output text tells what a history told, and nothing else: its lines of the feed, those that
--- begin with F, are the messages of the feed, and its lines to each member, those that begin with M
--- and his number, are the replies to him, each of them numbered from 1 on.
+-- An output text has the output of a history, and nothing else: its lines of the feed, those that begin with F, are the
+-- messages of the feed, and its lines to each member, those that begin with M and the member's number, are the replies
+-- to that member, each of them numbered from 1 on.
 pub record TellsTheSame (setup : Setup) (history : List Entry) (output : List ℕ) : Type 0 where
   pub all : output ≡ texts_of (output_lines setup (events_of history))
   pub feed_lines : lines_of_feed output ≡ feed_text 0 (feed (ledger setup history))
@@ -68,8 +68,8 @@ pub record TellsTheSame (setup : Setup) (history : List Entry) (output : List �
       → lines_with (of_member member) output
       ≡ reply_text member 0 (known_replies setup member (ledger setup history))
 
--- The tape of the records of a history that the market accepts is replayed, and whatever a replay
--- of it writes is what the history told.
+-- The tape of the records of a history that the market accepts is replayed, and whatever a replay of it writes is the
+-- output of the history.
 pub record IsReplayedAsServed (setup : Setup) (history : List Entry) : Type 0 where
   pub written : List ℕ
   pub is_taken : IsReplayOf setup (tape_of (lines record_of history)) written

@@ -1,4 +1,4 @@
-//! How a day goes on from its journal.
+//! How a day resumes from its journal.
 ghost use Rattle.std.specs.Prelude.{◌≡◌, map, true, IfOk};
 ghost use Rattle.hx_disk.specs.Calls.{seen_of};
 ghost use Rattle.hx_journal.specs.Files.{stored, appended};
@@ -16,7 +16,7 @@ use hx_text::split_once;
 use hx_units::NoMemory;
 use std::alloc::{AllocError, AllocFailed, Global};
 
-/// Why a day does not go on from a journal.
+/// Why a day does not resume from a journal.
 #[derive(Clone, Copy, Debug, PartialEq, Eq, Drop)]
 pub enum RecoveryError {
     /// The journal is not opened.
@@ -26,7 +26,7 @@ pub enum RecoveryError {
         /// Its number, counted from 1.
         record: u64,
     },
-    /// A growth was refused.
+    /// There is no memory for a growth.
     NoMemory,
 }
 
@@ -48,13 +48,13 @@ impl From<NoMemory> for RecoveryError {
     }
 }
 
-/// Is told how far the reading of a journal has come.
+/// An observer of the number of events that were read from a journal.
 pub trait Progress {
-    /// This number of events are read.
+    /// `events` events are read.
     fn reached(&self, events: u64);
 }
 
-/// Nobody looks at the reading of a journal.
+/// No observer.
 #[derive(Clone, Copy, Drop)]
 pub struct Unwatched;
 
@@ -87,9 +87,9 @@ fn read_events<P: Progress>(
     Ok(events)
 }
 
-/// The events of a tape whose lines are records, one from each, in their order. The progress is told of each.
+/// The events of a tape whose lines are records, one from each, in their order. `progress` is called for each.
 ///
-/// Errors: `NoEvent` where a line is none of an event, or the last one has no end; `NoMemory`.
+/// Errors: `NoEvent` if a line is none of an event, or the last one has no end; `NoMemory`.
 pub fn events_of<P: Progress>(
     alloc: Global,
     tape: &[u8],
@@ -103,17 +103,17 @@ pub fn events_of<P: Progress>(
     Ok(events)
 }
 
-// The record behind this number of events is none.
+// The record after the first `events` is no line of an event.
 fn no_event(events: usize) -> RecoveryError {
     RecoveryError::NoEvent {
         record: (events as u64).saturating_add(1),
     }
 }
 
-/// The journal of a file that has these bytes, all of them on the disk, and the events that it keeps: what an exchange
-/// goes on from. The progress is told of each event that is read.
+/// The journal of a file that has these bytes, all of them on the disk, and the events that it holds: what an exchange
+/// resumes from. `progress` is called for each event that is read.
 ///
-/// Errors: `Open` where the journal is not opened, `NoEvent` where a record is no line of an event, `NoMemory`.
+/// Errors: `Open` if the journal is not opened, `NoEvent` if a record is no line of an event, `NoMemory`.
 pub fn recover<F: RawFile + Drop, P: Progress>(
     alloc: Global,
     file: F,
@@ -124,12 +124,12 @@ pub fn recover<F: RawFile + Drop, P: Progress>(
     ensures appended { IfOk result (λ r.
         records_of (appended (λ d. seen_of d.log.events) r.journal)
         ≡ lines record_of (restored r.events.items)) }
-    ensures kept { IfOk result (λ r.
+    ensures durable { IfOk result (λ r.
         records_of (stored (λ d. seen_of d.log.events) r.journal)
         ≡ lines record_of (restored r.events.items)) }
     ensures is_open { IfOk result (λ r. r.journal.is_open ≡ true) }
 
-    // The events are those whose records the file keeps.
+    // The events are those whose records the file holds.
     ensures read { IfOk result (λ r. map record_of r.events.items ≡ recovered bytes.now) }
 {
     match FileJournal::open(alloc, Noted::opened(file, bytes), bytes, head) {

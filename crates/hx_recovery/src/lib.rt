@@ -1,5 +1,5 @@
-//! How a day goes on from its journal; and, over the definitions alone, what is told again after a crash, and by a replay
-//! of the day's tape.
+//! How a day resumes from its journal; and, over the definitions alone, what is published again after a crash, and by a
+//! replay of the day's tape.
 #![tactic(auto)]
 
 mod going_on;

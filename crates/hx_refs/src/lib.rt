@@ -11,16 +11,16 @@ use std::marker::Model;
 /// The reference numbers and match numbers drawn so far (ITCH 5.0: Order Reference Number and Match Number;
 /// OUCH 4.2 has the same numbers).
 ///
-/// A displayed order has a public reference, counted 1, 2, .. over the whole market. Any other order has a private
-/// one, above `2^63`, counted 1, 2, .. over its member's own: so a reference that is shown tells nothing of orders
-/// that are not.
+/// A displayed order has a public reference, counted 1, 2, .. over the whole market. Any other order has a private one,
+/// above `2^63`, counted 1, 2, .. over its member's own: so a reference that is shown reveals nothing of orders that
+/// are not.
 pub struct Refs {
     public: u64,
     private: Vec<u64>,
     matches: u64,
 }
 
-// By hand, so that where a value is dropped its owner's proof sees one call.
+// By hand, so that when a value is dropped its owner's proof sees one call.
 impl Drop for Refs {
     fn drop(self) {
         let Refs {

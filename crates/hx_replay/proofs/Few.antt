@@ -9,7 +9,7 @@ use Rattle.hx_tape_lines.specs.Text.{Entry}
 use Rattle.hx_replay.specs.Output.{counts_after}
 use Rattle.hx_tape_lines.specs.Events.{event_of}
 use Rattle.hx_replay.specs.Run.{Progress, IsFew, start, after}
-use Rattle.hx_replay.proofs.Told.{told_few}
+use Rattle.hx_replay.proofs.EventOutput.{output_few}
 
 pub raised-length : (xs : List ℕ) (i : ℕ) → length (raised xs i) ≡ length xs
 raised-length [] i = refl
@@ -36,14 +36,14 @@ counts-most counts (r ∷ rs) k =
 pub few-after : (p : Progress) (e : Entry) → IsFew p → IsFew (after p e)
 unfolding after
 few-after p e h =
-    let told = told_few p.setup p.market (event_of e) h.stocks h.members in
+    let output = output_few p.setup p.market (event_of e) h.stocks h.members in
     record {
       stocks = h.stocks;
       members = h.members;
-      feed = omega (arith, h.feed, told.feed);
-      replies = omega (arith, h.replies, told.replies);
-      numbered = counts-length p.counts (step p.setup p.market (event_of e)).told.replies ∙ h.numbered;
-      each = λ member. omega (arith, h.each member, counts-most p.counts (step p.setup p.market (event_of e)).told.replies member);
+      feed = omega (arith, h.feed, output.feed);
+      replies = omega (arith, h.replies, output.replies);
+      numbered = counts-length p.counts (step p.setup p.market (event_of e)).output.replies ∙ h.numbered;
+      each = λ member. omega (arith, h.each member, counts-most p.counts (step p.setup p.market (event_of e)).output.replies member);
     }
 
 zeros : (n k : ℕ) → slice_index (replicate n 0) k ≡ 0

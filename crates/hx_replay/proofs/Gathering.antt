@@ -7,7 +7,7 @@ use Rattle.std.proofs.Math.Seq.{take-append_seam}
 use Rattle.hx_text.specs.Cuts.{Lacks}
 use Rattle.hx_replay.specs.declared.fault.TapeError.{TapeError}
 use Rattle.hx_replay.specs.declared.fault.TapeError.TheVariants as fault
-use Rattle.hx_replay.specs.Run.{Progress, output_all, Plays, Replays, Stops, EndsBy, Faults, Writes, IsFront, IsFew}
+use Rattle.hx_replay.specs.Run.{Progress, output_all, Applies, Replays, Stops, EndsBy, Faults, Writes, IsFront, IsFew}
 use Rattle.hx_tape_lines.specs.Text.{tape}
 use Rattle.hx_replay.specs.Gathering.{Gathers, IsUnwritten}
 use Rattle.hx_replay.proofs.Runs.{grows, stops_at_line, events_counted, few_all, length-tape}
@@ -19,13 +19,13 @@ front_itself xs = ([], sym (append-nil xs))
 
 -- ---- lines that are gathered
 
--- nothing is played yet
+-- nothing is applied yet
 pub gathers_none : (c : Progress) (text gathered : List ℕ) (w : Option (List ℕ)) → gathered ≡ [] → Gathers c c text w w gathered text
 gathers_none c text gathered w none = record { events = []; are_events = tt; text_is = refl; after_is = refl; written = []; wrote = Appends-nil w; output_is = sym none }
 
 -- one line more
 pub gathers_more : (c d d' : Progress) (text : List ℕ) (w v : Option (List ℕ)) (gathered rest l others more : List ℕ) → Gathers c d text w v gathered rest → rest ≡ l ++ 10 ∷ others
-    → ((output : List ℕ) × Plays d d' l output × (more ≡ gathered ++ output)) → Gathers c d' text w v more others
+    → ((written : List ℕ) × Applies d d' l written × (more ≡ gathered ++ written)) → Gathers c d' text w v more others
 gathers_more c d d' text w v gathered rest l others more h cut p =
     let g = grows c d d' text h.events rest l p.0 others h.are_events h.text_is h.after_is cut p.1 in
     record {
@@ -80,19 +80,19 @@ stops_gathering c d text w v u gathered rest e h some is =
     ]
 
 -- the same at a line that fails: the output before it is written, or not
-pub stops_behind : (c d : Progress) (text : List ℕ) (w v u : Option (List ℕ)) (gathered told rest l others : List ℕ) (e : TapeError) → Gathers c d text w v gathered rest → rest ≡ l ++ 10 ∷ others → Lacks 10 l → Faults d l e → told ≡ gathered → Appends v u told
+pub stops_after : (c d : Progress) (text : List ℕ) (w v u : Option (List ℕ)) (gathered output rest l others : List ℕ) (e : TapeError) → Gathers c d text w v gathered rest → rest ≡ l ++ 10 ∷ others → Lacks 10 l → Faults d l e → output ≡ gathered → Appends v u output
     → Stops ⊥ c text w u e
-stops_behind c d text w v u gathered told rest l others e h cut lacks fails same wrote =
+stops_after c d text w v u gathered output rest l others e h cut lacks fails same wrote =
     stops_at_line c d text w u rest l others e (all_written c d text w v u gathered rest h (subst (Appends v u) same wrote)) cut lacks fails
 
 -- the writer has all, and fails to send it out
 pub stops_sending : (c d : Progress) (text : List ℕ) (w v u : Option (List ℕ)) (rest : List ℕ) → Replays c d text w v rest → Keeps v u → Stops ⊥ c text w u fault.Write
-stops_sending c d text w v u rest h kept = record {
+stops_sending c d text w v u rest h retained = record {
   events = h.events;
   are_events = h.are_events;
   rest = rest;
   text_is = h.text_is;
   written = output_all c h.events;
-  wrote = Appends-kept w v u (output_all c h.events) h.wrote kept;
+  wrote = Appends-kept w v u (output_all c h.events) h.wrote retained;
   why = front_itself (output_all c h.events);
 }

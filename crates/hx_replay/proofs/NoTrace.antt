@@ -7,8 +7,8 @@ use Rattle.hx_itch.specs.declared.message.Feed.{Feed}
 use Rattle.hx_members.specs.Setups.{Setup}
 use Rattle.hx_refs.specs.Numbers.{raised}
 use Rattle.hx_rules.specs.declared.event.Event.{Event}
-use Rattle.hx_market.specs.Outputs.{Reply, Told}
-use Rattle.hx_market.specs.Steps.{run, told}
+use Rattle.hx_market.specs.Outputs.{Reply, EventOutput}
+use Rattle.hx_market.specs.Steps.{run, output}
 use Rattle.hx_market.specs.QuietChains.{Choice, Line, is_quiet, quiet_of_one, quiet_but_one, reply_lines, lines_of_all, all_but, strike, strike_one, strike_all, strike_but}
 use Rattle.hx_market.specs.QuietChains.Line.{ToFeed, ToMember}
 use Rattle.hx_laws.specs.Laws.{AreQuietChains, IsUnknownTo, listed}
@@ -16,15 +16,15 @@ use Rattle.hx_laws.proofs.History.EventMoves.{coherent_run}
 use Rattle.hx_laws.proofs.Quiet.StruckRuns.{quiet_chains}
 use Rattle.hx_laws.proofs.Quiet.StruckChoices.{among_quiet, listed_is_choice, quiet_is_choice}
 use Rattle.hx_tape_lines.specs.Text.{Entry}
-use Rattle.hx_replay.specs.Output.{feed_lines, counts_after, told_lines}
-use Rattle.hx_replay.specs.Output as output
+use Rattle.hx_replay.specs.Output.{feed_lines, counts_after, outputs_lines}
+use Rattle.hx_replay.specs.Output as output_texts
 use Rattle.hx_tape_lines.specs.Events.{event_of}
 use Rattle.hx_replay.specs.Run.{start, output_all}
 use Rattle.hx_replay.specs.Seen.{Numbered}
 use Rattle.hx_replay.specs.Seen.Numbered.{OfFeed, OfMember}
 use Rattle.hx_replay.specs.Seen.{texts_of, numbered, output_lines, not_to, is_to, LeavesNoTrace}
 use Rattle.hx_replay.specs.Quiet.{is_of_feed, TellsNothing}
-use Rattle.hx_replay.proofs.OutputIsTold.{output_is_told}
+use Rattle.hx_replay.proofs.OutputIsOfEvents.{output_is_of_events}
 use Rattle.hx_replay.proofs.Few.{raised-length}
 
 -- The text of the lines.
@@ -32,7 +32,7 @@ use Rattle.hx_replay.proofs.Few.{raised-length}
 of_feed : (n : ℕ) (counts : List ℕ) (feed : List Feed) (more : List Line) → texts_of (numbered n counts (map ToFeed feed ++ more)) ≡ feed_lines n feed ++ texts_of (numbered (n + length feed) counts more)
 of_feed n counts [] more = ap (λ k. texts_of (numbered k counts more)) (let z : n ≡ n + 0 = omega arith in z)
 of_feed n counts (message ∷ feed) more =
-    let line = output.feed_line (n + 1) message in
+    let line = output_texts.feed_line (n + 1) message in
     ap (λ (x : List ℕ). line ++ x) (of_feed (n + 1) counts feed more)
     ∙ sym (append_assoc line (feed_lines (n + 1) feed) (texts_of (numbered (n + 1 + length feed) counts more)))
     ∙ ap (λ k. (line ++ feed_lines (n + 1) feed) ++ texts_of (numbered k counts more)) (next n (length feed))
@@ -41,26 +41,26 @@ of_feed n counts (message ∷ feed) more =
     next n k = omega arith
 
 of_replies : (n : ℕ) (counts : List ℕ) (rs : List Reply) (more : List Line)
-    → texts_of (numbered n counts (reply_lines (λ member. true) rs ++ more)) ≡ output.reply_lines counts rs ++ texts_of (numbered n (counts_after counts rs) more)
+    → texts_of (numbered n counts (reply_lines (λ member. true) rs ++ more)) ≡ output_texts.reply_lines counts rs ++ texts_of (numbered n (counts_after counts rs) more)
 of_replies n counts [] more = refl
 of_replies n counts (r ∷ rs) more =
-    let line = output.reply_line r.0 (slice_index counts r.0 + 1) r.1 in
+    let line = output_texts.reply_line r.0 (slice_index counts r.0 + 1) r.1 in
     ap (λ (x : List ℕ). line ++ x) (of_replies n (raised counts r.0) rs more)
-    ∙ sym (append_assoc line (output.reply_lines (raised counts r.0) rs) (texts_of (numbered n (counts_after (raised counts r.0) rs) more)))
+    ∙ sym (append_assoc line (output_texts.reply_lines (raised counts r.0) rs) (texts_of (numbered n (counts_after (raised counts r.0) rs) more)))
 
-of_told : (n : ℕ) (counts : List ℕ) (ts : List Told) → told_lines n counts ts ≡ texts_of (numbered n counts (lines_of_all (λ member. true) ts))
-of_told n counts [] = refl
-of_told n counts (t ∷ ts) =
+of_output : (n : ℕ) (counts : List ℕ) (ts : List EventOutput) → outputs_lines n counts ts ≡ texts_of (numbered n counts (lines_of_all (λ member. true) ts))
+of_output n counts [] = refl
+of_output n counts (t ∷ ts) =
     let all = lines_of_all (λ member. true) ts in
     let replies = reply_lines (λ member. true) t.replies in
     let after = texts_of (numbered (n + length t.feed) (counts_after counts t.replies) all) in
-    ap (λ (x : List ℕ). (feed_lines n t.feed ++ output.reply_lines counts t.replies) ++ x) (of_told (n + length t.feed) (counts_after counts t.replies) ts)
-    ∙ append_assoc (feed_lines n t.feed) (output.reply_lines counts t.replies) after
+    ap (λ (x : List ℕ). (feed_lines n t.feed ++ output_texts.reply_lines counts t.replies) ++ x) (of_output (n + length t.feed) (counts_after counts t.replies) ts)
+    ∙ append_assoc (feed_lines n t.feed) (output_texts.reply_lines counts t.replies) after
     ∙ ap (λ (x : List ℕ). feed_lines n t.feed ++ x) (sym (of_replies (n + length t.feed) counts t.replies all))
     ∙ sym (of_feed n counts t.feed (replies ++ all))
     ∙ ap (λ (x : List Line). texts_of (numbered n counts x)) (sym (append_assoc (map ToFeed t.feed) replies all))
 
--- The lines that those get who may look.
+-- The lines for the members that may look.
 
 other-raised : (xs : List ℕ) (i k : ℕ) → (i ≡ k → ⊥) → slice_index (raised xs i) k ≡ slice_index xs k
 other-raised [] i k h = refl
@@ -69,12 +69,12 @@ other-raised (x ∷ xs) zero (suc k) h = refl
 other-raised (x ∷ xs) (suc i) zero h = refl
 other-raised (x ∷ xs) (suc i) (suc k) h = other-raised xs i k (λ e. h (ap (λ n. suc n) e))
 
--- counts of as many members, the same of those who may look
+-- counts of the same number of members, equal for those that may look
 record AreLike (look : ℕ → Bool) (cs ds : List ℕ) : Type 0 where
   many : length cs ≡ length ds
   each : (k : ℕ) → look k ≡ true → slice_index cs k ≡ slice_index ds k
 
--- one more of one who may not
+-- one more of a member that may not look
 like_left : (look : ℕ → Bool) (i : ℕ) (cs ds : List ℕ) → look i ≡ false → AreLike look cs ds → AreLike look (raised cs i) ds
 like_left look i cs ds e h = record {
   many = raised-length cs i ∙ h.many;
@@ -90,7 +90,7 @@ raised-like (x ∷ xs) (y ∷ ys) zero (suc k) l h g = g
 raised-like (x ∷ xs) (y ∷ ys) (suc i) zero l h g = g
 raised-like (x ∷ xs) (y ∷ ys) (suc i) (suc k) l h g = raised-like xs ys i k (let z : suc (length xs) ≡ suc (length ys) = l in omega arith) h g
 
--- one more of one who may look, in both
+-- one more of a member that may look, in both
 like_both : (look : ℕ → Bool) (i : ℕ) (cs ds : List ℕ) → look i ≡ true → AreLike look cs ds → AreLike look (raised cs i) (raised ds i)
 like_both look i cs ds e h = record {
   many = raised-length cs i ∙ h.many ∙ sym (raised-length ds i);
@@ -107,7 +107,7 @@ abbrev visible : (ℕ → Bool) → Numbered → Bool
 visible look (OfFeed number message) = true
 visible look (OfMember member number reply) = look member
 
--- they keep their numbers
+-- their numbers stay
 visible_numbered : (look : ℕ → Bool) (n : ℕ) (cs ds : List ℕ) (lines : List Line) → AreLike look cs ds → filter (visible look) (numbered n cs lines) ≡ numbered n ds (filter (may_see look) lines)
 visible_numbered look n cs ds [] h = refl
 visible_numbered look n cs ds (ToFeed message ∷ lines) h = ap (λ (x : List Numbered). OfFeed (n + 1) message ∷ x) (visible_numbered look (n + 1) cs ds lines h)
@@ -142,7 +142,7 @@ see_replies look (r ∷ rs) = at (look r.0) (see_replies look rs)
     at true h = ap (λ (l : List Line). ToMember r.0 r.1 ∷ l) h
     at false h = h
 
-see_all : (look : ℕ → Bool) (ts : List Told) → filter (may_see look) (lines_of_all (λ member. true) ts) ≡ lines_of_all look ts
+see_all : (look : ℕ → Bool) (ts : List EventOutput) → filter (may_see look) (lines_of_all (λ member. true) ts) ≡ lines_of_all look ts
 see_all look [] = refl
 see_all look (t ∷ ts) =
     let feed = map ToFeed t.feed in
@@ -153,12 +153,12 @@ see_all look (t ∷ ts) =
     ∙ ap (λ (l : List Line). (feed ++ l) ++ filter (may_see look) (lines_of_all (λ member. true) ts)) (see_replies look t.replies)
     ∙ ap (λ (l : List Line). (feed ++ reply_lines look t.replies) ++ l) (see_all look ts)
 
--- what those get who may look is what they see, numbered
-visible_seen : (look : ℕ → Bool) (setup : Setup) (events : List Event) → filter (visible look) (output_lines setup events) ≡ numbered 0 (replicate 4096 0) (lines_of_all look (told setup events))
+-- the lines for the members that may look are what they see, numbered
+visible_seen : (look : ℕ → Bool) (setup : Setup) (events : List Event) → filter (visible look) (output_lines setup events) ≡ numbered 0 (replicate 4096 0) (lines_of_all look (output setup events))
 unfolding output_lines
 visible_seen look setup events =
-    visible_numbered look 0 (replicate 4096 0) (replicate 4096 0) (lines_of_all (λ member. true) (told setup events)) (record { many = refl; each = λ k e. refl })
-    ∙ ap (λ (l : List Line). numbered 0 (replicate 4096 0) l) (see_all look (told setup events))
+    visible_numbered look 0 (replicate 4096 0) (replicate 4096 0) (lines_of_all (λ member. true) (output setup events)) (record { many = refl; each = λ k e. refl })
+    ∙ ap (λ (l : List Line). numbered 0 (replicate 4096 0) l) (see_all look (output setup events))
 
 -- striking whole quiet chains leaves what those get of whom none is struck
 any_choice : (setup : Setup) (events : List Event) (chosen : Choice) (look : ℕ → Bool) → AreQuietChains chosen (run setup events) → IsUnknownTo look chosen
@@ -213,7 +213,7 @@ tells_nothing setup events =
 
 pub texts_are : (setup : Setup) (es : List Entry) → output_all (start setup) es ≡ texts_of (output_lines setup (map event_of es))
 unfolding output_lines
-texts_are setup es = output_is_told setup es ∙ of_told 0 (replicate 4096 0) (told setup (map event_of es))
+texts_are setup es = output_is_of_events setup es ∙ of_output 0 (replicate 4096 0) (output setup (map event_of es))
 
 others_see : (setup : Setup) (events : List Event) (m : ℕ) → not_to m (output_lines setup events) ≡ not_to m (output_lines setup (strike_one setup m events))
 unfolding strike_one quiet_of_one

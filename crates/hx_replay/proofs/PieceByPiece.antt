@@ -23,7 +23,7 @@ pub record SoFar (setup : Setup) (r s w v : Option (List ℕ)) (counts : Progres
   pub is_setup : IsSetup setup
   pub text : List ℕ
   pub read : Consumes r s text
-  pub plays : Replays (start setup) counts text w v pending
+  pub applies : Replays (start setup) counts text w v pending
   pub no_feed : Lacks 10 pending
   pub fits : length pending ≤ longest_line
 
@@ -78,7 +78,7 @@ stops_then End b c text pending piece w v u e p q = record {
 -- ---- the loop
 
 pub so_far_none : (setup : Setup) (r w : Option (List ℕ)) → IsSetup setup → SoFar setup r r w w (start setup) []
-so_far_none setup r w i = record { is_setup = i; text = []; read = Consumes-nil r; plays = replays_none (start setup) [] w; no_feed = λ k d below. absurd (omega arith); fits = omega arith }
+so_far_none setup r w i = record { is_setup = i; text = []; read = Consumes-nil r; applies = replays_none (start setup) [] w; no_feed = λ k d below. absurd (omega arith); fits = omega arith }
 
 -- the same over an equal setup
 pub starts_so : (setup copied : Setup) (c : Progress) (pending : List ℕ) (r w : Option (List ℕ)) → copied ≡ setup → IsSetup setup → c ≡ start copied → pending ≡ [] → SoFar setup r r w w c pending
@@ -89,11 +89,11 @@ starts_so setup copied c pending r w copy i is none =
 -- a piece more, of which this is pending
 pub so_far_more : (setup : Setup) (r s s' w v u : Option (List ℕ)) (c c' : Progress) (pending piece pending' : List ℕ) → SoFar setup r s w v c pending → Consumes s s' piece
     → Replays c c' (pending ++ piece) v u pending' → Lacks 10 pending' → length pending' ≤ longest_line → SoFar setup r s' w u c' pending'
-so_far_more setup r s s' w v u c c' pending piece pending' h took plays none fits = record {
+so_far_more setup r s s' w v u c c' pending piece pending' h took applies none fits = record {
   is_setup = h.is_setup;
   text = h.text ++ piece;
   read = Consumes-trans r s s' h.text piece h.read took;
-  plays = replays_then (start setup) c c' h.text pending piece pending' w v u h.plays plays;
+  applies = replays_then (start setup) c c' h.text pending piece pending' w v u h.applies applies;
   no_feed = none;
   fits = fits;
 }
@@ -101,11 +101,11 @@ so_far_more setup r s s' w v u c c' pending piece pending' h took plays none fit
 -- how large the counts are
 pub so_far_counts : (setup : Setup) (r s w v : Option (List ℕ)) (c : Progress) (pending : List ℕ) → SoFar setup r s w v c pending → IsFew c
 unfolding start
-so_far_counts setup r s w v c pending h = (replays_counts (start setup) c h.text w v pending h.plays (few-start setup h.is_setup)).1
+so_far_counts setup r s w v c pending h = (replays_counts (start setup) c h.text w v pending h.applies (few-start setup h.is_setup)).1
 
 pub stops_in_piece : (setup : Setup) (r s s' w v u : Option (List ℕ)) (c : Progress) (pending piece : List ℕ) (e : TapeError) → SoFar setup r s w v c pending → Consumes s s' piece → Stops ⊥ c (pending ++ piece) v u e → StopsAt setup e r s' w u
 stops_in_piece setup r s s' w v u c pending piece e h took stops =
-    let all : Stops (IsAtEnd s') (start setup) (h.text ++ piece) w u e = stops_then (IsAtEnd s') (start setup) c h.text pending piece w v u e h.plays stops in
+    let all : Stops (IsAtEnd s') (start setup) (h.text ++ piece) w u e = stops_then (IsAtEnd s') (start setup) c h.text pending piece w v u e h.applies stops in
     record {
       text = h.text ++ piece;
       read = Consumes-trans r s s' h.text piece h.read took;
@@ -115,20 +115,20 @@ stops_in_piece setup r s s' w v u c pending piece e h took stops =
       texts = texts_tell_nothing setup all.events all.are_events;
     }
 
--- the bytes behind the last whole line are the last ones
+-- the bytes after the last whole line are the last ones
 pub rest_of : (c c' : Progress) (text : List ℕ) (v u : Option (List ℕ)) (rest : List ℕ) → Replays c c' text v u rest → drop (length text - length rest) text ≡ rest
 rest_of c c' text v u rest h =
     let lines = tape h.events in
     let size : length text - length rest ≡ length lines = omega (arith, ap length h.text_is, length-append lines rest) in
     ap (λ k. drop k text) size ∙ ap (λ (l : List ℕ). drop (length lines) l) h.text_is ∙ drop-append_seam lines rest
 
--- the lines of a piece are played, and this is kept
-pub so_far_played : (setup : Setup) (r s s' w v u : Option (List ℕ)) (c c' : Progress) (pending piece text rest kept : List ℕ) → SoFar setup r s w v c pending → Consumes s s' piece → text ≡ pending ++ piece
-    → Replays c c' text v u rest → Lacks 10 rest → length rest ≤ longest_line → kept ≡ drop (length text - length rest) text → SoFar setup r s' w u c' kept
-so_far_played setup r s s' w v u c c' pending piece text rest kept h took is plays none fits keeps =
-    let same : kept ≡ rest = keeps ∙ rest_of c c' text v u rest plays in
-    let played : Replays c c' (pending ++ piece) v u rest = subst (λ (t : List ℕ). Replays c c' t v u rest) is plays in
-    rw same (so_far_more setup r s s' w v u c c' pending piece rest h took played none fits)
+-- the lines of a piece are applied, and this text is retained
+pub so_far_applied : (setup : Setup) (r s s' w v u : Option (List ℕ)) (c c' : Progress) (pending piece text rest retained : List ℕ) → SoFar setup r s w v c pending → Consumes s s' piece → text ≡ pending ++ piece
+    → Replays c c' text v u rest → Lacks 10 rest → length rest ≤ longest_line → retained ≡ drop (length text - length rest) text → SoFar setup r s' w u c' retained
+so_far_applied setup r s s' w v u c c' pending piece text rest retained h took is applies none fits keeps =
+    let same : retained ≡ rest = keeps ∙ rest_of c c' text v u rest applies in
+    let applied : Replays c c' (pending ++ piece) v u rest = subst (λ (t : List ℕ). Replays c c' t v u rest) is applies in
+    rw same (so_far_more setup r s s' w v u c c' pending piece rest h took applied none fits)
 
 -- a line of a piece fails
 pub stops_in_text : (setup : Setup) (r s s' w v u : Option (List ℕ)) (c : Progress) (pending piece text : List ℕ) (e : TapeError) → SoFar setup r s w v c pending → Consumes s s' piece → text ≡ pending ++ piece → Stops ⊥ c text v u e → StopsAt setup e r s' w u
@@ -138,22 +138,22 @@ stops_in_text setup r s s' w v u c pending piece text e h took is stops =
 -- more bytes than those of a line lack a line feed
 pub stops_long : (setup : Setup) (r s s' w v u : Option (List ℕ)) (c c' : Progress) (pending piece text rest : List ℕ) → SoFar setup r s w v c pending → Consumes s s' piece → text ≡ pending ++ piece
     → Replays c c' text v u rest → Lacks 10 rest → longest_line < length rest → StopsAt setup (fault.Line (c'.events + 1) kinds.Bad) r s' w u
-stops_long setup r s s' w v u c c' pending piece text rest h took is plays none long =
-    stops_in_text setup r s s' w v u c pending piece text (fault.Line (c'.events + 1) kinds.Bad) h took is (stops_at_rest ⊥ c c' text v u rest plays none (inl long))
+stops_long setup r s s' w v u c c' pending piece text rest h took is applies none long =
+    stops_in_text setup r s s' w v u c pending piece text (fault.Line (c'.events + 1) kinds.Bad) h took is (stops_at_rest ⊥ c c' text v u rest applies none (inl long))
 
 stops_between : (setup : Setup) (e : TapeError) (r s s' w v : Option (List ℕ)) (c : Progress) (pending : List ℕ) → ((events : List Entry) → EndsBy (IsAtEnd s') (start setup) events pending (output_all (start setup) events) e) → SoFar setup r s w v c pending
     → Keeps s s' → StopsAt setup e r s' w v
-stops_between setup e r s s' w v c pending why h kept = record {
+stops_between setup e r s s' w v c pending why h retained = record {
   text = h.text;
-  read = Consumes-kept r s s' h.text h.read kept;
-  stops = record { events = h.plays.events; are_events = h.plays.are_events; rest = pending; text_is = h.plays.text_is; written = output_all (start setup) h.plays.events; wrote = h.plays.wrote; why = why h.plays.events };
-  no_trace = no_trace setup h.plays.events;
+  read = Consumes-kept r s s' h.text h.read retained;
+  stops = record { events = h.applies.events; are_events = h.applies.are_events; rest = pending; text_is = h.applies.text_is; written = output_all (start setup) h.applies.events; wrote = h.applies.wrote; why = why h.applies.events };
+  no_trace = no_trace setup h.applies.events;
   tells_nothing = tells_nothing setup _;
-  texts = texts_tell_nothing setup h.plays.events h.plays.are_events;
+  texts = texts_tell_nothing setup h.applies.events h.applies.are_events;
 }
 
 pub stops_in_read : (setup : Setup) (r s s' w v : Option (List ℕ)) (c : Progress) (pending : List ℕ) → SoFar setup r s w v c pending → Keeps s s' → StopsAt setup fault.Read r s' w v
-stops_in_read setup r s s' w v c pending h kept = stops_between setup fault.Read r s s' w v c pending (λ _. (refl, h.no_feed)) h kept
+stops_in_read setup r s s' w v c pending h retained = stops_between setup fault.Read r s s' w v c pending (λ _. (refl, h.no_feed)) h retained
 
 pub stops_after_turns : (setup : Setup) (r s w v : Option (List ℕ)) (c : Progress) (pending : List ℕ) → SoFar setup r s w v c pending → StopsAt setup fault.Turns r s w v
 stops_after_turns setup r s w v c pending h = stops_between setup fault.Turns r s s w v c pending (λ _. (refl, h.no_feed)) h (Keeps-refl s)
@@ -176,22 +176,22 @@ read_on r s s' text p q = subst (Consumes r s') (append-nil text) (Consumes-tran
 
 pub ends_well : (setup : Setup) (r s s' w v : Option (List ℕ)) (c : Progress) (pending : List ℕ) → SoFar setup r s w v c pending → Consumes s s' [] → IsAtEnd s' → length pending ≡ 0 → ReplaysAll setup (counts_of c) r s' w v
 ends_well setup r s s' w v c pending h took end empty =
-    let whole : h.text ≡ tape h.plays.events = h.plays.text_is ∙ ap (λ (x : List ℕ). tape h.plays.events ++ x) (nil_from_length pending empty) ∙ append-nil (tape h.plays.events) in
+    let whole : h.text ≡ tape h.applies.events = h.applies.text_is ∙ ap (λ (x : List ℕ). tape h.applies.events ++ x) (nil_from_length pending empty) ∙ append-nil (tape h.applies.events) in
     record {
-      events = h.plays.events;
-      are_events = h.plays.are_events;
+      events = h.applies.events;
+      are_events = h.applies.are_events;
       read = subst (Consumes r s') whole (read_on r s s' h.text h.read took);
       at_end = end;
-      counts_are = ap counts_of h.plays.after_is;
-      wrote = h.plays.wrote;
-      no_trace = no_trace setup h.plays.events;
+      counts_are = ap counts_of h.applies.after_is;
+      wrote = h.applies.wrote;
+      no_trace = no_trace setup h.applies.events;
       tells_nothing = tells_nothing setup _;
-      texts = texts_tell_nothing setup h.plays.events h.plays.are_events;
+      texts = texts_tell_nothing setup h.applies.events h.applies.are_events;
     }
 
 pub ends_in_line : (setup : Setup) (r s s' w v : Option (List ℕ)) (c : Progress) (pending : List ℕ) → SoFar setup r s w v c pending → Consumes s s' [] → IsAtEnd s' → 0 < length pending → StopsAt setup (fault.Line (c.events + 1) kinds.Bad) r s' w v
 ends_in_line setup r s s' w v c pending h took end some =
-    let all : Stops (IsAtEnd s') (start setup) h.text w v (fault.Line (c.events + 1) kinds.Bad) = stops_at_rest (IsAtEnd s') (start setup) c h.text w v pending h.plays h.no_feed (inr (some, end)) in
+    let all : Stops (IsAtEnd s') (start setup) h.text w v (fault.Line (c.events + 1) kinds.Bad) = stops_at_rest (IsAtEnd s') (start setup) c h.text w v pending h.applies h.no_feed (inr (some, end)) in
     record {
       text = h.text;
       read = read_on r s s' h.text h.read took;
@@ -201,7 +201,7 @@ ends_in_line setup r s s' w v c pending h took end some =
       texts = texts_tell_nothing setup all.events all.are_events;
     }
 
--- a read of nothing, which had room
+-- a read of nothing, into a buffer that was not full
 pub at_end_after : (s s' : Option (List ℕ)) (n : ℕ) (buf : List ℕ) → n ≡ 0 → 0 < length buf → Consumes s s' (take n buf) × (n ≡ 0 → 0 < length buf → IsAtEnd s') → Consumes s s' [] × IsAtEnd s'
 at_end_after s s' n buf none room h =
     let Took : ℕ → Type 0 = λ k. Consumes s s' (take k buf) in

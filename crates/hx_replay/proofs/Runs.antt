@@ -8,7 +8,7 @@ use Rattle.hx_replay.specs.declared.fault.TapeError.TheVariants as fault
 use Rattle.hx_tape_lines.specs.declared.fault.Kind.TheVariants as kinds
 use Rattle.hx_text.specs.Cuts.{Lacks}
 use Rattle.hx_tape_lines.specs.Text.{Entry, line, tape}
-use Rattle.hx_replay.specs.Run.{Progress, output_of, after, IsEvent, AreEvents, after_all, output_all, Plays, Replays, Stops, EndsBy, Faults, FailsAs, IsFew}
+use Rattle.hx_replay.specs.Run.{Progress, output_of, after, IsEvent, AreEvents, after_all, output_all, Applies, Replays, Stops, EndsBy, Faults, FailsAs, IsFew}
 use Rattle.hx_replay.proofs.Few.{few-after}
 
 -- ---- one list of events after another
@@ -60,7 +60,7 @@ pub record Grown (c d' : Progress) (text : List ℕ) (es : List Entry) (e : Entr
   pub output_is : output_all c (es ++ e ∷ []) ≡ output_all c es ++ output
 
 pub grows : (c d d' : Progress) (text : List ℕ) (es : List Entry) (rest l output others : List ℕ) → AreEvents c es → text ≡ tape es ++ rest → d ≡ after_all c es → rest ≡ l ++ 10 ∷ others
-    → (p : Plays d d' l output) → Grown c d' text es p.entry output others
+    → (p : Applies d d' l output) → Grown c d' text es p.entry output others
 grows c d d' text es rest l output others are text_is after_is cut p =
     let e = p.entry in
     let last : tape (e ∷ []) ≡ l ++ 10 ∷ [] = flat_map-cons (λ x. line x ++ 10 ∷ []) e [] ∙ append-nil (line e ++ 10 ∷ []) ∙ ap (λ (x : List ℕ). x ++ 10 ∷ []) (sym p.is_line) in

@@ -1,4 +1,4 @@
--- What is told, spelled line by line and written.
+-- Output, spelled line by line and written.
 use Rattle.std.proofs.Common.{◌≡◌, ℕ, ◌+◌, ◌<◌, ◌≤◌, List, [], ◌∷◌, ◌++◌, length, drop, get_or, Option, sym, ap, ◌∙◌, subst, append_assoc, add-one, drop-cons, length-drop, arith}
 use Rattle.std.specs.Io.KnownBytes.{Appends}
 use Rattle.std.proofs.KnownBytes.{Appends-nil, Appends-trans}
@@ -17,14 +17,14 @@ writes_then a b c bytes rest left h k = record {
   wrote = Appends-trans a b c h.front k.front h.wrote k.wrote;
 }
 
--- all of a text is written behind a front of it
+-- all of a text is written after a front of it
 pub writes_whole : (a b c : Option (List ℕ)) (bytes rest : List ℕ) → Writes a b bytes rest → Appends b c rest → Appends a c bytes
 writes_whole a b c bytes rest h more = subst (Appends a c) (sym h.bytes_are) (Appends-trans a b c h.front rest h.wrote more)
 
 pub writes_from : (a b : Option (List ℕ)) (bytes : List ℕ) → Appends a b bytes → Writes a b bytes []
 writes_from a b bytes h = record { front = bytes; bytes_are = sym (append-nil bytes); wrote = h }
 
--- of all these lines this text is left, and that before it is written but for what is spelled
+-- of all these lines this text is left, and the text before it is written except for the spelled part
 pub record IsSpelled (w v : Option (List ℕ)) (all left spelled : List ℕ) : Type 0 where
   pub wrote : Writes w v all (spelled ++ left)
 
@@ -45,13 +45,13 @@ spelled_less w v u all left spelled rest h some = record {
       });
 }
 
--- the mark at a place is the first of those from there on
+-- the mark at an index is the first of those from there on
 pub mark_first : (xs : List Mark) (i : ℕ) (x : Mark) → i < length xs → drop i xs ≡ get_or xs i x ∷ drop (i + 1) xs
 mark_first xs i x below = rw add-one (drop-cons xs i x below)
 
 -- no mark is left
 pub spelled_all : (w v : Option (List ℕ)) (all : List ℕ) (marks : List Mark) (i : ℕ) (feed : List Feed) (replies : List Reply) (spelled : List ℕ)
     → length marks ≤ i → IsSpelled w v all (texts_of (lines_of (drop i marks) feed replies)) spelled → Writes w v all spelled
-spelled_all w v all marks i feed replies spelled behind h =
+spelled_all w v all marks i feed replies spelled after h =
     let none : drop i marks ≡ [] = nil_from_length (drop i marks) (omega (arith, length-drop i marks)) in
     subst (Writes w v all) (ap (λ (l : List Mark). spelled ++ texts_of (lines_of l feed replies)) none ∙ append-nil spelled) h.wrote

@@ -14,8 +14,8 @@ use Rattle.hx_tape_lines.specs.Events.{event_of, is_unknown, IsKnown}
 use Rattle.hx_replay.specs.Run.{Progress, start, kind_of, check_of, after, after_all, AreEvents}
 use Rattle.hx_tape_lines.specs.Text.{entry_of_event}
 use Rattle.hx_tape_lines.proofs.Back.{entry_back}
-use Rattle.hx_replay.proofs.Playing.{checked}
-use Rattle.hx_replay.proofs.OutputIsTold.{market_is_run}
+use Rattle.hx_replay.proofs.Applying.{checked}
+use Rattle.hx_replay.proofs.OutputIsOfEvents.{market_is_run}
 
 -- Entries are those of their events.
 

@@ -1,7 +1,7 @@
 -- A tape without quiet chains is a tape, and its output shows the others the same.
 use Rattle.std.proofs.Common.{◌≡◌, ℕ, ◌<◌, Bool, true, false, cond, not, List, [], ◌∷◌, map, Option, Some, None, refl, sym, ap, ◌∙◌, subst}
 use Rattle.std.specs.List.{AllByRecursion}
-use Rattle.hx_levels.proofs.Lists.{all_filtered}
+use Rattle.hx_book.proofs.Lists.{all_filtered}
 use Rattle.hx_members.specs.Setups.{Setup}
 use Rattle.hx_rules.specs.declared.event.Event.{Event}
 use Rattle.hx_rules.specs.declared.fault.PrepareError.{PrepareError}

@@ -144,7 +144,7 @@ longer (suc k) n acc = at (n / 10 == 0) (longer k (n / 10) (digit_glyph false (n
     at true more = omega arith
     at false more = omega (arith, more)
 
--- one digit more, where ten or more are left
+-- one digit more, if ten or more are left
 one_more : (k n : ℕ) (acc : List ℕ) → 10 ≤ n → digits_onto (suc k) 10 false n acc ≡ digits_onto k 10 false (n / 10) (digit_glyph false (n % 10) ∷ acc)
 one_more k n acc h = rw (none n h) refl
   where

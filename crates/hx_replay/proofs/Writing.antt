@@ -12,5 +12,5 @@ writes_more a b c bytes rest n h more = record {
   wrote = Appends-trans a b c h.front (take n rest) h.wrote more;
 }
 
-pub writes_kept : (a b c : Option (List ℕ)) (bytes rest : List ℕ) → Writes a b bytes rest → Keeps b c → Writes a c bytes rest
-writes_kept a b c bytes rest h kept = record { front = h.front; bytes_are = h.bytes_are; wrote = Appends-kept a b c h.front h.wrote kept }
+pub writes_retained : (a b c : Option (List ℕ)) (bytes rest : List ℕ) → Writes a b bytes rest → Keeps b c → Writes a c bytes rest
+writes_retained a b c bytes rest h retained = record { front = h.front; bytes_are = h.bytes_are; wrote = Appends-kept a b c h.front h.wrote retained }

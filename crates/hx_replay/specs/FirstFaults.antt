@@ -6,7 +6,7 @@ use Rattle.hx_tape_lines.specs.declared.fault.Kind.{Kind}
 use Rattle.hx_tape_lines.specs.Text.{Entry, tape}
 use Rattle.hx_replay.specs.Run.{start, after_all, AreEvents, BeginsBadly}
 
--- the first line of a text that fails a check; the end of the text is the end of the tape where End holds
+-- the first line of a text that fails a check; the end of the text is the end of the tape if End holds
 pub record FirstFault (End : Type 0) (setup : Setup) (n : ℕ) (k : Kind) (text : List ℕ)
     : Type 0 where
   pub events : List Entry

@@ -1,4 +1,4 @@
--- Lines of output that are told before they are written.
+-- Lines of output that are gathered before they are written.
 use Rattle.std.specs.Prelude.{◌≡◌, ◌⊎◌, ℕ, List, ◌++◌, Option}
 use Rattle.std.specs.Io.KnownBytes.{Appends}
 use Rattle.hx_tape_lines.specs.Text.{Entry, tape}
@@ -17,6 +17,6 @@ pub record Gathers (old new : Progress) (text : List ℕ) (w v : Option (List �
   pub wrote : Appends w v written
   pub output_is : output_all old events ≡ written ++ gathered
 
--- what keeps lines of output from being written: the writer, or want of memory
+-- what prevents lines of output from being written: the writer, or want of memory
 abbrev pub IsUnwritten : TapeError → Type 0
 IsUnwritten e = (e ≡ fault.Write) ⊎ (e ≡ fault.NoMemory)

@@ -9,7 +9,7 @@ abbrev pub in_front : ℕ → List (List ℕ) → List (List ℕ)
 in_front b [] = (b ∷ []) ∷ []
 in_front b (line ∷ lines) = (b ∷ line) ∷ lines
 
--- the lines of a text, each with its line feed; what stands behind the last line feed is one without
+-- the lines of a text, each with its line feed; what follows the last line feed is one without
 abbrev pub lines_in : List ℕ → List (List ℕ)
 lines_in [] = []
 lines_in (b ∷ text) =

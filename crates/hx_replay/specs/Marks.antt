@@ -1,4 +1,5 @@
--- What events told, the messages of the feed by themselves and the replies by themselves, and marks of which is told next.
+-- The output of events, the messages of the feed by themselves and the replies by themselves, and marks of which comes
+-- next.
 use Rattle.std.specs.Prelude.{ℕ, ◌+◌, ◌<◌, ◌^◌, List, [], ◌∷◌, slice_index}
 use Rattle.std.specs.List.{AllByRecursion}
 use Rattle.hx_itch.specs.declared.message.Feed.{Feed}
@@ -35,7 +36,7 @@ abbrev pub feed_marks : ℕ → List Feed → List Mark
 feed_marks n [] = []
 feed_marks n (message ∷ messages) = mark.OfFeed (n + 1) ∷ feed_marks (n + 1) messages
 
--- the marks of replies, after this many others of each member
+-- the marks of replies, given the number of earlier ones of each member
 abbrev pub reply_marks : List ℕ → List Reply → List Mark
 reply_marks counts [] = []
 reply_marks counts (reply ∷ replies) =

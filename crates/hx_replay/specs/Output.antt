@@ -1,4 +1,4 @@
--- The lines that are written for what an event tells.
+-- The lines that are written for the output of an event.
 use Rattle.std.specs.Prelude.{ℕ, ◌+◌, List, [], ◌∷◌, ◌++◌, length, slice_index, codes}
 use Rattle.std.specs.Fmt.{decimal}
 use Rattle.hex.specs.Hex.{encode_lower}
@@ -8,7 +8,7 @@ use Rattle.hx_itch.specs.Message.{feed_bytes}
 use Rattle.hx_ouch.specs.declared.outbound.Outbound.{Outbound}
 use Rattle.hx_ouch.specs.Outbound.{outbound_bytes}
 use Rattle.hx_refs.specs.Numbers.{raised}
-use Rattle.hx_market.specs.Outputs.{Reply, Told}
+use Rattle.hx_market.specs.Outputs.{Reply, EventOutput}
 
 -- message n of the feed
 abbrev pub feed_line : ℕ → Feed → List ℕ
@@ -26,7 +26,7 @@ abbrev pub feed_lines : ℕ → List Feed → List ℕ
 feed_lines n [] = []
 feed_lines n (message ∷ messages) = feed_line (n + 1) message ++ feed_lines (n + 1) messages
 
--- replies, after this many others of each member
+-- replies, given the number of earlier ones of each member
 abbrev pub reply_lines : List ℕ → List Reply → List ℕ
 reply_lines counts [] = []
 reply_lines counts (reply ∷ replies) =
@@ -38,9 +38,9 @@ abbrev pub counts_after : List ℕ → List Reply → List ℕ
 counts_after counts [] = counts
 counts_after counts (reply ∷ replies) = counts_after (raised counts reply.0) replies
 
--- the output text of what events tell: for each its messages of the feed, then its replies
-abbrev pub told_lines : ℕ → List ℕ → List Told → List ℕ
-told_lines n counts [] = []
-told_lines n counts (t ∷ ts) =
+-- the output text of events: for each its messages of the feed, then its replies
+abbrev pub outputs_lines : ℕ → List ℕ → List EventOutput → List ℕ
+outputs_lines n counts [] = []
+outputs_lines n counts (t ∷ ts) =
     (feed_lines n t.feed ++ reply_lines counts t.replies)
-    ++ told_lines (n + length t.feed) (counts_after counts t.replies) ts
+    ++ outputs_lines (n + length t.feed) (counts_after counts t.replies) ts

@@ -1,4 +1,4 @@
--- What quiet orders leave behind in the output of a tape: nothing, whichever of them are struck.
+-- What quiet orders leave in the output of a tape: nothing, whichever of them are struck.
 use Rattle.std.specs.Prelude.{◌≡◌, ℕ, ◌<◌, ◌||◌, Bool, true, false, List}
 use Rattle.std.specs.List.{filter}
 use Rattle.hx_units.specs.Limits.{member_numbers}
@@ -25,29 +25,29 @@ is_of_feed (OfMember member number reply) = false
 abbrev pub feed_among : List Numbered → List Numbered
 feed_among lines = filter is_of_feed lines
 
--- the lines that a member gets: the feed, and the replies to him
+-- the lines that a member gets: the feed, and the replies to it
 abbrev pub seen_by : (p : ℕ) → List Numbered → List Numbered
 seen_by p lines = filter (λ line. is_of_feed line || is_to p line) lines
 
 -- The general form of the promise, numbers included.
 pub record TellsNothing (setup : Setup) (events : List Event) : Type 0 where
-  -- any whole quiet chains of a member tell nothing to anybody else
+  -- any whole quiet chains of a member leave no output to anybody else
   pub part :
       (m : ℕ) (tokens : List Token) → AreWholeQuietChains m tokens (run setup events)
       → not_to m (output_lines setup events)
       ≡ not_to m (output_lines setup (strike (listed m tokens) events))
-  -- those of all members, struck at once, tell nothing in the feed
+  -- those of all members, struck at once, leave nothing in the feed
   pub all :
       feed_among (output_lines setup events)
       ≡ feed_among (output_lines setup (strike_all setup events))
-  -- and those of all others tell a member nothing, neither in the feed nor in his replies
+  -- and those of all others leave a member nothing, neither in the feed nor in its replies
   pub all_but_one :
       (p : ℕ) → seen_by p (output_lines setup events)
       ≡ seen_by p (output_lines setup (strike_but setup p events))
 
--- The promise as anybody can check it, on texts: the tape without a member's quiet chains is taken by
--- `replay` too, and `grep -v` of the lines to him gives the same text of both outputs. The same of the
--- tape without anybody's quiet chains and of the lines of the feed.
+-- The promise as anybody can check it, on texts: the tape without a member's quiet chains is taken by `replay` too, and
+-- `grep -v` of the lines to that member gives the same text of both outputs. The same of the tape without anybody's
+-- quiet chains and of the lines of the feed.
 pub record TextsTellNothing (setup : Setup) (events : List Entry) : Type 0 where
   pub taken : (m : ℕ) → AreEvents (start setup) (struck setup m events)
   pub same :

@@ -50,14 +50,15 @@ kind_of (Some (refused.Limit member)) = Some kind.Limit
 kind_of (Some refused.NoMemory) = None
 kind_of None = None
 
--- the fault of line n where the market refuses its event
+-- the fault of line n if the market refuses its event
 abbrev pub fault_of : ℕ → PrepareError → TapeError
 fault_of n refused.BadTime = fault.Line n kind.Time
 fault_of n refused.NoMember = fault.Line n kind.Member
 fault_of n (refused.Limit member) = fault.Line n kind.Limit
 fault_of n refused.NoMemory = fault.NoMemory
 
--- What is wrong with an entry: the operator's bytes say nothing, or the market refuses the event, for its time, its member or his limit, in this order.
+-- What is wrong with an entry: the operator's bytes say nothing, or the market refuses the event, for its time, its
+-- member or that member's limit, in this order.
 unfoldable pub check_of : Progress → Entry → Option Kind
 check_of p e =
     if is_unknown e then Some kind.Bad else kind_of (refusal p.setup p.market.recorded (event_of e))
@@ -67,7 +68,7 @@ outcome_of p e = step p.setup p.market (event_of e)
 
 -- the output lines of an outcome: those of the feed, then the replies
 abbrev pub lines_of : Progress → Outcome → List ℕ
-lines_of p o = feed_lines p.feed o.told.feed ++ reply_lines p.counts o.told.replies
+lines_of p o = feed_lines p.feed o.output.feed ++ reply_lines p.counts o.output.replies
 
 -- the progress after an outcome
 abbrev pub counted : Progress → Outcome → Progress
@@ -75,9 +76,9 @@ counted p o = record {
   setup = p.setup;
   market = o.market;
   events = p.events + 1;
-  feed = p.feed + length o.told.feed;
-  replies = p.replies + length o.told.replies;
-  counts = counts_after p.counts o.told.replies;
+  feed = p.feed + length o.output.feed;
+  replies = p.replies + length o.output.replies;
+  counts = counts_after p.counts o.output.replies;
 }
 
 -- the output lines of an event
@@ -96,11 +97,11 @@ pub record IsEvent (p : Progress) (e : Entry) : Type 0 where
   pub passes : check_of p e ≡ None
 
 -- the line is that of an event, whose output lines are these
-pub record Plays (old new : Progress) (text output : List ℕ) : Type 0 where
+pub record Applies (old new : Progress) (text written : List ℕ) : Type 0 where
   pub entry : Entry
   pub is_event : IsEvent old entry
   pub is_line : text ≡ line entry
-  pub output_is : output ≡ output_of old entry
+  pub output_is : written ≡ output_of old entry
   pub after_is : new ≡ after old entry
 
 -- the first check that a line fails
@@ -150,8 +151,8 @@ pub record Replays (old new : Progress) (text : List ℕ) (w v : Option (List �
   pub after_is : new ≡ after_all old events
   pub wrote : Appends w v (output_all old events)
 
--- The rest begins with a bad line: a whole line that fails a check, or more than a line's bytes without a
--- line feed, or where nothing follows the last bytes without one.
+-- The rest begins with a bad line: a whole line that fails a check, or more than a line's bytes without a line feed,
+-- or, if nothing follows, last bytes without one.
 abbrev pub BeginsBadly : Type 0 → Progress → Kind → List ℕ → Type 0
 BeginsBadly End p k rest =
     ((bad : List ℕ) × (more : List ℕ) × (rest ≡ bad ++ line_feed ∷ more) × Lacks line_feed bad
@@ -159,7 +160,7 @@ BeginsBadly End p k rest =
     ⊎ ((k ≡ kind.Bad) × Lacks line_feed rest
     × ((longest_line < length rest) ⊎ ((0 < length rest) × End)))
 
--- where and why a replay ended: after these events, with these bytes read behind them and these written
+-- where and why a replay ended: after these events, with these bytes read after them and these written
 abbrev pub EndsBy : Type 0 → Progress → List Entry → List ℕ → List ℕ → TapeError → Type 0
 EndsBy End p events rest written (fault.Line n k) =
     (written ≡ output_all p events) × (n ≡ p.events + length events + 1)

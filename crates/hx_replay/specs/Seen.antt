@@ -7,7 +7,7 @@ use Rattle.hx_ouch.specs.declared.outbound.Outbound.{Outbound}
 use Rattle.hx_members.specs.Setups.{Setup}
 use Rattle.hx_refs.specs.Numbers.{raised}
 use Rattle.hx_rules.specs.declared.event.Event.{Event}
-use Rattle.hx_market.specs.Steps.{told}
+use Rattle.hx_market.specs.Steps.{output}
 use Rattle.hx_market.specs.QuietChains.{Line, lines_of_all, strike_one}
 use Rattle.hx_market.specs.QuietChains.Line.{ToFeed, ToMember}
 use Rattle.hx_tape_lines.specs.Text.{Entry}
@@ -29,7 +29,7 @@ abbrev pub texts_of : List Numbered → List ℕ
 texts_of [] = []
 texts_of (line ∷ lines) = text_of line ++ texts_of lines
 
--- the lines with their numbers, after n messages of the feed and this many replies to each member
+-- the lines with their numbers, after n messages of the feed, given the number of earlier replies to each member
 abbrev pub numbered : ℕ → List ℕ → List Line → List Numbered
 numbered n counts [] = []
 numbered n counts (ToFeed message ∷ lines) = OfFeed (n + 1) message ∷ numbered (n + 1) counts lines
@@ -39,7 +39,7 @@ numbered n counts (ToMember member reply ∷ lines) =
 -- all output lines of a history
 unfoldable pub output_lines : Setup → List Event → List Numbered
 output_lines setup events =
-    numbered 0 (replicate member_numbers 0) (lines_of_all (λ member. true) (told setup events))
+    numbered 0 (replicate member_numbers 0) (lines_of_all (λ member. true) (output setup events))
 
 -- a reply to the member
 abbrev pub is_to : ℕ → Numbered → Bool
@@ -50,8 +50,8 @@ is_to m (OfMember member number reply) = member == m
 abbrev pub not_to : ℕ → List Numbered → List Numbered
 not_to m lines = filter (λ line. not (is_to m line)) lines
 
--- The headline: the output text of these events is that of the market's lines, and for every member the lines that do not go to him are, numbers included,
--- those of the history without the messages of his quiet chains.
+-- The headline: the output text of these events is that of the market's lines, and for every member the lines that do
+-- not go to it are, numbers included, those of the history without the messages of its quiet chains.
 pub record LeavesNoTrace (setup : Setup) (events : List Entry) : Type 0 where
   pub lines : output_all (start setup) events ≡ texts_of (output_lines setup (map event_of events))
   pub same :

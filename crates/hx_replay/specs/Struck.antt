@@ -24,7 +24,7 @@ unfoldable pub struck : Setup → ℕ → List Entry → List Entry
 struck setup m entries =
     without_chosen (quiet_of_one m (run setup (map event_of entries))) entries
 
--- those that stay where the quiet chains of all members are struck
+-- those that stay if the quiet chains of all members are struck
 unfoldable pub struck_all : Setup → List Entry → List Entry
 struck_all setup entries =
     without_chosen (is_quiet (run setup (map event_of entries))) entries

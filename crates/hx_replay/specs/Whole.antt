@@ -10,8 +10,8 @@ use Rattle.hx_replay.specs.Run.{start, after_all, output_all, AreEvents, Stops, 
 use Rattle.hx_replay.specs.Seen.{LeavesNoTrace}
 use Rattle.hx_replay.specs.Quiet.{TellsNothing, TextsTellNothing}
 
--- What was read is the text of events and their output text was written, all of it; in it quiet orders
--- leave no trace, whichever of them are struck, also for who compares texts.
+-- What was read is the text of events and their output text was written, all of it; in it quiet orders leave no trace,
+-- whichever of them are struck, also in a comparison of texts.
 pub record ReplaysAll (setup : Setup) (counts : Counts) (r s w v : Option (List ℕ)) : Type 0 where
   pub events : List Entry
   pub are_events : AreEvents (start setup) events

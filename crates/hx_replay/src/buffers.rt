@@ -1,4 +1,4 @@
-//! Room that a line of a tape leaves for the next one, and what is told and to be written.
+//! Buffers that lines of a tape reuse, and output that is yet to be written.
 ghost use Rattle.std.specs.Prelude.{◌≡◌, [], IfOk, IfSome, IfNone};
 ghost use Rattle.hx_tape_lines.specs.Events.{IsLineOf, IsNoLine};
 
@@ -10,25 +10,25 @@ use hx_units::NoMemory;
 use std::alloc::Global;
 use std::mem::replace;
 
-/// Room for the digits of a line, a place for the bytes of a message, and room for the output lines of events. The next
-/// ones take memory only where they are longer than all before them, or more.
+/// Buffers for the digits of a line, for the bytes of a message, and for the output lines of events. Later ones take
+/// memory only if they are longer than all before them, or more.
 pub struct Room {
     // What the digits of a line say.
     digits: Vec<u8>,
-    // The bytes of an event that is told.
-    place: Bytes,
-    /// The output lines that are told and not yet written.
+    // The buffer for the bytes of an event, between two lines.
+    buffer: Bytes,
+    /// The output lines that are not yet written.
     pub lines: Unwritten,
     /// Room for those that are spelled.
     pub spelled: OutputText,
 }
 
-// By hand, so that where a value is dropped its owner's proof sees one call.
+// By hand, so that when a value is dropped its owner's proof sees one call.
 impl Drop for Room {
     fn drop(self) {
         let Room {
             digits: _,
-            place: _,
+            buffer: _,
             lines: _,
             spelled: _,
         } = self;
@@ -42,28 +42,28 @@ impl Room {
     {
         Room {
             digits: Vec::new(alloc),
-            place: Bytes::none(),
+            buffer: Bytes::none(),
             lines: Unwritten::new(alloc),
             spelled: OutputText::new(alloc),
         }
     }
 
-    /// The event of a line, where it is one, its bytes in the place that is kept.
+    /// Returns the event of a line, if it is one. Its bytes go into the stored buffer.
     pub(crate) fn read(&mut self, alloc: Global, text: &[u8]) -> Result<Option<Event>, NoMemory>
         ensures some { IfOk result (λ o. IfSome o (IsLineOf text.now)) }
         ensures none { IfOk result (λ o. IfNone o (IsNoLine text.now)) }
         ensures lines { self.new.lines ≡ self.old.lines }
     {
-        let place = replace(&mut self.place, Bytes::none());
-        read_event(alloc, &mut self.digits, place, text)
+        let buffer = replace(&mut self.buffer, Bytes::none());
+        read_event(alloc, &mut self.digits, buffer, text)
     }
 
-    /// Keeps the place of the bytes of an event that is told.
-    pub(crate) fn keep_place(&mut self, event: Event)
+    /// Stores the buffer of an event that is applied, for the bytes of the next one.
+    pub(crate) fn keep_index(&mut self, event: Event)
         ensures { self.new.lines ≡ self.old.lines }
     {
         if let Event::Message { bytes, .. } = event {
-            self.place = bytes;
+            self.buffer = bytes;
         }
     }
 }

@@ -1,4 +1,4 @@
-//! The output lines of events, one behind the other. A line is written where it stands, from its end on.
+//! The output lines of events, one after the other. A line is written in its final position, from its end on.
 ghost use Rattle.std.specs.Prelude.{◌≡◌, ◌≤◌, ◌<◌, ◌^◌, ◌+◌, ◌*◌, ◌++◌, ◌∷◌, [], ℕ, OnOk, IfOk, OnErr, length, drop, take, codes};
 ghost use Rattle.std.specs.Fmt.{decimal};
 ghost use Rattle.hex.specs.Hex.{encode_lower};
@@ -17,7 +17,7 @@ use std::marker::Model;
 /// Output lines that are spelled. Contracts see their text.
 #[derive(Drop)]
 pub struct OutputText {
-    // The text, and behind it bytes that are of no use: where they are enough, a line takes no memory.
+    // The text, and after it bytes that are of no use: if they are enough, a line takes no memory.
     bytes: Vec<u8>,
     // Where the text ends.
     end: usize,
@@ -97,7 +97,7 @@ impl OutputText {
 fn reach(bytes: &mut Vec<u8>, end: usize) -> Result<(), AllocError>
     ensures room { OnOk result (end ≤ length bytes.new.items) }
     ensures longer { length bytes.old.items ≤ length bytes.new.items }
-    ensures kept { (n : ℕ) → n ≤ length bytes.old.items
+    ensures retained { (n : ℕ) → n ≤ length bytes.old.items
         → take n bytes.new.items ≡ take n bytes.old.items }
 {
     if bytes.len() < end {
@@ -106,7 +106,7 @@ fn reach(bytes: &mut Vec<u8>, end: usize) -> Result<(), AllocError>
     Ok(())
 }
 
-// Writes the line of a message of the feed behind the text that ends at a place, and returns where it ends now.
+// Writes the line of a message of the feed after the text that ends at an offset, and returns where it ends now.
 #[tactic(auto, using(hx_tape_lines::proofs::Lines::decimal_fits))]
 fn append_feed_line(
     bytes: &mut Vec<u8>,
@@ -129,7 +129,7 @@ fn append_feed_line(
     Ok(end)
 }
 
-// Writes the line of a reply behind the text that ends at a place, and returns where it ends now.
+// Writes the line of a reply after the text that ends at an offset, and returns where it ends now.
 #[tactic(auto, using(hx_tape_lines::proofs::Lines::decimal_fits))]
 fn append_reply_line(
     bytes: &mut Vec<u8>,
@@ -153,17 +153,17 @@ fn append_reply_line(
     Ok(end)
 }
 
-// Writes a byte before the place `end`, and returns where it stands.
+// Writes a byte before the offset `end`, and returns the byte's offset.
 fn put(byte: u8, line: &mut [u8], end: usize) -> usize
     requires { (0 < end) × (end ≤ length line.old) }
-    ensures place { result + 1 ≡ end }
+    ensures index { result + 1 ≡ end }
     ensures written { drop result line.new ≡ byte ∷ drop end line.old }
 {
     line[end - 1] = byte;
     end - 1
 }
 
-// Writes the line of a message of the feed into room of its length.
+// Writes the line of a message of the feed into a slice of its length.
 fn fill_feed_line(line: &mut [u8], number: u64, message: &[u8])
     requires { length line.old ≡ length (decimal number) + 2 * length message.now + 4 }
     ensures { line.new ≡ codes "F " ++ (decimal number
@@ -177,7 +177,7 @@ fn fill_feed_line(line: &mut [u8], number: u64, message: &[u8])
     put(b'F', line, at);
 }
 
-// Writes the line of a reply into room of its length.
+// Writes the line of a reply into a slice of its length.
 fn fill_reply_line(line: &mut [u8], member: u64, number: u64, reply: &[u8])
     requires { length line.old
         ≡ length (decimal member) + length (decimal number) + 2 * length reply.now + 5 }

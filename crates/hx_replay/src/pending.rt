@@ -1,4 +1,4 @@
-//! The bytes of a tape that are read and not yet played.
+//! The bytes of a tape that are read and not yet applied.
 ghost use Rattle.std.specs.Prelude.{◌≡◌, ◌≤◌, ◌-◌, ◌++◌, ℕ, List, [], IfOk, OnOk, IfErr, OnErr, false, length, drop};
 ghost use Rattle.std.specs.Io.KnownBytes.{Consumes, IsAtEnd, Keeps};
 ghost use Rattle.hx_tape_lines.specs.Text.{longest_line};
@@ -10,12 +10,12 @@ use std::alloc::{AllocError, Global};
 use std::io::{self, ErrorKind, Read};
 use std::marker::Model;
 
-/// Bytes that are read and not yet played. They stand in one piece of memory, in which the place where they begin moves on
-/// as they are played: before more is read, a line that is not yet whole is moved to the front, where it waits for its end.
-/// Contracts see them.
+/// Bytes that are read and not yet applied. They are in one piece of memory, in which the offset where they begin moves
+/// on as they are applied: before more is read, a line that is not yet whole is moved to the front, and waits there for
+/// its end. Contracts see them.
 #[derive(Drop)]
 pub struct Pending {
-    // Those that are played, then they, and behind them room for those that are read next.
+    // The bytes that are applied, then these, then room for those that are read next.
     bytes: Vec<u8>,
     start: usize,
     count: usize,
@@ -54,7 +54,7 @@ impl Pending {
         &self.bytes[self.start..self.start + self.count]
     }
 
-    // Moves them to the front, reads a piece behind them, and returns how many bytes that gave.
+    // Moves the bytes to the front, reads a piece after them, and returns the number of bytes read.
     fn read_piece<R: Read>(&mut self, reader: &mut R) -> io::Result<usize>
         requires { length self.old ≤ longest_line }
         ensures piece { IfOk result (λ count. (piece : List ℕ)
@@ -77,8 +77,8 @@ impl Pending {
         }
     }
 
-    /// Reads a piece behind them, if the reader is not interrupted, and returns whether there may be more: `false` at the
-    /// end of what is read.
+    /// Reads a piece after the bytes, if the reader is not interrupted, and returns whether there may be more: `false`
+    /// at the end of what is read.
     pub fn read<R: Read>(&mut self, reader: &mut R) -> Result<bool, TapeError>
         requires { length self.old ≤ longest_line }
         ensures piece { OnOk result ((piece : List ℕ) × (self.new ≡ self.old ++ piece)
@@ -97,7 +97,7 @@ impl Pending {
         }
     }
 
-    /// Lets all go but the last ones, this many.
+    /// Drops all bytes but the last `count`.
     pub fn keep(&mut self, count: usize)
         requires { count ≤ length self.old }
         ensures { self.new ≡ drop (length self.old - count) self.old }

@@ -9,14 +9,14 @@ use crate::pending::Pending;
 use crate::run::Counts;
 use hx_tape_lines::{Kind, LONGEST_LINE};
 
-/// This many reads of a tape are too many.
+/// The largest number of reads of a tape; more are an error.
 pub const MOST_READS: u64 = 1_000_000_000;
 
 /// More lines of a tape are too many.
 pub const MOST_LINES: u64 = 1 << 47;
 
-/// Of the bytes that are pending, keeps the last ones, this many, for the next piece to be read behind them: those behind the
-/// last whole line. Where they are more than the longest line has, the line that they begin is bad.
+/// Retains the last `rest` of the bytes that are pending, those after the last whole line, so that the next piece is
+/// read after them. If they are more than the longest line has, the line that they begin is bad.
 pub fn keep_rest(pending: &mut Pending, rest: usize, counts: Counts) -> Result<(), TapeError>
     requires within { rest ≤ length pending.old }
     requires events { counts.events < 2 ^ 63 }
@@ -32,8 +32,8 @@ pub fn keep_rest(pending: &mut Pending, rest: usize, counts: Counts) -> Result<(
     Ok(())
 }
 
-/// What a replay answers at the end of its tape: what it counted; or where bytes are pending, that their line is bad, since
-/// no line feed ends it.
+/// What a replay answers at the end of its tape: what it counted; or if bytes are pending, that their line is bad,
+/// since no line feed ends it.
 pub fn finish(counts: Counts, pending: &[u8]) -> Result<Counts, TapeError>
     requires { counts.events < 2 ^ 63 }
     ensures ok { IfOk result (λ c. (c ≡ counts) × (length pending.now ≡ 0)) }

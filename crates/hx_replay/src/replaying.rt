@@ -13,14 +13,15 @@ use crate::output_text::OutputText;
 use crate::pending::Pending;
 use crate::pieces::{MOST_LINES, MOST_READS, finish, keep_rest};
 use crate::run::{Counts, Run};
-use crate::write_output::{write_before, write_told};
-use hx_levels::{Book, LevelBook};
+use crate::write_output::{write_before, write_outcome};
+use hx_book::Book;
+use hx_levels::LevelBook;
 use hx_members::Setup;
 use hx_text::split_once;
 use std::alloc::Global;
 use std::io::{ErrorKind, Read, Write};
 
-/// Writes the bytes. Where it fails, a front of them was written.
+/// Writes the bytes. If it fails, a front of them was written.
 pub fn write_whole<W: Write>(writer: &mut W, bytes: &[u8]) -> Result<(), TapeError>
     ensures ok { OnOk result (Appends (W.contents writer.old) (W.contents writer.new) bytes.now) }
     ensures write { IfErr result (λ e. e ≡ fault.Write) }
@@ -47,7 +48,7 @@ pub fn write_whole<W: Write>(writer: &mut W, bytes: &[u8]) -> Result<(), TapeErr
 
 // Has the writer send out what it holds back.
 fn send_out<W: Write>(writer: &mut W) -> Result<(), TapeError>
-    ensures kept { Keeps (W.contents writer.old) (W.contents writer.new) }
+    ensures retained { Keeps (W.contents writer.old) (W.contents writer.new) }
     ensures write { IfErr result (λ e. e ≡ fault.Write) }
 {
     for _ in 0..u64::MAX {
@@ -63,10 +64,10 @@ fn send_out<W: Write>(writer: &mut W) -> Result<(), TapeError>
     Err(TapeError::Write)
 }
 
-// This many bytes of output lines are written at once, or more.
+// At least this number of bytes of output lines is written at once.
 const MANY: usize = 65_536;
 
-// Writes the output lines where they are many. Where it fails, a front of them was written.
+// Writes the output lines if they are many. If it fails, a front of them was written.
 pub fn write_many<W: Write>(writer: &mut W, lines: &mut OutputText) -> Result<(), TapeError>
     ensures ok { OnOk result
         (Writes (W.contents writer.old) (W.contents writer.new) lines.old lines.new) }
@@ -81,9 +82,9 @@ pub fn write_many<W: Write>(writer: &mut W, lines: &mut OutputText) -> Result<()
     Ok(())
 }
 
-/// Plays the whole lines of the text, writes their output lines and flushes the writer, and returns the bytes behind them.
-/// Where a line fails, the output before it is written.
-pub fn play_lines<'a, B: Book + Drop, W: Write>(
+/// Applies the whole lines of the text, writes their output lines and flushes the writer, and returns the bytes after
+/// them. If a line fails, the output before it is written.
+pub fn apply_lines<'a, B: Book + Drop, W: Write>(
     run: &mut Run<B>,
     room: &mut Room,
     writer: &mut W,
@@ -100,22 +101,22 @@ pub fn play_lines<'a, B: Book + Drop, W: Write>(
     room.lines.clear();
     let mut rest = text;
     while let Some((line, others)) = split_once(rest, b'\n') {
-        if let Err(error) = run.play(line, room) {
+        if let Err(error) = run.apply(line, room) {
             return Err(write_before(error, &room.lines, &mut room.spelled, writer));
         }
         rest = others;
     }
-    write_told(&room.lines, &mut room.spelled, writer)?;
+    write_outcome(&room.lines, &mut room.spelled, writer)?;
     send_out(writer)?;
     Ok(rest)
 }
 
-// This many bytes are read at once, or fewer.
+// At most this number of bytes is read at once.
 const PIECE: usize = 65_536;
 
 /// Replays a tape over the market of a setup: reads it to its end, and before it reads on it writes the output lines of
-/// all that it has read and flushes the writer, so that who types into a pipe is answered line by line. A read is one call
-/// of the reader, and 1,000,000,000 of them are too many, as are 2^47 lines.
+/// all that it has read and flushes the writer, so that a user that types into a pipe is answered line by line. A read
+/// is one call of the reader, and 1,000,000,000 of them are too many, as are 2^47 lines.
 pub fn replay<R: Read, W: Write>(
     alloc: Global,
     setup: &Setup,
@@ -160,7 +161,7 @@ pub fn replay_on<B: Book + Drop, R: Read, W: Write>(
         if !pending.read(reader)? {
             return finish(run.counts(), pending.text());
         }
-        let rest = play_lines(&mut run, &mut room, writer, pending.text())?.len();
+        let rest = apply_lines(&mut run, &mut room, writer, pending.text())?.len();
         keep_rest(&mut pending, rest, run.counts())?;
     }
     Err(TapeError::Turns)

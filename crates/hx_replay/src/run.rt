@@ -3,12 +3,12 @@ ghost use Rattle.std.specs.Prelude.{◌≡◌, ◌<◌, ◌^◌, ◌+◌, ◌++�
 ghost use Rattle.hx_replay.specs.declared.fault.TapeError.TheVariants as fault;
 ghost use Rattle.hx_tape_lines.specs.Events.{IsKnown, event_of};
 ghost use Rattle.hx_tape_lines.specs.Text.{Entry, line};
-ghost use Rattle.hx_replay.specs.Run.{fault_of, counts_of, start, Plays, Faults, IsFew};
+ghost use Rattle.hx_replay.specs.Run.{fault_of, counts_of, start, Applies, Faults, IsFew};
 
 use crate::buffers::Room;
 use crate::fault::TapeError;
-use crate::unwritten::{ToldCounts, Unwritten};
-use hx_levels::Book;
+use crate::unwritten::{OutputCounts, Unwritten};
+use hx_book::Book;
 use hx_market::{Event, Market, PrepareError};
 use hx_members::Setup;
 use hx_tape_lines::Kind;
@@ -28,21 +28,21 @@ pub struct Counts {
 }
 
 impl Counts {
-    // The counts after one event more, which told so much.
-    fn after(self, told: ToldCounts) -> Counts
+    // The counts after one event more, with its output.
+    fn after(self, output: OutputCounts) -> Counts
         requires events { self.events < 2 ^ 63 }
-        requires feed { self.feed + told.feed < 2 ^ 64 }
-        requires replies { self.replies + told.replies < 2 ^ 64 }
+        requires feed { self.feed + output.feed < 2 ^ 64 }
+        requires replies { self.replies + output.replies < 2 ^ 64 }
         ensures { result ≡ record {
           events = self.events + 1;
-          feed = self.feed + told.feed;
-          replies = self.replies + told.replies;
+          feed = self.feed + output.feed;
+          replies = self.replies + output.replies;
         } }
     {
         Counts {
             events: self.events + 1,
-            feed: self.feed + told.feed,
-            replies: self.replies + told.replies,
+            feed: self.feed + output.feed,
+            replies: self.replies + output.replies,
         }
     }
 }
@@ -53,19 +53,19 @@ pub struct Run<B: Book> {
     counts: Counts,
     // How many replies went to each member number.
     replies: Vec<u64>,
-    // What was seen of events before their turn: of no other use than that it was looked at.
-    glanced: u64,
+    // The result of prefetching: it only keeps the reads from being optimized away.
+    prefetched: u64,
     alloc: Global,
 }
 
-// By hand, so that where a value is dropped its owner's proof sees one call.
+// By hand, so that when a value is dropped its owner's proof sees one call.
 impl<B: Book + Drop> Drop for Run<B> {
     fn drop(self) {
         let Run {
             market: _,
             counts: _,
             replies: _,
-            glanced: _,
+            prefetched: _,
             alloc: _,
         } = self;
     }
@@ -93,7 +93,7 @@ fn no_replies(alloc: Global) -> Result<Vec<u64>, AllocError>
     vec![in alloc; 0; 4096]
 }
 
-/// The fault of the line of this number, where the market refuses its event.
+/// The fault of the line of this number, if the market refuses its event.
 pub fn fault_of(line: u64, error: PrepareError) -> TapeError
     ensures { result ≡ fault_of line error }
 {
@@ -120,7 +120,7 @@ impl<B: Book + Drop> Run<B> {
                 replies: 0,
             },
             replies: no_replies(alloc)?,
-            glanced: 0,
+            prefetched: 0,
             alloc,
         })
     }
@@ -133,21 +133,22 @@ impl<B: Book + Drop> Run<B> {
     }
 
     /// Looks at the next events before their turn, so that what they need is in the processor's cache then. Nothing changes.
-    pub fn glance(&mut self, events: &[Event])
+    pub fn prefetch(&mut self, events: &[Event])
         ensures { self.new ≡ self.old }
     {
-        self.glanced = self.glanced.wrapping_add(self.market.glance(events));
+        self.prefetched = self.prefetched.wrapping_add(self.market.prefetch(events));
     }
 
-    /// Plays the next line, and appends its output lines to the room's. Where the line fails, those before it stay.
-    pub(crate) fn play(&mut self, text: &[u8], room: &mut Room) -> Result<(), TapeError>
+    /// Applies the next line, and appends its output lines to those in the buffers. If the line fails, those before it
+    /// stay.
+    pub(crate) fn apply(&mut self, text: &[u8], room: &mut Room) -> Result<(), TapeError>
         requires events { self.old.events < 2 ^ 48 }
         requires few { IsFew self.old }
-        ensures ok { OnOk result ((output : List ℕ)
-            × Plays self.old self.new text.now output
-            × (room.new.lines ≡ room.old.lines ++ output)) }
+        ensures ok { OnOk result ((written : List ℕ)
+            × Applies self.old self.new text.now written
+            × (room.new.lines ≡ room.old.lines ++ written)) }
         ensures faults { IfErr result (Faults self.old text.now) }
-        ensures kept { IfErr result (λ e. (e ≡ fault.NoMemory → ⊥)
+        ensures retained { IfErr result (λ e. (e ≡ fault.NoMemory → ⊥)
             → room.new.lines ≡ room.old.lines) }
     {
         let line = self.counts.events + 1;
@@ -158,27 +159,27 @@ impl<B: Book + Drop> Run<B> {
         let Some(event) = room.read(self.alloc, text)? else {
             return Err(bad);
         };
-        self.play_event(&event, &mut room.lines)?;
-        room.keep_place(event);
+        self.apply_event(&event, &mut room.lines)?;
+        room.keep_index(event);
         Ok(())
     }
 
-    /// Plays the event of the next line, and appends its output lines to others. Where the line fails, the others stay, but
-    /// when out of memory.
-    pub fn play_event(&mut self, event: &Event, lines: &mut Unwritten) -> Result<(), TapeError>
+    /// Applies the event of the next line, and appends its output lines to others. If the line fails, the others stay,
+    /// except when out of memory.
+    pub fn apply_event(&mut self, event: &Event, lines: &mut Unwritten) -> Result<(), TapeError>
         requires events { self.old.events < 2 ^ 48 }
         requires few { IsFew self.old }
         ensures ok { OnOk result ((e : Entry) → IsKnown e → event.now ≡ event_of e
-            → (output : List ℕ) × Plays self.old self.new (line e) output
-            × (lines.new ≡ lines.old ++ output)) }
+            → (written : List ℕ) × Applies self.old self.new (line e) written
+            × (lines.new ≡ lines.old ++ written)) }
         ensures faults { IfErr result (λ x. (e : Entry) → IsKnown e → event.now ≡ event_of e
             → Faults self.old (line e) x) }
-        ensures kept { IfErr result (λ e. (e ≡ fault.NoMemory → ⊥) → lines.new ≡ lines.old) }
+        ensures retained { IfErr result (λ e. (e ≡ fault.NoMemory → ⊥) → lines.new ≡ lines.old) }
     {
         let before = self.counts.feed;
-        match lines.play(&mut self.market, event, before, &mut self.replies) {
-            Ok(told) => {
-                self.counts = self.counts.after(told);
+        match lines.apply(&mut self.market, event, before, &mut self.replies) {
+            Ok(output) => {
+                self.counts = self.counts.after(output);
                 Ok(())
             }
             Err(error) => Err(fault_of(self.counts.events + 1, error)),

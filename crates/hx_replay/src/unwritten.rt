@@ -1,4 +1,4 @@
-//! What events told, with its numbers, before it is spelled.
+//! The output of events, with its numbers, before it is spelled.
 ghost use Rattle.std.specs.Prelude.{◌≡◌, ◌<◌, ◌≤◌, ◌+◌, ◌^◌, ◌++◌, [], ℕ, None, IfOk, OnOk, IfErr, length, slice_index};
 ghost use Rattle.std.specs.Vec.{vec_len, vec_capacity};
 ghost use Rattle.hx_market.specs.Refusals.{refusal, or_no_memory};
@@ -9,15 +9,15 @@ ghost use Rattle.hx_replay.specs.Marks.{lines_of, feed_marks, reply_marks, HaveR
 ghost use Rattle.hx_replay.specs.Output.{feed_lines, reply_lines, counts_after};
 ghost use Rattle.hx_replay.specs.Seen.{texts_of};
 
+use hx_book::Book;
 use hx_itch::Feed;
-use hx_levels::Book;
 use hx_market::{Event, Market, Output, PrepareError};
 use hx_ouch::Outbound;
 use hx_units::MemberNo;
 use std::alloc::{AllocError, Global};
 use std::marker::Model;
 
-/// Where what is told next stands, with its number.
+/// Which list holds the next message of the output, and its number.
 #[derive(Clone, Copy)]
 pub enum Marked {
     /// Among the messages of the feed.
@@ -26,7 +26,7 @@ pub enum Marked {
     OfMember(u64),
 }
 
-/// The same in one word, which lists of them hold: twice the number, and one more where it is that of a reply.
+/// The same in one word, which lists of them hold: twice the number, and one more if it is that of a reply.
 #[derive(Clone, Copy)]
 pub struct Mark {
     word: u64,
@@ -76,9 +76,9 @@ impl Mark {
     }
 }
 
-/// How much an event told.
+/// The amount of an event's output.
 #[derive(Clone, Copy)]
-pub(crate) struct ToldCounts {
+pub(crate) struct OutputCounts {
     /// The messages of the feed.
     pub(crate) feed: u64,
     /// The replies.
@@ -87,15 +87,18 @@ pub(crate) struct ToldCounts {
 
 /// Lines of output before they are spelled: the messages, and their numbers. Contracts see their text.
 pub struct Unwritten {
-    // The market writes what it tells into these lists, where it stays.
-    told: Output,
+    // The market writes its output into these lists; it stays in them.
+    output: Output,
     marks: Vec<Mark>,
 }
 
-// By hand, so that where a value is dropped its owner's proof sees one call.
+// By hand, so that when a value is dropped its owner's proof sees one call.
 impl Drop for Unwritten {
     fn drop(self) {
-        let Unwritten { told: _, marks: _ } = self;
+        let Unwritten {
+            output: _,
+            marks: _,
+        } = self;
     }
 }
 
@@ -107,13 +110,13 @@ impl Model for Unwritten {
     ghost Value = { List ℕ };
 
     ghost view = { λ m. texts_of
-        (lines_of m.marks.items m.told.feed.items m.told.replies.items) };
+        (lines_of m.marks.items m.output.feed.items m.output.replies.items) };
 
-    ghost invariant = { λ m. AreMarked m.marks.items m.told.feed.items m.told.replies.items
-        × HaveRoomForTimes m.told.feed.items };
+    ghost invariant = { λ m. AreMarked m.marks.items m.output.feed.items m.output.replies.items
+        × HaveRoomForTimes m.output.feed.items };
 }
 
-// Marks messages of the feed, after this many others. There is room for the marks.
+// Marks messages of the feed, after `before` earlier ones. There is room for the marks.
 fn mark_feed(marks: &mut Vec<Mark>, before: u64, feed: &[Feed])
     requires numbers { before + length feed.now < 2 ^ 63 }
     requires room { vec_len marks.old + length feed.now ≤ vec_capacity marks.old }
@@ -128,7 +131,7 @@ fn mark_feed(marks: &mut Vec<Mark>, before: u64, feed: &[Feed])
     }
 }
 
-// Marks replies, after this many others of each member. There is room for the marks.
+// Marks replies, given the number of earlier ones of each member. There is room for the marks.
 fn mark_replies(marks: &mut Vec<Mark>, counts: &mut [u64], replies: &[(MemberNo, Outbound)])
     requires numbered { length counts.old ≡ 4096 }
     requires numbers { (member : ℕ)
@@ -144,8 +147,8 @@ fn mark_replies(marks: &mut Vec<Mark>, counts: &mut [u64], replies: &[(MemberNo,
     }
 }
 
-// Marks what an event told.
-fn mark_told(
+// Marks the output of an event.
+fn mark_output(
     marks: &mut Vec<Mark>,
     before: u64,
     counts: &mut [u64],
@@ -168,34 +171,34 @@ fn mark_told(
 }
 
 // Lets all messages go, and their marks.
-fn forget(told: &mut Output, marks: &mut Vec<Mark>)
-    ensures feed { told.new.feed.items ≡ [] }
-    ensures replies { told.new.replies.items ≡ [] }
+fn forget(output: &mut Output, marks: &mut Vec<Mark>)
+    ensures feed { output.new.feed.items ≡ [] }
+    ensures replies { output.new.replies.items ≡ [] }
     ensures marks { marks.new.items ≡ [] }
 {
-    told.feed.clear();
-    told.replies.clear();
+    output.feed.clear();
+    output.replies.clear();
     marks.clear();
 }
 
-// Moves all messages behind others, and their marks.
+// Moves all messages after others, and their marks.
 fn append_all(
-    told: &mut Output,
+    output: &mut Output,
     marks: &mut Vec<Mark>,
     others: &mut Output,
     other_marks: &mut Vec<Mark>,
 ) -> Result<(), AllocError>
     ensures feed { OnOk result
-        (told.new.feed.items ≡ told.old.feed.items ++ others.old.feed.items) }
+        (output.new.feed.items ≡ output.old.feed.items ++ others.old.feed.items) }
     ensures replies { OnOk result
-        (told.new.replies.items ≡ told.old.replies.items ++ others.old.replies.items) }
+        (output.new.replies.items ≡ output.old.replies.items ++ others.old.replies.items) }
     ensures marks { OnOk result (marks.new.items ≡ marks.old.items ++ other_marks.old.items) }
     ensures feed_left { OnOk result (others.new.feed.items ≡ []) }
     ensures replies_left { OnOk result (others.new.replies.items ≡ []) }
     ensures marks_left { OnOk result (other_marks.new.items ≡ []) }
 {
-    told.feed.append(&mut others.feed)?;
-    told.replies.append(&mut others.replies)?;
+    output.feed.append(&mut others.feed)?;
+    output.replies.append(&mut others.replies)?;
     marks.append(other_marks)
 }
 
@@ -205,7 +208,7 @@ impl Unwritten {
         ensures { result ≡ [] }
     {
         Unwritten {
-            told: Output {
+            output: Output {
                 feed: Vec::new(alloc),
                 replies: Vec::new(alloc),
             },
@@ -218,45 +221,45 @@ impl Unwritten {
         ensures text { texts_of (lines_of result.0.now result.1.now result.2.now) ≡ self.now }
         ensures times { HaveRoomForTimes result.1.now }
     {
-        (&self.marks, &self.told.feed, &self.told.replies)
+        (&self.marks, &self.output.feed, &self.output.replies)
     }
 
     /// Lets them go. Their memory stays for others.
     pub fn clear(&mut self)
         ensures { self.new ≡ [] }
     {
-        forget(&mut self.told, &mut self.marks);
+        forget(&mut self.output, &mut self.marks);
     }
 
-    /// Takes all of others behind these, by one copy for each list. Where memory is wanting, it lets them all go.
+    /// Takes all of others after these, by one copy for each list. When out of memory, it drops them all.
     pub fn take_all(&mut self, others: &mut Unwritten) -> Result<(), AllocError>
         ensures ok { OnOk result (self.new ≡ self.old ++ others.old) }
         ensures empty { OnOk result (others.new ≡ []) }
     {
         match append_all(
-            &mut self.told,
+            &mut self.output,
             &mut self.marks,
-            &mut others.told,
+            &mut others.output,
             &mut others.marks,
         ) {
             Ok(()) => Ok(()),
             Err(error) => {
-                forget(&mut self.told, &mut self.marks);
-                forget(&mut others.told, &mut others.marks);
+                forget(&mut self.output, &mut self.marks);
+                forget(&mut others.output, &mut others.marks);
                 Err(error)
             }
         }
     }
 
-    /// Has a market play an event, and appends what it tells, after this many messages of the feed, and this many replies of
-    /// each member, which are counted on. Where the market refuses the event, what was told before stays.
-    pub(crate) fn play<B: Book + Drop>(
+    /// Has a market apply an event, and appends its output, given the number of earlier messages of the feed, and of
+    /// replies of each member, which it advances. If the market refuses the event, the earlier output stays.
+    pub(crate) fn apply<B: Book + Drop>(
         &mut self,
         market: &mut Market<B>,
         event: &Event,
         before: u64,
         counts: &mut [u64],
-    ) -> Result<ToldCounts, PrepareError>
+    ) -> Result<OutputCounts, PrepareError>
         requires feed { before < 2 ^ 62 }
         requires numbered { length counts.old ≡ 4096 }
         requires each { (member : ℕ) → slice_index counts.old member < 2 ^ 62 }
@@ -265,35 +268,35 @@ impl Unwritten {
             (refusal market.old.setup market.old.market.recorded event.now ≡ None) }
         ensures market { OnOk result (market.new.market
             ≡ (step market.old.setup market.old.market event.now).market) }
-        ensures told { OnOk result (self.new
+        ensures output { OnOk result (self.new
             ≡ self.old
-            ++ (feed_lines before (step market.old.setup market.old.market event.now).told.feed
+            ++ (feed_lines before (step market.old.setup market.old.market event.now).output.feed
             ++ reply_lines counts.old
-            (step market.old.setup market.old.market event.now).told.replies)) }
+            (step market.old.setup market.old.market event.now).output.replies)) }
         ensures counted { OnOk result (counts.new
             ≡ counts_after counts.old
-            (step market.old.setup market.old.market event.now).told.replies) }
+            (step market.old.setup market.old.market event.now).output.replies) }
         ensures feed_count { IfOk result (λ c. c.feed
-            ≡ length (step market.old.setup market.old.market event.now).told.feed) }
+            ≡ length (step market.old.setup market.old.market event.now).output.feed) }
         ensures reply_count { IfOk result (λ c. c.replies
-            ≡ length (step market.old.setup market.old.market event.now).told.replies) }
+            ≡ length (step market.old.setup market.old.market event.now).output.replies) }
         ensures few { IfOk result (λ c. (c.feed < 2 ^ 62) × (c.replies < 2 ^ 62)) }
         ensures refused { IfErr result (λ e. e
             ≡ or_no_memory (refusal market.old.setup market.old.market.recorded event.now)) }
-        ensures kept { IfErr result (λ e. (e ≡ refused.NoMemory → ⊥) → self.new ≡ self.old) }
+        ensures retained { IfErr result (λ e. (e ≡ refused.NoMemory → ⊥) → self.new ≡ self.old) }
     {
-        let (feed_from, replies_from) = (self.told.feed.len(), self.told.replies.len());
-        market.play(event, &mut self.told)?;
-        let (_, feed) = self.told.feed.split_at(feed_from);
-        let (_, replies) = self.told.replies.split_at(replies_from);
-        let count = ToldCounts {
+        let (feed_from, replies_from) = (self.output.feed.len(), self.output.replies.len());
+        market.apply(event, &mut self.output)?;
+        let (_, feed) = self.output.feed.split_at(feed_from);
+        let (_, replies) = self.output.replies.split_at(replies_from);
+        let count = OutputCounts {
             feed: feed.len() as u64,
             replies: replies.len() as u64,
         };
-        match mark_told(&mut self.marks, before, counts, feed, replies) {
+        match mark_output(&mut self.marks, before, counts, feed, replies) {
             Ok(()) => Ok(count),
             Err(_) => {
-                forget(&mut self.told, &mut self.marks);
+                forget(&mut self.output, &mut self.marks);
                 Err(PrepareError::NoMemory)
             }
         }

@@ -1,4 +1,4 @@
-//! What is told, spelled and written.
+//! Output, spelled and written.
 ghost use Rattle.std.specs.Prelude.{◌≡◌, ◌++◌, ◌∷◌, ℕ, List, Option, OnOk, OnErr, IfOk, IfErr};
 ghost use Rattle.std.specs.Io.KnownBytes.{Appends};
 ghost use Rattle.hx_text.specs.Cuts.{Lacks};
@@ -53,20 +53,20 @@ fn spell_next<'a>(
     }
 }
 
-/// Spells the lines of output behind those that wait, and writes them where they are many. Where it fails, a front of them
-/// was written.
-pub fn spell_told<W: Write>(
-    told: &Unwritten,
+/// Spells the lines of output after those that wait, and writes them if they are many. If it fails, a front of them was
+/// written.
+pub fn spell_output<W: Write>(
+    output: &Unwritten,
     lines: &mut OutputText,
     writer: &mut W,
 ) -> Result<(), TapeError>
     ensures ok { OnOk result (Writes
-        (W.contents writer.old) (W.contents writer.new) (lines.old ++ told.now) lines.new) }
+        (W.contents writer.old) (W.contents writer.new) (lines.old ++ output.now) lines.new) }
     ensures err { OnErr result ((rest : List ℕ) × Writes
-        (W.contents writer.old) (W.contents writer.new) (lines.old ++ told.now) rest) }
+        (W.contents writer.old) (W.contents writer.new) (lines.old ++ output.now) rest) }
     ensures fault { IfErr result IsUnwritten }
 {
-    let (marks, mut feed, mut replies) = told.parts();
+    let (marks, mut feed, mut replies) = output.parts();
     for mark in marks {
         let left = spell_next(mark, feed, replies, lines)?;
         feed = left.0;
@@ -76,41 +76,41 @@ pub fn spell_told<W: Write>(
     Ok(())
 }
 
-/// Spells the lines of output, and writes them. Where it fails, a front of them was written.
-pub fn write_told<W: Write>(
-    told: &Unwritten,
+/// Spells the lines of output, and writes them. If it fails, a front of them was written.
+pub fn write_outcome<W: Write>(
+    output: &Unwritten,
     lines: &mut OutputText,
     writer: &mut W,
 ) -> Result<(), TapeError>
     ensures ok { OnOk result
-        (Appends (W.contents writer.old) (W.contents writer.new) told.now) }
+        (Appends (W.contents writer.old) (W.contents writer.new) output.now) }
     ensures err { OnErr result (
-        (rest : List ℕ) × Writes (W.contents writer.old) (W.contents writer.new) told.now rest) }
+        (rest : List ℕ) × Writes (W.contents writer.old) (W.contents writer.new) output.now rest) }
     ensures fault { IfErr result IsUnwritten }
 {
     lines.clear();
-    spell_told(told, lines, writer)?;
+    spell_output(output, lines, writer)?;
     write_whole(writer, lines.text())?;
     Ok(())
 }
 
-/// Writes what was told before a line that fails, and answers its fault, or why that was not written.
+/// Writes the output of the lines before one that fails, and returns its fault, or the reason why that was not written.
 pub fn write_before<W: Write>(
     error: TapeError,
-    told: &Unwritten,
+    output: &Unwritten,
     lines: &mut OutputText,
     writer: &mut W,
 ) -> TapeError
     ensures { (c d : Progress) (text gathered rest l others : List ℕ) (w : Option (List ℕ))
         → Gathers c d text w (W.contents writer.old) gathered rest
         → rest ≡ l ++ 10 ∷ others → Lacks 10 l → Faults d l error
-        → ((error ≡ fault.NoMemory → ⊥) → told.now ≡ gathered)
+        → ((error ≡ fault.NoMemory → ⊥) → output.now ≡ gathered)
         → Stops ⊥ c text w (W.contents writer.new) result }
 {
     if let TapeError::NoMemory = error {
         return error;
     }
-    match write_told(told, lines, writer) {
+    match write_outcome(output, lines, writer) {
         Ok(()) => error,
         Err(unwritten) => unwritten,
     }

@@ -29,10 +29,10 @@ use Rattle.hx_market.specs.Replace.{is_order_halted}
 use Rattle.hx_laws.proofs.History.CoherentSteps.{Coherent, used_last}
 use Rattle.hx_laws.proofs.History.EventMoves.{called_used}
 use Rattle.hx_audit.specs.Facts.{AreOfMembers}
-use Rattle.hx_audit.specs.Finding.{named_by, AreTold}
+use Rattle.hx_audit.specs.Finding.{named_by, AreOutput}
 use Rattle.hx_audit.specs.Listing.{Use, use_of, uses_of, tokens_in, each_once, grouped}
 use Rattle.hx_audit.proofs.Goes.{joined_if, event_uses, step_goes}
-use Rattle.hx_audit.proofs.Uses.{Lists, step_lists, lookup_uses, some_told}
+use Rattle.hx_audit.proofs.Uses.{Lists, step_lists, lookup_uses, some_output}
 use Rattle.hx_report.specs.declared.census.Begun.{Begun}
 use Rattle.hx_report.specs.Noted.{entered_by, begun_by, begun_by_message, entered_among}
 
@@ -79,20 +79,20 @@ any_once e (x ∷ ns) = at (is_token e x) refl (any_once e ns)
 entered_push : (us : List Use) (t e : Token) → each_once (map (λ (u : Use). u.1) (us ++ use_of t e ∷ [])) ≡ each_once (map (λ (u : Use). u.1) us) ++ cond (list_any (is_token e) (map (λ (u : Use). u.1) us)) [] (e ∷ [])
 entered_push us t e = ap each_once (map-append (λ (u : Use). u.1) us (use_of t e ∷ [])) ∙ once_push (map (λ (u : Use). u.1) us) e
 
--- each of them is used, where its chain is told of
-used_of_told : (a : Market) (m : ℕ) (us : List Use) (ns : List Token) (e : Token)
+-- each of them is used, if its chain has a state
+used_of_output : (a : Market) (m : ℕ) (us : List Use) (ns : List Token) (e : Token)
     → AllByRecursion (λ (g : Token × List Token). chain_facts a.tokens a.chains m g.0 ≡ Some (facts_of a.chains m g.0)) (map (λ x. (x, tokens_in us x)) ns)
     → list_any (is_token e) ns ≡ true → is_used a.tokens m e ≡ true
-used_of_told a m us [] e told h = absurd (true≢false (sym h))
-used_of_told a m us (n ∷ ns) e told h = at (is_token e n) refl h (used_of_told a m us ns e told.1)
+used_of_output a m us [] e output h = absurd (true≢false (sym h))
+used_of_output a m us (n ∷ ns) e output h = at (is_token e n) refl h (used_of_output a m us ns e output.1)
   where
     at : (b : Bool) → is_token e n ≡ b → (b || list_any (is_token e) ns) ≡ true → (list_any (is_token e) ns ≡ true → is_used a.tokens m e ≡ true) → is_used a.tokens m e ≡ true
-    at true p h ih = ap (is_used a.tokens m) (same_token e n p) ∙ sym (some_told a.tokens a.chains m n) ∙ ap is_some told.0
+    at true p h ih = ap (is_used a.tokens m) (same_token e n p) ∙ sym (some_output a.tokens a.chains m n) ∙ ap is_some output.0
     at false p h ih = ih h
 
 -- a token that is not used is none of them
-pub fresh : (a : Market) (m : ℕ) (e : Token) → AreTold a m (grouped (uses_of a.tokens m)) → is_used a.tokens m e ≡ false → list_any (is_token e) (map (λ (u : Use). u.1) (uses_of a.tokens m)) ≡ false
-fresh a m e told unused = at (list_any (is_token e) (map (λ (u : Use). u.1) us)) refl
+pub fresh : (a : Market) (m : ℕ) (e : Token) → AreOutput a m (grouped (uses_of a.tokens m)) → is_used a.tokens m e ≡ false → list_any (is_token e) (map (λ (u : Use). u.1) (uses_of a.tokens m)) ≡ false
+fresh a m e output unused = at (list_any (is_token e) (map (λ (u : Use). u.1) us)) refl
   where
     us : List Use
     us = uses_of a.tokens m
@@ -100,7 +100,7 @@ fresh a m e told unused = at (list_any (is_token e) (map (λ (u : Use). u.1) us)
     at : (b : Bool) → list_any (is_token e) (map (λ (u : Use). u.1) us) ≡ b → b ≡ false
     at false h = refl
     at true h =
-        absurd (true≢false (sym (used_of_told a m us (each_once (map (λ (u : Use). u.1) us)) e told (any_once e (map (λ (u : Use). u.1) us) ∙ h)) ∙ unused))
+        absurd (true≢false (sym (used_of_output a m us (each_once (map (λ (u : Use). u.1) us)) e output (any_once e (map (λ (u : Use). u.1) us) ∙ h)) ∙ unused))
 
 -- what is looked up is one of them
 looked_up : (us : List Use) (t e : Token) → lookup (is_token t) us ≡ Some e → list_any (is_token e) (map (λ (u : Use). u.1) us) ≡ true
@@ -127,7 +127,7 @@ known a m t used =
 
 -- ---- one event more
 
--- the chain that an event begins, where its sender is a member
+-- the chain that an event begins, if its sender is a member
 pub record Begins (a : Market) (event : Event) (o : Option Begun) : Type 0 where
   pub some : IfSome o (λ begun. begun_by a event ≡ Some begun)
   pub none : IfNone o (IsMember (sender event) → begun_by a event ≡ None)
@@ -174,10 +174,10 @@ from_other a k time m bytes (Some begun) b h = ap (λ (j : ℕ). eqb j m) (his (
         at false q = let z : Some (record { member = k; entered = e.token }) ≡ Some begun = q in ap (λ (x : Begun). x.member) (sym (let s : record { member = k; entered = e.token } ≡ begun = cc in s))
 
 -- a message of the member
-enter_goes : (setup : Setup) (a : Market) (m time : ℕ) (bytes : List ℕ) (e : NewOrder) (o : Option Begun) → inbound_of bytes ≡ Some (Enter e) → AreTold a m (grouped (uses_of a.tokens m))
+enter_goes : (setup : Setup) (a : Market) (m time : ℕ) (bytes : List ℕ) (e : NewOrder) (o : Option Begun) → inbound_of bytes ≡ Some (Enter e) → AreOutput a m (grouped (uses_of a.tokens m))
     → AreOfMembers (step setup a (Message m time bytes)).market.tokens → Begins a (Message m time bytes) o
     → Lists a (step setup a (Message m time bytes)).market m (named_by (Some (Enter e))) → Goes a (step setup a (Message m time bytes)).market m o
-enter_goes setup a m time bytes e o is told members begins lists = at (is_used a.tokens m e.token) refl
+enter_goes setup a m time bytes e o is output members begins lists = at (is_used a.tokens m e.token) refl
   where
     x : Event
     x = Message m time bytes
@@ -204,7 +204,7 @@ enter_goes setup a m time bytes e o is told members begins lists = at (is_used a
         ap (λ (us : List Use). each_once (map (λ (u : Use). u.1) us)) (lists.2 unused used)
         ∙ entered_push (uses_of a.tokens m) e.token (entered_of a.tokens m e.token)
         ∙ ap (λ (t : Token). entered_by a m ++ cond (list_any (is_token t) (map (λ (u : Use). u.1) (uses_of a.tokens m))) [] (t ∷ [])) (entered_of-unused a.tokens m e.token unused)
-        ∙ ap (λ (c : Bool). entered_by a m ++ cond c [] (e.token ∷ [])) (fresh a m e.token told unused)
+        ∙ ap (λ (c : Bool). entered_by a m ++ cond c [] (e.token ∷ [])) (fresh a m e.token output unused)
         ∙ ap (λ (c : Bool). entered_by a m ++ map (λ (y : Begun). y.entered) (cond c (record { member = m; entered = e.token } ∷ []) [])) (sym own)
         ∙ ap (λ (p : Option Begun). entered_by a m ++ entered_among m (cons_option p [])) (sym begun)
 
@@ -225,7 +225,7 @@ replace_goes setup a m time bytes r o is coherent begins lists = at (is_used a.t
     uses_are : event_uses a x ≡ joined_if a m r (find (is_called m r.existing_token) a.live) (is_used a.tokens m r.replacement_token) (is_order_halted a.halted (find (is_called m r.existing_token) a.live))
     uses_are = ap (Rattle.hx_audit.proofs.Goes.message_uses a m) is
 
-    -- who replaces has a live order, whose token is used
+    -- a member that replaces has a live order, whose token is used
     existing_used : is_used a.tokens m r.replacement_token ≡ false → is_used b.tokens m r.replacement_token ≡ true → is_used a.tokens m r.existing_token ≡ true
     existing_used p q = found (find (is_called m r.existing_token) a.live) refl
       where
@@ -248,9 +248,9 @@ replace_goes setup a m time bytes r o is coherent begins lists = at (is_used a.t
         ∙ ap (λ (l : Option Begun). entered_by a m ++ entered_among m (cons_option l [])) (sym none)
 
 -- the entered tokens of a member's chains go on by the one that an event begins
-pub goes_on : (setup : Setup) (a : Market) (event : Event) (m : ℕ) (o : Option Begun) → Coherent a → AreTold a m (grouped (uses_of a.tokens m)) → AreOfMembers (step setup a event).market.tokens
+pub goes_on : (setup : Setup) (a : Market) (event : Event) (m : ℕ) (o : Option Begun) → Coherent a → AreOutput a m (grouped (uses_of a.tokens m)) → AreOfMembers (step setup a event).market.tokens
     → Begins a event o → entered_by (step setup a event).market m ≡ entered_by a m ++ entered_among m (cons_option o [])
-goes_on setup a (Message k time bytes) m o coherent told members begins = at (eqb k m) refl (step_lists setup a (Message k time bytes) m)
+goes_on setup a (Message k time bytes) m o coherent output members begins = at (eqb k m) refl (step_lists setup a (Message k time bytes) m)
   where
     b : Market
     b = (step setup a (Message k time bytes)).market
@@ -268,19 +268,19 @@ goes_on setup a (Message k time bytes) m o coherent told members begins = at (eq
             → Goes a (step setup a (Message m time bytes)).market m o
         his None is ms bs ls = none_goes a (step setup a (Message m time bytes)).market m o ls (begun_none a (Message m time bytes) o bs (ap (begun_by_message a m) is))
         his (Some (Cancel c)) is ms bs ls = none_goes a (step setup a (Message m time bytes)).market m o ls (begun_none a (Message m time bytes) o bs (ap (begun_by_message a m) is))
-        his (Some (Enter e)) is ms bs ls = enter_goes setup a m time bytes e o is told ms bs ls
+        his (Some (Enter e)) is ms bs ls = enter_goes setup a m time bytes e o is output ms bs ls
         his (Some (Replace r)) is ms bs ls = replace_goes setup a m time bytes r o is coherent bs ls
 
     at : (c : Bool) → eqb k m ≡ c → Lists a b m (cond c (named_by (inbound_of bytes)) None) → Goes a b m o
     at true h lists = own k ((Decides-eqb k m).0 h) members begins (inbound_of bytes) refl lists
     at false h lists = other_goes a b m o lists (from_other a k time m bytes o begins h)
-goes_on setup a (Tick time) m o coherent told members begins =
+goes_on setup a (Tick time) m o coherent output members begins =
     none_goes a (step setup a (Tick time)).market m o (step_lists setup a (Tick time) m) (begun_none a (Tick time) o begins refl)
-goes_on setup a (Hours time code) m o coherent told members begins =
+goes_on setup a (Hours time code) m o coherent output members begins =
     none_goes a (step setup a (Hours time code)).market m o (step_lists setup a (Hours time code) m) (begun_none a (Hours time code) o begins refl)
-goes_on setup a (Halt time stock state reason) m o coherent told members begins =
+goes_on setup a (Halt time stock state reason) m o coherent output members begins =
     none_goes a (step setup a (Halt time stock state reason)).market m o (step_lists setup a (Halt time stock state reason) m) (begun_none a (Halt time stock state reason) o begins refl)
-goes_on setup a (Break time number) m o coherent told members begins =
+goes_on setup a (Break time number) m o coherent output members begins =
     none_goes a (step setup a (Break time number)).market m o (step_lists setup a (Break time number) m) (begun_none a (Break time number) o begins refl)
 
 -- ---- what is looked up before the event
@@ -289,7 +289,7 @@ begun_if : (a : Market) (event : Event) (j k time : ℕ) (bytes : List ℕ) (e :
     → is_some (chain_facts a.tokens a.chains j e.token) ≡ b → begun_by a event ≡ cond b None (Some (record { member = j; entered = e.token }))
 begun_if a event j k time bytes e b is says one used =
     ap (begun_by a) is ∙ ap (begun_by_message a k) says ∙ ap (λ (m : ℕ). begun_by_message a m (Some (Enter e))) (sym one)
-    ∙ ap (λ (c : Bool). cond c None (Some (record { member = j; entered = e.token }))) (sym (some_told a.tokens a.chains j e.token) ∙ used)
+    ∙ ap (λ (c : Bool). cond c None (Some (record { member = j; entered = e.token }))) (sym (some_output a.tokens a.chains j e.token) ∙ used)
 
 pub begun_not : (a : Market) (event : Event) (j k time : ℕ) (bytes : List ℕ) (e : NewOrder) → event ≡ Message k time bytes → inbound_of bytes ≡ Some (Enter e) → j ≡ k
     → is_some (chain_facts a.tokens a.chains j e.token) ≡ true → begun_by a event ≡ None

@@ -19,7 +19,7 @@ entries : (es : List Entry) → AllByRecursion IsKnown es → AllByRecursion IsE
 entries [] h = tt
 entries (e ∷ es) h = (h.0.entry, entries es h.1)
 
--- it is the text of what the tape's events tell
+-- it is the text of the output of the tape's events
 pub replayed : (setup : Setup) (counts : Counts) (text rest output : List ℕ) (es : List Entry) → ReplaysAll setup counts (Some text) (Some rest) (Some []) (Some output) → AreEvents (start setup) es → text ≡ tape es
     → output ≡ output_all (start setup) es
 replayed setup counts text rest output es r h is =
@@ -28,7 +28,7 @@ replayed setup counts text rest output es r h is =
     tape_same r.events es (entries r.events (all_known (start setup) r.events r.are_events)) (entries es (all_known (start setup) es h)) (sym whole ∙ is) in
     r.wrote ∙ ap (output_all (start setup)) same
 
--- the same where the replay told no error
+-- the same if the replay gave no error
 pub output_is : {E : Type 0} (r : Result Counts E) (setup : Setup) (text rest empty output : List ℕ) → is_err r ≡ false
     → IfOk r (λ counts. ReplaysAll setup counts (Some text) (Some rest) (Some empty) (Some output)) → empty ≡ []
     → (es : List Entry) → AreEvents (start setup) es → text ≡ tape es → output ≡ output_all (start setup) es

@@ -9,8 +9,8 @@ use Rattle.hx_members.specs.Setups.{Setup}
 use Rattle.hx_ouch.specs.declared.outbound.Outbound.{Outbound}
 use Rattle.hx_rules.specs.declared.event.Event.{Event}
 use Rattle.hx_market.specs.Markets.{Market}
-use Rattle.hx_market.specs.Outputs.{Reply, Told}
-use Rattle.hx_market.specs.Steps.{run, told, sender, replies, replies_of, replies_among}
+use Rattle.hx_market.specs.Outputs.{Reply, EventOutput}
+use Rattle.hx_market.specs.Steps.{run, output, sender, replies, replies_of, replies_among}
 use Rattle.hx_audit.specs.declared.chain.Chain.{Chain}
 use Rattle.hx_audit.specs.Facts.{are_loud}
 use Rattle.hx_audit.specs.Listing.{chains_of}
@@ -88,7 +88,7 @@ traded_in m (r ∷ rs) = at (is_execution r.1) refl (eqb r.0 m) refl (traded_in 
     at false p true q ih = ih ∙ sym (none_more _) ∙ ap (λ (b : Bool). cond b 1 0 + sum_by Q (replies_among m rs)) (sym p) ∙ sym (sum_by-cons Q r.1 (replies_among m rs))
     at false p false q ih = ih
 
-traded_all : (m : ℕ) (ts : List Told) → count_by (λ (k : ℕ). eqb k m) (traders_of ts) ≡ count_by is_execution (replies_of m ts)
+traded_all : (m : ℕ) (ts : List EventOutput) → count_by (λ (k : ℕ). eqb k m) (traders_of ts) ≡ count_by is_execution (replies_of m ts)
 traded_all m [] = refl
 traded_all m (t ∷ ts) =
     sum_by-append (λ (k : ℕ). cond (eqb k m) 1 0) (traders_in t.replies) (traders_of ts)
@@ -96,9 +96,9 @@ traded_all m (t ∷ ts) =
     ∙ ap (λ n. count_by is_execution (replies_among m t.replies) + n) (traded_all m ts)
     ∙ sym (sum_by-append (λ (x : Outbound). cond (is_execution x) 1 0) (replies_among m t.replies) (replies_of m ts))
 
-trades_counted : (setup : Setup) (m : ℕ) (events : List Event) → count_by (λ (k : ℕ). eqb k m) (traders_of (told setup events)) ≡ trades_of setup m events
+trades_counted : (setup : Setup) (m : ℕ) (events : List Event) → count_by (λ (k : ℕ). eqb k m) (traders_of (output setup events)) ≡ trades_of setup m events
 unfolding replies
-trades_counted setup m events = traded_all m (told setup events)
+trades_counted setup m events = traded_all m (output setup events)
 
 -- ---- shares that rest hidden
 
@@ -132,13 +132,13 @@ rested_one m all (r ∷ rs) =
         ∙ ap (λ (o : Option Hidden). Rattle.std.specs.Option.option_map_or (λ (x : Hidden). left_by x (replies_among m all)) o 0 + more) (sym q)
         ∙ sym (sum_by-cons (rested_by (replies_among m all)) r.1 (replies_among m rs))
 
-rested_all : (m : ℕ) (ts : List Told) → sum_by (shares_of m) (rests_of ts) ≡ sum_by (λ (t : Told). rested_in (replies_among m t.replies)) ts
+rested_all : (m : ℕ) (ts : List EventOutput) → sum_by (shares_of m) (rests_of ts) ≡ sum_by (λ (t : EventOutput). rested_in (replies_among m t.replies)) ts
 rested_all m [] = refl
 rested_all m (t ∷ ts) =
     sum_by-append (shares_of m) (rests_among t.replies t.replies) (rests_of ts)
     ∙ ap (λ n. n + sum_by (shares_of m) (rests_of ts)) (rested_one m t.replies t.replies)
     ∙ ap (λ n. rested_in (replies_among m t.replies) + n) (rested_all m ts)
-    ∙ sym (sum_by-cons (λ (u : Told). rested_in (replies_among m u.replies)) t ts)
+    ∙ sym (sum_by-cons (λ (u : EventOutput). rested_in (replies_among m u.replies)) t ts)
 
 -- ---- all of them
 
@@ -153,6 +153,6 @@ tally_is day es m tally h messages chains quiet rested trades = record {
   messages = messages ∙ ap (λ (l : List Mark). counted (count_by (λ (k : Mark). eqb k.sender m) l)) h.marks_are ∙ ap counted (messages_counted day.setup m es);
   chains = chains ∙ ap counted (chains_counted (run day.setup (map event_of es)) m day.chains.items h.chains_are);
   quiet = quiet ∙ ap counted (quiet_counted (run day.setup (map event_of es)) m day.chains.items h.chains_are);
-  rested = rested ∙ ap (λ (l : List Rested). counted (sum_by (shares_of m) l)) h.rested_are ∙ ap counted (rested_all m (told day.setup (map event_of es)));
+  rested = rested ∙ ap (λ (l : List Rested). counted (sum_by (shares_of m) l)) h.rested_are ∙ ap counted (rested_all m (output day.setup (map event_of es)));
   trades = trades ∙ ap (λ (l : List ℕ). counted (count_by (λ (k : ℕ). eqb k m) l)) h.traded_are ∙ ap counted (trades_counted day.setup m (map event_of es));
 }

@@ -1,6 +1,6 @@
 -- The lines of a text, cut off one by one.
-use Rattle.std.proofs.Common.{◌≡◌, ◌≢◌, ℕ, Bool, true, false, cond, not, ◌&&◌, eqb, List, [], ◌∷◌, ◌++◌, refl, sym, ap, ◌∙◌, subst, append-nil, append_assoc}
-use Rattle.std.specs.List.{concat, filter, starts_with}
+use Rattle.std.proofs.Common.{◌≡◌, ◌≢◌, ℕ, Bool, true, false, not, ◌&&◌, eqb, List, [], ◌∷◌, ◌++◌, refl, sym, ap, ◌∙◌, subst, append-nil, append_assoc}
+use Rattle.std.specs.List.{concat, starts_with}
 use Rattle.std.specs.Cmp.Lexicographic.{pointwise}
 use Rattle.std.proofs.lemmas.Bool.{eqb-true}
 use Rattle.std.proofs.lemmas.List.Elements.{All-head, All-tail}
@@ -8,7 +8,7 @@ use Rattle.std.proofs.lemmas.Slice.Eq.{bytes_eq-Decides}
 use Rattle.hx_text.specs.Cuts.{Lacks}
 use Rattle.hx_text.proofs.Splits.{same_split, none_split}
 use Rattle.hx_replay.specs.Grep.{lines_in, begins_with}
-use Rattle.hx_report.specs.Looks.{Pick, is_seen, seen_lines, seen_text}
+use Rattle.hx_report.specs.Looks.{Pick, seen_lines, seen_text}
 use Rattle.hx_report.specs.Comparing.{Ends, EndsSo, FirstLine, NextLine}
 use Rattle.hx_report.specs.Comparing.Ends.{ByFeed, WithText}
 
@@ -55,37 +55,14 @@ last_first (b ∷ text) some lacks = record {
 
 -- ---- the next chosen line
 
-pub next_here : (pick : Pick) (text line others : List ℕ) → FirstLine text line others → is_seen pick line ≡ true → NextLine pick text line others
-next_here pick text line others f seen = record {
-  lines =
-      ap (filter (is_seen pick)) f.lines
-      ∙ ap (λ (b : Bool). cond b (line ∷ seen_lines pick others) (seen_lines pick others)) seen;
-  some = f.some;
-  end = f.end;
-  ends = f.ends;
-}
-
-pub skipped : (pick : Pick) (text line others : List ℕ) → FirstLine text line others → is_seen pick line ≡ false → seen_lines pick text ≡ seen_lines pick others
-skipped pick text line others f unseen =
-    ap (filter (is_seen pick)) f.lines
-    ∙ ap (λ (b : Bool). cond b (line ∷ seen_lines pick others) (seen_lines pick others)) unseen
-
-pub behind_skipped : (pick : Pick) (text rest line others : List ℕ) → seen_lines pick rest ≡ seen_lines pick text → NextLine pick rest line others → NextLine pick text line others
-behind_skipped pick text rest line others same n = record {
-  lines = sym same ∙ n.lines;
-  some = n.some;
-  end = n.end;
-  ends = n.ends;
-}
-
 pub next_text : (pick : Pick) (text line others : List ℕ) → NextLine pick text line others → seen_text pick text ≡ line ++ seen_text pick others
 next_text pick text line others n = ap concat n.lines
 
 -- ---- two lines of which one text begins with the one and with the other
 
--- behind a line that ends with its text nothing is chosen
-none_behind : (pick : Pick) (others : List ℕ) → others ≡ [] → seen_text pick others ≡ []
-none_behind pick others e = ap (seen_text pick) e
+-- after a line that ends with its text nothing is chosen
+none_after : (pick : Pick) (others : List ℕ) → others ≡ [] → seen_text pick others ≡ []
+none_after pick others e = ap (seen_text pick) e
 
 pub one_line : (pick : Pick) (a b as' bs : List ℕ) (e f : Ends) → EndsSo a as' e → EndsSo b bs f → a ++ seen_text pick as' ≡ b ++ seen_text pick bs → a ≡ b
 one_line pick a b as' bs (ByFeed x) (ByFeed y) p q same =
@@ -96,16 +73,16 @@ one_line pick a b as' bs (ByFeed x) (ByFeed y) p q same =
 one_line pick a b as' bs (ByFeed x) WithText p q same =
     let cut : x ++ 10 ∷ seen_text pick as' ≡ b =
     sym (append_assoc x (10 ∷ []) (seen_text pick as')) ∙ ap (λ (l : List ℕ). l ++ seen_text pick as') (sym p.0) ∙ same
-    ∙ ap (λ (l : List ℕ). b ++ l) (none_behind pick bs q.0) ∙ append-nil b in
+    ∙ ap (λ (l : List ℕ). b ++ l) (none_after pick bs q.0) ∙ append-nil b in
     absurd (none_split 10 x (seen_text pick as') (subst (Lacks 10) (sym cut) q.1))
 one_line pick a b as' bs WithText (ByFeed y) p q same =
     let cut : y ++ 10 ∷ seen_text pick bs ≡ a =
     sym (append_assoc y (10 ∷ []) (seen_text pick bs)) ∙ ap (λ (l : List ℕ). l ++ seen_text pick bs) (sym q.0) ∙ sym same
-    ∙ ap (λ (l : List ℕ). a ++ l) (none_behind pick as' p.0) ∙ append-nil a in
+    ∙ ap (λ (l : List ℕ). a ++ l) (none_after pick as' p.0) ∙ append-nil a in
     absurd (none_split 10 y (seen_text pick bs) (subst (Lacks 10) (sym cut) p.1))
 one_line pick a b as' bs WithText WithText p q same =
-    sym (append-nil a) ∙ ap (λ (l : List ℕ). a ++ l) (sym (none_behind pick as' p.0)) ∙ same
-    ∙ ap (λ (l : List ℕ). b ++ l) (none_behind pick bs q.0) ∙ append-nil b
+    sym (append-nil a) ∙ ap (λ (l : List ℕ). a ++ l) (sym (none_after pick as' p.0)) ∙ same
+    ∙ ap (λ (l : List ℕ). b ++ l) (none_after pick bs q.0) ∙ append-nil b
 
 -- what is left once one line is taken off in front of both
 off_front : (a x y : List ℕ) → a ++ x ≡ a ++ y → x ≡ y
@@ -114,49 +91,28 @@ off_front (b ∷ a) x y e = off_front a x y (let z : b ∷ (a ++ x) ≡ b ∷ (a
 
 -- ---- two texts, line by line
 
--- both have the same lines where what is left of them has, and are one text only then
+-- both have the same lines if what is left of them has, and are one text only then
 pub record Meet (pick : Pick) (day struck ahead rest : List ℕ) : Type 0 where
   pub then_same : seen_lines pick rest ≡ seen_lines pick ahead → seen_lines pick struck ≡ seen_lines pick day
   pub only_then : seen_text pick struck ≡ seen_text pick day → seen_text pick rest ≡ seen_text pick ahead
 
-pub meets_first : (pick : Pick) (day struck : List ℕ) → Meet pick day struck day struck
-meets_first pick day struck = record { then_same = λ e. e; only_then = λ e. e }
-
-pub meets_on : (pick : Pick) (day struck ahead rest line theirs others behind : List ℕ) → Meet pick day struck ahead rest → NextLine pick rest line others → NextLine pick ahead theirs behind
-    → theirs ≡ line → Meet pick day struck behind others
-meets_on pick day struck ahead rest line theirs others behind m n o same =
+pub meets_on : (pick : Pick) (day struck ahead rest line theirs others after : List ℕ) → Meet pick day struck ahead rest → NextLine pick rest line others → NextLine pick ahead theirs after
+    → theirs ≡ line → Meet pick day struck after others
+meets_on pick day struck ahead rest line theirs others after m n o same =
     let left : seen_text pick rest ≡ line ++ seen_text pick others = next_text pick rest line others n in
-    let right : seen_text pick ahead ≡ line ++ seen_text pick behind = next_text pick ahead theirs behind o ∙ ap (λ (l : List ℕ). l ++ seen_text pick behind) same in
+    let right : seen_text pick ahead ≡ line ++ seen_text pick after = next_text pick ahead theirs after o ∙ ap (λ (l : List ℕ). l ++ seen_text pick after) same in
     record {
-      then_same = λ e. m.then_same (n.lines ∙ ap (λ (l : List (List ℕ)). line ∷ l) e ∙ sym (o.lines ∙ ap (λ (l : List ℕ). l ∷ seen_lines pick behind) same));
-      only_then = λ e. off_front line (seen_text pick others) (seen_text pick behind) (sym left ∙ m.only_then e ∙ right);
+      then_same = λ e. m.then_same (n.lines ∙ ap (λ (l : List (List ℕ)). line ∷ l) e ∙ sym (o.lines ∙ ap (λ (l : List ℕ). l ∷ seen_lines pick after) same));
+      only_then = λ e. off_front line (seen_text pick others) (seen_text pick after) (sym left ∙ m.only_then e ∙ right);
     }
 
-pub differ_in_line : (pick : Pick) (day struck ahead rest line theirs others behind : List ℕ) → Meet pick day struck ahead rest → NextLine pick rest line others → NextLine pick ahead theirs behind
+pub differ_in_line : (pick : Pick) (day struck ahead rest line theirs others after : List ℕ) → Meet pick day struck ahead rest → NextLine pick rest line others → NextLine pick ahead theirs after
     → (theirs ≡ line → ⊥) → seen_text pick struck ≡ seen_text pick day → ⊥
-differ_in_line pick day struck ahead rest line theirs others behind m n o other e =
+differ_in_line pick day struck ahead rest line theirs others after m n o other e =
     other
     (sym
-    (one_line pick line theirs others behind n.end o.end n.ends o.ends
-    (sym (next_text pick rest line others n) ∙ m.only_then e ∙ next_text pick ahead theirs behind o)))
-
-one_is_empty : (line others : List ℕ) → line ++ others ≡ [] → line ≡ []
-one_is_empty [] others e = refl
-one_is_empty (b ∷ line) others e = absurd (let z : b ∷ (line ++ others) ≡ [] = e in cc)
-
-pub longer : (pick : Pick) (day struck ahead rest line others : List ℕ) → Meet pick day struck ahead rest → NextLine pick rest line others → seen_lines pick ahead ≡ []
-    → seen_text pick struck ≡ seen_text pick day → ⊥
-longer pick day struck ahead rest line others m n none e =
-    n.some (one_is_empty line (seen_text pick others) (sym (next_text pick rest line others n) ∙ m.only_then e ∙ ap concat none))
-
-pub shorter : (pick : Pick) (day struck ahead rest theirs behind : List ℕ) → Meet pick day struck ahead rest → seen_lines pick rest ≡ [] → NextLine pick ahead theirs behind
-    → seen_text pick struck ≡ seen_text pick day → ⊥
-shorter pick day struck ahead rest theirs behind m none o e =
-    o.some (one_is_empty theirs (seen_text pick behind) (sym (next_text pick ahead theirs behind o) ∙ sym (m.only_then e) ∙ ap concat none))
-
-pub both_end : (pick : Pick) (day struck ahead rest : List ℕ) → Meet pick day struck ahead rest → seen_lines pick rest ≡ [] → seen_lines pick ahead ≡ []
-    → seen_lines pick struck ≡ seen_lines pick day
-both_end pick day struck ahead rest m none no_more = m.then_same (none ∙ sym no_more)
+    (one_line pick line theirs others after n.end o.end n.ends o.ends
+    (sym (next_text pick rest line others n) ∙ m.only_then e ∙ next_text pick ahead theirs after o)))
 
 -- ---- how a line begins
 

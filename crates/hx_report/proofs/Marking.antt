@@ -35,7 +35,7 @@ took_line old new es e l h took is s b = record {
   lines_are = subst (AreLinesOf (es ++ e ∷ [])) (sym is) (lines_more es old.lines.items e l h.lines_are s b);
 }
 
--- the same of an audit that told no error
+-- the same of an audit that gave no error
 pub took_event : {T E : Type 0} (r : Result T E) (old new : TakenLines) (es : List Entry) (e : Entry) (x : Event) (l : TakenLine) → is_err r ≡ false
     → OnOk r ((events : List Event) → HasTaken old.auditor events → HasTaken new.auditor (events ++ x ∷ []))
     → new.lines.items ≡ old.lines.items ++ l ∷ [] → l.sender ≡ sender x → ((choice : Choice) → is_borne choice l.bearing ≡ bears choice x) → x ≡ event_of e → HasTakenLines old es
@@ -60,7 +60,7 @@ all_marked setup t es same all h =
     ∙ ap (λ (m : Market). map (marked_by (is_quiet m)) t.lines.items) (h.taken.market_is ∙ ap (λ (s : Setup). run s (map event_of es)) same)
     ∙ marked (run setup (map event_of es)) es t.lines.items h.lines_are
 
--- the same of a list of marks, where it found room
+-- the same of a list of marks, if there was memory for it
 pub marks_ok : {E : Type 0} (r : Result (Vec Mark Global) E) (setup : Setup) (t : TakenLines) (lines : List TakenLine) (text : List ℕ) → t.auditor.setup ≡ setup → t.auditor.whose ≡ OfAll
     → ((es : List Entry) → AreEvents (start setup) es → text ≡ tape es → HasTakenLines t es) → lines ≡ t.lines.items
     → IfOk r (λ marks. marks.items ≡ map (marked_by (choice_of t.auditor.whose t.auditor.market)) lines)

@@ -1,10 +1,8 @@
 -- Lines that are struck one by one.
-use Rattle.std.proofs.Common.{◌≡◌, ℕ, ◌+◌, ◌-◌, Bool, true, false, cond, not, ◌&&◌, ◌||◌, eqb, List, [], ◌∷◌, ◌++◌, map, length, Option, Some, None, refl, sym, ap, ◌∙◌, append-nil, append_assoc, length-append, arith}
-use Rattle.std.specs.Prelude.{◌^◌, min}
-use Rattle.std.specs.List.{filter}
+use Rattle.std.proofs.Common.{◌≡◌, ℕ, ◌+◌, ◌-◌, Bool, true, false, not, ◌&&◌, ◌||◌, eqb, List, [], ◌∷◌, ◌++◌, map, Option, Some, None, refl, sym, ap, ◌∙◌, append_assoc}
+use Rattle.std.specs.Prelude.{◌^◌}
 use Rattle.std.proofs.lemmas.Bool.Decides.{Decides-eqb}
 use Rattle.std.proofs.lemmas.List.{map-append}
-use Rattle.std.proofs.lemmas.List.Elements.{filter-append}
 use Rattle.hx_ouch.specs.declared.inbound.Inbound.{Inbound}
 use Rattle.hx_ouch.specs.declared.inbound.Inbound.TheVariants.{Enter, Replace, Cancel}
 use Rattle.hx_ouch.specs.Inbound.{inbound_of}
@@ -12,19 +10,15 @@ use Rattle.hx_rules.specs.declared.event.Event.{Event}
 use Rattle.hx_rules.specs.declared.event.Event.TheVariants.{Message, Tick, Hours, Halt, Break}
 use Rattle.hx_market.specs.Markets.{Market}
 use Rattle.hx_market.specs.Steps.{sender}
-use Rattle.hx_market.specs.QuietChains.{Choice, message_bears, bears, is_quiet, quiet_of_one}
+use Rattle.hx_market.specs.QuietChains.{message_bears, bears, is_quiet, quiet_of_one}
 use Rattle.hx_audit.specs.Auditing.{choice_of}
 use Rattle.hx_audit.specs.declared.auditor.Whose.{Whose}
 use Rattle.hx_tape_lines.specs.Text.{Entry, line, tape}
 use Rattle.hx_tape_lines.specs.Events.{event_of}
-use Rattle.hx_replay.specs.Struck.{without_chosen}
-use Rattle.hx_replay.proofs.OneReading.{tape-cons}
-use Rattle.hx_replay.proofs.Runs.{tape-append}
 use Rattle.hx_report.specs.declared.striking.Struck.{Struck}
 use Rattle.hx_report.specs.declared.marks.Mark.{Mark}
-use Rattle.hx_report.specs.Sums.{counted}
 use Rattle.hx_report.specs.Marks.{mark_of}
-use Rattle.hx_report.specs.Struck.{chosen_among, HasStruck}
+use Rattle.hx_report.specs.Struck.{HasStruck}
 
 never : (b : Bool) → false ≡ (b && false)
 never true = refl
@@ -41,7 +35,7 @@ message_by_one m k market (Some (Enter e)) = refl
 message_by_one m k market (Some (Replace r)) = both (eqb k m) (is_quiet market k r.existing_token) (is_quiet market k r.replacement_token)
 message_by_one m k market (Some (Cancel c)) = refl
 
--- a message bears a quiet token of one member where it is his, and bears a quiet one
+-- a message bears a quiet token of one member if it is that member's, and bears a quiet one
 pub borne_by_one : (m : ℕ) (market : Market) (event : Event) → bears (quiet_of_one m market) event ≡ (eqb (sender event) m && bears (is_quiet market) event)
 borne_by_one m market (Message k time bytes) = message_by_one m k market (inbound_of bytes)
 borne_by_one m market (Tick time) = never (eqb 0 m)
@@ -52,7 +46,7 @@ borne_by_one m market (Break time number) = never (eqb 0 m)
 pub struck_by_one : (m : ℕ) (market : Market) (event : Event) (mark : Mark) → mark ≡ mark_of market event → (eqb mark.sender m && mark.quiet) ≡ bears (quiet_of_one m market) event
 struck_by_one m market event mark is = ap (λ (k : Mark). eqb k.sender m && k.quiet) is ∙ sym (borne_by_one m market event)
 
--- the same where the mark is of that member, and where it is of another
+-- the same if the mark is of that member, and if it is of another
 pub struck_of_him : (m r : ℕ) (market : Market) (event : Event) (mark : Mark) → r ≡ m → mark ≡ mark_of market event → mark.sender ≡ r → mark.quiet ≡ bears (quiet_of_one m market) event
 struck_of_him m r market event mark one is his = ap (λ (b : Bool). b && mark.quiet) (sym ((Decides-eqb mark.sender m).1 (his ∙ one))) ∙ struck_by_one m market event mark is
 
@@ -63,73 +57,30 @@ struck_of_another m r market event mark one is other = ap (eqb mark.sender) one 
     at true e = absurd (other ((Decides-eqb mark.sender m).0 e ∙ sym one))
     at false e = refl
 
--- ---- one line more
-
-one_more : (n : ℕ) → min (counted n + 1) (2 ^ 64 - 1) ≡ counted (n + 1)
-one_more n = omega arith
-
-chosen_more : (choice : Choice) (es : List Entry) (e : Entry) (b : Bool) → bears choice (event_of e) ≡ b → length (chosen_among choice (es ++ e ∷ [])) ≡ length (chosen_among choice es) + cond b 1 0
-chosen_more choice es e b is =
-    ap length (filter-append (λ x. bears choice (event_of x)) es (e ∷ []))
-    ∙ length-append (chosen_among choice es) (filter (λ x. bears choice (event_of x)) (e ∷ []))
-    ∙ ap (λ (c : Bool). length (chosen_among choice es) + length (cond c (e ∷ []) [])) is ∙ at b
-  where
-    at : (c : Bool) → length (chosen_among choice es) + length (cond c (e ∷ []) []) ≡ length (chosen_among choice es) + cond c 1 0
-    at true = refl
-    at false = refl
-
-left_more : (choice : Choice) (es : List Entry) (e : Entry) (b : Bool) → bears choice (event_of e) ≡ b → without_chosen choice (es ++ e ∷ []) ≡ without_chosen choice es ++ cond (not b) (e ∷ []) []
-left_more choice es e b is =
-    filter-append (λ x. not (bears choice (event_of x))) es (e ∷ [])
-    ∙ ap (λ (c : Bool). without_chosen choice es ++ cond (not c) (e ∷ []) []) is
-
--- the line goes
-pub goes : (choice : Choice) (old new : Struck) (es : List Entry) (e : Entry) → HasStruck choice old es → bears choice (event_of e) ≡ true → new.text.items ≡ old.text.items → new.gone ≡ min (old.gone + 1) (2 ^ 64 - 1)
-    → HasStruck choice new (es ++ e ∷ [])
-goes choice old new es e h borne text gone = record {
-  text_is = text ∙ h.text_is ∙ ap tape (sym (left_more choice es e true borne ∙ append-nil (without_chosen choice es)));
-  gone_is =
-      gone ∙ ap (λ n. min (n + 1) (2 ^ 64 - 1)) h.gone_is ∙ one_more (length (chosen_among choice es))
-      ∙ ap counted (sym (chosen_more choice es e true borne));
-}
-
--- the line stays
-pub stays : (choice : Choice) (old new : Struck) (es : List Entry) (e : Entry) → HasStruck choice old es → bears choice (event_of e) ≡ false → new.text.items ≡ old.text.items ++ (line e ++ 10 ∷ []) → new.gone ≡ old.gone
-    → HasStruck choice new (es ++ e ∷ [])
-stays choice old new es e h free text gone = record {
-  text_is =
-      text ∙ ap (λ (x : List ℕ). x ++ (line e ++ 10 ∷ [])) h.text_is ∙ ap (λ (x : List ℕ). tape (without_chosen choice es) ++ x) (sym (tape-cons e []))
-      ∙ sym (tape-append (without_chosen choice es) (e ∷ [])) ∙ ap tape (sym (left_more choice es e false free));
-  gone_is =
-      let same = chosen_more choice es e false free in
-      let more : length (chosen_among choice (es ++ e ∷ [])) ≡ length (chosen_among choice es) = omega (arith, same) in
-      gone ∙ h.gone_is ∙ ap counted (sym more);
-}
-
 -- ---- a whole tape
 
 -- the marks of these lines
 abbrev pub seen_so : Market → List Entry → List Mark
 seen_so market es = map (λ e. mark_of market (event_of e)) es
 
--- what is struck so far, and the marks of the lines behind
-pub record StruckSoFar (market : Market) (whose : Whose) (struck : Struck) (behind : List Mark) (whole done : List Entry) : Type 0 where
+-- what is struck so far, and the marks of the later lines
+pub record StruckSoFar (market : Market) (whose : Whose) (struck : Struck) (after : List Mark) (whole done : List Entry) : Type 0 where
   pub has : HasStruck (choice_of whose market) struck done
-  pub marks : seen_so market whole ≡ seen_so market done ++ behind
+  pub marks : seen_so market whole ≡ seen_so market done ++ after
 
 off : (a x y : List Mark) → a ++ x ≡ a ++ y → x ≡ y
 off [] x y e = e
 off (b ∷ a) x y e = off a x y (let z : b ∷ (a ++ x) ≡ b ∷ (a ++ y) = e in cc)
 
--- the marks behind are those of the lines behind
-pub behind_is : (market : Market) (behind : List Mark) (whole done : List Entry) (e : Entry) (left : List Entry) → whole ≡ done ++ e ∷ left → seen_so market whole ≡ seen_so market done ++ behind
-    → behind ≡ mark_of market (event_of e) ∷ seen_so market left
-behind_is market behind whole done e left all is =
-    off (seen_so market done) behind (mark_of market (event_of e) ∷ seen_so market left)
+-- the later marks are those of the later lines
+pub after_is : (market : Market) (after : List Mark) (whole done : List Entry) (e : Entry) (left : List Entry) → whole ≡ done ++ e ∷ left → seen_so market whole ≡ seen_so market done ++ after
+    → after ≡ mark_of market (event_of e) ∷ seen_so market left
+after_is market after whole done e left all is =
+    off (seen_so market done) after (mark_of market (event_of e) ∷ seen_so market left)
     (sym is ∙ ap (seen_so market) all ∙ map-append (λ x. mark_of market (event_of x)) done (e ∷ left))
 
-pub marks_more : (market : Market) (behind more : List Mark) (whole done : List Entry) (e : Entry) (left : List Entry) → whole ≡ done ++ e ∷ left → more ≡ seen_so market left
+pub marks_more : (market : Market) (after more : List Mark) (whole done : List Entry) (e : Entry) (left : List Entry) → whole ≡ done ++ e ∷ left → more ≡ seen_so market left
     → seen_so market whole ≡ seen_so market (done ++ e ∷ []) ++ more
-marks_more market behind more whole done e left all is =
+marks_more market after more whole done e left all is =
     ap (seen_so market) (all ∙ sym (append_assoc done (e ∷ []) left)) ∙ map-append (λ x. mark_of market (event_of x)) (done ++ e ∷ []) left
     ∙ ap (λ (l : List Mark). seen_so market (done ++ e ∷ []) ++ l) (sym is)

@@ -1,5 +1,5 @@
 -- A text that is counted and hashed line by line.
-use Rattle.std.proofs.Common.{◌≡◌, ℕ, ◌+◌, ◌-◌, suc, List, [], ◌++◌, length, refl, sym, ap, ◌∙◌, append-nil, append_assoc, arith}
+use Rattle.std.proofs.Common.{◌≡◌, ℕ, ◌+◌, ◌-◌, suc, List, [], ◌++◌, length, sym, ap, ◌∙◌, append_assoc, arith}
 use Rattle.std.specs.Prelude.{◌^◌, min}
 use Rattle.std.specs.List.{concat}
 use Rattle.sha2.specs.declared.Sha256.{Sha256}
@@ -19,16 +19,6 @@ pub record SumSoFar (pick : Pick) (text rest : List ℕ) (lines : ℕ) (hasher :
   pub count : lines ≡ counted before
   pub lines_are : length (seen_lines pick text) ≡ before + length (seen_lines pick rest)
 
-pub sum_of_none : (pick : Pick) (text : List ℕ) (hasher : Sha256) → Holds256 hasher [] → SumSoFar pick text text 0 hasher
-sum_of_none pick text hasher h = record {
-  front = [];
-  held = h;
-  text_is = refl;
-  before = 0;
-  count = omega arith;
-  lines_are = omega arith;
-}
-
 one_more : (n : ℕ) → min (counted n + 1) (2 ^ 64 - 1) ≡ counted (n + 1)
 one_more n = omega arith
 
@@ -45,17 +35,6 @@ sum_of_more pick text rest line others lines more hasher next s n holds adds = r
       let whole = s.lines_are in
       omega (arith, size, whole);
 }
-
-pub sum_is_text : (pick : Pick) (text rest : List ℕ) (lines : ℕ) (hasher : Sha256) → (s : SumSoFar pick text rest lines hasher) → seen_lines pick rest ≡ [] → s.front ≡ seen_text pick text
-sum_is_text pick text rest lines hasher s none =
-    sym (append-nil s.front) ∙ ap (λ (l : List ℕ). s.front ++ l) (sym (ap concat none)) ∙ sym s.text_is
-
-pub sum_is_count : (pick : Pick) (text rest : List ℕ) (lines : ℕ) (hasher : Sha256) → SumSoFar pick text rest lines hasher → seen_lines pick rest ≡ [] → lines ≡ counted (length (seen_lines pick text))
-sum_is_count pick text rest lines hasher s none =
-    let size : length (seen_lines pick rest) ≡ 0 = ap length none in
-    let whole = s.lines_are in
-    let all : s.before ≡ length (seen_lines pick text) = omega (arith, size, whole) in
-    s.count ∙ ap counted all
 
 -- a sum is that of each text of the same lines
 pub sum_of_same : (pick : Pick) (a b : List ℕ) (sum : TextSum) → seen_lines pick b ≡ seen_lines pick a → IsSumOf pick b sum → IsSumOf pick a sum

@@ -12,7 +12,7 @@ use Rattle.hx_tape_lines.specs.declared.fault.Kind.TheVariants as kind
 use Rattle.hx_replay.specs.Run.{Progress, kind_of, check_of, after, IsEvent, AreEvents}
 use Rattle.hx_replay.proofs.OneReading.{tape_same, tape-cons, line_no_feed}
 
--- ---- what is so where no error was told
+-- what holds if there was no error
 
 pub on_ok : {T E : Type 0} (r : Result T E) (P : Type 0) → is_err r ≡ false → OnOk r P → P
 on_ok (Ok x) P f h = h
@@ -83,7 +83,7 @@ goes_on es rest text others Before After known g cut lacks step = at g.others g.
           so_far = step g.done e left all k same.0 g.so_far;
         }
 
--- where no line is left, all are taken
+-- if no line is left, all are taken
 pub all_done : (es : List Entry) (rest : List ℕ) (Holds : List Entry → Type 0) → GoesOn es rest Holds → Lacks 10 rest → Holds es
 all_done es rest Holds g lacks = at g.others g.all g.rest_is
   where

@@ -10,19 +10,19 @@ pub data Ends : Type 0 where
   ByFeed : (body : List ℕ) → Ends
   WithText : Ends
 
--- the line ends so, and these stand behind it
+-- the line ends so, and these follow it
 abbrev pub EndsSo : (line others : List ℕ) → Ends → Type 0
 EndsSo line others (ByFeed body) = (line ≡ body ++ line_feed ∷ []) × Lacks line_feed body
 EndsSo line others WithText = (others ≡ []) × Lacks line_feed line
 
--- the first line of a text that is not empty, and what stands behind it
+-- the first line of a text that is not empty, and what follows it
 pub record FirstLine (text line others : List ℕ) : Type 0 where
   pub lines : lines_in text ≡ line ∷ lines_in others
   pub some : line ≢ []
   pub end : Ends
   pub ends : EndsSo line others end
 
--- the first chosen line of a text, and what stands behind it
+-- the first chosen line of a text, and what follows it
 pub record NextLine (pick : Pick) (text line others : List ℕ) : Type 0 where
   pub lines : seen_lines pick text ≡ line ∷ seen_lines pick others
   pub some : line ≢ []

@@ -9,7 +9,7 @@ use Rattle.hx_ouch.specs.declared.outbound.Outbound.{Outbound}
 use Rattle.hx_ouch.specs.declared.outbound.Outbound.TheVariants.{SystemEvent, Accepted, Replaced, Canceled, Executed, Rejected, BrokenTrade}
 use Rattle.hx_rules.specs.declared.event.Event.{Event}
 use Rattle.hx_market.specs.Markets.{Market}
-use Rattle.hx_market.specs.Steps.{run, told, sender, replies, replies_among}
+use Rattle.hx_market.specs.Steps.{run, output, sender, replies, replies_among}
 use Rattle.hx_audit.specs.Facts.{are_loud}
 use Rattle.hx_audit.specs.Listing.{chains_of}
 use Rattle.hx_report.specs.declared.rest.Hidden.{Hidden}
@@ -20,7 +20,7 @@ use Rattle.hx_report.specs.Sums.{counted}
 abbrev pub messages_by : (member : ℕ) → List Event → ℕ
 messages_by member events = count_by (λ e. sender e == member) events
 
--- how many chains he has
+-- the number of the member's chains
 abbrev pub chains_by : Market → (member : ℕ) → ℕ
 chains_by market member = length (chains_of market member)
 
@@ -30,7 +30,7 @@ quiet_chains_by market member = count_by (λ c. not (are_loud c.facts)) (chains_
 
 -- ---- executions
 
--- whether a reply tells of an execution (OUCH 4.2, Executed)
+-- whether a reply reports an execution (OUCH 4.2, Executed)
 abbrev pub is_execution : Outbound → Bool
 is_execution (SystemEvent m) = false
 is_execution (Accepted m) = false
@@ -40,7 +40,7 @@ is_execution (Executed m) = true
 is_execution (Rejected m) = false
 is_execution (BrokenTrade m) = false
 
--- how many executions a member was told of
+-- the number of executions that were reported to a member
 abbrev pub trades_of : Setup → (member : ℕ) → List Event → ℕ
 trades_of setup member events = count_by is_execution (replies setup member events)
 
@@ -50,12 +50,12 @@ trades_of setup member events = count_by is_execution (replies setup member even
 abbrev pub non_display : ℕ
 non_display = letter "N"
 
--- an order of this token and this many shares, where it is not shown
+-- an order of this token and of `shares` shares, if it is not shown
 abbrev pub hidden_if : (display : ℕ) → Token → (shares : ℕ) → Option Hidden
 hidden_if display token shares =
     if display == non_display then Some (record { token = token; shares = shares }) else None
 
--- the hidden order of which a reply tells that it came: it was accepted, or replaces another
+-- the hidden order whose arrival a reply reports: it was accepted, or replaces another
 abbrev pub hidden_in : Outbound → Option Hidden
 hidden_in (SystemEvent m) = None
 hidden_in (Accepted m) = hidden_if m.display m.token m.shares
@@ -79,7 +79,7 @@ taken_off token (BrokenTrade m) = 0
 abbrev pub left_by : Hidden → List Outbound → ℕ
 left_by hidden replies = hidden.shares - sum_by (taken_off hidden.token) replies
 
--- what the replies to a member leave of the hidden order of which one of them tells
+-- what the replies to a member leave of the hidden order that one of them reports
 abbrev pub rested_by : List Outbound → Outbound → ℕ
 rested_by replies reply = option_map_or (λ hidden. left_by hidden replies) (hidden_in reply) 0
 
@@ -90,7 +90,7 @@ rested_in replies = sum_by (rested_by replies) replies
 -- those of a whole day
 abbrev pub rested_of : Setup → (member : ℕ) → List Event → ℕ
 rested_of setup member events =
-    sum_by (λ t. rested_in (replies_among member t.replies)) (told setup events)
+    sum_by (λ t. rested_in (replies_among member t.replies)) (output setup events)
 
 -- ---- all of them
 

@@ -10,7 +10,7 @@ abbrev pub beginning_of : Look → List ℕ
 beginning_of (AllBut m) = of_member m
 beginning_of Feed = of_feed
 
--- whether those are the lines that he gets, and not the others
+-- whether those are the lines that the reader gets, and not the others
 abbrev pub keeps_beginning : Look → Bool
 keeps_beginning (AllBut m) = false
 keeps_beginning Feed = true

@@ -12,7 +12,7 @@ use Rattle.hx_report.specs.declared.marks.Mark.{Mark}
 use Rattle.hx_report.specs.declared.marks.TakenLine.{TakenLine}
 use Rattle.hx_report.specs.declared.marks.TakenLines.{TakenLines}
 
--- what a strike sees of an event: whose it is, and whether it bears a token of one of his quiet chains
+-- what a strike sees of an event: its member, and whether it bears a token of one of that member's quiet chains
 abbrev pub mark_of : Market → Event → Mark
 mark_of market event = record { sender = sender event; quiet = bears (is_quiet market) event }
 

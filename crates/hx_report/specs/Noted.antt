@@ -12,8 +12,8 @@ use Rattle.hx_rules.specs.declared.event.Event.{Event}
 use Rattle.hx_rules.specs.declared.event.Event.TheVariants.{Message, Tick, Hours, Halt, Break}
 use Rattle.hx_market.specs.Markets.{Market}
 use Rattle.hx_market.specs.MarketModel.{chain_facts}
-use Rattle.hx_market.specs.Outputs.{Reply, Told}
-use Rattle.hx_market.specs.Steps.{run, told, replies_among}
+use Rattle.hx_market.specs.Outputs.{Reply, EventOutput}
+use Rattle.hx_market.specs.Steps.{run, output, replies_among}
 use Rattle.hx_audit.specs.Recording.{AreRecorded}
 use Rattle.hx_audit.specs.Facts.{are_loud}
 use Rattle.hx_audit.specs.Listing.{uses_of, entered_in, chains_of}
@@ -25,16 +25,16 @@ use Rattle.hx_report.specs.declared.rest.Hidden.{Hidden}
 use Rattle.hx_report.specs.declared.rest.Rested.{Rested}
 use Rattle.hx_report.specs.Counts.{is_execution, hidden_in, left_by}
 
--- ---- who traded
+-- the members that traded
 
--- whom these replies tell of an execution, once for each
+-- the members to which these replies report an execution, once for each
 abbrev pub traders_in : List Reply → List ℕ
 traders_in [] = []
 traders_in (r ∷ replies) =
     if is_execution r.1 then r.0 ∷ traders_in replies else traders_in replies
 
 -- those of a day
-abbrev pub traders_of : List Told → List ℕ
+abbrev pub traders_of : List EventOutput → List ℕ
 traders_of ts = flat_map (λ t. traders_in t.replies) ts
 
 -- ---- what rested hidden
@@ -45,12 +45,12 @@ rest_of all member None = []
 rest_of all member (Some hidden) =
     record { member = member; shares = left_by hidden (replies_among member all) } ∷ []
 
--- of each hidden order of which some of these replies tell
+-- each hidden order that some of these replies report
 abbrev pub rests_among : (all : List Reply) → List Reply → List Rested
 rests_among all replies = flat_map (λ r. rest_of all r.0 (hidden_in r.1)) replies
 
 -- those of a day
-abbrev pub rests_of : List Told → List Rested
+abbrev pub rests_of : List EventOutput → List Rested
 rests_of ts = flat_map (λ t. rests_among t.replies t.replies) ts
 
 -- ---- chains
@@ -93,8 +93,8 @@ pub record HasNoted (notes : Notes) (setup : Setup) (events : List Event) : Type
   pub market_is : notes.market.market ≡ run setup events
   pub begun_are :
       (member : ℕ) → entered_among member notes.begun.items ≡ entered_by (run setup events) member
-  pub rested_are : notes.rested.items ≡ rests_of (told setup events)
-  pub traded_are : notes.traded.items ≡ traders_of (told setup events)
+  pub rested_are : notes.rested.items ≡ rests_of (output setup events)
+  pub traded_are : notes.traded.items ≡ traders_of (output setup events)
 
 -- whether a chain was never displayed and never traded; none of a token that is not used
 abbrev pub is_quiet_chain : Market → Begun → Bool
@@ -115,5 +115,5 @@ AreChains market chains =
 -- what is noted of a whole day
 pub record IsCensus (census : Census) (setup : Setup) (events : List Event) : Type 0 where
   pub chains_are : AreChains (run setup events) census.chains.items
-  pub rested_are : census.rested.items ≡ rests_of (told setup events)
-  pub traded_are : census.traded.items ≡ traders_of (told setup events)
+  pub rested_are : census.rested.items ≡ rests_of (output setup events)
+  pub traded_are : census.traded.items ≡ traders_of (output setup events)

@@ -35,7 +35,7 @@ pub(crate) struct ChainMark {
     pub(crate) quiet: bool,
 }
 
-/// What was noted of a day: its chains, the hidden shares that came to rest, and who traded.
+/// What was noted of a day: its chains, the hidden shares that came to rest, and the members that traded.
 #[derive(Drop)]
 pub(crate) struct Census {
     pub(crate) chains: Vec<ChainMark>,
@@ -47,7 +47,7 @@ pub(crate) struct Census {
 #[derive(Drop)]
 struct Notes {
     market: Market<LevelBook>,
-    told: Output,
+    output: Output,
     begun: Vec<Begun>,
     rested: Vec<Rested>,
     traded: Vec<MemberNo>,
@@ -75,7 +75,7 @@ fn chain_begun(market: &Market<LevelBook>, event: &Event) -> Option<Begun>
     })
 }
 
-// Notes a chain, where one is begun.
+// Notes a chain, if one is begun.
 fn note_begun(list: &mut Vec<Begun>, begun: Option<Begun>) -> Result<(), NoMemory>
     ensures { OnOk result (list.new.items ≡ list.old.items ++ cons_option begun []) }
 {
@@ -85,14 +85,14 @@ fn note_begun(list: &mut Vec<Begun>, begun: Option<Begun>) -> Result<(), NoMemor
     Ok(())
 }
 
-// Whether a reply tells of an execution.
+// Whether a reply reports an execution.
 fn is_execution(reply: &Outbound) -> bool
     ensures { result ≡ is_execution reply.now }
 {
     matches!(reply, Outbound::Executed(_))
 }
 
-// Notes who traded by an event, once for each execution.
+// Notes the members that traded by an event, once for each execution.
 fn note_traded(traded: &mut Vec<MemberNo>, replies: &[(MemberNo, Outbound)]) -> Result<(), NoMemory>
     ensures { OnOk result (traded.new.items ≡ traded.old.items ++ traders_in replies.now) }
 {
@@ -111,7 +111,7 @@ impl Notes {
     {
         Ok(Notes {
             market: Market::new(alloc, setup.copy(alloc)?, LevelBook::new(alloc))?,
-            told: Output {
+            output: Output {
                 feed: Vec::new(alloc),
                 replies: Vec::new(alloc),
             },
@@ -128,19 +128,19 @@ impl Notes {
             → HasNoted self.new setup (events ++ event.now ∷ [])) }
     {
         let begun = chain_begun(&self.market, event);
-        self.told.feed.clear();
-        self.told.replies.clear();
-        if self.market.play(event, &mut self.told).is_err() {
+        self.output.feed.clear();
+        self.output.replies.clear();
+        if self.market.apply(event, &mut self.output).is_err() {
             return Err(NoMemory);
         }
         note_begun(&mut self.begun, begun)?;
-        note_traded(&mut self.traded, &self.told.replies)?;
-        note_rested(&mut self.rested, &self.told.replies)?;
+        note_traded(&mut self.traded, &self.output.replies)?;
+        note_rested(&mut self.rested, &self.output.replies)?;
         Ok(())
     }
 }
 
-// Takes the event of a line, whose digits are read into a room.
+// Takes the event of a line, whose digits are read into a buffer.
 fn take_line(
     alloc: Global,
     room: &mut Vec<u8>,

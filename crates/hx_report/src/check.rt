@@ -25,7 +25,8 @@ pub struct Check {
     pub comparison: Comparison,
 }
 
-// What the tape of a day's events tells; of such a tape only memory can be wanting. It has room for this many bytes.
+// The output of the tape of a day's events; for such a tape only memory can be wanting. `room` is the initial capacity
+// in bytes.
 fn output_of(alloc: Global, setup: &Setup, text: &[u8], room: usize) -> Result<Vec<u8>, NoMemory>
     ensures { IfOk result (λ output. (es : List Entry) → AreEvents (start setup.now) es
         → text.now ≡ tape es → output.items ≡ output_all (start setup.now) es) }
@@ -38,7 +39,8 @@ fn output_of(alloc: Global, setup: &Setup, text: &[u8], room: usize) -> Result<V
     Ok(output)
 }
 
-// Strikes a day's quiet chains, replays what is left, and compares what someone gets with what he gets of the day.
+// Strikes a day's quiet chains, replays what is left, and compares the lines that one reader gets of it with those of
+// the day.
 fn checked(alloc: Global, day: &Day, whose: Whose, look: Look) -> Result<Check, NoMemory>
     ensures { IfOk result (λ check. (es : List Entry) → IsDay day.now es
         → IsCheck day.now.setup es whose look check) }

@@ -1,4 +1,4 @@
-//! A day that was replayed: its tape, what it told, and what the report counts of it.
+//! A day that was replayed: its tape, its output, and what the report counts of it.
 ghost use Rattle.std.specs.Prelude.{◌≡◌, List, IfOk, IfErr};
 ghost use Rattle.hx_tape_lines.specs.Text.{Entry};
 ghost use Rattle.hx_report.specs.Days.{IsDay, IsNoDay};
@@ -11,7 +11,7 @@ use hx_replay::{Counts, TapeError, replay};
 use hx_units::MemberNo;
 use std::alloc::Global;
 
-/// A day: its tape, the text of what it told, and what was noted of it.
+/// A day: its tape, the text of its output, and what was noted of it.
 #[derive(Drop)]
 pub struct Day {
     pub(crate) setup: Setup,

@@ -10,16 +10,16 @@ use itoa::Buffer;
 use std::alloc::{AllocError, Global};
 use std::marker::Model;
 
-/// Who looks at an output text.
+/// The readers of an output text.
 #[derive(Clone, Copy, Debug, PartialEq, Eq)]
 pub enum Look {
-    /// Everybody but this member: all lines but the replies to him.
+    /// Everybody but this member: all lines except the replies to it.
     AllBut(MemberNo),
-    /// Who reads the feed: its lines alone.
+    /// A reader of the feed: its lines alone.
     Feed,
 }
 
-/// The lines that he gets: those that begin so, or those that do not. Contracts see which.
+/// The lines that a reader gets: those that begin so, or those that do not. Contracts see which.
 #[derive(Drop)]
 pub struct Sieve {
     beginning: Vec<u8>,
@@ -53,7 +53,7 @@ fn begins(line: &[u8], beginning: &[u8]) -> bool
 }
 
 impl Sieve {
-    /// The lines that someone gets; an error where memory is wanting.
+    /// The lines that someone gets; an error if memory is wanting.
     pub fn of(alloc: Global, look: Look) -> Result<Sieve, AllocError>
         ensures { IfOk result (λ s. s ≡ pick_of look) }
     {
@@ -69,7 +69,7 @@ impl Sieve {
         })
     }
 
-    /// Whether he gets a line.
+    /// Whether the reader gets a line.
     pub(crate) fn has(&self, line: &[u8]) -> bool
         ensures { result ≡ is_seen self.now line.now }
     {

@@ -20,7 +20,7 @@ use std::alloc::Global;
 pub struct Mark {
     /// Whose event it is; 0 is the operator.
     pub sender: u16,
-    /// Whether it bears a token of one of his quiet chains.
+    /// Whether it bears a token of one of the member's quiet chains.
     pub quiet: bool,
 }
 
@@ -48,7 +48,7 @@ fn sender_of(event: &Event) -> u16
     }
 }
 
-// Takes the event of the next line, whose digits are read into a room.
+// Takes the event of the next line, whose digits are read into a buffer.
 fn take_line(
     alloc: Global,
     room: &mut Vec<u8>,

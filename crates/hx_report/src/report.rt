@@ -1,7 +1,7 @@
 //! The report of a day.
 ghost use Rattle.std.specs.Prelude.{◌≡◌, ◌<◌, ◌≤◌, ◌+◌, ℕ, List, length, take, IfOk, OnOk};
 ghost use Rattle.std.specs.List.{AllZip, slice_index_or};
-ghost use Rattle.hx_members.specs.declared.stock.Member.{Member as Person};
+ghost use Rattle.hx_members.specs.Member.{Member as Person};
 ghost use Rattle.hx_tape_lines.specs.Text.{Entry};
 ghost use Rattle.hx_report.specs.Days.{IsDay};
 ghost use Rattle.hx_report.specs.Reports.{IsRow, IsReport};
@@ -16,7 +16,7 @@ use std::alloc::Global;
 use std::thread;
 use std::thread::Threads;
 
-/// Who is told how far a report is.
+/// Receives how far a report is.
 pub trait Progress {
     /// This number of members is done, of all that there are.
     fn tell(&mut self, done: usize, of: usize);
@@ -29,20 +29,20 @@ pub struct Report {
     pub counts: Counts,
     /// Of each member of the setup, in the setup's order.
     pub rows: Vec<Row>,
-    /// What the feed tells without the quiet chains of all members.
+    /// The feed without the quiet chains of all members.
     pub all: Check,
 }
 
-// This many members are checked at once.
+// The number of members that are checked at once.
 const AT_ONCE: usize = 4;
 
-// The row of the member at a place.
-fn row_at(alloc: Global, day: &Day, members: &[Member], place: usize) -> Result<Row, NoMemory>
-    requires { place < length members.now }
+// The row of the member at an index.
+fn row_at(alloc: Global, day: &Day, members: &[Member], index: usize) -> Result<Row, NoMemory>
+    requires { index < length members.now }
     ensures { IfOk result (λ row. (es : List Entry) (d : Person) → IsDay day.now es
-        → IsRow day.now.setup es (slice_index_or members.now place d) row) }
+        → IsRow day.now.setup es (slice_index_or members.now index d) row) }
 {
-    let member = members[place].number;
+    let member = members[index].number;
     Ok(Row {
         member,
         tally: Tally::of(day, member),
@@ -79,8 +79,8 @@ fn add_rows<R: Threads + Sync>(
     Ok(())
 }
 
-/// Audits a day: what each member did is counted, and what all others get of it with and without his quiet chains is
-/// compared. `same` is said only where both texts are equal. Only memory can be wanting.
+/// Audits a day: counts what each member did, and compares what all others get of the day with and without that
+/// member's quiet chains. `same` is said only if both texts are equal. Only memory can be wanting.
 pub fn audit<R: Threads + Sync, P: Progress>(
     rt: &R,
     alloc: Global,

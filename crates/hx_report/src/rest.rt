@@ -24,7 +24,7 @@ struct Hidden {
 // The display of an order that is not shown.
 const NON_DISPLAY: u8 = b'N';
 
-// An order of this token and this many shares, where it is not shown.
+// An order of this token and of `shares` shares, if it is not shown.
 fn hidden_if(display: u8, token: Token, shares: u32) -> Option<Hidden>
     ensures { result ≡ hidden_if display token shares }
 {
@@ -35,7 +35,7 @@ fn hidden_if(display: u8, token: Token, shares: u32) -> Option<Hidden>
     }
 }
 
-// The hidden order of which a reply tells that it came.
+// The hidden order whose arrival a reply reports.
 fn hidden_in(reply: &Outbound) -> Option<Hidden>
     ensures { result ≡ hidden_in reply.now }
 {

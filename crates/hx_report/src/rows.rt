@@ -16,26 +16,26 @@ use hx_units::MemberNo;
 /// What a member did on a day, counted. A number stops at the greatest of 64 bits.
 #[derive(Clone, Copy, Debug, PartialEq, Eq, Drop)]
 pub struct Tally {
-    /// His messages, those that nobody could read included.
+    /// Its messages, unreadable ones included.
     pub messages: u64,
-    /// His chains: entered tokens, each with those that replaced it.
+    /// Its chains: entered tokens, each with those that replaced it.
     pub chains: u64,
     /// How many of them were never displayed and never traded.
     pub quiet: u64,
-    /// The shares of his hidden orders that came to rest.
+    /// The shares of its hidden orders that came to rest.
     pub rested: u64,
-    /// His executions: one with himself counts for both sides.
+    /// Its executions: one with itself counts for both sides.
     pub trades: u64,
 }
 
 /// What a report says of a member.
 #[derive(Clone, Copy, Debug, PartialEq, Eq, Drop)]
 pub struct Row {
-    /// His number.
+    /// Its number.
     pub member: MemberNo,
-    /// What he did.
+    /// What it did.
     pub tally: Tally,
-    /// What the others get without his quiet chains.
+    /// What the others get without its quiet chains.
     pub check: Check,
 }
 

@@ -41,7 +41,7 @@ impl Mark {
 }
 
 impl Struck {
-    // Nothing yet, and room for this many bytes.
+    // Nothing yet, and room for `room` bytes.
     fn new(alloc: Global, room: usize) -> Result<Struck, NoMemory>
         ensures { IfOk result (λ struck. (choice : Choice) → HasStruck choice struck []) }
     {
@@ -97,11 +97,11 @@ pub(crate) fn strike(
         → HasStruck (choice_of whose.now market) struck es) }
 {
     let mut struck = Struck::new(alloc, text.len())?;
-    let (mut rest, mut behind) = (text, marks);
+    let (mut rest, mut after) = (text, marks);
     while let Some((line, others)) = split_once(rest, b'\n') {
-        let (mark, more) = next_mark(behind);
+        let (mark, more) = next_mark(after);
         struck.take(&rest[..line.len() + 1], &mark, whose)?;
-        (rest, behind) = (others, more);
+        (rest, after) = (others, more);
     }
     Ok(struck)
 }

@@ -20,15 +20,15 @@ pub struct TextSum {
 /// Whether somebody gets the same of two texts, and by what anybody can know both again.
 #[derive(Clone, Copy, Debug, PartialEq, Eq, Drop)]
 pub struct Comparison {
-    /// Whether what he gets of both is one text.
+    /// Whether the lines that the reader gets of both are one text.
     pub same: bool,
-    /// What he gets of the day's text.
+    /// The lines that the reader gets of the day's text.
     pub day: TextSum,
-    /// What he gets of the other text.
+    /// The lines that the reader gets of the other text.
     pub struck: TextSum,
 }
 
-/// The first line of a text, with its line feed where it has one, and what stands behind it; none of an empty text.
+/// The first line of a text, with its line feed if it has one, and what follows it; none of an empty text.
 pub(crate) fn split_line(text: &[u8]) -> Option<(&[u8], &[u8])>
     ensures some { IfSome result (λ p. FirstLine text.now p.0.now p.1.now) }
     ensures shorter { IfSome result (λ p. length p.1.now < length text.now) }
@@ -43,7 +43,7 @@ pub(crate) fn split_line(text: &[u8]) -> Option<(&[u8], &[u8])>
     }
 }
 
-// The first line of a text that somebody gets, and what stands behind it.
+// The first line of a text that somebody gets, and what follows it.
 fn next_line<'a>(sieve: &Sieve, text: &'a [u8]) -> Option<(&'a [u8], &'a [u8])>
     ensures some { IfSome result (λ p. NextLine sieve.now text.now p.0.now p.1.now) }
     ensures shorter { IfSome result (λ p. length p.1.now < length text.now) }
@@ -68,13 +68,13 @@ fn are_same(sieve: &Sieve, day: &[u8], struck: &[u8]) -> bool
 {
     let (mut ahead, mut rest) = (day, struck);
     while let Some((line, others)) = next_line(sieve, rest) {
-        let Some((theirs, behind)) = next_line(sieve, ahead) else {
+        let Some((theirs, after)) = next_line(sieve, ahead) else {
             return false;
         };
         if theirs != line {
             return false;
         }
-        (ahead, rest) = (behind, others);
+        (ahead, rest) = (after, others);
     }
     next_line(sieve, ahead).is_none()
 }
@@ -97,7 +97,7 @@ fn sum_of(sieve: &Sieve, text: &[u8]) -> TextSum
     }
 }
 
-/// Compares what somebody gets of a day's text with what he gets of another.
+/// Compares the lines that one reader gets of a day's text with those of another.
 pub fn compare(sieve: &Sieve, day: &[u8], struck: &[u8]) -> Comparison
     ensures { Compares sieve.now day.now struck.now result }
 {

@@ -40,7 +40,7 @@ impl<'a, E> LogMessages<'a, E> {
         requires { receipt.log ≡ self.old.log }
         ensures same { self.new ≡ record self.old { known = self.new.known } }
         ensures known { IsPrefix self.old.known self.new.known }
-        ensures told { IsPrefix receipt.known self.new.known }
+        ensures published { IsPrefix receipt.known self.new.known }
     {
         self.reader.learn(self.log, receipt);
     }

@@ -1,9 +1,9 @@
--- Broken trades (ITCH 5.0 and OUCH 4.2, Broken Trade Message). A break changes no shares, no chain
--- and no book: it marks the execution, and is told.
+-- Broken trades (ITCH 5.0 and OUCH 4.2, Broken Trade Message). A break changes no shares, no chain and no book: it
+-- marks the execution, and is reported.
 use Rattle.std.specs.Prelude.{ℕ, zero, suc, Bool, true, false, List, [], ◌∷◌, Option, Some, None, slice_get, slice_set}
 use Rattle.hx_itch.specs.declared.message.Feed.{Feed}
 use Rattle.hx_itch.specs.declared.message.Feed.TheVariants.{BrokenTrade}
-use Rattle.hx_ouch.specs.declared.outbound.Outbound.TheVariants.{BrokenTrade as ToldBroken}
+use Rattle.hx_ouch.specs.declared.outbound.Outbound.TheVariants.{BrokenTrade as OutputBroken}
 use Rattle.hx_rules.specs.Letters.{supervisory}
 use Rattle.hx_rules.specs.Orders.{Token}
 use Rattle.hx_rules.specs.declared.matches.Match.{Match}
@@ -13,23 +13,23 @@ use Rattle.hx_rules.specs.Outputs.{Reply, Outcome, nothing}
 -- the execution of a match number; they count from 1
 abbrev pub execution_of : List Match → (number : ℕ) → Option Match
 execution_of executions zero = None
-execution_of executions (suc place) = slice_get executions place
+execution_of executions (suc index) = slice_get executions index
 
 -- the executions, with that of the number changed
 abbrev pub with_execution : List Match → (number : ℕ) → Match → List Match
 with_execution executions zero e = executions
-with_execution executions (suc place) e = slice_set executions place e
+with_execution executions (suc index) e = slice_set executions index e
 
 -- in the feed: the execution is broken
 abbrev pub broken_of : (time number : ℕ) → Match → Feed
 broken_of time number e =
     BrokenTrade (record { locate = e.locate; time = time; match_number = number })
 
--- to a member: the execution of his order is broken
+-- to a member: the execution of its order is broken
 abbrev pub to_broken : (time member : ℕ) (token : Token) (number : ℕ) → Reply
 to_broken time member token number = (
   member,
-  ToldBroken (record {
+  OutputBroken (record {
     time = time;
     token = token;
     match_number = number;
@@ -37,15 +37,15 @@ to_broken time member token number = (
   }),
 )
 
--- it is broken: the feed is told, then the member of the order that rested, then that of the one
--- that came in
+-- it is broken: the feed reports it, then the member of the order that rested gets a reply, then that of the one that
+-- came in
 abbrev pub break_execution : Market → (time number : ℕ) → Match → Outcome
 break_execution market time number e =
     record {
       market = record market {
         executions = with_execution market.executions number (record e { broken = true });
       };
-      told = record {
+      output = record {
         feed = broken_of time number e ∷ [];
         replies = to_broken time e.maker e.maker_token number
             ∷ to_broken time e.taker e.taker_token number

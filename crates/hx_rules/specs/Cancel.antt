@@ -21,26 +21,26 @@ cancelled_shares executed c x = x.shares - min x.shares (c.shares - executed)
 abbrev pub asks_for_no_fewer : (executed : ℕ) → Cancel → Order → Bool
 asks_for_no_fewer executed c x = cancelled_shares executed c x == 0
 
--- the member has no live order of the token, which is given where he has one; or it asks for no
--- fewer open shares than the order has
+-- the member has no live order of the token, which is given if it has one; or it asks for no fewer open shares than the
+-- order has
 abbrev pub cancel_idles : (executed : ℕ) → Cancel → Option Order → List Bool
 cancel_idles executed c order =
     is_none order
     ∷ option_map_or (asks_for_no_fewer executed c) order false
     ∷ []
 
--- a Cancel does nothing where one of these applies
+-- a Cancel does nothing if one of these applies
 abbrev pub is_idle : (executed : ℕ) → Cancel → Option Order → Bool
 is_idle executed c order = some_applies (cancel_idles executed c order)
 
 -- ---- What a Cancel does
 
--- this many shares are off
+-- `by` shares are off
 abbrev pub take_off : Market → (member time : ℕ) (token : Token) (by : ℕ) → Order → Outcome
 take_off market member time token by x =
     record {
       market = record market { live = lessened member token by market.live };
-      told = record {
+      output = record {
         feed = taken_off time by x;
         replies = canceled time member token by by_user ∷ [];
       };

@@ -32,8 +32,8 @@ abbrev pub is_bad_price : (price : ℕ) → Bool
 is_bad_price price = price == 0 || (nat_lt greatest_price price || is_between_cents price)
 
 -- for the market hours, once they are over (Time in Force)
-abbrev pub is_late : (hours time_in_force : ℕ) → Bool
-is_late hours time_in_force = time_in_force == market_hours && is_after_market hours
+abbrev pub is_late : (phase time_in_force : ℕ) → Bool
+is_late phase time_in_force = time_in_force == market_hours && is_after_market phase
 
 -- a minimum beside a display: a shown order has none (Minimum Quantity)
 abbrev pub is_shown_minimum : (minimum display time_in_force : ℕ) → Bool
@@ -54,11 +54,10 @@ abbrev pub first_reason : List Reason → Option ℕ
 first_reason [] = None
 first_reason (r ∷ rs) = if r.applies then Some r.letter else first_reason rs
 
--- the reasons in their order, with this many hours codes past and these stocks halted (Rejected Order
--- Message, Reason)
-abbrev pub reasons : Setup → (hours : ℕ) (halted : List Bool) → Enter → List Reason
-reasons setup hours halted e =
-    record { applies = not (is_open hours) || is_late hours e.time_in_force; letter = closed }
+-- the reasons in their order, with `phase` hours codes past and these stocks halted (Rejected Order Message, Reason)
+abbrev pub reasons : Setup → (phase : ℕ) (halted : List Bool) → Enter → List Reason
+reasons setup phase halted e =
+    record { applies = not (is_open phase) || is_late phase e.time_in_force; letter = closed }
     ∷ record { applies = is_none (locate_of setup e.stock); letter = invalid_stock }
     ∷ record { applies = is_stock_halted setup halted e.stock; letter = stock_halted }
     ∷ record {
@@ -76,8 +75,8 @@ reasons setup hours halted e =
     ∷ []
 
 -- the letter that rejects the message, if any does
-abbrev pub rejection : Setup → (hours : ℕ) (halted : List Bool) → Enter → Option ℕ
-rejection setup hours halted e = first_reason (reasons setup hours halted e)
+abbrev pub rejection : Setup → (phase : ℕ) (halted : List Bool) → Enter → Option ℕ
+rejection setup phase halted e = first_reason (reasons setup phase halted e)
 
 -- ---- What an accepted message becomes
 
@@ -168,13 +167,13 @@ accept_order market time e x =
     let a = arrive time (is_immediate e.time_in_force) x before in
     record {
       market = a.market;
-      told = record {
+      output = record {
         feed = arrival_feed time e.stock market.numbers.matches a.executions a.resting;
         replies = accepted_of x time e ∷ a.replies;
       };
     }
 
--- the message is accepted: the number of its chain is its token's place among the used ones
+-- the message is accepted: the number of its chain is its token's index among the used ones
 abbrev pub accept : Setup → Market → (member time : ℕ) → Enter → Outcome
 accept setup market member time e =
     let shown = is_shown e.display e.time_in_force in
@@ -187,7 +186,7 @@ abbrev pub reject : Market → (member time : ℕ) → Token → (letter : ℕ) 
 reject market member time token letter =
     record {
       market = consumed market member token;
-      told = record {
+      output = record {
         feed = [];
         replies = (member, Rejected (record { time = time; token = token; reason = letter })) ∷ [];
       };
@@ -205,4 +204,4 @@ entered_by setup market member time e false None = accept setup market member ti
 abbrev pub enter : Setup → Market → (member time : ℕ) → Enter → Outcome
 enter setup market member time e =
     entered_by setup market member time e
-    (is_used market.tokens member e.token) (rejection setup market.hours market.halted e)
+    (is_used market.tokens member e.token) (rejection setup market.phase market.halted e)

@@ -14,10 +14,10 @@ use Rattle.hx_rules.specs.declared.matches.Match.{Match}
 use Rattle.hx_rules.specs.Markets.{Market}
 use Rattle.hx_rules.specs.Outputs.{Reply}
 
--- ---- What executions tell
+-- The output of executions
 
--- in the feed: where the resting order is shown, its execution (ITCH 5.0, Order Executed Message);
--- else a trade, which names neither the order nor its side (Trade Message, Non-Cross)
+-- in the feed: if the resting order is shown, its execution (ITCH 5.0, Order Executed Message); else a trade, which
+-- names neither the order nor its side (Trade Message, Non-Cross)
 abbrev pub feed_of_execution : (time : ℕ) (stock : Symbol) (number : ℕ) → Execution → Feed
 feed_of_execution time stock number e =
     if e.order.shown
@@ -122,7 +122,7 @@ incoming_of x =
       minimum = x.minimum;
     }
 
--- what rests of an order with this many shares left, as a list: nothing of an immediate one
+-- what rests of an order with `left` shares left, as a list: nothing of an immediate one
 abbrev pub resting_of : Order → (immediate : Bool) (left : ℕ) → List Order
 resting_of x immediate left =
     if nat_lt 0 left && not immediate then record x { shares = left } ∷ [] else []
@@ -132,8 +132,7 @@ abbrev pub displays : List Order → Bool
 displays [] = false
 displays (x ∷ xs) = x.shown
 
--- in the feed: an order that rests (ITCH 5.0, Add Order Message), with its firm where its display
--- is attributable
+-- in the feed: an order that rests (ITCH 5.0, Add Order Message), with its firm if its display is attributable
 abbrev pub published : (time : ℕ) → Symbol → Order → Feed
 published time stock x =
     if x.display == attributable
@@ -175,7 +174,7 @@ canceled_of time member token immediate left =
 
 -- ---- The arrival of an order
 
--- what an arrival leaves and tells
+-- what an arrival leaves, and its output
 pub record Arrival : Type 0 where
   pub market : Market
   pub executions : List Execution

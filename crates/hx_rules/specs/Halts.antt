@@ -26,8 +26,7 @@ trading_action locate time stock state reason =
       reason = reason;
     })
 
--- the stock is in this state, and the feed is told, also where it was so before; nothing else
--- changes
+-- the stock is in this state, and the feed reports it, also if it was so before; nothing else changes
 abbrev pub set_state :
     Market → (time locate : ℕ) → Symbol → (state : ℕ) (reason : List ℕ) → Outcome
 set_state market time locate stock state reason =
@@ -35,7 +34,7 @@ set_state market time locate stock state reason =
       market = record market {
         halted = slice_set market.halted locate (state == halted_state);
       };
-      told = record {
+      output = record {
         feed = trading_action locate time stock state reason ∷ [];
         replies = [];
       };

@@ -27,7 +27,7 @@ no_cross = letter "N"
 abbrev pub order_live : ℕ
 order_live = letter "L"
 
--- no weight is told (OUCH 4.2, Accepted: BBO Weight Indicator)
+-- no weight is given (OUCH 4.2, Accepted: BBO Weight Indicator)
 abbrev pub no_weight : ℕ
 no_weight = space
 

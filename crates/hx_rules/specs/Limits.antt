@@ -1,4 +1,4 @@
--- The limits of an order's fields, by name, where hx_units does not have them.
+-- The limits of an order's fields, by name, that hx_units does not have.
 use Rattle.std.specs.Prelude.{ℕ}
 
 -- ---- Price, in units of 1/10,000 dollar (OUCH 4.2, Data Types)

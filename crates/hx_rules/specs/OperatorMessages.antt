@@ -1,4 +1,4 @@
--- The operator's messages: one letter each, but for halts and breaks.
+-- The operator's messages: one letter each, except for halts and breaks.
 use Rattle.std.specs.Prelude.{ℕ, Bool, ◌==◌, if◌then◌else◌, List, [], ◌∷◌, ◌++◌, Option, Some, None}
 use Rattle.std.specs.List.{list_any}
 use Rattle.hx_units.specs.Fields.{is_message, byte_at, text_at, number_at, spelled}

@@ -1,8 +1,8 @@
 -- What the fields of an order mean (OUCH 4.2, Enter Order).
 use Rattle.std.specs.Prelude.{ℕ, Option, Some, None, ◌+◌, ◌*◌, Bool, if◌then◌else◌, ◌==◌, ◌&&◌, ◌||◌, not, nat_le}
-pub use Rattle.hx_levels.specs.declared.order.Order.{Order}
-pub use Rattle.hx_levels.specs.declared.order.Life.{Life}
-use Rattle.hx_levels.specs.declared.order.Life.TheVariants.{Market, System, Until}
+pub use Rattle.hx_book.specs.declared.order.Order.{Order}
+pub use Rattle.hx_book.specs.declared.order.Life.{Life}
+use Rattle.hx_book.specs.declared.order.Life.TheVariants.{Market, System, Until}
 pub use Rattle.hx_units.specs.declared.names.Token.{Token}
 pub use Rattle.hx_units.specs.declared.side.Side.{Side}
 use Rattle.hx_units.specs.declared.side.Side.TheVariants.{Buy, Sell, Short, ShortExempt}
@@ -25,7 +25,7 @@ side_of letter =
     else (if letter == letter_of Short then Short
     else ShortExempt))
 
--- whether an order of this display is shown where it rests (Display)
+-- whether an order of this display is shown when it rests (Display)
 abbrev pub is_visible : ℕ → Bool
 is_visible display = display == anonymous || display == attributable
 
@@ -41,15 +41,15 @@ is_immediate time_in_force = time_in_force == immediate
 abbrev pub is_shown : (display time_in_force : ℕ) → Bool
 is_shown display time_in_force = is_visible display && not (is_immediate time_in_force)
 
--- how long an order lives that comes at a time: this many seconds, the market hours, or else the
--- system hours (Time in Force)
+-- the life of an order that comes at a time: `time_in_force` seconds, the market hours, or else the system hours (Time
+-- in Force)
 abbrev pub life_of : (time time_in_force : ℕ) → Life
 life_of time time_in_force =
     if nat_le 1 time_in_force && nat_le time_in_force most_seconds
     then Until (time + time_in_force * second)
     else (if time_in_force == market_hours then Market else System)
 
--- when an order of this life ends, where that is a time
+-- when an order of this life ends, if that is a time
 abbrev pub expiry_of : Life → Option ℕ
 expiry_of Market = None
 expiry_of System = None

@@ -3,7 +3,7 @@ use Rattle.std.specs.Prelude.{ℕ, Bool, false, if◌then◌else◌, ◌&&◌, n
 use Rattle.std.specs.Option.{option_map_or}
 use Rattle.hx_units.specs.Limits.{day, greatest_member}
 use Rattle.hx_members.specs.Setups.{Setup, member_of}
-use Rattle.hx_members.specs.declared.stock.Member.{Member}
+use Rattle.hx_members.specs.Member.{Member}
 use Rattle.hx_rules.specs.declared.event.Event.{Event}
 use Rattle.hx_rules.specs.declared.event.Event.TheVariants.{Message, Tick, Hours, Halt, Break}
 use Rattle.hx_rules.specs.declared.fault.PrepareError.{PrepareError}
@@ -33,8 +33,8 @@ limit_of setup (Hours time code) = operator_limit
 limit_of setup (Halt time stock state reason) = operator_limit
 limit_of setup (Break time number) = operator_limit
 
--- why the market refuses an event, at this many recorded events of each number: a time that is not
--- within the day, no such member, or a limit that is met
+-- why the market refuses an event, with these counts of recorded events of each number: a time that is not within the
+-- day, no such member, or a limit that is met
 abbrev pub refusal : Setup → List ℕ → Event → Option PrepareError
 refusal setup recorded event =
     if nat_le day (time_of event) then Some BadTime
@@ -43,7 +43,7 @@ refusal setup recorded event =
     then Some (Limit (sender event))
     else None))
 
--- the refusal, or want of memory where there is none
+-- the refusal, or want of memory if there is none
 abbrev pub or_no_memory : Option PrepareError → PrepareError
 or_no_memory None = NoMemory
 or_no_memory (Some e) = e

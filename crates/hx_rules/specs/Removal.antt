@@ -12,12 +12,12 @@ use Rattle.hx_rules.specs.Outputs.{Reply}
 abbrev pub others : (member : ℕ) → Token → List Order → List Order
 others member token orders = filter (λ x. not (is_called member token x)) orders
 
--- the order with this many open shares less, as a list: none where none are left
+-- the order with `by` open shares less, as a list: none if none are left
 abbrev pub less : Order → (by : ℕ) → List Order
 less x by = less_of itself with_shares x by
 
--- the live orders, with this many shares less of the one that the member calls by this token: it
--- keeps its place in time, or is gone
+-- the live orders, with `by` shares less of the one that the member calls by this token: it retains its time priority,
+-- or is gone
 abbrev pub lessened : (member : ℕ) (token : Token) (by : ℕ) → List Order → List Order
 lessened member token by [] = []
 lessened member token by (x ∷ orders) =
@@ -30,7 +30,7 @@ deleted time x =
     then OrderDelete (record { locate = x.locate; time = time; reference = x.reference }) ∷ []
     else []
 
--- in the feed: this many shares are off, if the order is shown (ITCH 5.0, Order Cancel Message)
+-- in the feed: `by` shares are off, if the order is shown (ITCH 5.0, Order Cancel Message)
 abbrev pub reduced : (time by : ℕ) → Order → List Feed
 reduced time by x =
     if x.shown
@@ -43,11 +43,11 @@ reduced time by x =
     ∷ []
     else []
 
--- in the feed: this many shares are off, or the order is gone where they are all
+-- in the feed: `by` shares are off, or the order is gone if they are all
 abbrev pub taken_off : (time by : ℕ) → Order → List Feed
 taken_off time by x = if nat_lt by x.shares then reduced time by x else deleted time x
 
--- to the order's member: this many shares are off, and why (OUCH 4.2, Canceled Order Message)
+-- to the order's member: `shares` shares are off, and why (OUCH 4.2, Canceled Order Message)
 abbrev pub canceled : (time member : ℕ) (token : Token) (shares reason : ℕ) → Reply
 canceled time member token shares reason = (
   member,

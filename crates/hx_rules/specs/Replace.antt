@@ -34,19 +34,19 @@ some_applies (applies ∷ (other ∷ more)) = applies || some_applies (other ∷
 -- its shares, which are those of the chain, its price or its display would be rejected of an Enter;
 -- it is for the market hours, once they are over; it has a minimum and is shown; or its shares are
 -- not above what the chain has executed
-abbrev pub replace_failures : (hours executed : ℕ) → Replace → List Bool
-replace_failures hours executed r =
+abbrev pub replace_failures : (phase executed : ℕ) → Replace → List Bool
+replace_failures phase executed r =
     is_bad_shares r.shares
     ∷ is_bad_price r.price
     ∷ not (is_display r.display)
-    ∷ is_late hours r.time_in_force
+    ∷ is_late phase r.time_in_force
     ∷ is_shown_minimum r.minimum_quantity r.display r.time_in_force
     ∷ nat_le r.shares executed
     ∷ []
 
--- a Replace fails where one of these applies: then it cancels the existing order
-abbrev pub replace_fails : (hours executed : ℕ) → Replace → Bool
-replace_fails hours executed r = some_applies (replace_failures hours executed r)
+-- a Replace fails if one of these applies: then it cancels the existing order
+abbrev pub replace_fails : (phase executed : ℕ) → Replace → Bool
+replace_fails phase executed r = some_applies (replace_failures phase executed r)
 
 -- ---- What a Replace does
 
@@ -65,7 +65,7 @@ abbrev pub fail_replace :
 fail_replace market member time existing replacement old =
     record {
       market = handed_over market member existing replacement;
-      told = record {
+      output = record {
         feed = deleted time old;
         replies = canceled time member existing old.shares by_user ∷ [];
       };
@@ -121,7 +121,7 @@ replaced_of member time stock r x = (
 abbrev pub is_one_display : (old x : Order) → Bool
 is_one_display old x = old.shown && (x.shown && (old.display == x.display))
 
--- in the feed: where they are of one display and nothing traded, that one replaces the other (ITCH
+-- in the feed: if they are of one display and nothing traded, that one replaces the other (ITCH
 -- 5.0, Order Replace Message); else the old one is gone, and the new one arrives
 abbrev pub replace_feed :
     (time : ℕ) (stock : Symbol) (matches : ℕ) (old x : Order) → List Execution → List Order
@@ -146,7 +146,7 @@ replace_order market member time stock r old x =
     let a = arrive time (is_immediate r.time_in_force) x (drawn handed member x.shown) in
     record {
       market = a.market;
-      told = record {
+      output = record {
         feed = replace_feed time stock market.numbers.matches old x a.executions a.resting;
         replies = replaced_of member time stock r x ∷ a.replies;
       };
@@ -165,10 +165,9 @@ abbrev pub is_order_halted : (halted : List Bool) → Option Order → Bool
 is_order_halted halted None = false
 is_order_halted halted (Some x) = is_halted halted x.locate
 
--- by the live order that the existing token names, whether the replacement token is used, whether
--- the stock is halted, and whether the Replace fails: it is ignored where there is no such order,
--- the replacement token is used or the stock is halted; it cancels the order where it fails; else
--- it replaces it
+-- by the live order that the existing token names, whether the replacement token is used, whether the stock is halted,
+-- and whether the Replace fails: it is ignored if there is no such order, the replacement token is used or the stock is
+-- halted; it cancels the order if it fails; else it replaces it
 abbrev pub replaced_by :
     Setup → Market → (member time : ℕ) → Replace → Option Order → (used halted fails : Bool)
     → Outcome
@@ -188,4 +187,4 @@ replace setup market member time r =
     replaced_by setup market member time r old
     (is_used market.tokens member r.replacement_token)
     (is_order_halted market.halted old)
-    (replace_fails market.hours executed r)
+    (replace_fails market.phase executed r)

@@ -10,7 +10,7 @@ use Rattle.hx_rules.specs.declared.event.Event.{Event}
 use Rattle.hx_rules.specs.declared.event.Event.TheVariants.{Message, Tick, Hours, Halt, Break}
 use Rattle.hx_rules.specs.Markets.{Market, opening}
 use Rattle.hx_refs.specs.Numbers.{raised}
-use Rattle.hx_rules.specs.Outputs.{Reply, Told, Outcome, nothing}
+use Rattle.hx_rules.specs.Outputs.{Reply, EventOutput, Outcome, nothing}
 use Rattle.hx_rules.specs.Enter.{enter}
 use Rattle.hx_rules.specs.Replace.{replace}
 use Rattle.hx_rules.specs.Cancel.{cancel}
@@ -25,7 +25,7 @@ receive setup market member time (Some (Enter e)) = enter setup market member ti
 receive setup market member time (Some (Replace r)) = replace setup market member time r
 receive setup market member time (Some (Cancel c)) = cancel market member time c
 
--- what an event does, but for its record
+-- what an event does, except for its record
 abbrev pub happens : Setup → Market → Event → Outcome
 happens setup market (Message member time bytes) =
     receive setup market member time (inbound_of bytes)
@@ -63,7 +63,7 @@ time_of (Break time number) = time
 abbrev pub with_record : Event → Market → Market
 with_record event market = record market { recorded = raised market.recorded (sender event) }
 
--- one step: the next market, and what is told
+-- one step: the next market, and its output
 unfoldable pub step : Setup → Market → Event → Outcome
 step setup market event = happens setup (with_record event market) event
 
@@ -73,23 +73,23 @@ market_after setup market [] = market
 market_after setup market (event ∷ events) =
     market_after setup (step setup market event).market events
 
--- what each of these events tells
-unfoldable pub told_from : Setup → Market → List Event → List Told
-told_from setup market [] = []
-told_from setup market (event ∷ events) =
+-- the output of each of these events
+unfoldable pub outputs_from : Setup → Market → List Event → List EventOutput
+outputs_from setup market [] = []
+outputs_from setup market (event ∷ events) =
     let outcome = step setup market event in
-    outcome.told ∷ told_from setup outcome.market events
+    outcome.output ∷ outputs_from setup outcome.market events
 
 -- the market after a whole history, from the opening market
 unfoldable pub run : Setup → List Event → Market
 run setup events = market_after setup (opening setup) events
 
--- what each event of a whole history tells
-unfoldable pub told : Setup → List Event → List Told
-told setup events = told_from setup (opening setup) events
+-- the output of each event of a whole history
+unfoldable pub output : Setup → List Event → List EventOutput
+output setup events = outputs_from setup (opening setup) events
 
 -- the messages of the feed, one after the other
-abbrev pub feed_of : List Told → List Feed
+abbrev pub feed_of : List EventOutput → List Feed
 feed_of [] = []
 feed_of (t ∷ ts) = t.feed ++ feed_of ts
 
@@ -100,14 +100,14 @@ replies_among member (r ∷ rs) =
     if r.0 == member then r.1 ∷ replies_among member rs else replies_among member rs
 
 -- the replies to a member, of all events
-abbrev pub replies_of : (member : ℕ) → List Told → List Outbound
+abbrev pub replies_of : (member : ℕ) → List EventOutput → List Outbound
 replies_of member [] = []
 replies_of member (t ∷ ts) = replies_among member t.replies ++ replies_of member ts
 
 -- the feed of a whole history
 unfoldable pub feed : Setup → List Event → List Feed
-feed setup events = feed_of (told setup events)
+feed setup events = feed_of (output setup events)
 
 -- its replies to a member
 unfoldable pub replies : Setup → (member : ℕ) → List Event → List Outbound
-replies setup member events = replies_of member (told setup events)
+replies setup member events = replies_of member (output setup events)

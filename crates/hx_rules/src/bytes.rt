@@ -12,19 +12,19 @@ use std::sync::Arc;
 // The most bytes that lie in one block. An Enter Order of OUCH 4.2, the longest message of a member, has 49.
 const MOST: usize = 52;
 
-// Where bytes lie, with the count of those who share them.
+// The block that holds the bytes, with the count of its owners.
 #[derive(Drop)]
 enum Block {
     // There are none.
     Empty,
     // In the block itself.
     Short(Arc<ArrayVec<u8, 52>>),
-    // More than those, behind one pointer more.
+    // More than those, with one more indirection.
     Long(Arc<Vec<u8>>),
 }
 
-/// The bytes of a message, as they came. Contracts see the list of them. Copies share it: a day keeps the bytes of an
-/// event once, wherever the event stands.
+/// The bytes of a message, as they came. Contracts see the list of them. Copies share it: a day stores the bytes of an
+/// event once, in however many lists the event is.
 #[derive(Drop)]
 pub struct Bytes {
     block: Block,
@@ -49,7 +49,7 @@ impl Bytes {
         }
     }
 
-    /// These bytes. `NoMemory` where there is no room for them: none take no memory.
+    /// These bytes. `NoMemory` if there is no room for them: none take no memory.
     pub fn of(alloc: Global, items: &[u8]) -> Result<Bytes, NoMemory>
         ensures bytes { IfOk result (λ bytes. bytes ≡ items.now) }
         ensures memory { IfErr result (λ _. 0 < length items.now) }
@@ -64,7 +64,8 @@ impl Bytes {
         Ok(Bytes { block })
     }
 
-    /// These bytes in the place of others, which take no more memory where they fit there and nobody shares it.
+    /// These bytes instead of others, which take no more memory if they fit in the memory of those and nobody shares
+    /// it.
     pub fn replaced_by(self, alloc: Global, items: &[u8]) -> Result<Bytes, NoMemory>
         ensures bytes { IfOk result (λ bytes. bytes ≡ items.now) }
         ensures memory { IfErr result (λ _. 0 < length items.now) }
@@ -114,7 +115,7 @@ impl Bytes {
     }
 }
 
-// Bytes that lie in one block, where they are not too many.
+// Bytes that are in one block, if they are not too many.
 fn short_of(items: &[u8]) -> Option<ArrayVec<u8, 52>>
     ensures some { IfSome result (λ short. short.items ≡ items.now) }
     ensures none { IfNone result (most_in_block < length items.now) }
@@ -126,16 +127,16 @@ fn short_of(items: &[u8]) -> Option<ArrayVec<u8, 52>>
     }
 }
 
-// Writes bytes into a block in place of those there, where nobody shares it and they are not too many, and returns whether
-// it did. If not, what stands there is of no use.
+// Writes bytes into a block over those there, if nobody shares it and they are not too many, and returns whether it
+// did. If not, the block's bytes are of no use.
 fn write_short(short: &mut Arc<ArrayVec<u8, 52>>, items: &[u8]) -> bool
     ensures { result ≡ true → (arc_value short.new).items ≡ items.now }
 {
-    let Some(place) = Arc::get_mut(short) else {
+    let Some(index) = Arc::get_mut(short) else {
         return false;
     };
-    place.clear();
-    place.try_extend_from_slice(items).is_ok()
+    index.clear();
+    index.try_extend_from_slice(items).is_ok()
 }
 
 // The same of a longer block. Bytes that are few go into no such block.
@@ -145,9 +146,9 @@ fn write_long(long: &mut Arc<Vec<u8>>, items: &[u8]) -> bool
     if items.len() <= MOST {
         return false;
     }
-    let Some(place) = Arc::get_mut(long) else {
+    let Some(index) = Arc::get_mut(long) else {
         return false;
     };
-    place.clear();
-    place.extend_from_slice(items).is_ok()
+    index.clear();
+    index.extend_from_slice(items).is_ok()
 }

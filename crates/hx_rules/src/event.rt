@@ -1,4 +1,4 @@
-//! Events: what the market is told, each with its time.
+//! Events: the inputs of the market, each with its time.
 ghost use Rattle.std.specs.Prelude.{◌≡◌, ◌<◌, length, IfOk, IfErr, List};
 ghost use Rattle.hx_rules.specs.Steps.{message_bytes};
 
@@ -9,7 +9,7 @@ use hx_units::{NoMemory, Symbol};
 /// break. Its time is in nanoseconds since midnight, and it is that of all that the event gives.
 #[derive(Drop)]
 pub enum Event {
-    /// A message of a member, an OUCH 4.2 message where it is readable.
+    /// A message of a member, an OUCH 4.2 message if it is readable.
     Message {
         /// The member's number, 1 to 4,095.
         member: u16,
@@ -38,7 +38,7 @@ pub enum Event {
         stock: Symbol,
         /// `H` halted, `T` trading.
         state: u8,
-        /// Why, as the feed tells it.
+        /// Why, as the feed reports it.
         reason: [u8; 4],
     },
     /// The operator breaks an execution (ITCH 5.0, Broken Trade Message).
@@ -51,7 +51,7 @@ pub enum Event {
 }
 
 impl Event {
-    /// An equal event, which shares the bytes of a message. `NoMemory` where they can't be shared once more: one without
+    /// An equal event, which shares the bytes of a message. `NoMemory` if they can't be shared once more: one without
     /// bytes takes no memory, nor do the other events.
     pub fn copy(&self) -> Result<Event, NoMemory>
         ensures equal { IfOk result (λ event. event ≡ self.now) }

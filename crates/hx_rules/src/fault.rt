@@ -11,7 +11,7 @@ pub enum PrepareError {
     /// A growth was refused.
     #[error("no memory")]
     NoMemory,
-    /// As many events as allowed are recorded under this number: the member's, or 0 for the operator.
+    /// The limit of events recorded under this number is reached: the member's, or 0 for the operator.
     #[error("member {member} at limit")]
     Limit {
         /// The number.

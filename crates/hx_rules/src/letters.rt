@@ -15,7 +15,7 @@ pub const NO_CROSS: u8 = b'N';
 /// Order State (OUCH 4.2, Accepted): a live order.
 pub const ORDER_LIVE: u8 = b'L';
 
-/// BBO Weight Indicator (OUCH 4.2, Accepted): no weight is told.
+/// BBO Weight Indicator (OUCH 4.2, Accepted): no weight is given.
 pub const NO_WEIGHT: u8 = b' ';
 
 /// Liquidity Flag (OUCH 4.2, Executed Order): added, and the resting order was displayed.

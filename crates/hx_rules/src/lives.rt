@@ -4,9 +4,9 @@ ghost use Rattle.hx_rules.specs.Orders.{expiry_of};
 ghost use Rattle.hx_rules.specs.Hours.{is_over, is_to_market, ends_by_code};
 
 use crate::letters;
-use hx_levels::{Life, Order};
+use hx_book::{Life, Order};
 
-/// When an order of this life ends, where that is a time, in nanoseconds since midnight.
+/// When an order of this life ends, if that is a time, in nanoseconds since midnight.
 pub fn expiry_of(life: Life) -> Option<u64>
     ensures { result ≡ expiry_of life }
 {

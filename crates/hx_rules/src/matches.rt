@@ -5,7 +5,7 @@ use hx_units::{MemberNo, Token};
 /// An execution, as its match number names it (ITCH 5.0, Order Executed: Match Number).
 #[derive(Clone, Copy, Debug)]
 pub struct Match {
-    /// The place of the stock in the setup, from 1.
+    /// The index of the stock in the setup, from 1.
     pub locate: u16,
     /// The member of the order that rested.
     pub maker: MemberNo,

@@ -4,7 +4,7 @@ use hx_itch::Feed;
 use hx_ouch::Outbound;
 use hx_units::MemberNo;
 
-/// What an event gives: messages of the feed, and replies, each behind its member, both in order.
+/// The output of an event: messages of the feed, and replies, each after its member, both in order.
 #[derive(Drop)]
 pub struct Output {
     /// The feed's messages.

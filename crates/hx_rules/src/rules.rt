@@ -7,7 +7,7 @@ ghost use Rattle.hx_rules.specs.Enter.{rejection, is_bad_shares, is_bad_price, i
 ghost use Rattle.hx_rules.specs.Replace.{replace_fails};
 
 use crate::letters;
-use hx_levels::Life;
+use hx_book::Life;
 use hx_ouch::{Enter, Replace};
 use hx_units::{Price, Shares, Side};
 
@@ -90,16 +90,16 @@ fn is_bad_price(price: u32) -> bool
     price == 0 || price > Price::MAX || (price >= 10_000 && price % 100 != 0)
 }
 
-fn is_open(hours: u8) -> bool
-    ensures { result ≡ is_open hours }
+fn is_open(phase: u8) -> bool
+    ensures { result ≡ is_open phase }
 {
-    2 <= hours && hours < 5
+    2 <= phase && phase < 5
 }
 
-fn is_late(hours: u8, time_in_force: u32) -> bool
-    ensures { result ≡ is_late hours time_in_force }
+fn is_late(phase: u8, time_in_force: u32) -> bool
+    ensures { result ≡ is_late phase time_in_force }
 {
-    time_in_force == MARKET_HOURS && hours >= 4
+    time_in_force == MARKET_HOURS && phase >= 4
 }
 
 /// Whether the stock of this locate is halted.
@@ -112,14 +112,14 @@ pub fn is_halted(halted: &[bool], locate: u16) -> bool
     }
 }
 
-/// The letter of the first reason to reject a message whose stock has this locate, none where it is not one of the
-/// day's; at this many hours codes past, and with these stocks halted, each under its locate.
+/// The letter of the first reason to reject a message whose stock has this locate, none if it is not one of the day's;
+/// with `phase` hours codes past, and with these stocks halted, each under its locate.
 #[inline(always)]
-pub fn rejection(locate: Option<u16>, hours: u8, halted: &[bool], enter: &Enter) -> Option<u8>
+pub fn rejection(locate: Option<u16>, phase: u8, halted: &[bool], enter: &Enter) -> Option<u8>
     ensures { (setup : SetupOf) → locate_of setup enter.now.stock ≡ locate
-        → result ≡ rejection setup hours halted.now enter.now }
+        → result ≡ rejection setup phase halted.now enter.now }
 {
-    if !is_open(hours) || is_late(hours, enter.time_in_force) {
+    if !is_open(phase) || is_late(phase, enter.time_in_force) {
         return Some(letters::CLOSED);
     }
     let Some(locate) = locate else {
@@ -144,14 +144,14 @@ pub fn rejection(locate: Option<u16>, hours: u8, halted: &[bool], enter: &Enter)
     }
 }
 
-/// Whether a Replace fails, at this many hours codes past and this many executed shares of its chain.
-pub fn replace_fails(hours: u8, executed: u32, replace: &Replace) -> bool
-    ensures { result ≡ replace_fails hours executed replace.now }
+/// Whether a Replace fails, with `phase` hours codes past and `executed` executed shares of its chain.
+pub fn replace_fails(phase: u8, executed: u32, replace: &Replace) -> bool
+    ensures { result ≡ replace_fails phase executed replace.now }
 {
     is_bad_shares(replace.shares)
         || is_bad_price(replace.price)
         || !is_display(replace.display)
-        || is_late(hours, replace.time_in_force)
+        || is_late(phase, replace.time_in_force)
         || (replace.minimum_quantity > 0 && is_shown(replace.display, replace.time_in_force))
         || replace.shares <= executed
 }

@@ -1,6 +1,6 @@
 -- The operator's lines, one after the other and piece by piece.
-use Rattle.std.proofs.Common.{◌≡◌, ℕ, ◌<◌, length, take, subst, Option, Bool, true, List, [], ◌∷◌, ◌++◌, map, refl, sym, ap, ◌∙◌, append_assoc}
-use Rattle.std.specs.Io.KnownBytes.{Consumes, Keeps, IsAtEnd}
+use Rattle.std.proofs.Common.{◌≡◌, ℕ, ◌<◌, subst, Option, Bool, true, List, [], ◌∷◌, ◌++◌, map, refl, sym, ap, ◌∙◌, append_assoc}
+use Rattle.std.specs.Io.KnownBytes.{Consumes, Keeps}
 use Rattle.std.proofs.KnownBytes.{Consumes-nil, Consumes-trans, Consumes-kept}
 use Rattle.std.proofs.lemmas.List.{append-nil, map-append}
 use Rattle.std.proofs.lemmas.List.Concat.{flat_map-append}
@@ -24,7 +24,7 @@ sends_more a b c es fs h k = (
 pub conducts_none : (text : List ℕ) (a : List (ℕ × Event)) → Conducts text a a text
 conducts_none text a = record { lines = []; events = []; are_lines = tt; text_is = refl; sends = ([], sym (append-nil a), refl) }
 
--- behind some lines, the lines of the rest with what comes behind it
+-- after some lines, the lines of the rest with what comes after it
 pub conducts_more : (text rest piece left : List ℕ) (a b c : List (ℕ × Event)) → Conducts text a b rest → Conducts (rest ++ piece) b c left → Conducts (text ++ piece) a c left
 conducts_more text rest piece left a b c h k = record {
   lines = h.lines ++ k.lines;
@@ -55,10 +55,6 @@ conducts_line text rest line others a b c event h cut is sends = record {
 
 -- ---- reads
 
--- the bytes of a read that gave none
-pub at_end_after : (s s' : Option (List ℕ)) (n : ℕ) (buf : List ℕ) → n ≡ 0 → 0 < length buf → Consumes s s' (take n buf) × (n ≡ 0 → 0 < length buf → IsAtEnd s') → Consumes s s' [] × IsAtEnd s'
-at_end_after s s' n buf zero some h = (subst (λ (k : ℕ). Consumes s s' (take k buf)) zero h.0, h.1 zero some)
-
 pub some_more : (r s s' : Option (List ℕ)) (before left : List ℕ) (a b c : List (ℕ × Event)) → ((text : List ℕ) × Consumes r s text × Conducts text a b before) → ((piece : List ℕ) × Consumes s s' piece × Conducts (before ++ piece) b c left) → (text : List ℕ) × Consumes r s' text × Conducts text a c left
 some_more r s s' before left a b c h k = (h.0 ++ k.0, Consumes-trans r s s' h.0 k.0 h.1 k.1, conducts_more h.0 before k.0 left a b c h.2 k.2)
 
@@ -66,8 +62,8 @@ some_more r s s' before left a b c h k = (h.0 ++ k.0, Consumes-trans r s s' h.0 
 pub conducts_still : (pending : List ℕ) (a : List (ℕ × Event)) → Conducts (pending ++ []) a a pending
 conducts_still pending a = subst (λ (t : List ℕ). Conducts t a a pending) (sym (append-nil pending)) (conducts_none pending a)
 
-pub kept_none : (r s : Option (List ℕ)) → Keeps r s → Consumes r s []
-kept_none r s k = Consumes-kept r r s [] (Consumes-nil r) k
+pub durable_none : (r s : Option (List ℕ)) → Keeps r s → Consumes r s []
+durable_none r s k = Consumes-kept r r s [] (Consumes-nil r) k
 
 pub goes_on : (r s : Option (List ℕ)) (x y : List ℕ) (a b : List (ℕ × Event)) (more : Bool) → more ≡ true → ConductsOn r s x y a b more → (piece : List ℕ) × Consumes r s piece × Conducts (x ++ piece) a b y
 goes_on r s x y a b more e h = subst (λ (v : Bool). ConductsOn r s x y a b v) e h

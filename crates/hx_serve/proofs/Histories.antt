@@ -11,7 +11,7 @@ use Rattle.hx_serve.specs.LastLine.{tape_of}
 abbrev line_of : Entry → List ℕ
 line_of x = line (entry_of_event x.event) ++ line_feed ∷ []
 
--- the tape of one entry, and that of those behind it
+-- the tape of one entry, and that of the entries after it
 pub one_and_others : (x : Entry) (others : List Entry) → tape_of (x ∷ []) ++ tape_of others ≡ tape_of (x ∷ others)
 one_and_others x others = ap (λ (l : List ℕ). l ++ tape_of others) (append-nil (line_of x))
 

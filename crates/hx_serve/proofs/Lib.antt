@@ -1,4 +1,4 @@
 pub mod Conducting
 pub mod Histories
 pub mod Passes
-pub mod Playing
+pub mod Applying

@@ -4,7 +4,7 @@ use Rattle.std.proofs.lemmas.List.{map-append, take_all, drop_all}
 use Rattle.std.proofs.lemmas.List.Elements.{filter_map-append}
 use Rattle.std.specs.List.{cons_option}
 
--- what is the same at each place gives the same list
+-- two lists that agree at each index give the same list
 pub same_in_all : {S X : Type 0} (f : S → Option X) (olds news : List S) → length news ≡ length olds
     → ((i : ℕ) (d : S) → i < length olds → f (slice_index_or news i d) ≡ f (slice_index_or olds i d))
     → filter_map f news ≡ filter_map f olds
@@ -20,7 +20,7 @@ same_in_all f (o ∷ os) (n ∷ ns) len each =
 pub same_there : {S X : Type 0} (f : S → Option X) {given left old new : S} → given ≡ old → left ≡ new → f left ≡ f given → f new ≡ f old
 same_there f same is e = sym (ap f is) ∙ e ∙ ap f same
 
--- one more slot behind others, whose place has this number
+-- one more slot after the others, whose pass has this number
 pub one_more : {S P : Type 0} (f : S → Option ℕ) (number : P → ℕ) (slots : List S) (s : S) (done : List P) (p : P) → f s ≡ Some (number p) → filter_map f slots ≡ map number done
     → filter_map f (slots ++ s ∷ []) ≡ map number (done ++ p ∷ [])
 one_more f number slots s done p is so_far =
@@ -29,7 +29,7 @@ one_more f number slots s done p is so_far =
     ∙ ap (λ l. l ++ number p ∷ []) so_far
     ∙ sym (map-append number done (p ∷ []))
 
--- what a list has where all of it was written
+-- what a list has if all of it was written
 pub all_written : {S : Type 0} (n : ℕ) (news items : List S) → length news ≡ length items → n ≡ length news → take n (news ++ drop (length news) items) ≡ news
 all_written n news items len is =
     ap (λ l. take n (news ++ l)) (drop_all (length news) items (omega (arith, len))) ∙ ap (take n) (append-nil news) ∙ take_all n news (omega (arith, is))

@@ -8,7 +8,7 @@ use Rattle.hx_tape_lines.specs.declared.fault.Kind.TheVariants as kind
 use Rattle.hx_serve.specs.declared.fault.ServeError.{ServeError}
 use Rattle.hx_serve.specs.declared.fault.ServeError.TheVariants as failure
 
--- the fault of line n of the operator where the exchange refuses its event, or its journal has failed
+-- the fault of line n of the operator if the exchange refuses its event, or its journal has failed
 abbrev pub line_fault : ℕ → SubmitError → ServeError
 line_fault n Stopped = failure.Journal
 line_fault n (Refused refused.NoMemory) = failure.NoMemory
@@ -17,8 +17,7 @@ line_fault n (Refused (refused.Limit member)) = failure.Line n kind.Limit
 line_fault n (Refused refused.NoMember) = failure.Line n kind.Member
 line_fault n (Refused refused.BadTime) = failure.Line n kind.Time
 
--- the fault of a day of which an event that was kept is refused: the setup is not the one that it was kept
--- under
+-- the fault of a day that refuses a durable event: its setup is not the one that the event was recorded under
 abbrev pub resume_fault : DeskError → ServeError
 resume_fault refused.NoMemory = failure.NoMemory
 resume_fault (refused.Full free needed) = failure.Full

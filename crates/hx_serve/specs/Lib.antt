@@ -3,5 +3,5 @@ pub mod Faults
 pub mod Fittings
 pub mod LastLine
 pub mod Operator
-pub mod Played
+pub mod Applied
 pub mod Publishing

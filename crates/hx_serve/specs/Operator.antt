@@ -6,7 +6,7 @@ use Rattle.hx_units.specs.Letters.{line_feed}
 use Rattle.hx_rules.specs.declared.event.Event.{Event}
 use Rattle.hx_tape_lines.specs.Operators.{IsOperatorLine}
 
--- each line is the operator's line of the event at its place
+-- each line is the operator's line of the event at the same index
 abbrev pub AreOperatorLines : List (List ℕ) → List Event → Type 0
 AreOperatorLines [] [] = Unit {0}
 AreOperatorLines [] (e ∷ es) = ⊥
@@ -30,7 +30,7 @@ pub record Conducts (text : List ℕ) (old new : List (ℕ × Event)) (rest : Li
   pub text_is : text ≡ text_of lines ++ rest
   pub sends : SendsAll old new events
 
--- One read: where the input goes on, what it gave was added to what was pending, and the events of the lines that are
+-- One read: if the input goes on, what it gave was added to what was pending, and the events of the lines that are
 -- whole then were sent; else the input has ended, and nothing was pending.
 abbrev pub ConductsOn :
     (r s : Option (List ℕ)) → (before after : List ℕ) → (old new : List (ℕ × Event)) → Bool → Type 0

@@ -1,4 +1,4 @@
-//! Who attends to a day, and how it is concluded.
+//! The workers of a day, and how it is concluded.
 ghost use Rattle.std.specs.Prelude.{◌≡◌, length, None, IfOk};
 ghost use mathlib.Core.List.{IsPrefix};
 ghost use Rattle.std.specs.Io.KnownBytes.{Appends};
@@ -17,9 +17,11 @@ use crate::publishing::Publishing;
 use crate::watching::Viewer;
 use crate::workers::{Writers, work};
 use hx_blog::{Log, Reader};
-use hx_doors::{Datagrams, Doors, Lobby, take};
+use hx_day_context::{
+    DayClock, DayContext, Hosting, NoticeSink, OpenArgs, SessionSlots, TradingStatus,
+};
 use hx_engine::{Entry, Exchange, FinishError, Finished, Journal, Pass, Venue};
-use hx_floor::{Board, Bulletin, DayClock, Floor, Hosting, OpenArgs, Seats};
+use hx_listener::{Acceptors, Datagrams, PendingLogins, take};
 use hx_operator::OperatorSocket;
 use hx_sessions::Gate;
 use log::Log as Logger;
@@ -30,8 +32,9 @@ use std::sync::Wait;
 use std::thread::Threads;
 use std::time::Clock;
 
-// Of an open day's log this many slots more than half are kept for the codes of the hours, besides two for each stock.
-const KEPT: u64 = 8;
+// An open day reserves half of its log for the codes of the hours, plus two slots for each stock, plus this number of
+// slots.
+const DURABLE: u64 = 8;
 
 /// What is left when all workers have ended.
 pub struct Outcome<V: Venue> {
@@ -42,7 +45,7 @@ pub struct Outcome<V: Venue> {
     socket: Option<OperatorSocket>,
 }
 
-// By hand, so that where a value is dropped its owner's proof sees one call.
+// By hand, so that when a value is dropped its owner's proof sees one call.
 impl<V: Venue> Drop for Outcome<V> {
     fn drop(self) {
         let Outcome {
@@ -55,22 +58,23 @@ impl<V: Venue> Drop for Outcome<V> {
     }
 }
 
-/// By what the sessions and the operator submit, and by what the publisher and the sessions read.
+/// The passes and readers of a day's workers: the sessions and the operator submit, the publisher and the sessions
+/// read.
 pub struct Crew<V: Venue> {
     /// The operator's pass.
     pub own: Pass<V>,
-    /// Those of the sessions, and one more: in an open day that of the operator's socket and of the clock.
+    /// The passes of the sessions, and one more: in an open day that of the operator's socket and of the clock.
     pub passes: Vec<Pass<V>>,
     /// A reader of the feed.
     pub reader: Reader<Entry>,
-    /// What an open day has besides its doors.
+    /// What an open day has besides its acceptors.
     pub fittings: Fittings,
-    /// What the operator has made of the day so far.
-    pub bulletin: Bulletin,
+    /// The trading status so far.
+    pub trading_status: TradingStatus,
     pub ghost belongs: { reader.log ≡ V.log },
 }
 
-// By hand, so that where a value is dropped its owner's proof sees one call.
+// By hand, so that when a value is dropped its owner's proof sees one call.
 impl<V: Venue> Drop for Crew<V> {
     fn drop(self) {
         let Crew {
@@ -78,7 +82,7 @@ impl<V: Venue> Drop for Crew<V> {
             passes: _,
             reader: _,
             fittings: _,
-            bulletin: _,
+            trading_status: _,
         } = self;
     }
 }
@@ -97,11 +101,11 @@ fn learn_all<'a, V: Venue>(
 }
 
 impl<V: Venue + Send + Sync> Crew<V> {
-    // A day of this many connections, from the first one on, up to the packet that ends the feed.
+    // A day with a fixed number of connections, from the first one to the packet that ends the feed.
     fn attend<
         J: Journal + Drop + Send,
         G: Gate + Sync,
-        B: Board + Sync,
+        B: NoticeSink + Sync,
         D: Datagrams + Sync + Drop,
         T: Threads + Wait + Clock + Logger + Sync,
         R: Read + Drop,
@@ -111,10 +115,10 @@ impl<V: Venue + Send + Sync> Crew<V> {
         alloc: Global,
         exchange: &Exchange<V, J>,
         hosting: &Hosting<'_, G, B>,
-        doors: Doors<D>,
+        acceptors: Acceptors<D>,
         input: R,
     ) -> Result<Outcome<V>, ServeError> {
-        let Doors { listener, socket } = doors;
+        let Acceptors { listener, socket } = acceptors;
         let log = exchange.feed_log();
         let connections = take(alloc, &listener, hosting.args.sessions)?;
         drop(listener);
@@ -123,7 +127,7 @@ impl<V: Venue + Send + Sync> Crew<V> {
             mut passes,
             mut reader,
             fittings: _,
-            bulletin: _,
+            trading_status: _,
         } = self;
         let parts = hire(
             rt,
@@ -156,20 +160,20 @@ impl<V: Venue + Send + Sync> Crew<V> {
     }
 }
 
-// Who attends to an open day, and by what readers its feed is published.
+// The workers of an open day, and the readers by which its feed is published.
 #[derive(Drop)]
 struct Opening<V: Venue, R> {
     staff: Staff<V, R>,
-    seats: Seats,
-    // What the operator has made of the day so far.
-    bulletin: Bulletin,
+    session_slots: SessionSlots,
+    // The trading status so far.
+    trading_status: TradingStatus,
     first: Reader<Entry>,
     second: Reader<Entry>,
     ghost belong: { (first.log ≡ V.log) × (second.log ≡ V.log) },
 }
 
 impl<V: Venue> Crew<V> {
-    // The places, the operator's desk and the page of an open day, of its crew.
+    // The session slots, the operator's desk and the page of an open day, made from its crew.
     fn open_up<R: Drop>(
         self,
         alloc: Global,
@@ -185,13 +189,13 @@ impl<V: Venue> Crew<V> {
             mut passes,
             mut reader,
             fittings,
-            bulletin,
+            trading_status,
         } = self;
         let (duties, metrics) = fittings.into_both();
         let Some(other) = passes.pop() else {
             return Err(ServeError::NoMemory);
         };
-        let seats = Seats::new(alloc, passes.len())?;
+        let session_slots = SessionSlots::new(alloc, passes.len())?;
         let places = make_places(alloc, log, passes, &mut reader)?;
         let second = reader.split(log);
         let viewer = Viewer::new(reader.split(log));
@@ -209,19 +213,19 @@ impl<V: Venue> Crew<V> {
                 page: Page { metrics, viewer },
                 open,
             },
-            seats,
-            bulletin,
+            session_slots,
+            trading_status,
             first: reader,
             second,
         })
     }
 }
 
-// What an open day leaves, once the end of its feed is told.
-fn settle<'a, V: Venue, J: Journal + Drop, B: Board, D: Datagrams, T: Wait + Clock>(
+// The outcome of an open day, once the end of its feed is published.
+fn settle<'a, V: Venue, J: Journal + Drop, B: NoticeSink, D: Datagrams, T: Wait + Clock>(
     rt: &T,
     exchange: &Exchange<V, J>,
-    board: &B,
+    notice_sink: &B,
     datagrams: &D,
     publishing: &mut Publishing<'a, V>,
     closed: Closed<V>,
@@ -234,7 +238,7 @@ fn settle<'a, V: Venue, J: Journal + Drop, B: Board, D: Datagrams, T: Wait + Clo
     let stopped = exchange.failure(rt).is_some();
     let sent = stopped || publishing.finish(rt, datagrams);
     if !stopped {
-        publishing.linger(rt, datagrams, board, exchange.feed_bell(), end);
+        publishing.linger(rt, datagrams, notice_sink, exchange.feed_waker(), end);
     }
     Outcome {
         passes,
@@ -245,7 +249,7 @@ fn settle<'a, V: Venue, J: Journal + Drop, B: Board, D: Datagrams, T: Wait + Clo
     }
 }
 
-// Half of the log and some slots are kept for the codes of the hours and for ticks.
+// Reserves half of the log and some slots for the codes of the hours and for ticks.
 fn keep_room<V: Venue, J: Journal + Drop, G, B, T: Wait>(
     rt: &T,
     exchange: &Exchange<V, J>,
@@ -255,19 +259,20 @@ fn keep_room<V: Venue, J: Journal + Drop, G, B, T: Wait>(
     exchange.keep(
         rt,
         (hosting.args.capacity / 2)
-            .saturating_add(KEPT)
+            .saturating_add(DURABLE)
             .saturating_add(stocks),
     );
 }
 
-/// An open day, up to the last packet that tells the end of the feed. Half of the log and some slots are kept for the codes
-/// of the hours and for ticks: what they tell is the codes themselves, the stocks, and the end of orders that were added
-/// with a message each. A day that is not open is one of as many connections as it has sessions.
+/// Serves an open day, up to the last packet, which publishes the end of the feed. Half of the log and some slots are
+/// reserved for the codes of the hours and for ticks: their output is the codes themselves, the stocks, and the end of
+/// the orders that were added, with one message each. A day that is not open has one connection for each of its
+/// sessions.
 pub fn attend_open<
     V: Venue + Send + Sync,
     J: Journal + Drop + Send,
     G: Gate + Sync,
-    B: Board + Sync,
+    B: NoticeSink + Sync,
     D: Datagrams + Sync + Drop,
     T: Threads + Wait + Clock + Logger + Sync,
     R: Read + Send + Drop,
@@ -276,20 +281,20 @@ pub fn attend_open<
     alloc: Global,
     exchange: &Exchange<V, J>,
     hosting: &Hosting<'_, G, B>,
-    doors: Doors<D>,
+    acceptors: Acceptors<D>,
     crew: Crew<V>,
     input: R,
 ) -> Result<Outcome<V>, ServeError> {
     let Some(open) = hosting.open else {
-        return crew.attend(rt, alloc, exchange, hosting, doors, input);
+        return crew.attend(rt, alloc, exchange, hosting, acceptors, input);
     };
-    let Doors { listener, socket } = doors;
+    let Acceptors { listener, socket } = acceptors;
     keep_room(rt, exchange, hosting);
     let log = exchange.feed_log();
     let Opening {
         staff,
-        seats,
-        bulletin,
+        session_slots,
+        trading_status,
         first,
         second,
     } = crew.open_up(alloc, log, listener, input, open)?;
@@ -299,20 +304,20 @@ pub fn attend_open<
     );
     let publishing = Publishing::new(session, hosting, log, first, second, now);
     let duties = &staff.desk.duties;
-    let floor = Floor {
+    let day_context = DayContext {
         setup: hosting.setup,
-        seats: &seats,
-        bulletin: &bulletin,
-        meter: hosting.meter,
-        board: hosting.board,
+        session_slots: &session_slots,
+        trading_status: &trading_status,
+        counters: hosting.counters,
+        notice_sink: hosting.notice_sink,
         capacity: hosting.args.capacity,
         turns: hosting.args.turns,
         stays_open: duties.socket.is_some() || duties.schedule.is_some(),
     };
     let hall = Hall {
         hosting,
-        floor: &floor,
-        lobby: &Lobby::new(alloc),
+        day_context: &day_context,
+        pending_logins: &PendingLogins::new(alloc),
     };
     let (mut publishing, closed) = work_open(
         rt, alloc, exchange, &hall, &socket, publishing, staff,
@@ -320,7 +325,7 @@ pub fn attend_open<
     Ok(settle(
         rt,
         exchange,
-        hosting.board,
+        hosting.notice_sink,
         &socket,
         &mut publishing,
         closed,
@@ -353,7 +358,7 @@ impl<V: Venue> Outcome<V> {
     ) -> Result<Day, ServeError>
         ensures served { IfOk result (λ day. IsServed V.setup day.history.items day.feed) }
         ensures begins { IfOk result (λ day. IsPrefix (restored V.before) day.history.items) }
-        ensures told { IfOk result (λ day. day.fault ≡ None
+        ensures reported { IfOk result (λ day. day.fault ≡ None
             → Appends (W.contents output.old) (W.contents output.new)
             (last_line (length day.history.items) day.feed)) }
     {

@@ -1,8 +1,10 @@
-//! The operator of an open day at his socket, and what the clock does for him: the hours of a schedule, and ticks.
+//! The direction of an open day by the operator's socket and by the clock: the hours of a schedule, and ticks.
 
 use crate::operating::refusal_of;
+use hx_day_context::{
+    DayClock, DayContext, Notice, NoticeSink, Refusal, Stage, since_1970, write_status,
+};
 use hx_engine::{Exchange, Journal, Pass, Venue};
-use hx_floor::{Board, DayClock, Floor, Notice, Refusal, Stage, since_1970, write_status};
 use hx_market::Event;
 use hx_operator::{Command, Directed, HELP, OperatorSocket, Schedule, events_of, read_command};
 use hx_units::MemberNo;
@@ -13,13 +15,13 @@ use std::sync::atomic::{AtomicBool, Ordering};
 use std::thread;
 use std::time::{Clock, Duration};
 
-// The socket and the clock are looked at so often, in milliseconds.
+// The interval, in milliseconds, at which the socket and the clock are checked.
 const LOOK_AGAIN: u64 = 20;
 
 // How many codes of the hours there are (ITCH 5.0, System Event Message).
 const CODES: u32 = 6;
 
-/// Who carries out what the operator says and what the clock asks for, by a pass of his own.
+/// Carries out what the operator says and what the clock asks for, by a pass of its own.
 #[derive(Drop)]
 pub struct Director<'a, V: Venue, J: Journal + Drop, B, T> {
     /// The runtime.
@@ -29,26 +31,26 @@ pub struct Director<'a, V: Venue, J: Journal + Drop, B, T> {
     /// The exchange.
     pub exchange: &'a Exchange<V, J>,
     /// What the workers share.
-    pub floor: &'a Floor<'a, B>,
-    /// The times of what he records.
+    pub day_context: &'a DayContext<'a, B>,
+    /// The times of what it records.
     pub clock: DayClock<'a, T>,
-    /// His pass.
+    /// Its pass.
     pub pass: Pass<V>,
 }
 
-/// What the clock asks for, and where the operator speaks.
+/// The operator's socket, and what the clock asks for.
 pub struct Duties {
-    /// His socket, where there is one.
+    /// The operator's socket, if there is one.
     pub socket: Option<OperatorSocket>,
-    /// The hours, where they go by the clock.
+    /// The hours, if they go by the clock.
     pub schedule: Option<Schedule>,
-    /// After how many milliseconds time passes for orders with seconds; 0 where it does not.
+    /// After how many milliseconds time passes for orders with seconds; 0 if it does not.
     pub tick: u64,
-    /// How many seconds behind the day's end sessions have for what is theirs.
+    /// How many seconds sessions have after the day's end for the rest of their output.
     pub grace: u64,
 }
 
-// By hand, so that where a value is dropped its owner's proof sees one call.
+// By hand, so that when a value is dropped its owner's proof sees one call.
 impl Drop for Duties {
     fn drop(self) {
         let Duties {
@@ -60,8 +62,8 @@ impl Drop for Duties {
     }
 }
 
-// How long ago the last tick and the day's end are, and after how long what is to be done, in milliseconds; and how many
-// events were seen.
+// How long ago the last tick and the day's end are, and after how long what is to be done, in milliseconds; and how
+// many events were seen.
 #[derive(Clone, Copy, Drop)]
 struct Beat {
     tick: u64,
@@ -72,7 +74,7 @@ struct Beat {
 }
 
 impl Beat {
-    // By the milliseconds between two ticks and the seconds behind the day's end.
+    // From the milliseconds between two ticks and the seconds after the day's end.
     fn of(tick: u64, grace: u64) -> Beat {
         Beat {
             tick,
@@ -84,7 +86,7 @@ impl Beat {
     }
 }
 
-// Puts a line behind an answer.
+// Appends a line to an answer.
 fn say(answer: &mut Vec<u8>, words: &str) -> Result<(), AllocError> {
     answer.extend_from_slice(words.as_bytes())?;
     answer.push(b'\n')?;
@@ -97,12 +99,14 @@ fn refuse(answer: &mut Vec<u8>, why: &str) -> Result<(), AllocError> {
     say(answer, why)
 }
 
-impl<'a, V: Venue, J: Journal + Drop, B: Board, T: Wait + Clock> Director<'a, V, J, B, T> {
+impl<'a, V: Venue, J: Journal + Drop, B: NoticeSink, T: Wait + Clock> Director<'a, V, J, B, T> {
     // Records an event.
     fn record(&mut self, event: &Event) -> Result<(), Refusal> {
         match self.exchange.submit(self.rt, &mut self.pass, event) {
             Ok(_) => {
-                self.floor.bulletin.note(self.floor.setup, event);
+                self.day_context
+                    .trading_status
+                    .note(self.day_context.setup, event);
                 Ok(())
             }
             Err(error) => Err(refusal_of(error)),
@@ -113,7 +117,11 @@ impl<'a, V: Venue, J: Journal + Drop, B: Board, T: Wait + Clock> Director<'a, V,
     fn carry_out(&mut self, events: &[Event], answer: &mut Vec<u8>) -> Result<(), AllocError> {
         let mut is_done = false;
         for event in events {
-            match self.floor.bulletin.stage(self.floor.setup, event) {
+            match self
+                .day_context
+                .trading_status
+                .stage(self.day_context.setup, event)
+            {
                 Stage::Past => continue,
                 Stage::TooEarly => return refuse(answer, "it is not the next code of the hours"),
                 Stage::NoStock => return refuse(answer, "no such stock"),
@@ -134,11 +142,11 @@ impl<'a, V: Venue, J: Journal + Drop, B: Board, T: Wait + Clock> Director<'a, V,
 
     // Ends the sessions of a member.
     fn disconnect(&mut self, member: MemberNo, answer: &mut Vec<u8>) -> Result<(), AllocError> {
-        let count = self.floor.seats.call_off(self.rt, member);
+        let count = self.day_context.session_slots.call_off(self.rt, member);
         if count == 0 {
             return refuse(answer, "he has no session");
         }
-        self.exchange.ring_all();
+        self.exchange.wake_all();
         let mut words = String::new(self.alloc);
         let _ = write!(words, "ok\nsessions ended: {count}");
         say(answer, &words)
@@ -151,10 +159,10 @@ impl<'a, V: Venue, J: Journal + Drop, B: Board, T: Wait + Clock> Director<'a, V,
         may: bool,
         answer: &mut Vec<u8>,
     ) -> Result<(), AllocError> {
-        if self.floor.setup.member(member).is_none() {
+        if self.day_context.setup.member(member).is_none() {
             return refuse(answer, "no such member");
         }
-        self.floor.seats.permit(member, may);
+        self.day_context.session_slots.permit(member, may);
         say(answer, "ok")
     }
 
@@ -163,7 +171,7 @@ impl<'a, V: Venue, J: Journal + Drop, B: Board, T: Wait + Clock> Director<'a, V,
         match command {
             Command::Status => {
                 say(answer, "ok")?;
-                write_status(self.rt, self.alloc, answer, self.exchange, self.floor)
+                write_status(self.rt, self.alloc, answer, self.exchange, self.day_context)
             }
             Command::Help => {
                 say(answer, "ok")?;
@@ -187,8 +195,8 @@ impl<'a, V: Venue, J: Journal + Drop, B: Board, T: Wait + Clock> Director<'a, V,
         }
     }
 
-    // Records the codes of the schedule whose time has come. One that is past does nothing; another one that is not the
-    // next is told of.
+    // Records the codes of the schedule whose time has come. A code that is past does nothing; any other code that is
+    // not the next one is reported.
     fn keep_hours(&mut self, schedule: &mut Schedule) {
         let time = self.clock.time_of_day();
         for _ in 0..CODES {
@@ -196,24 +204,33 @@ impl<'a, V: Venue, J: Journal + Drop, B: Board, T: Wait + Clock> Director<'a, V,
                 return;
             };
             let event = Event::Hours { time, code };
-            match self.floor.bulletin.stage(self.floor.setup, &event) {
+            match self
+                .day_context
+                .trading_status
+                .stage(self.day_context.setup, &event)
+            {
                 Stage::Past => {}
                 Stage::Now => {
                     let why = self.record(&event).err();
-                    self.floor.board.post(Notice::Scheduled { code, why });
+                    self.day_context
+                        .notice_sink
+                        .post(Notice::Scheduled { code, why });
                 }
                 Stage::TooEarly | Stage::NoStock => {
                     let why = Some(Refusal::Other);
-                    self.floor.board.post(Notice::Scheduled { code, why });
+                    self.day_context
+                        .notice_sink
+                        .post(Notice::Scheduled { code, why });
                 }
             }
         }
     }
 
-    // Lets time pass, where the day has begun. Returns whether that is recorded.
+    // Lets time pass, if the day has begun. Returns whether that is recorded.
     fn tick(&mut self) -> bool {
         let time = self.clock.time_of_day();
-        self.floor.bulletin.hours().is_some() && self.record(&Event::Tick { time }).is_ok()
+        self.day_context.trading_status.phase().is_some()
+            && self.record(&Event::Tick { time }).is_ok()
     }
 
     // Looks whether there are more events than were seen, and notes when. Returns how many there are.
@@ -221,18 +238,21 @@ impl<'a, V: Venue, J: Journal + Drop, B: Board, T: Wait + Clock> Director<'a, V,
         let recorded = self.exchange.counts(self.rt).recorded;
         if recorded != seen {
             let now = since_1970(self.rt);
-            self.floor.meter.last_event.store(now, Ordering::Relaxed);
+            self.day_context
+                .counters
+                .last_event
+                .store(now, Ordering::Relaxed);
         }
         recorded
     }
 
-    // What the clock asks for: the codes of the schedule and ticks, and behind the day's end that sessions end.
+    // What the clock asks for: the codes of the schedule and ticks, and, after the day's end, that sessions end.
     fn keep_time(&mut self, beat: &mut Beat, schedule: &mut Option<Schedule>) {
         beat.seen = self.see(beat.seen);
         if self.exchange.is_closed(self.rt) {
             beat.since_end = beat.since_end.saturating_add(LOOK_AGAIN);
             if beat.since_end >= beat.grace {
-                self.floor.seats.hurry();
+                self.day_context.session_slots.hurry();
             }
             return;
         }
@@ -249,7 +269,7 @@ impl<'a, V: Venue, J: Journal + Drop, B: Board, T: Wait + Clock> Director<'a, V,
     }
 }
 
-impl<'a, V: Venue, J: Journal + Drop, B: Board, T: Wait + Clock> Director<'a, V, J, B, T> {
+impl<'a, V: Venue, J: Journal + Drop, B: NoticeSink, T: Wait + Clock> Director<'a, V, J, B, T> {
     /// Hears the operator, and does what the clock asks for, until all sessions have ended. Gives the pass and the
     /// socket back.
     pub fn direct(self, duties: Duties, gone: &AtomicBool) -> (Pass<V>, Option<OperatorSocket>) {
@@ -271,7 +291,8 @@ impl<'a, V: Venue, J: Journal + Drop, B: Board, T: Wait + Clock> Director<'a, V,
     }
 }
 
-impl<V: Venue, J: Journal + Drop, B: Board, T: Wait + Clock> Directed for Director<'_, V, J, B, T> {
+impl<V: Venue, J: Journal + Drop, B: NoticeSink, T: Wait + Clock> Directed
+    for Director<'_, V, J, B, T> {
     fn direct(&mut self, line: &[u8], answer: &mut Vec<u8>) -> Result<(), AllocError> {
         match read_command(line) {
             Ok(command) => self.perform(command, answer),

@@ -31,7 +31,7 @@ pub fn fault_of_day(
     }
 }
 
-/// The fault of a day of which an event that was kept is not recorded again.
+/// The fault of a day that refuses to record a durable event again.
 pub fn fault_of_resume(error: DeskError) -> ServeError
     ensures { result ≡ resume_fault error }
 {
@@ -57,7 +57,8 @@ fn last_line(alloc: Global, events: u64, feed: u64) -> Result<Vec<u8>, AllocErro
     Ok(text)
 }
 
-/// Writes the last line: the numbers of events and of messages of the feed. Where it fails, some of it may be written.
+/// Writes the last line: the numbers of events and of messages of the feed. If it fails, part of the line may be
+/// written.
 pub fn write_last_line<W: Write>(
     alloc: Global,
     writer: &mut W,

@@ -2,7 +2,7 @@
 ghost use Rattle.std.specs.Prelude.{◌≡◌};
 ghost use Rattle.hx_serve.specs.declared.fault.ServeError.TheVariants.{NoMemory as OutOfMemory};
 
-use hx_doors::DoorsError;
+use hx_listener::AcceptorsError;
 use hx_tape_lines::Kind;
 use hx_units::NoMemory;
 use std::alloc::{AllocError, AllocFailed};
@@ -31,7 +31,7 @@ pub enum ServeError {
     /// A socket failed.
     #[error("network failed")]
     Network,
-    /// The journal failed: nothing more is told.
+    /// The journal failed: nothing more is published.
     #[error("journal failed")]
     Journal,
     /// The log has too little room left for the feed of an operator's line.
@@ -69,11 +69,11 @@ impl From<NoMemory> for ServeError {
     }
 }
 
-impl From<DoorsError> for ServeError {
-    fn from(error: DoorsError) -> ServeError {
+impl From<AcceptorsError> for ServeError {
+    fn from(error: AcceptorsError) -> ServeError {
         match error {
-            DoorsError::NoMemory => ServeError::NoMemory,
-            DoorsError::Network => ServeError::Network,
+            AcceptorsError::NoMemory => ServeError::NoMemory,
+            AcceptorsError::Network => ServeError::Network,
         }
     }
 }

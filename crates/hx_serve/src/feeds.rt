@@ -1,20 +1,20 @@
 //! Where the feed goes: each packet to each address.
 
 use crate::sending::send;
-use hx_doors::{Datagrams, MOST_FEEDS};
-use hx_floor::{Board, Notice};
+use hx_day_context::{Notice, NoticeSink};
+use hx_listener::{Datagrams, MOST_FEEDS};
 use std::net::SocketAddr;
 use std::time::Clock;
 
-// A packet that finds no room is tried again so often.
+// How often a packet is tried if the socket's buffer is full.
 const TRIES: u32 = 10_000;
 
-// Whether an address failed, and whether that is still to be told.
+// Whether an address failed, and whether that is still to be reported.
 #[derive(Clone, Copy, PartialEq, Eq)]
 enum Trouble {
     None,
     Untold,
-    Told,
+    Reported,
 }
 
 /// The addresses that the feed goes to, and which of them failed.
@@ -25,12 +25,12 @@ pub struct Feeds<'a> {
 }
 
 impl<'a> Feeds<'a> {
-    /// These addresses, of which those behind the first 16 get nothing. Where failures are not told, none is.
-    pub fn new(to: &'a [SocketAddr], is_told: bool) -> Feeds<'a> {
-        let trouble = if is_told {
+    /// The feed's addresses; those after the first 16 get nothing. If `is_reported` is false, no failure is reported.
+    pub fn new(to: &'a [SocketAddr], is_reported: bool) -> Feeds<'a> {
+        let trouble = if is_reported {
             Trouble::None
         } else {
-            Trouble::Told
+            Trouble::Reported
         };
         Feeds {
             to,
@@ -52,12 +52,12 @@ impl<'a> Feeds<'a> {
         all
     }
 
-    /// Tells of each address that failed, once.
-    pub fn tell<B: Board>(&mut self, board: &B) {
+    /// Posts a notice of each address that failed, once.
+    pub fn tell<B: NoticeSink>(&mut self, notice_sink: &B) {
         for (to, trouble) in self.to.iter().zip(self.troubles.iter_mut()) {
             if *trouble == Trouble::Untold {
-                *trouble = Trouble::Told;
-                board.post(Notice::Unsent { to: *to });
+                *trouble = Trouble::Reported;
+                notice_sink.post(Notice::Unsent { to: *to });
             }
         }
     }

@@ -1,4 +1,4 @@
-//! What an open day has besides its doors.
+//! What an open day has besides its acceptors.
 ghost use Rattle.std.specs.Prelude.{◌≡◌};
 ghost use Rattle.hx_serve.specs.Fittings.{AreNone};
 
@@ -6,7 +6,7 @@ use crate::director::Duties;
 use std::hash::RandomState;
 use std::net::TcpListener;
 
-/// Where a venue shows its figures.
+/// The socket at which a venue shows its metrics.
 #[derive(Drop)]
 pub struct Metrics {
     /// The socket that is asked.
@@ -15,15 +15,16 @@ pub struct Metrics {
     pub keys: RandomState,
 }
 
-/// What an open day has besides its doors: who directs it, and where it is watched.
+/// What an open day has besides its acceptors: its direction by the operator's socket and the
+/// clock, and its metrics.
 pub struct Fittings {
-    /// The operator's socket, the schedule, the ticks, and the time behind the day's end.
+    /// The operator's socket, the schedule, the ticks, and the time after the day's end.
     pub duties: Duties,
-    /// Where it shows its figures, if it does.
+    /// The socket at which the day shows its metrics, if it does.
     pub metrics: Option<Metrics>,
 }
 
-// By hand, so that where a value is dropped its owner's proof sees one call.
+// By hand, so that when a value is dropped its owner's proof sees one call.
 impl Drop for Fittings {
     fn drop(self) {
         let Fittings {
@@ -34,7 +35,7 @@ impl Drop for Fittings {
 }
 
 impl Fittings {
-    /// Who directs the day, and where it is watched.
+    /// The day's duties, and its metrics if it shows them.
     pub fn into_both(self) -> (Duties, Option<Metrics>)
         ensures duties { result.0 ≡ self.duties }
         ensures metrics { result.1 ≡ self.metrics }
@@ -43,7 +44,8 @@ impl Fittings {
         (duties, metrics)
     }
 
-    /// Nothing: only standard input directs the day, no time passes without it, and nobody watches.
+    /// Nothing: only standard input directs the day, no time passes without it, and no metrics are
+    /// shown.
     pub fn none() -> Fittings
         ensures none { AreNone result }
     {

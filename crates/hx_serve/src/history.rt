@@ -27,8 +27,8 @@ fn write_entry<W: Write>(
     Ok(())
 }
 
-/// Writes a history as a tape: the lines of its events, in its order, each as soon as it is spelled. A replay of it over
-/// the same setup gives the day's feed and replies. Where it fails, a beginning may be written.
+/// Writes a history as a tape: the lines of its events, in its order, each as soon as it is formatted. A replay of it
+/// over the same setup gives the day's feed and replies. If it fails, a beginning may be written.
 pub fn write_history<W: Write>(
     alloc: Global,
     history: &[Entry],

@@ -1,4 +1,4 @@
-//! The workers of an open day, all at once: the publisher, the door, the places, and the operator.
+//! The workers of an open day, all at once: the publisher, the acceptor, the session slots, and the operator.
 ghost use Rattle.std.specs.Prelude.{◌≡◌};
 
 use crate::director::{Director, Duties};
@@ -8,9 +8,9 @@ use crate::operating::conduct;
 use crate::places::{Hall, Places, serve_places};
 use crate::publishing::Publishing;
 use crate::watching::{Viewer, Watch};
-use hx_doors::{Datagrams, DayEnd, DoorRules, keep_door};
+use hx_day_context::{AcceptorNotices, DayClock, DayContext, NoticeSink, OpenArgs, Times};
 use hx_engine::{Exchange, Journal, Pass, Venue};
-use hx_floor::{Board, DayClock, DoorNotices, Floor, OpenArgs, Times};
+use hx_listener::{AcceptorRules, Datagrams, DayEnd, keep_acceptor};
 use hx_metrics::{Watched, serve_metrics};
 use hx_operator::OperatorSocket;
 use hx_sessions::Gate;
@@ -22,16 +22,16 @@ use std::sync::{Mutex, Wait};
 use std::thread::{Threads, join};
 use std::time::Clock;
 
-/// Where the figures of an open day are shown, and by which reader replies are counted.
+/// The metrics of an open day, and the reader that counts replies for them.
 #[derive(Drop)]
 pub struct Page<V: Venue> {
-    /// Where, if they are.
+    /// The socket of the metrics, if they are shown.
     pub metrics: Option<Metrics>,
-    /// By which reader.
+    /// The reader.
     pub viewer: Viewer<V>,
 }
 
-/// Who directs an open day: by standard input, and by the operator's socket and the clock.
+/// The direction of an open day: by standard input, and by the operator's socket and the clock.
 #[derive(Drop)]
 pub struct Desk<V: Venue, R> {
     /// The pass of what comes from standard input.
@@ -44,29 +44,30 @@ pub struct Desk<V: Venue, R> {
     pub duties: Duties,
 }
 
-/// Who writes in an open day: the places, what members connect to, and the operator.
+/// The writers of an open day: the session slots with the listener that members connect to, and the operator.
 #[derive(Drop)]
 pub struct Staff<V: Venue, R> {
-    /// The places.
+    /// The session slots.
     pub places: Places<V>,
     /// The socket that members connect to.
     pub listener: TcpListener,
     /// The operator's desk.
     pub desk: Desk<V, R>,
-    /// The page of figures.
+    /// The metrics page.
     pub page: Page<V>,
-    /// What is asked of the day.
+    /// The arguments of the open day.
     pub open: OpenArgs,
 }
 
-/// What the operator leaves: the pass and the socket of what came by the socket and the clock, and the pass and the fault of
-/// standard input.
+/// What the operator leaves: the pass and the socket of what came by the socket and the clock, and the pass and the
+/// fault of standard input.
 pub type Steered<V> = (
     (Pass<V>, Option<OperatorSocket>),
     (Pass<V>, Option<ServeError>),
 );
 
-/// What is left when the operator and all sessions have ended: the passes of the places, and what he leaves.
+/// What is left when the operator and all sessions have ended: the passes of the session slots, and what the operator
+/// leaves.
 pub type Closed<V> = (Vec<Pass<V>>, Steered<V>);
 
 // The end of an exchange's day.
@@ -81,19 +82,19 @@ impl<'a, V: Venue, J: Journal + Drop> DayEnd for Closing<'a, V, J> {
     }
 }
 
-// The operator by his socket and the clock, in this thread, and by standard input.
+// The operator by the socket and the clock, in this thread, and by standard input.
 fn steer<
     'x,
     V: Venue + Send + Sync,
     J: Journal + Drop + Send,
-    B: Board + Sync,
+    B: NoticeSink + Sync,
     R: Read + Send + Drop,
     T: Threads + Wait + Clock + Sync,
 >(
     rt: &'x T,
     alloc: Global,
     exchange: &'x Exchange<V, J>,
-    floor: &'x Floor<'x, B>,
+    day_context: &'x DayContext<'x, B>,
     times: Times<'x>,
     desk: Desk<V, R>,
     gone: &'x AtomicBool,
@@ -108,7 +109,7 @@ fn steer<
         rt,
         alloc,
         exchange,
-        floor,
+        day_context,
         clock: DayClock::of(rt, times),
         pass: other,
     };
@@ -117,18 +118,18 @@ fn steer<
         move || director.direct(duties, gone),
         move || {
             let mut input = input;
-            conduct(rt, alloc, exchange, floor, times, pass, &mut input)
+            conduct(rt, alloc, exchange, day_context, times, pass, &mut input)
         },
     )
 }
 
-// The places, in this thread, and the operator.
+// The session slots, in this thread, and the operator.
 fn attend<
     'x,
     V: Venue + Send + Sync,
     J: Journal + Drop + Send,
     G: Gate + Sync,
-    B: Board + Sync,
+    B: NoticeSink + Sync,
     R: Read + Send + Drop,
     T: Threads + Wait + Clock + Sync,
 >(
@@ -140,7 +141,7 @@ fn attend<
     desk: Desk<V, R>,
 ) -> Closed<V> {
     let gone = AtomicBool::new(false);
-    let (flag, floor, times) = (&gone, hall.floor, hall.hosting.times);
+    let (flag, day_context, times) = (&gone, hall.day_context, hall.hosting.times);
     join(
         rt,
         move || {
@@ -148,17 +149,17 @@ fn attend<
             flag.store(true, Ordering::SeqCst);
             passes
         },
-        move || steer(rt, alloc, exchange, floor, times, desk, flag),
+        move || steer(rt, alloc, exchange, day_context, times, desk, flag),
     )
 }
 
-// The door, in this thread, and those who write.
+// The acceptor, in this thread, and the writers.
 fn trade<
     'x,
     V: Venue + Send + Sync,
     J: Journal + Drop + Send,
     G: Gate + Sync,
-    B: Board + Sync,
+    B: NoticeSink + Sync,
     R: Read + Send + Drop,
     T: Threads + Wait + Clock + Sync,
 >(
@@ -170,39 +171,47 @@ fn trade<
     writers: (TcpListener, Places<V>, Desk<V, R>),
 ) -> Closed<V> {
     let (listener, places, desk) = writers;
-    let (hosting, lobby) = (hall.hosting, hall.lobby);
-    let rules = DoorRules {
+    let (hosting, pending_logins) = (hall.hosting, hall.pending_logins);
+    let rules = AcceptorRules {
         setup: hosting.setup,
         login_limit: open.login_limit,
         each: open.connections_per_address,
         tally: hosting.tally,
     };
-    let board = DoorNotices {
-        board: hosting.board,
+    let notice_sink = AcceptorNotices {
+        notice_sink: hosting.notice_sink,
     };
     let end = Closing { exchange };
     let ((), closed) = join(
         rt,
-        move || keep_door(rt, alloc, &end, listener, lobby, rules, &board),
+        move || keep_acceptor(
+            rt,
+            alloc,
+            &end,
+            listener,
+            pending_logins,
+            rules,
+            &notice_sink,
+        ),
         move || attend(rt, alloc, exchange, hall, places, desk),
     );
     closed
 }
 
-// The page of figures: where it is, what it shows, and whether those who trade have ended.
+// The metrics page: its address, what it shows, and whether the writers have ended.
 struct Shown<'a, W> {
     metrics: Metrics,
     watch: &'a W,
     over: &'a AtomicBool,
 }
 
-// The page of figures, and those who trade.
+// The metrics page, and the acceptor with the writers.
 fn trade_shown<
     'x,
     V: Venue + Send + Sync,
     J: Journal + Drop + Send,
     G: Gate + Sync,
-    B: Board + Sync,
+    B: NoticeSink + Sync,
     R: Read + Send + Drop,
     T: Threads + Wait + Clock + Sync,
     W: Watched + Sync,
@@ -233,13 +242,13 @@ fn trade_shown<
     closed
 }
 
-// The page of figures, where there is one, and those who trade.
+// The metrics page, if there is one, and the acceptor with the writers.
 fn trade_watched<
     'x,
     V: Venue + Send + Sync,
     J: Journal + Drop + Send,
     G: Gate + Sync,
-    B: Board + Sync,
+    B: NoticeSink + Sync,
     R: Read + Send + Drop,
     T: Threads + Wait + Clock + Sync,
 >(
@@ -265,7 +274,7 @@ fn trade_watched<
     let watch = Watch {
         rt,
         exchange,
-        floor: hall.floor,
+        day_context: hall.day_context,
         tally: hall.hosting.tally,
         viewer: Mutex::new(viewer),
         over: &over,
@@ -285,7 +294,7 @@ pub fn work_open<
     V: Venue + Send + Sync,
     J: Journal + Drop + Send,
     G: Gate + Sync,
-    B: Board + Sync,
+    B: NoticeSink + Sync,
     D: Datagrams + Sync,
     R: Read + Send + Drop,
     T: Threads + Wait + Clock + Sync,
@@ -299,14 +308,14 @@ pub fn work_open<
     staff: Staff<V, R>,
 ) -> (Publishing<'a, V>, Closed<V>) {
     let ended = AtomicBool::new(false);
-    let (flag, board) = (&ended, hall.hosting.board);
+    let (flag, notice_sink) = (&ended, hall.hosting.notice_sink);
     join(
         rt,
-        move || publishing.work(rt, socket, board, exchange.feed_bell(), flag),
+        move || publishing.work(rt, socket, notice_sink, exchange.feed_waker(), flag),
         move || {
             let closed = trade_watched(rt, alloc, exchange, hall, staff);
             flag.store(true, Ordering::SeqCst);
-            exchange.feed_bell().ring();
+            exchange.feed_waker().wake();
             closed
         },
     )

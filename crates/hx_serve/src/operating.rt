@@ -1,8 +1,8 @@
-//! The operator of an open day: a line that is bad or refused is told of, and the next one is read.
+//! The operator of an open day: a line that is bad or refused is reported, and the next one is read.
 
 use crate::fault::ServeError;
+use hx_day_context::{DayClock, DayContext, Notice, NoticeSink, Refusal, Times};
 use hx_engine::{DeskError, Exchange, Journal, Pass, SubmitError, Venue};
-use hx_floor::{Board, DayClock, Floor, Notice, Refusal, Times};
 use hx_market::Event;
 use hx_tape_lines::{LONGEST_LINE, read_operator_line};
 use hx_text::split_once;
@@ -15,13 +15,13 @@ use std::time::{Clock, Duration};
 // The codes of the hours, in their order (ITCH 5.0, System Event Message).
 const HOURS: [u8; 6] = *b"OSQMEC";
 
-// Where the last codes are not recorded when out of memory they are tried again, after this many milliseconds.
+// If the last codes are not recorded when out of memory, they are tried again after this number of milliseconds.
 const AGAIN: u64 = 200;
 
 // How many bytes are read at once.
 const PIECE: usize = 4096;
 
-// The operator's desk: the pass by which his events are sent, and what of his input is not yet a line.
+// The operator's desk: the pass by which the operator's events are sent, and the input that is not yet a line.
 #[derive(Drop)]
 struct Conductor<V: Venue> {
     pass: Pass<V>,
@@ -51,7 +51,7 @@ impl<V: Venue> Conductor<V> {
         rt: &T,
         alloc: Global,
         exchange: &Exchange<V, J>,
-        floor: &Floor<'_, B>,
+        day_context: &DayContext<'_, B>,
         text: &[u8],
     ) -> Result<(), Refusal> {
         if self.overlong {
@@ -65,25 +65,25 @@ impl<V: Venue> Conductor<V> {
         };
         match exchange.submit(rt, &mut self.pass, &event) {
             Ok(_) => {
-                floor.bulletin.note(floor.setup, &event);
+                day_context.trading_status.note(day_context.setup, &event);
                 Ok(())
             }
             Err(error) => Err(refusal_of(error)),
         }
     }
 
-    // Takes the next line, and tells where it was refused.
-    fn take_line<J: Journal + Drop, B: Board, T: Wait>(
+    // Takes the next line, and posts a notice if it is refused.
+    fn take_line<J: Journal + Drop, B: NoticeSink, T: Wait>(
         &mut self,
         rt: &T,
         alloc: Global,
         exchange: &Exchange<V, J>,
-        floor: &Floor<'_, B>,
+        day_context: &DayContext<'_, B>,
         text: &[u8],
     ) {
         self.lines = self.lines.saturating_add(1);
-        if let Err(why) = self.send_line(rt, alloc, exchange, floor, text) {
-            floor.board.post(Notice::Refused {
+        if let Err(why) = self.send_line(rt, alloc, exchange, day_context, text) {
+            day_context.notice_sink.post(Notice::Refused {
                 line: self.lines,
                 why,
             });
@@ -91,14 +91,14 @@ impl<V: Venue> Conductor<V> {
         self.overlong = false;
     }
 
-    // Takes the lines that are whole with the next piece of the input. Of a line that is too long the rest is awaited, and
-    // thrown away.
-    fn take_piece<J: Journal + Drop, B: Board, T: Wait>(
+    // Takes the lines that are whole with the next piece of the input. Of a line that is too long the rest is awaited,
+    // and thrown away.
+    fn take_piece<J: Journal + Drop, B: NoticeSink, T: Wait>(
         &mut self,
         rt: &T,
         alloc: Global,
         exchange: &Exchange<V, J>,
-        floor: &Floor<'_, B>,
+        day_context: &DayContext<'_, B>,
         piece: &[u8],
     ) -> Result<(), ServeError> {
         let mut text = Vec::from_slice(alloc, &self.pending)?;
@@ -108,7 +108,7 @@ impl<V: Venue> Conductor<V> {
             let Some((line, others)) = split_once(rest, b'\n') else {
                 break;
             };
-            self.take_line(rt, alloc, exchange, floor, line);
+            self.take_line(rt, alloc, exchange, day_context, line);
             rest = others;
         }
         if rest.len() > LONGEST_LINE {
@@ -119,21 +119,21 @@ impl<V: Venue> Conductor<V> {
         Ok(())
     }
 
-    // Reads the input to its end, or to a fault of it, in at most this many reads.
-    fn read_all<J: Journal + Drop, B: Board, R: Read, T: Wait>(
+    // Reads the input to its end, or to a fault of it, in at most `day_context.turns` reads.
+    fn read_all<J: Journal + Drop, B: NoticeSink, R: Read, T: Wait>(
         &mut self,
         rt: &T,
         alloc: Global,
         exchange: &Exchange<V, J>,
-        floor: &Floor<'_, B>,
+        day_context: &DayContext<'_, B>,
         input: &mut R,
     ) -> Result<(), ServeError> {
         let mut chunk = [0; PIECE];
-        for _ in 0..floor.turns {
+        for _ in 0..day_context.turns {
             match input.read(&mut chunk) {
                 Ok(0) => return Ok(()),
                 Ok(count) => {
-                    self.take_piece(rt, alloc, exchange, floor, &chunk[..count])?;
+                    self.take_piece(rt, alloc, exchange, day_context, &chunk[..count])?;
                 }
                 Err(error) if error.kind() == ErrorKind::Interrupted => {}
                 Err(_) => return Err(ServeError::Read),
@@ -150,27 +150,27 @@ impl<V: Venue> Conductor<V> {
         &mut self,
         rt: &T,
         exchange: &Exchange<V, J>,
-        floor: &Floor<'_, B>,
+        day_context: &DayContext<'_, B>,
         time: u64,
     ) {
         for code in HOURS {
             let event = Event::Hours { time, code };
             if !exchange.is_closed(rt) && exchange.submit(rt, &mut self.pass, &event).is_ok() {
-                floor.bulletin.note(floor.setup, &event);
+                day_context.trading_status.note(day_context.setup, &event);
             }
         }
     }
 }
 
-/// Reads the operator's input, and sends the event of each line by his pass; one that is bad or refused is told of, and
-/// the next one is read. Where the input ends, or fails, before code `C` is past, the codes that are left are sent: so
-/// the day ends, unless it stays open without an input. Where the journal has failed, nothing more is read or sent. Gives
-/// the pass back, and what was wrong with the input itself.
-pub fn conduct<V: Venue, J: Journal + Drop, B: Board, R: Read, T: Wait + Clock>(
+/// Reads the operator's input, and sends the event of each line by the operator's pass; a line that is bad or refused
+/// is reported, and the next one is read. If the input ends, or fails, before code `C` is past, the remaining codes are
+/// sent: so the day ends, unless it stays open without an input. If the journal has failed, nothing more is read or
+/// sent. Gives the pass back, and what was wrong with the input itself.
+pub fn conduct<V: Venue, J: Journal + Drop, B: NoticeSink, R: Read, T: Wait + Clock>(
     rt: &T,
     alloc: Global,
     exchange: &Exchange<V, J>,
-    floor: &Floor<'_, B>,
+    day_context: &DayContext<'_, B>,
     times: Times<'_>,
     pass: Pass<V>,
     input: &mut R,
@@ -181,19 +181,21 @@ pub fn conduct<V: Venue, J: Journal + Drop, B: Board, R: Read, T: Wait + Clock>(
         pending: Vec::new(alloc),
         overlong: false,
     };
-    let fault = conductor.read_all(rt, alloc, exchange, floor, input).err();
-    if floor.stays_open {
+    let fault = conductor
+        .read_all(rt, alloc, exchange, day_context, input)
+        .err();
+    if day_context.stays_open {
         return (conductor.pass, fault);
     }
     if !exchange.is_closed(rt) {
-        floor.board.post(Notice::Closing);
+        day_context.notice_sink.post(Notice::Closing);
     }
     for _ in 0..u64::MAX {
         if exchange.is_closed(rt) {
             break;
         }
         let time = DayClock::of(rt, times).time_of_day();
-        conductor.send_hours(rt, exchange, floor, time);
+        conductor.send_hours(rt, exchange, day_context, time);
         thread::sleep(rt, Duration::from_millis(AGAIN));
     }
     (conductor.pass, fault)

@@ -28,7 +28,7 @@ fn line_fault(line: u64, error: SubmitError) -> ServeError
     ServeError::Line { line, kind }
 }
 
-// The operator's desk: the pass by which his events are sent, and what of his input is not yet a line.
+// The operator's desk: the pass by which the operator's events are sent, and the input that is not yet a line.
 #[derive(Drop)]
 struct Operator<V: Venue> {
     pass: Pass<V>,
@@ -157,7 +157,7 @@ impl<V: Venue> Operator<V> {
         }
     }
 
-    // Reads the input to its end, or to a fault, in at most this many reads.
+    // Reads the input to its end, or to a fault, in at most `turns` reads.
     fn read_all<J: Journal + Drop, T: Wait, R: Read>(
         &mut self,
         rt: &T,
@@ -186,8 +186,8 @@ impl<V: Venue> Operator<V> {
     }
 }
 
-/// Reads the operator's input, and sends the event of each line by his pass, up to the end of the input, the first line
-/// that is bad or refused, or a journal that has failed. Returns the pass, and the fault.
+/// Reads the operator's input, and sends the event of each line by the operator's pass, up to the end of the input, the
+/// first line that is bad or refused, or a journal that has failed. Returns the pass, and the fault.
 pub fn operate<V: Venue, J: Journal + Drop, T: Wait, R: Read>(
     rt: &T,
     alloc: Global,

@@ -3,9 +3,9 @@ ghost use Rattle.std.specs.Prelude.{◌≡◌};
 
 use crate::fault::ServeError;
 use hx_blog::{Log, Reader};
-use hx_doors::{Connection, Inlet, Outlet};
+use hx_day_context::{DayClock, Times, tell_end};
 use hx_engine::{Entry, Pass, Venue};
-use hx_floor::{DayClock, Times, tell_end};
+use hx_listener::{Connection, Inlet, Outlet};
 use hx_members::Setup;
 use hx_sessions::{Ended, Fault, Part};
 use log::Log as Logs;
@@ -15,7 +15,7 @@ use std::time::Clock;
 /// The part of a member's session.
 pub type Member<V, C> = Part<V, Inlet, Outlet, C>;
 
-/// What the sessions left in the parts' order; or the parts, where there was no memory to begin.
+/// What the sessions left in the parts' order; or the parts, if there was no memory to begin.
 pub type Served<V, C> = Result<Vec<(Member<V, C>, Result<Ended, Fault>)>, Vec<Member<V, C>>>;
 
 /// A part for each connection, each by the last pass that is left.
@@ -48,7 +48,7 @@ pub fn hire<'a, V: Venue, T: Clock>(
     Ok(parts)
 }
 
-/// Takes the passes back, and tells how each session ended. Returns whether they had begun.
+/// Takes the passes back, and logs how each session ended. Returns whether they had begun.
 pub fn dismiss<V: Venue, C: Drop, T: Logs>(
     rt: &T,
     setup: &Setup,

@@ -1,14 +1,15 @@
-//! The places of an open day: each serves one session after another, by one pass and one reader.
+//! The session slots of an open day: each serves one session after another, by one pass and one reader.
 ghost use Rattle.std.specs.Prelude.{ℕ, ◌≡◌, ◌<◌, ◌≤◌, ◌+◌, ◌++◌, [], IfOk, filter_map, length, map, option_map, slice_index_or, vec_capacity, vec_len};
 ghost use Rattle.std.specs.List.{cons_option};
 ghost use Rattle.std.specs.Thread.{IsSend, IsSync};
 
 use hx_blog::{Log, Reader};
-use hx_doors::{Connection, Lobby, count};
-use hx_engine::{Entry, Exchange, Journal, Pass, Venue};
-use hx_floor::{
-    Board, DayClock, Floor, Hosting, Notice, SeatInput, SeatOutput, Sitter, notice_of_end,
+use hx_day_context::{
+    DayClock, DayContext, Hosting, Notice, NoticeSink, SessionSlotInput, SessionSlotOutput, Sitter,
+    notice_of_end,
 };
+use hx_engine::{Entry, Exchange, Journal, Pass, Venue};
+use hx_listener::{Connection, PendingLogins, count};
 use hx_sessions::{Ended, Fault, Gate, Logins, Part, Session};
 use hx_soup::rejected;
 use hx_units::MemberNo;
@@ -19,7 +20,7 @@ use std::sync::Wait;
 use std::thread::{Threads, for_each_mut};
 use std::time::Clock;
 
-/// What a place serves its sessions by.
+/// The pass and the reader by which a session slot serves its sessions.
 #[derive(Drop)]
 pub struct Place<V: Venue> {
     /// The pass by which messages are submitted.
@@ -29,51 +30,54 @@ pub struct Place<V: Venue> {
     ghost belongs: { reader.log ≡ V.log },
 }
 
-// Where a place stands while its sessions are served.
+// A session slot, which is empty while a session is served.
 #[derive(Drop)]
 struct Slot<V: Venue> {
     place: Option<Place<V>>,
 }
 
-/// The places of an open day, before its sessions.
+/// The session slots of an open day, before its sessions.
 #[derive(Drop)]
 pub struct Places<V: Venue> {
     slots: Vec<Slot<V>>,
-    // Where the passes are put behind all sessions.
+    // Where the passes are put after all sessions.
     passes: Vec<Pass<V>>,
     ghost empty: { passes.items ≡ [] },
     ghost room: { vec_len slots ≤ vec_capacity passes },
 }
 
-/// What all places share.
+/// What all session slots share.
 #[derive(Drop)]
 pub struct Hall<'a, G, B> {
     /// What the day is served by.
     pub hosting: &'a Hosting<'a, G, B>,
     /// What its workers share.
-    pub floor: &'a Floor<'a, B>,
-    /// Where connections wait for a place.
-    pub lobby: &'a Lobby,
+    pub day_context: &'a DayContext<'a, B>,
+    /// The connections that wait for a session slot.
+    pub pending_logins: &'a PendingLogins,
 }
 
-// A gate that notes who has logged in at a seat, and tells from where.
+// A gate that puts a member who has logged in into the session table, and posts from where.
 #[derive(Clone, Copy)]
 struct Announcing<'a, G, B, T> {
     rt: &'a T,
     hall: &'a Hall<'a, G, B>,
-    seat: usize,
+    session_slot: usize,
     from: SocketAddr,
 }
 
-impl<'a, G: Gate, B: Board, T: Wait> Gate for Announcing<'a, G, B, T> {
+impl<'a, G: Gate, B: NoticeSink, T: Wait> Gate for Announcing<'a, G, B, T> {
     fn opened(&self, member: MemberNo) {
         let from = self.from;
         count(&self.hall.hosting.tally.accepted);
         self.hall
-            .floor
-            .seats
-            .sit(self.rt, self.seat, Sitter { member, from });
-        self.hall.floor.board.post(Notice::Opened { member, from });
+            .day_context
+            .session_slots
+            .sit(self.rt, self.session_slot, Sitter { member, from });
+        self.hall
+            .day_context
+            .notice_sink
+            .post(Notice::Opened { member, from });
         self.hall.hosting.gate.opened(member);
     }
 
@@ -89,13 +93,13 @@ impl<'a, G: Gate, B: Board, T: Wait> Gate for Announcing<'a, G, B, T> {
 // The letter of a login that is rejected (SoupBinTCP 3.00, Login Rejected Packet: Not Authorized).
 const NOT_AUTHORIZED: u8 = b'A';
 
-impl<G, B: Board> Hall<'_, G, B> {
-    // Refuses a member whom the operator keeps out, if this is one. Gives the connection back otherwise.
+impl<G, B: NoticeSink> Hall<'_, G, B> {
+    // Refuses a member whose logins the operator refuses, if this is one. Gives the connection back otherwise.
     fn keep_out(&self, connection: Connection) -> Option<Connection> {
         let Some(member) = connection.inlet.member(self.hosting.setup) else {
             return Some(connection);
         };
-        if self.floor.seats.may_log_in(member) {
+        if self.day_context.session_slots.may_log_in(member) {
             return Some(connection);
         }
         let Connection {
@@ -106,11 +110,13 @@ impl<G, B: Board> Hall<'_, G, B> {
         let _ = outlet.write(rejected(NOT_AUTHORIZED).as_slice());
         let _ = outlet.flush();
         count(&self.hosting.tally.refused);
-        self.floor.board.post(Notice::Forbidden { member, from });
+        self.day_context
+            .notice_sink
+            .post(Notice::Forbidden { member, from });
         None
     }
 
-    // Tells how a session ended, and counts a login that was refused.
+    // Posts a notice of how a session ended, and counts a login that was refused.
     fn tell_end(
         &self,
         member: Option<MemberNo>,
@@ -126,12 +132,12 @@ impl<G, B: Board> Hall<'_, G, B> {
             _ => notice_of_end(member, from, how),
         };
         if let Some(notice) = notice {
-            self.floor.board.post(notice);
+            self.day_context.notice_sink.post(notice);
         }
     }
 }
 
-/// A place for each of these passes, in their order.
+/// A session slot for each of these passes, in their order.
 pub fn make_places<V: Venue>(
     alloc: Global,
     log: &Log<Entry>,
@@ -154,7 +160,7 @@ pub fn make_places<V: Venue>(
     })
 }
 
-// Puts a place for each pass into a slot of its own.
+// Puts each pass into a slot of its own.
 fn stand_all<V: Venue>(
     log: &Log<Entry>,
     passes: Vec<Pass<V>>,
@@ -177,12 +183,12 @@ fn stand_all<V: Venue>(
 }
 
 impl<V: Venue + Send + Sync> Place<V> {
-    // Serves one session. The place is free again when it has ended, however it did.
+    // Serves one session. The session slot is free again when the session has ended, for whatever reason.
     fn serve<
         'x,
         J: Journal + Drop + Send,
         G: Gate + Sync,
-        B: Board + Sync,
+        B: NoticeSink + Sync,
         T: Threads + Wait + Clock + Sync,
     >(
         self,
@@ -190,7 +196,7 @@ impl<V: Venue + Send + Sync> Place<V> {
         alloc: Global,
         exchange: &'x Exchange<V, J>,
         hall: &'x Hall<'x, G, B>,
-        seat: usize,
+        session_slot: usize,
         connection: Connection,
     ) -> Place<V>
         ensures { result.pass.number ≡ self.pass.number }
@@ -200,10 +206,17 @@ impl<V: Venue + Send + Sync> Place<V> {
             outlet,
             from,
         } = connection;
-        let (hosting, seats) = (hall.hosting, hall.floor.seats);
+        let (hosting, session_slots) = (hall.hosting, hall.day_context.session_slots);
         let part = Part {
-            input: SeatInput { inlet, seats, seat },
-            output: SeatOutput { outlet, seats },
+            input: SessionSlotInput {
+                inlet,
+                session_slots,
+                session_slot,
+            },
+            output: SessionSlotOutput {
+                outlet,
+                session_slots,
+            },
             inbound: DayClock::of(rt, hosting.times),
             outbound: DayClock::of_clock(rt),
             pass: self.pass,
@@ -212,7 +225,7 @@ impl<V: Venue + Send + Sync> Place<V> {
         let gate = Announcing {
             rt,
             hall,
-            seat,
+            session_slot,
             from,
         };
         let logins = Logins {
@@ -221,7 +234,7 @@ impl<V: Venue + Send + Sync> Place<V> {
         };
         let turns = hosting.args.turns;
         let (part, how) = Session::run(rt, alloc, exchange, &logins, part, &gate, turns);
-        let is_called = seats.rise(rt, seat);
+        let is_called = session_slots.rise(rt, session_slot);
         hall.tell_end(
             part.input.inlet.member(hosting.setup),
             from,
@@ -234,12 +247,12 @@ impl<V: Venue + Send + Sync> Place<V> {
         }
     }
 
-    // Serves the connections of the lobby, one after another, until it is closed.
+    // Serves the connections of the pending logins, one after another, until it is closed.
     fn serve_all<
         'x,
         J: Journal + Drop + Send,
         G: Gate + Sync,
-        B: Board + Sync,
+        B: NoticeSink + Sync,
         T: Threads + Wait + Clock + Sync,
     >(
         self,
@@ -247,32 +260,32 @@ impl<V: Venue + Send + Sync> Place<V> {
         alloc: Global,
         exchange: &'x Exchange<V, J>,
         hall: &'x Hall<'x, G, B>,
-        seat: usize,
+        session_slot: usize,
     ) -> Place<V>
         ensures { result.pass.number ≡ self.pass.number }
     {
         let mut place = self;
         for _ in 0..u64::MAX {
-            let Some(connection) = hall.lobby.take(rt) else {
+            let Some(connection) = hall.pending_logins.take(rt) else {
                 break;
             };
             let from = connection.from;
             if let Some(connection) = hall.keep_out(connection) {
-                place = place.serve(rt, alloc, exchange, hall, seat, connection);
+                place = place.serve(rt, alloc, exchange, hall, session_slot, connection);
             }
-            hall.lobby.leave(rt, from);
+            hall.pending_logins.leave(rt, from);
         }
         place
     }
 }
 
 impl<V: Venue + Send + Sync> Slot<V> {
-    // Serves the connections of the lobby at the place that stands here.
+    // Serves the connections of the pending logins in this slot.
     fn serve<
         'x,
         J: Journal + Drop + Send,
         G: Gate + Sync,
-        B: Board + Sync,
+        B: NoticeSink + Sync,
         T: Threads + Wait + Clock + Sync,
     >(
         &mut self,
@@ -280,24 +293,24 @@ impl<V: Venue + Send + Sync> Slot<V> {
         alloc: Global,
         exchange: &'x Exchange<V, J>,
         hall: &'x Hall<'x, G, B>,
-        seat: usize,
+        session_slot: usize,
     )
         ensures { option_map (λ p. p.pass.number) self.new.place
             ≡ option_map (λ p. p.pass.number) self.old.place }
     {
         if let Some(place) = self.place.take() {
-            self.place = Some(place.serve_all(rt, alloc, exchange, hall, seat));
+            self.place = Some(place.serve_all(rt, alloc, exchange, hall, session_slot));
         }
     }
 }
 
-// Serves the connections of the lobby at the places in all slots at once.
+// Serves the connections of the pending logins in all slots at once.
 fn serve_slots<
     'x,
     V: Venue + Send + Sync,
     J: Journal + Drop + Send,
     G: Gate + Sync,
-    B: Board + Sync,
+    B: NoticeSink + Sync,
     T: Threads + Wait + Clock + Sync,
 >(
     rt: &'x T,
@@ -313,12 +326,12 @@ fn serve_slots<
         ≡ option_map (λ p. p.pass.number) (slice_index_or slots.old i d).place }
 {
     let count = slots.len();
-    let each = |seat: usize, slot: &mut Slot<V>|
+    let each = |session_slot: usize, slot: &mut Slot<V>|
         requires { IsSend V.row × IsSend J.row × IsSync V.row × IsSync G.row × IsSync B.row
             × IsSync T.row }
         ensures { option_map (λ p. p.pass.number) slot.exit.now.place
             ≡ option_map (λ p. p.pass.number) slot.entry.now.place }
-    { slot.serve(rt, alloc, exchange, hall, seat) };
+    { slot.serve(rt, alloc, exchange, hall, session_slot) };
     for_each_mut(rt, slots, count, &each);
 }
 
@@ -334,7 +347,7 @@ fn take_all<V: Venue>(slots: Vec<Slot<V>>, passes: &mut Vec<Pass<V>>)
     }
 }
 
-// Puts the pass of a slot behind the others.
+// Appends the pass of a slot to the others.
 fn put<V: Venue>(passes: &mut Vec<Pass<V>>, slot: Slot<V>)
     requires { vec_len passes.old < vec_capacity passes.old }
     ensures numbers { map (λ p. p.number) passes.new.items ≡ map (λ p. p.number) passes.old.items
@@ -347,14 +360,14 @@ fn put<V: Venue>(passes: &mut Vec<Pass<V>>, slot: Slot<V>)
     }
 }
 
-/// Serves the connections of the lobby at all places at once, until it is closed. The passes come back, each once and in
-/// the order of the places.
+/// Serves the connections of the pending logins in all session slots at once, until the pending logins are closed. The
+/// passes come back, each once and in the order of the slots.
 pub fn serve_places<
     'x,
     V: Venue + Send + Sync,
     J: Journal + Drop + Send,
     G: Gate + Sync,
-    B: Board + Sync,
+    B: NoticeSink + Sync,
     T: Threads + Wait + Clock + Sync,
 >(
     rt: &'x T,

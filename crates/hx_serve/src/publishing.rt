@@ -5,28 +5,28 @@ ghost use Rattle.hx_serve.specs.Publishing.{KnowsNoMore};
 
 use crate::feeds::Feeds;
 use crate::sending::send;
-use hx_bells::Bell;
 use hx_blog::{Log, Reader, Receipt};
-use hx_doors::{Datagrams, Rate, count};
+use hx_day_context::{Counters, DayClock, Hosting, Notice, NoticeSink};
 use hx_engine::{Entry, Venue};
-use hx_floor::{Board, DayClock, Hosting, Meter, Notice};
+use hx_listener::{Datagrams, Rate, count};
 use hx_retransmit::{LogMessages, Publisher, Server};
+use hx_wake::Waker;
 use std::io::ErrorKind;
 use std::marker::PhantomData;
 use std::net::SocketAddr;
 use std::sync::atomic::{AtomicBool, Ordering};
 use std::time::{Clock, Duration, Instant};
 
-// An answer that finds no room is tried again so often.
+// How often an answer is tried if the socket's buffer is full.
 const ANSWER_TRIES: u32 = 100;
 
-// Once all who write have ended and all is sent, this many datagrams are looked at, whatever comes.
+// Once all writers have ended and everything is sent, at most this number of datagrams is still read.
 const LAST_ANSWERS: u32 = 1_000;
 
-// This many packets go out at most before it is looked whether there is a request.
+// At most this number of packets goes out before the socket is checked for a request.
 const BURST: u32 = 64;
 
-// A heartbeat is due after this many nanoseconds without a packet.
+// A heartbeat is due after this number of nanoseconds without a packet.
 const SILENCE: u64 = 1_000_000_000;
 
 // A request has 20 bytes; what is longer is none.
@@ -42,14 +42,14 @@ pub struct Publishing<'a, V: Venue> {
     last: u64,
     // How often requests are answered, and what is counted of that.
     rate: Rate,
-    meter: &'a Meter,
+    counters: &'a Counters,
     /// Whether a packet of the feed could not be sent, or a datagram not be received.
     pub failed: bool,
     of: PhantomData<V>,
     pub ghost belongs: { publisher.messages.log ≡ V.log },
 }
 
-// By hand, so that where a value is dropped its owner's proof sees one call.
+// By hand, so that when a value is dropped its owner's proof sees one call.
 impl<V: Venue> Drop for Publishing<'_, V> {
     fn drop(self) {
         let Publishing {
@@ -58,7 +58,7 @@ impl<V: Venue> Drop for Publishing<'_, V> {
             feeds: _,
             last: _,
             rate: _,
-            meter: _,
+            counters: _,
             failed: _,
             of: _,
         } = self;
@@ -86,7 +86,7 @@ impl<'a, V: Venue> Publishing<'a, V> {
             feeds: Feeds::new(&hosting.addresses.feeds, hosting.open.is_some()),
             last: now,
             rate: Rate::of(hosting.args.answers),
-            meter: hosting.meter,
+            counters: hosting.counters,
             failed: false,
             of: PhantomData,
         }
@@ -101,8 +101,8 @@ impl<'a, V: Venue> Publishing<'a, V> {
         }
     }
 
-    // Sends the next packet, where there is one. Returns whether there was: where there was none, all that the
-    // publisher knows of is sent.
+    // Sends the next packet, if there is one. Returns whether there was: if not, all that the publisher knows of is
+    // sent.
     fn publish<T: Clock, D: Datagrams>(&mut self, rt: &T, socket: &D, now: u64) -> bool
         ensures known { IsPrefix self.old.publisher.messages.known
             self.new.publisher.messages.known }
@@ -127,11 +127,11 @@ impl<'a, V: Venue> Publishing<'a, V> {
         true
     }
 
-    // Tells of each address that failed, once.
-    fn tell_failures<B: Board>(&mut self, board: &B)
+    // Posts a notice of each address that failed, once.
+    fn tell_failures<B: NoticeSink>(&mut self, notice_sink: &B)
         ensures { self.new.publisher ≡ self.old.publisher }
     {
-        self.feeds.tell(board);
+        self.feeds.tell(notice_sink);
     }
 
     // How long there is nothing to do, if nothing comes: until a heartbeat is due.
@@ -140,13 +140,13 @@ impl<'a, V: Venue> Publishing<'a, V> {
         Duration::from_nanos(SILENCE.saturating_sub(silent))
     }
 
-    // Returns the next request, where there is one. Returns whether there was any datagram. An answer that cannot be
-    // sent is the trouble of who asked.
-    fn answer<T: Clock, D: Datagrams, B: Board>(
+    // Answers the next request, if there is one. Returns whether there was any datagram. An answer that cannot be sent
+    // is the requester's trouble.
+    fn answer<T: Clock, D: Datagrams, B: NoticeSink>(
         &mut self,
         rt: &T,
         socket: &D,
-        board: &B,
+        notice_sink: &B,
         now: u64,
     ) -> bool
         ensures { self.new.publisher ≡ self.old.publisher }
@@ -156,15 +156,15 @@ impl<'a, V: Venue> Publishing<'a, V> {
             Ok((len, from)) => {
                 if let Some(packet) = self.server.answer(&buffer[..len]) {
                     if !self.rate.allows(from, now) {
-                        count(&self.meter.unanswered);
+                        count(&self.counters.unanswered);
                         if self.rate.is_first_refused() {
-                            board.post(Notice::Crowd);
+                            notice_sink.post(Notice::Crowd);
                         }
                     } else if send(rt, socket, packet.as_slice(), from, ANSWER_TRIES) {
-                        count(&self.meter.answered);
+                        count(&self.counters.answered);
                     } else {
-                        count(&self.meter.unanswered);
-                        board.post(Notice::Unanswered { to: from });
+                        count(&self.counters.unanswered);
+                        notice_sink.post(Notice::Unanswered { to: from });
                     }
                 }
                 true
@@ -180,15 +180,15 @@ impl<'a, V: Venue> Publishing<'a, V> {
         }
     }
 
-    /// Publishes and answers by turns, until all who write have ended and a turn has found nothing, or `LAST_ANSWERS` datagrams
-    /// have come behind that. It arms the bell before it looks for messages. If there are none it sleeps until the bell
-    /// rings, a request comes, or a heartbeat is due. It takes neither a lock nor memory.
-    pub fn work<T: Clock, D: Datagrams, B: Board>(
+    /// Publishes and answers by turns, until all writers have ended and a turn has found nothing, or `LAST_ANSWERS`
+    /// datagrams have come after that. It arms the waker before it looks for messages. If there are none it sleeps
+    /// until the waker wakes, a request comes, or a heartbeat is due. It takes neither a lock nor memory.
+    pub fn work<T: Clock, D: Datagrams, B: NoticeSink>(
         self,
         rt: &T,
         socket: &D,
-        board: &B,
-        bell: &Bell,
+        notice_sink: &B,
+        waker: &Waker,
         ended: &AtomicBool,
     ) -> Publishing<'a, V> {
         let mut publishing = self;
@@ -196,18 +196,18 @@ impl<'a, V: Venue> Publishing<'a, V> {
         let mut late = 0;
         for _ in 0..u64::MAX {
             let last = ended.load(Ordering::SeqCst);
-            bell.arm();
+            waker.arm();
             let now = clock.time_of_day();
             let more = publishing.publish_some(rt, socket, now);
-            publishing.tell_failures(board);
+            publishing.tell_failures(notice_sink);
             let limit = if more || last {
                 Duration::from_nanos(0)
             } else {
                 publishing.patience(now)
             };
-            let asked = socket.wait(bell, limit);
+            let asked = socket.wait(waker, limit);
             if asked {
-                publishing.answer(rt, socket, board, now);
+                publishing.answer(rt, socket, notice_sink, now);
             }
             if last && !more {
                 if !asked || late >= LAST_ANSWERS {
@@ -224,7 +224,7 @@ impl<'a, V: Venue> Publishing<'a, V> {
         requires { receipt.log ≡ V.log }
         ensures known { IsPrefix self.old.publisher.messages.known
             self.new.publisher.messages.known }
-        ensures told { IsPrefix receipt.known self.new.publisher.messages.known }
+        ensures reported { IsPrefix receipt.known self.new.publisher.messages.known }
     {
         self.publisher.learn(receipt);
     }
@@ -261,14 +261,14 @@ impl<'a, V: Venue> Publishing<'a, V> {
         !self.failed
     }
 
-    /// Repeats the packet that ends the session once a second, for this many seconds, and answers requests meanwhile: who
-    /// lost the last packets hears of them so, and gets them. To be called behind `finish`.
-    pub fn linger<T: Clock, D: Datagrams, B: Board>(
+    /// Repeats the packet that ends the session once a second, for `seconds` seconds, and answers requests meanwhile: a
+    /// receiver that lost the last packets learns of them so, and gets them. To be called after `finish`.
+    pub fn linger<T: Clock, D: Datagrams, B: NoticeSink>(
         &mut self,
         rt: &T,
         socket: &D,
-        board: &B,
-        bell: &Bell,
+        notice_sink: &B,
+        waker: &Waker,
         seconds: u32,
     ) {
         let clock = DayClock::of_clock(rt);
@@ -286,13 +286,13 @@ impl<'a, V: Venue> Publishing<'a, V> {
                 if left == 0 {
                     break;
                 }
-                if socket.wait(bell, Duration::from_nanos(left)) {
-                    self.answer(rt, socket, board, clock.time_of_day());
+                if socket.wait(waker, Duration::from_nanos(left)) {
+                    self.answer(rt, socket, notice_sink, clock.time_of_day());
                 }
             }
             let packet = self.publisher.end();
             self.send_feed(rt, socket, packet.as_slice());
-            self.tell_failures(board);
+            self.tell_failures(notice_sink);
         }
     }
 }

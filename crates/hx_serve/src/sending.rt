@@ -1,12 +1,12 @@
 //! How a datagram is sent.
 
 use crate::backoff::Rest;
-use hx_doors::Datagrams;
+use hx_listener::Datagrams;
 use std::io::ErrorKind;
 use std::net::SocketAddr;
 use std::time::Clock;
 
-/// Sends a datagram, where there is no room for it so often at most, and returns whether it went out.
+/// Sends a datagram, in at most `tries` attempts if the socket's buffer is full, and returns whether it went out.
 pub fn send<T: Clock, D: Datagrams>(
     rt: &T,
     socket: &D,

@@ -2,21 +2,21 @@
 ghost use Rattle.std.specs.Prelude.{◌≡◌};
 
 use hx_blog::Reader;
-use hx_doors::{Left, Tally};
+use hx_day_context::{DayContext, since_1970};
 use hx_engine::{Entry, Exchange, Journal, Venue};
-use hx_floor::{Floor, since_1970};
+use hx_listener::{Left, Tally};
 use hx_metrics::{Figures, Health, Hours, Watched};
 use std::marker::PhantomData;
 use std::sync::atomic::{AtomicBool, AtomicU64, Ordering};
 use std::sync::{Mutex, Wait};
 use std::time::Clock;
 
-// Why a connection is closed at the door.
+// The reasons for which the acceptor closes a connection.
 const REASONS: [Left; 8] = [
     Left::Gone,
     Left::NoLogin,
     Left::Late,
-    Left::NoPlace,
+    Left::NoSlot,
     Left::Crowded,
     Left::TooMany,
     Left::Paused,
@@ -51,10 +51,10 @@ pub struct Watch<'a, V: Venue, J: Journal + Drop, B, T> {
     /// The exchange.
     pub exchange: &'a Exchange<V, J>,
     /// What its workers share.
-    pub floor: &'a Floor<'a, B>,
+    pub day_context: &'a DayContext<'a, B>,
     /// What was counted of connections and logins.
     pub tally: &'a Tally,
-    /// By which replies are counted.
+    /// The reader by which replies are counted.
     pub viewer: Mutex<Viewer<V>>,
     /// Whether its workers have ended.
     pub over: &'a AtomicBool,
@@ -69,7 +69,7 @@ impl<V: Venue, J: Journal + Drop, B, T: Wait + Clock> Watch<'_, V, J, B, T> {
     fn replies(&self) -> u64 {
         let mut viewer = self.viewer.lock(self.rt);
         let mut replies: u64 = 0;
-        for member in self.floor.setup.members() {
+        for member in self.day_context.setup.members() {
             let news = self
                 .exchange
                 .news(self.rt, &mut viewer.reader, member.number);
@@ -78,7 +78,7 @@ impl<V: Venue, J: Journal + Drop, B, T: Wait + Clock> Watch<'_, V, J, B, T> {
         replies
     }
 
-    // How many connections were closed at the door.
+    // How many connections the acceptor closed.
     fn closed(&self) -> u64 {
         let mut closed: u64 = 0;
         for why in REASONS {
@@ -89,7 +89,7 @@ impl<V: Venue, J: Journal + Drop, B, T: Wait + Clock> Watch<'_, V, J, B, T> {
 
     // For how many nanoseconds nothing has happened.
     fn quiet(&self) -> Option<u64> {
-        match self.floor.meter.last_event.load(Ordering::Relaxed) {
+        match self.day_context.counters.last_event.load(Ordering::Relaxed) {
             0 => None,
             last => Some(since_1970(self.rt).saturating_sub(last)),
         }
@@ -103,27 +103,27 @@ impl<V: Venue, J: Journal + Drop, B, T: Wait + Clock> Watched for Watch<'_, V, J
 
     fn figures(&self) -> Figures {
         let counts = self.exchange.counts(self.rt);
-        let (seats, meter) = (self.floor.seats, self.floor.meter);
-        let (taken, places) = (seats.taken(self.rt), seats.len() as u64);
+        let (session_slots, counters) = (self.day_context.session_slots, self.day_context.counters);
+        let (taken, places) = (session_slots.taken(self.rt), session_slots.len() as u64);
         Figures {
             sessions: Some(taken),
-            places: Some(places),
-            places_left: Some(places.saturating_sub(taken)),
+            slots: Some(places),
+            slots_left: Some(places.saturating_sub(taken)),
             logins_accepted: read(&self.tally.accepted),
             logins_refused: read(&self.tally.refused),
-            closed_at_door: Some(self.closed()),
+            closed_at_acceptor: Some(self.closed()),
             events: Some(counts.recorded),
             last_event_age: self.quiet(),
             feed_messages: Some(counts.feed),
-            feed_slots_left: Some(self.floor.capacity.saturating_sub(counts.feed)),
+            feed_slots_left: Some(self.day_context.capacity.saturating_sub(counts.feed)),
             replies: Some(self.replies()),
-            requests_answered: read(&meter.answered),
-            requests_refused: read(&meter.unanswered),
-            journal_waiting: Some(counts.recorded.saturating_sub(counts.told)),
-            journal_syncs: read(&meter.syncs),
-            journal_sync_time: read(&meter.sync_time),
-            journal_full: Some(meter.waits.load(Ordering::SeqCst)),
-            hours: Hours::last_of(self.floor.bulletin.past()),
+            requests_answered: read(&counters.answered),
+            requests_refused: read(&counters.unanswered),
+            journal_waiting: Some(counts.recorded.saturating_sub(counts.published_end)),
+            journal_syncs: read(&counters.syncs),
+            journal_sync_time: read(&counters.sync_time),
+            journal_full: Some(counters.waits.load(Ordering::SeqCst)),
+            phase: Hours::last_of(self.day_context.trading_status.past()),
         }
     }
 
@@ -131,7 +131,7 @@ impl<V: Venue, J: Journal + Drop, B, T: Wait + Clock> Watched for Watch<'_, V, J
         if self.exchange.failure(self.rt).is_some() {
             return Health::Stopped;
         }
-        if self.floor.meter.waits.load(Ordering::SeqCst) {
+        if self.day_context.counters.waits.load(Ordering::SeqCst) {
             return Health::Waiting;
         }
         Health::Ready

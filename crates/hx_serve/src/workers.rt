@@ -3,9 +3,9 @@ use crate::fault::ServeError;
 use crate::operator::operate;
 use crate::parts::{Member, Served};
 use crate::publishing::Publishing;
-use hx_doors::Datagrams;
+use hx_day_context::{Hosting, NoticeSink};
 use hx_engine::{Exchange, Journal, Pass, Venue};
-use hx_floor::{Board, Hosting};
+use hx_listener::Datagrams;
 use hx_sessions::{Clock, Gate, Logins, serve_all};
 use std::alloc::Global;
 use std::io::Read;
@@ -14,21 +14,21 @@ use std::sync::atomic::{AtomicBool, Ordering};
 use std::thread::{Threads, join};
 use std::time::Clock as Timer;
 
-/// Who writes in a day: the sessions' parts, and the operator by his pass and his input.
+/// The writers of a day: the sessions' parts, and the operator by a pass and an input.
 #[derive(Drop)]
 pub struct Writers<V: Venue, C, R> {
     /// The parts of the sessions.
     pub parts: Vec<Member<V, C>>,
     /// The operator's pass.
     pub pass: Pass<V>,
-    /// His input.
+    /// The operator's input.
     pub input: R,
 }
 
 /// What is left when the operator and all sessions have ended.
 pub type Traded<V, C> = ((Pass<V>, Option<ServeError>), Served<V, C>);
 
-// The operator, in this thread, and all sessions. Where no thread can be made, the sessions come after him.
+// The operator, in this thread, and all sessions. If no thread can be made, the sessions come after the operator.
 fn trade<
     V: Venue + Send + Sync,
     J: Journal + Drop + Send,
@@ -68,7 +68,7 @@ pub fn work<
     J: Journal + Drop + Send,
     C: Clock + Send + Drop,
     G: Gate + Sync,
-    B: Board + Sync,
+    B: NoticeSink + Sync,
     D: Datagrams + Sync,
     R: Read + Drop,
     T: Threads + Wait + Timer + Sync,
@@ -82,14 +82,14 @@ pub fn work<
     writers: Writers<V, C, R>,
 ) -> (Publishing<'a, V>, Traded<V, C>) {
     let ended = AtomicBool::new(false);
-    let (flag, board) = (&ended, hosting.board);
+    let (flag, notice_sink) = (&ended, hosting.notice_sink);
     join(
         rt,
-        move || publishing.work(rt, socket, board, exchange.feed_bell(), flag),
+        move || publishing.work(rt, socket, notice_sink, exchange.feed_waker(), flag),
         move || {
             let traded = trade(rt, alloc, exchange, hosting, writers);
             flag.store(true, Ordering::SeqCst);
-            exchange.feed_bell().ring();
+            exchange.feed_waker().wake();
             traded
         },
     )

@@ -1,16 +1,16 @@
 //! Days on loopback, with clients in the test's own thread.
 
-mod boards;
+mod acceptors;
 mod client;
 mod datagrams;
+mod day_contexts;
 mod days;
-mod doors;
 mod faults;
-mod floors;
 mod gates;
 mod histories;
 mod journal_files;
 mod lines;
+mod notice_sinks;
 mod notices;
 mod open_days;
 mod restarts;

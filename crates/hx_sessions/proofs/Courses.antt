@@ -9,7 +9,7 @@ use Rattle.hx_members.specs.Setups.{Setup}
 use Rattle.hx_blog.specs.Feed.{Entries}
 use Rattle.hx_desk.specs.declared.entry.Entry.{Entry}
 use Rattle.hx_desk.specs.Known.{known_replies}
-use Rattle.hx_session_core.specs.Deliveries.{Delivery}
+use Rattle.hx_sessions.specs.Deliveries.{Delivery}
 use Rattle.hx_sessions.specs.declared.ending.Ended.{Ended}
 use Rattle.hx_sessions.specs.declared.ending.Ended.TheVariants as ended
 use Rattle.hx_sessions.specs.declared.ending.Fault.{Fault}
@@ -23,7 +23,7 @@ use Rattle.hx_sessions.specs.Logins.{NoLogin}
 use Rattle.hx_sessions.specs.declared.copies.DropCopy.{DropCopy}
 use Rattle.hx_sessions.specs.Copies.{read_by, may_send}
 use Rattle.hx_sessions.specs.Served.{Side, Brings, Wrote, WroteSome, EndsAs, Converses, acceptance, rejection, Admits, BreaksOff, Dismisses, Went, Serves, SessionsGoOn}
-use Rattle.hx_session_core.specs.declared.opening.Start.{Start}
+use Rattle.hx_sessions.specs.declared.beginning.Start.{Start}
 use Rattle.hx_engine.specs.Passes.{PassState}
 use Rattle.hx_blog.specs.Ends.{ReaderState}
 use Rattle.hx_blog.proofs.Prefixes.{prefix_self, prefix_trans}
@@ -69,7 +69,7 @@ some_of_cut past first replies rest d a b by s = record {
 }
 
 until_some : (past : Bool) (first : ℕ) (replies : List (List ℕ)) (d : Delivery) (a b : Option (List ℕ)) (s : Stop) → SentUntil past first replies d a b s → WroteSome past [] first replies a b
-until_some past first replies d a b stop.Told (is, rest, t) = some_of past first replies rest d a b (not_yet past d is) t
+until_some past first replies d a b stop.PeerStopped (is, rest, t) = some_of past first replies rest d a b (not_yet past d is) t
 until_some past first replies d a b (stop.Ended e) (is, over, by, t) = some_of past first replies [] d a b (λ o. by) t
 until_some past first replies d a b (stop.Faulted f) (rest, inl (t, is)) = some_of past first replies rest d a b (not_yet past d is) t
 until_some past first replies d a b (stop.Faulted f) (rest, inr (is, by, t)) = some_of_cut past first replies rest d a b by t
@@ -77,7 +77,7 @@ until_some past first replies d a b (stop.Faulted f) (rest, inr (is, by, t)) = s
 -- ---- how both workers ended
 
 why_some : (left : Option (List ℕ)) (packets : List SoupPacket) (done : List (List ℕ)) (s : Stop) → Why left packets done s → IsPrefix done (asked packets)
-why_some left packets done stop.Told w = ([], append-nil done ∙ w)
+why_some left packets done stop.PeerStopped w = ([], append-nil done ∙ w)
 why_some left packets done (stop.Ended ended.Logout) w = ([], append-nil done ∙ w.0)
 why_some left packets done (stop.Ended ended.ReaderEnd) w = ([], append-nil done ∙ w.0)
 why_some left packets done (stop.Ended ended.DayEnd) w = absurd w
@@ -95,22 +95,22 @@ ends_as past first replies packets done left d a b (stop.Ended ended.ReaderEnd) 
 ends_as past first replies packets done left d a b (stop.Ended ended.DayEnd) (stop.Ended ended.DayEnd) r w (e, over, by, t) is other = absurd w
 ends_as past first replies packets done left d a b (stop.Ended x) (stop.Ended ended.Logout) r w (e, over, by, t) is other = absurd (cc e)
 ends_as past first replies packets done left d a b (stop.Ended x) (stop.Ended ended.ReaderEnd) r w (e, over, by, t) is other = absurd (cc e)
-ends_as past first replies packets done left d a b (stop.Ended ended.Logout) stop.Told r w s is other = absurd (other (sym is))
-ends_as past first replies packets done left d a b (stop.Ended ended.ReaderEnd) stop.Told r w (over, rest, t) is other = subst (EndsAs past [] first replies packets done left a b) is (w.0, w.1, rest, wrote_of past first replies rest d false a b over (not_yet past d over) t)
-ends_as past first replies packets done left d a b (stop.Ended ended.DayEnd) stop.Told r w s is other = absurd w
-ends_as past first replies packets done left d a b stop.Told (stop.Faulted f) r w s is other =
-    subst (EndsAs past [] first replies packets done left a b) is (why_some left packets done stop.Told w, until_some past first replies d a b (stop.Faulted f) s)
-ends_as past first replies packets done left d a b stop.Told (stop.Ended ended.DayEnd) r w (e, over, by, t) is other = subst (EndsAs past [] first replies packets done left a b) is (by, w, wrote_of past first replies [] d true a b over (λ o. by) t)
-ends_as past first replies packets done left d a b stop.Told (stop.Ended ended.Logout) r w (e, over, by, t) is other = absurd (cc e)
-ends_as past first replies packets done left d a b stop.Told (stop.Ended ended.ReaderEnd) r w (e, over, by, t) is other = absurd (cc e)
-ends_as past first replies packets done left d a b stop.Told stop.Told r w s is other =
-    subst (EndsAs past [] first replies packets done left a b) is (why_some left packets done stop.Told w, until_some past first replies d a b stop.Told s)
+ends_as past first replies packets done left d a b (stop.Ended ended.Logout) stop.PeerStopped r w s is other = absurd (other (sym is))
+ends_as past first replies packets done left d a b (stop.Ended ended.ReaderEnd) stop.PeerStopped r w (over, rest, t) is other = subst (EndsAs past [] first replies packets done left a b) is (w.0, w.1, rest, wrote_of past first replies rest d false a b over (not_yet past d over) t)
+ends_as past first replies packets done left d a b (stop.Ended ended.DayEnd) stop.PeerStopped r w s is other = absurd w
+ends_as past first replies packets done left d a b stop.PeerStopped (stop.Faulted f) r w s is other =
+    subst (EndsAs past [] first replies packets done left a b) is (why_some left packets done stop.PeerStopped w, until_some past first replies d a b (stop.Faulted f) s)
+ends_as past first replies packets done left d a b stop.PeerStopped (stop.Ended ended.DayEnd) r w (e, over, by, t) is other = subst (EndsAs past [] first replies packets done left a b) is (by, w, wrote_of past first replies [] d true a b over (λ o. by) t)
+ends_as past first replies packets done left d a b stop.PeerStopped (stop.Ended ended.Logout) r w (e, over, by, t) is other = absurd (cc e)
+ends_as past first replies packets done left d a b stop.PeerStopped (stop.Ended ended.ReaderEnd) r w (e, over, by, t) is other = absurd (cc e)
+ends_as past first replies packets done left d a b stop.PeerStopped stop.PeerStopped r w s is other =
+    subst (EndsAs past [] first replies packets done left a b) is (why_some left packets done stop.PeerStopped w, until_some past first replies d a b stop.PeerStopped s)
 
 lost_of : (inn out : Stop) (r : Result Ended Fault) (lost : List ℕ) → both_of inn out ≡ r → (lost ≡ []) ⊎ (inn ≡ stop.Faulted fault.NoMemory) → (lost ≡ []) ⊎ (r ≡ Err fault.NoMemory)
 lost_of inn out r lost is (inl none) = inl none
 lost_of inn out r lost is (inr n) = inr (sym is ∙ ap (λ s. both_of s out) n)
 
--- both workers at once, where the session did not end by a logout
+-- both workers at once, if the session did not end by a logout
 pub converses : (setup : Setup) (member first : ℕ) (old new : Side) (d : Delivery) (inn out : Stop) (r : Result Ended Fault) → Received member old.input new.input old.pass.sent new.pass.sent inn
     → SentUntil (day_over setup new.reader.known) first (known_replies setup member new.reader.known) d old.output new.output out → both_of inn out ≡ r → (r ≡ Ok ended.Logout → ⊥) → Converses setup member first [] old new r
 converses setup member first old new d inn out r got sent is other = record {
@@ -128,7 +128,7 @@ converses setup member first old new d inn out r got sent is other = record {
 
 -- ---- after a logout
 
--- what is known where both ended so
+-- what is known if both ended so
 pub record LogsOut (first : ℕ) (replies : List (List ℕ)) (packets : List SoupPacket) (done : List (List ℕ)) (d : Delivery) (a b : Option (List ℕ)) : Type 0 where
   pub all : done ≡ asked packets
   pub has : HasLogout packets
@@ -141,12 +141,12 @@ pub logs_out : (past : Bool) (first : ℕ) (replies : List (List ℕ)) (packets 
 logs_out past first replies packets done left d a b (stop.Faulted f) out w s is = absurd (cc is)
 logs_out past first replies packets done left d a b (stop.Ended e) (stop.Faulted f) w s is = absurd (cc is)
 logs_out past first replies packets done left d a b (stop.Ended e) (stop.Ended x) w (is_end, over, by, t) is = absurd (cc (is, is_end))
-logs_out past first replies packets done left d a b (stop.Ended ended.Logout) stop.Told w (over, rest, t) is = record { all = w.0; has = w.1; live = over; rest = rest; sent = t }
-logs_out past first replies packets done left d a b (stop.Ended ended.ReaderEnd) stop.Told w s is = absurd (cc is)
-logs_out past first replies packets done left d a b (stop.Ended ended.DayEnd) stop.Told w s is = absurd (cc is)
-logs_out past first replies packets done left d a b stop.Told (stop.Faulted f) w s is = absurd (cc is)
-logs_out past first replies packets done left d a b stop.Told (stop.Ended x) w (is_end, over, by, t) is = absurd (cc (is, is_end))
-logs_out past first replies packets done left d a b stop.Told stop.Told w s is = absurd (cc is)
+logs_out past first replies packets done left d a b (stop.Ended ended.Logout) stop.PeerStopped w (over, rest, t) is = record { all = w.0; has = w.1; live = over; rest = rest; sent = t }
+logs_out past first replies packets done left d a b (stop.Ended ended.ReaderEnd) stop.PeerStopped w s is = absurd (cc is)
+logs_out past first replies packets done left d a b (stop.Ended ended.DayEnd) stop.PeerStopped w s is = absurd (cc is)
+logs_out past first replies packets done left d a b stop.PeerStopped (stop.Faulted f) w s is = absurd (cc is)
+logs_out past first replies packets done left d a b stop.PeerStopped (stop.Ended x) w (is_end, over, by, t) is = absurd (cc (is, is_end))
+logs_out past first replies packets done left d a b stop.PeerStopped stop.PeerStopped w s is = absurd (cc is)
 
 none_lost_at : (inn out : Stop) (lost : List ℕ) → both_of inn out ≡ Ok ended.Logout → (lost ≡ []) ⊎ (inn ≡ stop.Faulted fault.NoMemory) → lost ≡ []
 none_lost_at inn out lost is (inl none) = none
@@ -186,10 +186,10 @@ pub after_fault : (setup : Setup) (member first : ℕ) (known longer : Entries E
 after_fault setup member first known longer d e left a b c f s p sent packets done lo =
     (([], append-nil done ∙ lo.all), until_some (day_over setup longer) first (known_replies setup member longer) e a c s (until_join setup member first known longer lo.rest d e a b c s p lo.sent lo.live sent))
 
-pub after_stop : (setup : Setup) (member first : ℕ) (known longer : Entries Entry) (d e : Delivery) (left a b c : Option (List ℕ)) (s : Stop) (r : Result Ended Fault) → both_of stop.Told s ≡ r → IsPrefix known longer → SentUntil (day_over setup longer) d.next (known_replies setup member longer) e b c s
+pub after_stop : (setup : Setup) (member first : ℕ) (known longer : Entries Entry) (d e : Delivery) (left a b c : Option (List ℕ)) (s : Stop) (r : Result Ended Fault) → both_of stop.PeerStopped s ≡ r → IsPrefix known longer → SentUntil (day_over setup longer) d.next (known_replies setup member longer) e b c s
     → (packets : List SoupPacket) (done : List (List ℕ)) → LogsOut first (known_replies setup member known) packets done d a b → EndsAs (day_over setup longer) [] first (known_replies setup member longer) packets done left a c r
-after_stop setup member first known longer d e left a b c stop.Told r is p sent packets done lo =
-    subst (EndsAs (day_over setup longer) [] first (known_replies setup member longer) packets done left a c) is (after_fault setup member first known longer d e left a b c fault.NoMemory stop.Told p sent packets done lo)
+after_stop setup member first known longer d e left a b c stop.PeerStopped r is p sent packets done lo =
+    subst (EndsAs (day_over setup longer) [] first (known_replies setup member longer) packets done left a c) is (after_fault setup member first known longer d e left a b c fault.NoMemory stop.PeerStopped p sent packets done lo)
 after_stop setup member first known longer d e left a b c (stop.Ended x) r is p sent packets done lo =
     subst (EndsAs (day_over setup longer) [] first (known_replies setup member longer) packets done left a c) is (after_end setup member first known longer d e left a b c x p sent packets done lo)
 after_stop setup member first known longer d e left a b c (stop.Faulted f) r is p sent packets done lo =
@@ -237,14 +237,14 @@ answered setup member first next answer input output out pass reader before new 
       (answered_end (day_over setup new.reader.known) answer next (known_replies setup member new.reader.known) v.packets v.done new.input output out new.output r wrote v.ends);
 }
 
-kept_wrote : (past : Bool) (answer : List ℕ) (first : ℕ) (replies rest : List (List ℕ)) (over : Bool) (a b c : Option (List ℕ)) → Keeps b c → Wrote past answer first replies rest over a b → Wrote past answer first replies rest over a c
-kept_wrote past answer first replies rest over a b c k w = record { frames = w.frames; brings = w.brings; wrote = Appends-kept a b c (answer ++ concat w.frames) w.wrote k }
+retained_wrote : (past : Bool) (answer : List ℕ) (first : ℕ) (replies rest : List (List ℕ)) (over : Bool) (a b c : Option (List ℕ)) → Keeps b c → Wrote past answer first replies rest over a b → Wrote past answer first replies rest over a c
+retained_wrote past answer first replies rest over a b c k w = record { frames = w.frames; brings = w.brings; wrote = Appends-kept a b c (answer ++ concat w.frames) w.wrote k }
 
 pub writes_stay : (a b c : Option (List ℕ)) (bytes rest : List ℕ) → Keeps b c → Writes a b bytes rest → Writes a c bytes rest
 writes_stay a b c bytes rest k w = record { front = w.front; bytes_are = w.bytes_are; wrote = Appends-kept a b c w.front w.wrote k }
 
-kept_some : (past : Bool) (answer : List ℕ) (first : ℕ) (replies : List (List ℕ)) (a b c : Option (List ℕ)) → Keeps b c → WroteSome past answer first replies a b → WroteSome past answer first replies a c
-kept_some past answer first replies a b c k w = record {
+retained_some : (past : Bool) (answer : List ℕ) (first : ℕ) (replies : List (List ℕ)) (a b c : Option (List ℕ)) → Keeps b c → WroteSome past answer first replies a b → WroteSome past answer first replies a c
+retained_some past answer first replies a b c k w = record {
   rest = w.rest;
   over = w.over;
   frames = w.frames;
@@ -253,16 +253,16 @@ kept_some past answer first replies a b c k w = record {
   wrote = writes_stay a b c (answer ++ concat w.frames) w.unwritten k w.wrote;
 }
 
-kept_end : (past : Bool) (answer : List ℕ) (first : ℕ) (replies : List (List ℕ)) (packets : List SoupPacket) (done : List (List ℕ)) (left a b c : Option (List ℕ)) (r : Result Ended Fault) → Keeps b c
+retained_end : (past : Bool) (answer : List ℕ) (first : ℕ) (replies : List (List ℕ)) (packets : List SoupPacket) (done : List (List ℕ)) (left a b c : Option (List ℕ)) (r : Result Ended Fault) → Keeps b c
     → EndsAs past answer first replies packets done left a b r → EndsAs past answer first replies packets done left a c r
-kept_end past answer first replies packets done left a b c (Ok ended.Logout) k e = (e.0, e.1, kept_wrote past answer first replies [] false a b c k e.2)
-kept_end past answer first replies packets done left a b c (Ok ended.ReaderEnd) k e = (e.0, e.1, e.2, kept_wrote past answer first replies e.2 false a b c k e.3)
-kept_end past answer first replies packets done left a b c (Ok ended.DayEnd) k e = (e.0, e.1, kept_wrote past answer first replies [] true a b c k e.2)
-kept_end past answer first replies packets done left a b c (Err f) k e = (e.0, kept_some past answer first replies a b c k e.1)
+retained_end past answer first replies packets done left a b c (Ok ended.Logout) k e = (e.0, e.1, retained_wrote past answer first replies [] false a b c k e.2)
+retained_end past answer first replies packets done left a b c (Ok ended.ReaderEnd) k e = (e.0, e.1, e.2, retained_wrote past answer first replies e.2 false a b c k e.3)
+retained_end past answer first replies packets done left a b c (Ok ended.DayEnd) k e = (e.0, e.1, retained_wrote past answer first replies [] true a b c k e.2)
+retained_end past answer first replies packets done left a b c (Err f) k e = (e.0, retained_some past answer first replies a b c k e.1)
 
 -- an output that stays
-pub converses_kept : (setup : Setup) (member first : ℕ) (answer : List ℕ) (old new : Side) (out : Option (List ℕ)) (r : Result Ended Fault) → Keeps new.output out → Converses setup member first answer old new r → Converses setup member first answer old (record new { output = out }) r
-converses_kept setup member first answer old new out r k v = record {
+pub converses_retained : (setup : Setup) (member first : ℕ) (answer : List ℕ) (old new : Side) (out : Option (List ℕ)) (r : Result Ended Fault) → Keeps new.output out → Converses setup member first answer old new r → Converses setup member first answer old (record new { output = out }) r
+converses_retained setup member first answer old new out r k v = record {
   bytes = v.bytes;
   lost = v.lost;
   packets = v.packets;
@@ -272,7 +272,7 @@ converses_kept setup member first answer old new out r k v = record {
   stream = v.stream;
   submits = v.submits;
   knows = v.knows;
-  ends = kept_end (day_over setup new.reader.known) answer first (known_replies setup member new.reader.known) v.packets v.done new.input old.output new.output out r k v.ends;
+  ends = retained_end (day_over setup new.reader.known) answer first (known_replies setup member new.reader.known) v.packets v.done new.input old.output new.output out r k v.ends;
 }
 
 -- ---- whole sessions
@@ -289,7 +289,7 @@ no_login_ends setup own copies input left output known e (why, bytes, read, rest
 pub no_login_fails : (setup own : Setup) (copies : List DropCopy) (input left output : Option (List ℕ)) (known : Entries Entry) (f : Fault) → NoLogin (day_over setup known) input left (stop.Faulted f) → Dismisses setup own copies input left output output known (Err f)
 no_login_fails setup own copies input left output known f (bytes, read) = inl (record { bytes = bytes; read = read; wrote = Keeps-refl output; ends = inr (f, refl) })
 
--- nothing was read behind the login, and the answer was broken off
+-- nothing was read after the login, and the answer was broken off
 broken : (setup own : Setup) (copies : List DropCopy) (input output answered out : Option (List ℕ)) (pass : PassState) (before reader : ReaderState Entry) (first_input : Option (List ℕ)) (r : Result Ended Fault) → (b : BreaksOff setup own copies first_input input output answered reader.known r) → Keeps answered out
     → Converses setup (read_by copies b.start.member) b.start.first (acceptance own b.start.first) (record { input = input; output = output; pass = pass; reader = before }) (record { input = input; output = out; pass = pass; reader = reader }) r
 broken setup own copies input output answered out pass before reader first_input r b k =
@@ -379,7 +379,7 @@ opened setup own copies input left output out pass before reader start next new 
     opens = a.opens;
     knew = knew;
     silent = carries.silent;
-    converses = converses_kept setup (read_by copies start.member) start.first (acceptance own start.first) (record { input = left; output = output; pass = pass; reader = before }) new last r k
+    converses = converses_retained setup (read_by copies start.member) start.first (acceptance own start.first) (record { input = left; output = output; pass = pass; reader = before }) new last r k
         (answered setup (read_by copies start.member) start.first next (acceptance own start.first) left output out pass reader before new r same a.wrote v);
   }));
 }

@@ -8,9 +8,9 @@ use Rattle.std.proofs.lemmas.List.Folds.{concat-append}
 use Rattle.std.proofs.Math.Seq.{drop-append_seam}
 use mathlib.Core.List.{IsPrefix}
 use Rattle.arrayvec.specs.ArrayVec.{ArrayVec}
-use Rattle.hx_session_core.specs.declared.delivery.Turn.TheVariants as turn
+use Rattle.hx_sessions.specs.declared.delivery.Turn.TheVariants as turn
 use Rattle.hx_units.specs.Fields.{texts}
-use Rattle.hx_session_core.specs.Deliveries.{Delivery, TurnGives, Goes}
+use Rattle.hx_sessions.specs.Deliveries.{Delivery, TurnGives, Goes}
 use Rattle.std.proofs.lemmas.List.{take_all, drop-drop, drop_all}
 use Rattle.hx_blog.specs.Feed.{Entries}
 use Rattle.hx_desk.specs.declared.entry.Entry.{Entry}
@@ -60,12 +60,12 @@ sends_next old new (row ∷ rows) ended frames (is, next, over) = next
 sends_next old new [] true frames (is, next, over) = omega (arith, next)
 sends_next old new [] false frames (is, next, over) = omega (arith, next)
 
--- where the end of the session goes out, no reply is left
+-- when the end of the session goes out, no reply is left
 sends_ends : (old new : Delivery) (rows : List (List ℕ)) (ended : Bool) (frames : List (List ℕ)) → Sends old new rows ended frames → new.over ≡ true → drop 1 rows ≡ []
 sends_ends old new (row ∷ rows) ended frames (is, next, over) e = absurd (cc (over, e))
 sends_ends old new [] ended frames s e = refl
 
--- the end of the session goes out only where the day has ended
+-- the end of the session goes out only if the day has ended
 pub sends_over : (old new : Delivery) (rows : List (List ℕ)) (ended : Bool) (frames : List (List ℕ)) → Sends old new rows ended frames → new.over ≡ true → ended ≡ true
 sends_over old new (row ∷ rows) ended frames (is, next, over) e = absurd (cc (over, e))
 sends_over old new [] true frames s e = refl
@@ -152,7 +152,7 @@ prefix_len xs ys p = omega (arith, sym (ap length p.1) ∙ length-append xs p.0)
 pub still_there : (setup : Setup) (member n : ℕ) (known new : Entries Entry) → IsPrefix known new → n ≤ length (known_replies setup member known) + 1 → n ≤ length (known_replies setup member new) + 1
 still_there setup member n known new p h = omega (arith, h, prefix_len (known_replies setup member known) (known_replies setup member new) (replies_grow setup member known new p))
 
--- ---- one delivery behind another
+-- ---- one delivery after another
 
 prefix_same : {A : Type 0} (xs ys us vs : List A) → xs ++ us ≡ ys ++ vs → length xs ≡ length ys → (xs ≡ ys) × (us ≡ vs)
 prefix_same [] [] us vs e l = (refl, e)
@@ -212,25 +212,25 @@ drop_front [] ys some = absurd (omega arith)
 drop_front (x ∷ xs) ys some = refl
 
 -- one row more of a page, of those that are left from i on
-pub sent_row : (first : ℕ) (replies all behind : List (List ℕ)) (i : ℕ) (old new : Delivery) (gs : List (List ℕ)) (a b c : Option (List ℕ)) → Sent first replies (drop i all ++ behind) old a b → old.over ≡ false → i < length all → Sends old new (drop i all) false gs → WritesAll b c gs
-    → Sent first replies (drop (i + 1) all ++ behind) new a c
-sent_row first replies all behind i old new gs a b c s live room sends w =
+pub sent_row : (first : ℕ) (replies all later : List (List ℕ)) (i : ℕ) (old new : Delivery) (gs : List (List ℕ)) (a b c : Option (List ℕ)) → Sent first replies (drop i all ++ later) old a b → old.over ≡ false → i < length all → Sends old new (drop i all) false gs → WritesAll b c gs
+    → Sent first replies (drop (i + 1) all ++ later) new a c
+sent_row first replies all later i old new gs a b c s live room sends w =
     let some : 0 < length (drop i all) = omega (arith, room, length-drop i all) in
-    subst (λ l. Sent first replies l new a c) (drop_front (drop i all) behind some ∙ ap (λ l. l ++ behind) (drop_one all i))
-    (sent_more first replies (drop i all ++ behind) old new false gs a b c s live (sends_front old new (drop i all) behind false gs some sends) w)
+    subst (λ l. Sent first replies l new a c) (drop_front (drop i all) later some ∙ ap (λ l. l ++ later) (drop_one all i))
+    (sent_more first replies (drop i all ++ later) old new false gs a b c s live (sends_front old new (drop i all) later false gs some sends) w)
 
 -- a beginning of it was written
-pub sent_row_some : (first : ℕ) (replies all behind : List (List ℕ)) (i : ℕ) (old new : Delivery) (gs : List (List ℕ)) (a b c : Option (List ℕ)) → Sent first replies (drop i all ++ behind) old a b → old.over ≡ false → i < length all → Sends old new (drop i all) false gs → WritesSome b c gs
-    → SentSome first replies (drop 1 (drop i all ++ behind)) new a c
-sent_row_some first replies all behind i old new gs a b c s live room sends w =
+pub sent_row_some : (first : ℕ) (replies all later : List (List ℕ)) (i : ℕ) (old new : Delivery) (gs : List (List ℕ)) (a b c : Option (List ℕ)) → Sent first replies (drop i all ++ later) old a b → old.over ≡ false → i < length all → Sends old new (drop i all) false gs → WritesSome b c gs
+    → SentSome first replies (drop 1 (drop i all ++ later)) new a c
+sent_row_some first replies all later i old new gs a b c s live room sends w =
     let some : 0 < length (drop i all) = omega (arith, room, length-drop i all) in
-    sent_some first replies (drop i all ++ behind) old new false gs a b c s live (sends_front old new (drop i all) behind false gs some sends) w
+    sent_some first replies (drop i all ++ later) old new false gs a b c s live (sends_front old new (drop i all) later false gs some sends) w
 
--- a page, and what is left behind it
+-- a page, and what is left after it
 pub page_all : (xs page : List (List ℕ)) → page ≡ take 64 xs → page ++ drop 64 xs ≡ xs
 page_all xs page is = ap (λ l. l ++ drop 64 xs) is ∙ take-append-drop 64 xs
 
--- where a page is empty, nothing is left
+-- if a page is empty, nothing is left
 pub page_none : (xs page : List (List ℕ)) → page ≡ take 64 xs → page ≡ [] → page ≡ xs
 page_none [] page is none = is
 page_none (x ∷ xs) page is none = absurd (cc (is, none))
@@ -239,10 +239,10 @@ page_none (x ∷ xs) page is none = absurd (cc (is, none))
 pub page_short : (xs page : List (List ℕ)) → page ≡ take 64 xs → length page < 64 → drop 64 xs ≡ []
 page_short xs page is few = drop_all 64 xs (omega (arith, few, ap (λ (l : List (List ℕ)). length l) is, length-take 64 xs))
 
--- what goes out behind what has gone out, until a worker stops
+-- what goes out after what has gone out, until a worker stops
 pub until_join : (setup : Setup) (member first : ℕ) (known longer : Entries Entry) (rest : List (List ℕ)) (d e : Delivery) (a b c : Option (List ℕ)) (s : Stop) → IsPrefix known longer → Sent first (known_replies setup member known) rest d a b → d.over ≡ false
     → SentUntil (day_over setup longer) d.next (known_replies setup member longer) e b c s → SentUntil (day_over setup longer) first (known_replies setup member longer) e a c s
-until_join setup member first known longer rest d e a b c stop.Told p s live (is, left, t) =
+until_join setup member first known longer rest d e a b c stop.PeerStopped p s live (is, left, t) =
     (is, left, sent_join first (known_replies setup member known) (known_replies setup member longer) rest left d e a b c (replies_grow setup member known longer p) s live t)
 until_join setup member first known longer rest d e a b c (stop.Ended x) p s live (is, over, by, t) =
     (is, over, by, sent_join first (known_replies setup member known) (known_replies setup member longer) rest [] d e a b c (replies_grow setup member known longer p) s live t)
@@ -293,14 +293,14 @@ some_cut first replies rest d bytes left a c s w =
 
 -- the batch was written
 pub until_sent : (past : Bool) (first : ℕ) (replies : List (List ℕ)) (d : Delivery) (bytes : List ℕ) (a c : Option (List ℕ)) (s : Stop) → SentUntil past first replies d (Some []) (Some bytes) s → Appends a c bytes → SentUntil past first replies d a c s
-until_sent past first replies d bytes a c stop.Told (is, rest, t) w = (is, rest, batch_sent first replies rest d bytes a c t w)
+until_sent past first replies d bytes a c stop.PeerStopped (is, rest, t) w = (is, rest, batch_sent first replies rest d bytes a c t w)
 until_sent past first replies d bytes a c (stop.Ended e) (is, over, by, t) w = (is, over, by, batch_sent first replies [] d bytes a c t w)
 until_sent past first replies d bytes a c (stop.Faulted f) (rest, inl (t, is)) w = (rest, inl (batch_sent first replies rest d bytes a c t w, is))
 until_sent past first replies d bytes a c (stop.Faulted f) (rest, inr (is, by, t)) w = (rest, inr (is, by, some_sent first replies rest d bytes a c t w))
 
 -- the output failed
 pub until_cut : (past : Bool) (first : ℕ) (replies : List (List ℕ)) (d : Delivery) (bytes left : List ℕ) (a c : Option (List ℕ)) (s : Stop) → SentUntil past first replies d (Some []) (Some bytes) s → Writes a c bytes left → SentUntil past first replies d a c (stop.Faulted fault.Write)
-until_cut past first replies d bytes left a c stop.Told (is, rest, t) w = (rest, inr (refl, λ o. absurd (cc (is, o)), batch_cut first replies rest d bytes left a c t w))
+until_cut past first replies d bytes left a c stop.PeerStopped (is, rest, t) w = (rest, inr (refl, λ o. absurd (cc (is, o)), batch_cut first replies rest d bytes left a c t w))
 until_cut past first replies d bytes left a c (stop.Ended e) (is, over, by, t) w = ([], inr (refl, λ _. by, batch_cut first replies [] d bytes left a c t w))
 until_cut past first replies d bytes left a c (stop.Faulted f) (rest, inl (t, is)) w = (rest, inr (refl, λ o. absurd (cc (is, o)), batch_cut first replies rest d bytes left a c t w))
 until_cut past first replies d bytes left a c (stop.Faulted f) (rest, inr (is, by, t)) w = (rest, inr (refl, by, some_cut first replies rest d bytes left a c t w))
@@ -311,14 +311,14 @@ all_cut past first replies rest d bytes left a c live s w = (rest, inr (refl, λ
 -- the replies of a page are the next ones
 pub page_ahead : (replies rows : List (List ℕ)) (d : Delivery) (bytes : List ℕ) → d.over ≡ false → 1 ≤ d.next → d.next ≤ length replies + 1 → rows ≡ take 64 (drop (d.next - 1) replies) → bytes ≡ [] → Sent d.next replies (rows ++ drop 64 (drop (d.next - 1) replies)) d (Some []) (Some bytes)
 page_ahead replies rows d bytes live one most page none =
-    let behind = drop 64 (drop (d.next - 1) replies) in
-    subst (λ l. Sent d.next replies (rows ++ behind) d (Some []) (Some l)) (sym none) (sent_none_of d.next replies (rows ++ behind) d (Some []) refl live one most (page_all (drop (d.next - 1) replies) rows page))
+    let later = drop 64 (drop (d.next - 1) replies) in
+    subst (λ l. Sent d.next replies (rows ++ later) d (Some []) (Some l)) (sym none) (sent_none_of d.next replies (rows ++ later) d (Some []) refl live one most (page_all (drop (d.next - 1) replies) rows page))
 
 -- the output failed, whether all of a page went into the batch or not
-pub fill_cut : (r : Result (Unit {0}) Stop) (past : Bool) (first : ℕ) (replies rows behind : List (List ℕ)) (old new : Delivery) (before after left : List ℕ) (a c : Option (List ℕ)) → OnOk r (new.over ≡ false) → OnOk r (SendsMore rows old new before after) → IfErr r (StopsIn rows old new before after)
-    → Sent first replies (rows ++ behind) old (Some []) (Some before) → Writes a c after left → SentUntil past first replies new a c (stop.Faulted fault.Write)
-fill_cut (Ok u) past first replies rows behind old new before after left a c live ok err s w = all_cut past first replies behind new after left a c live (ok first replies behind (Some []) s) w
-fill_cut (Err e) past first replies rows behind old new before after left a c live ok err s w = until_cut past first replies new after left a c e (err past first replies behind (Some []) s) w
+pub fill_cut : (r : Result (Unit {0}) Stop) (past : Bool) (first : ℕ) (replies rows later : List (List ℕ)) (old new : Delivery) (before after left : List ℕ) (a c : Option (List ℕ)) → OnOk r (new.over ≡ false) → OnOk r (SendsMore rows old new before after) → IfErr r (StopsIn rows old new before after)
+    → Sent first replies (rows ++ later) old (Some []) (Some before) → Writes a c after left → SentUntil past first replies new a c (stop.Faulted fault.Write)
+fill_cut (Ok u) past first replies rows later old new before after left a c live ok err s w = all_cut past first replies later new after left a c live (ok first replies later (Some []) s) w
+fill_cut (Err e) past first replies rows later old new before after left a c live ok err s w = until_cut past first replies new after left a c e (err past first replies later (Some []) s) w
 
 -- one reply goes out by a turn
 pub next_of : (old new : Delivery) (rows : List (List ℕ)) (i : ℕ) (frames : List (List ℕ)) → i < length rows → Sends old new (drop i rows) false frames → new.next ≡ old.next + 1

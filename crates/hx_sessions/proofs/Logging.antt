@@ -12,8 +12,8 @@ use Rattle.hx_soup.specs.declared.packet.SoupPacket.{SoupPacket}
 use Rattle.hx_soup.specs.declared.login.LoginRequest.{LoginRequest}
 use Rattle.hx_units.specs.Fields.{spelled}
 use Rattle.hx_members.specs.Setups.{Setup, login_of}
-use Rattle.hx_session_core.specs.Starts.{is_present, first_reply, started, start_of}
-use Rattle.hx_session_core.specs.declared.opening.Start.{Start}
+use Rattle.hx_sessions.specs.Starts.{is_present, first_reply, started, start_of}
+use Rattle.hx_sessions.specs.declared.beginning.Start.{Start}
 use Rattle.hx_blog.specs.Feed.{Entries}
 use Rattle.hx_desk.specs.declared.entry.Entry.{Entry}
 use Rattle.hx_desk.specs.Known.{IsWhole, known_replies}
@@ -51,7 +51,7 @@ opens_none setup own copies login n known s e is =
     let h = started_ok (login_of own login.user login.password) (is_present login.session own.session) (first_reply login.sequence n) s e in
     absurd (cc (is, h.0))
 
--- the answer to a login, by what stands for the member who logs in so
+-- the answer to a login, by what stands for the member that logs in so
 pub started_by : (setup own : Setup) (copies : List DropCopy) (login : LoginRequest) (n m : ℕ) (known : Entries Entry) (r : Result Start ℕ) → r ≡ start_of own login n → login_of own login.user login.password ≡ Some m → n ≡ length (known_replies setup (read_by copies m) known) → IsWhole setup known
     → IfOk r (λ s. Opens setup own copies login known s)
 started_by setup own copies login n m known (Ok s) e is count whole = opens setup own copies login n m known s (sym e) is count whole
@@ -111,7 +111,7 @@ pub awaits_none : (a : Option (List ℕ)) → AwaitsLogin a a (Some []) 0
 awaits_none a = record {
   bytes = [];
   read = Consumes-nil a;
-  kept = refl;
+  retained = refl;
   cuts = record { whole = refl; each = λ k d l. absurd (omega arith); unfinished = tt };
   size = refl;
 }
@@ -122,19 +122,19 @@ awaits_more a b c f g n room m w r = elim r.gives [
       let size : length r.piece ≡ 0 = ap length h.0 in record {
         bytes = w.bytes;
         read = subst (Consumes a c) (ap (λ l. w.bytes ++ l) h.0 ∙ append-nil w.bytes) (Consumes-trans a b c w.bytes r.piece w.read r.read);
-        kept = h.1 ∙ w.kept;
+        retained = h.1 ∙ w.retained;
         cuts = w.cuts;
         size = omega (arith, w.size, size, r.size);
       }
   | inr h ↦
-      let kept = h.0 in
+      let retained = h.0 in
       let rest = h.1 in
-      let same : kept ≡ w.bytes = same_bytes kept w.bytes (sym h.2 ∙ w.kept) in
+      let same : retained ≡ w.bytes = same_bytes retained w.bytes (sym h.2 ∙ w.retained) in
       let cuts : Cuts (w.bytes ++ r.piece) [] rest = subst (λ k. Cuts (k ++ r.piece) [] rest) same h.4 in
       let whole : w.bytes ++ r.piece ≡ rest = nothing_cut (w.bytes ++ r.piece) rest cuts in record {
         bytes = w.bytes ++ r.piece;
         read = Consumes-trans a b c w.bytes r.piece w.read r.read;
-        kept = h.3 ∙ ap Some (sym whole);
+        retained = h.3 ∙ ap Some (sym whole);
         cuts = subst (Cuts (w.bytes ++ r.piece) []) (sym whole) cuts;
         size = omega (arith, length-append w.bytes r.piece, w.size, r.size);
       }
@@ -143,12 +143,12 @@ awaits_more a b c f g n room m w r = elim r.gives [
 pub awaits_login : (a b c f g : Option (List ℕ)) (n room m : ℕ) (login : LoginRequest) → AwaitsLogin a b f n → n + room ≤ 49 → ReadsFirst b c f g room (Some login) m → LogsIn a c login
 awaits_login a b c f g n room m login w most r =
     let h = r.gives in
-    let same : h.0 ≡ w.bytes = same_bytes h.0 w.bytes (sym h.4 ∙ w.kept) in
+    let same : h.0 ≡ w.bytes = same_bytes h.0 w.bytes (sym h.4 ∙ w.retained) in
     let cuts : Cuts (w.bytes ++ r.piece) (h.2 ∷ h.3) h.1 = subst (λ k. Cuts (k ++ r.piece) (h.2 ∷ h.3) h.1) same h.5 in
     logs_in a b c w.bytes r.piece h.1 h.2 h.3 login w.read r.read cuts (omega (arith, w.size, r.size, r.fits, most)) h.6 (login_size h.2.payload.items login h.7) h.7
 
 pub awaits_stop : (past : Bool) (a b c f : Option (List ℕ)) (n : ℕ) (s : Stop) → AwaitsLogin a b f n → FailsFirst b c s → NoLogin past a c s
-awaits_stop past a b c f n stop.Told w h = absurd h
+awaits_stop past a b c f n stop.PeerStopped w h = absurd h
 awaits_stop past a b c f n (stop.Ended e) w (is, read, end) =
     (inl (is, end), w.bytes, subst (Consumes a c) (append-nil w.bytes) (Consumes-trans a b c w.bytes [] w.read read), w.bytes, w.cuts)
 awaits_stop past a b c f n (stop.Faulted x) w (piece, read) = (w.bytes ++ piece, Consumes-trans a b c w.bytes piece w.read read)

@@ -1,4 +1,4 @@
--- What passes keep.
+-- What stays of a pass.
 use Rattle.std.proofs.Common.{◌≡◌, ℕ, zero, suc, List, [], ◌∷◌, ◌++◌, ◌+◌, length, take, Bool, true, false, refl, ap, sym, ◌∙◌, subst, append_assoc}
 use Rattle.std.proofs.Math.Seq.{take-append-add}
 use mathlib.Core.List.{IsPrefix}
@@ -22,7 +22,7 @@ unfolding ledger_from
 ledger_more setup a [] ys = (ledger_from setup a ys, refl)
 ledger_more setup a (x ∷ xs) ys =
     let rest = ledger_more setup (step setup a x.event).market xs ys in
-    (rest.0, ap (λ (l : Entries Entry). (x, feed_spelled (step setup a x.event).told.feed) ∷ l) rest.1)
+    (rest.0, ap (λ (l : Entries Entry). (x, feed_spelled (step setup a x.event).output.feed) ∷ l) rest.1)
 
 ledger_begins : (setup : Setup) (xs ys : List Entry) → IsPrefix (ledger setup xs) (ledger setup (xs ++ ys))
 unfolding ledger
@@ -38,7 +38,7 @@ carries_more may a b c p q = record {
   silent = λ e. q.silent e ∙ p.silent e;
 }
 
--- who may send has no silence to keep
+-- a login that may send has no silence to preserve
 pub carries_true : (may : Bool) (old new : PassState) → CarriesOn may old new → CarriesOn true old new
 carries_true may old new p = record { number = p.number; known = p.known; silent = λ e. absurd (cc e) }
 
@@ -60,7 +60,7 @@ pub carries_first : (setup : Setup) (may : Bool) (old new : PassState) (events :
 carries_first setup may old new events zero some s = carries_stays may old new s
 carries_first setup may old new events (suc n) some (done, s) = carries_all setup may old new (take (suc n) events) done some s
 
--- who may send has no silence to keep
+-- a login that may send has no silence to preserve
 pub carries_may : (may : Bool) (old new : PassState) → (may ≡ false → ⊥) → CarriesOn true old new → CarriesOn may old new
 carries_may may old new some p = record { number = p.number; known = p.known; silent = λ e. absurd (some e) }
 
@@ -92,10 +92,10 @@ turn_on setup old mid new all left rest done p (front, is, s) t = (
   (front ++ t.sent, is ∙ ap (λ (l : List Event). front ++ l) t.splits ∙ sym (append_assoc front t.sent rest), sends_join old.sent mid.sent new.sent front t.sent s (sends_all setup mid new t.sent done t.sends)),
 )
 
--- or is refused behind this many of it
+-- or is refused after `count` events of it
 pub turn_off : (setup : Setup) (old mid new : PassState) (all left : List Event) (count : ℕ) → CarriesOn true old mid → IsLeft old mid all left → SendsFirst setup mid new left count
     → CarriesOn true old new × SendsSome old.sent new.sent all
-turn_off setup old mid new all left count p (front, is, s) kept = (
-  carries_more true old mid new p (carries_first setup true mid new left count no_silence kept),
-  sends_before old.sent mid.sent new.sent all front left s is (sends_first setup mid new left count kept),
+turn_off setup old mid new all left count p (front, is, s) retained = (
+  carries_more true old mid new p (carries_first setup true mid new left count no_silence retained),
+  sends_before old.sent mid.sent new.sent all front left s is (sends_first setup mid new left count retained),
 )

@@ -16,7 +16,7 @@ cons_served out setup own copies p ps s (Some e) rest is q all =
     let same : s ≡ out e = sym (cc is) in
     (subst (λ (x : Side × Result Ended Fault). Serves setup own copies p x.0 x.1) same q, all)
 
--- by the slot at each place
+-- by the slot at each index
 served_each : {P S E : Type 0} (side : P → Side) (out : E → Side × Result Ended Fault) (make : P → S) (waiting : S → Option P) (served : S → Option E) (setup own : Setup) (copies : List DropCopy) (parts : List P) (news : List S) → ((p : P) → waiting (make p) ≡ Some p) → length news ≡ length parts
     → ((i : ℕ) (d : S) → i < length (map make parts) → ServesWaiting setup own copies (option_map side (waiting (slice_index_or (map make parts) i d))) (option_map out (served (slice_index_or news i d))))
     → ServesAll setup own copies (map side parts) (map out (filter_map served news))
@@ -39,7 +39,7 @@ served_all {S = S} {E = E} side out make waiting served setup own copies parts o
     (served_each side out make waiting served setup own copies parts news made len
     (subst (λ (l : List S). (i : ℕ) (d : S) → i < length l → ServesWaiting setup own copies (option_map side (waiting (slice_index_or l i d))) (option_map out (served (slice_index_or news i d)))) filled each))
 
--- what a list has where all of it was written
+-- what a list has if all of it was written
 pub all_written : {S : Type 0} (n : ℕ) (news items : List S) → length news ≡ length items → n ≡ length news → take n (news ++ drop (length news) items) ≡ news
 all_written n news items len is =
     ap (λ l. take n (news ++ l)) (drop_all (length news) items (omega (arith, len))) ∙ ap (take n) (append-nil news) ∙ take_all n news (omega (arith, is))

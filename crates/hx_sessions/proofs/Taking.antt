@@ -9,9 +9,9 @@ use Rattle.std.proofs.lemmas.List.{drop_more, drop_all, map-append}
 use mathlib.Core.List.{IsPrefix}
 use Rattle.hx_soup.specs.declared.packet.SoupPacket.{SoupPacket}
 use Rattle.hx_soup.specs.Packets.{packet_bytes, stream_of, IsPacket, Cuts, HasFault}
-use Rattle.hx_session_core.specs.Intakes.{later_action}
-use Rattle.hx_session_core.specs.declared.intake.Action.{Action}
-use Rattle.hx_session_core.specs.declared.intake.Action.TheVariants as action
+use Rattle.hx_sessions.specs.Intakes.{later_action}
+use Rattle.hx_sessions.specs.declared.intake.Action.{Action}
+use Rattle.hx_sessions.specs.declared.intake.Action.TheVariants as action
 use Rattle.hx_rules.specs.declared.event.Event.{Event}
 use Rattle.hx_rules.specs.declared.event.Event.TheVariants.{Message}
 use Rattle.hx_engine.specs.Passes.{placed}
@@ -38,9 +38,6 @@ messages-take member (suc n) [] [] a = tt
 messages-take member (suc n) [] (t ∷ ts) a = absurd a
 messages-take member (suc n) (x ∷ xs) [] a = absurd a
 messages-take member (suc n) (x ∷ xs) (t ∷ ts) (time, is, a) = (time, is, messages-take member n xs ts a)
-
-pub messages_none : (member : ℕ) (events : List Event) → events ≡ [] → AreMessages member events []
-messages_none member events none = subst (λ l. AreMessages member l []) (sym none) tt
 
 -- one message more
 pub messages_more : (member time : ℕ) (text : List ℕ) (xs ys : List Event) (ts : List (List ℕ)) → AreMessages member xs ts → ys ≡ xs ++ Message member time text ∷ [] → AreMessages member ys (ts ++ text ∷ [])
@@ -80,9 +77,6 @@ submits_join member a b c ts us s t = record {
 pub record Upto (packets rest : List SoupPacket) (done : List (List ℕ)) : Type 0 where
   pub asks : (later : List SoupPacket) → asked (packets ++ later) ≡ done ++ asked (rest ++ later)
 
-pub upto_none : (packets : List SoupPacket) → Upto packets packets []
-upto_none packets = record { asks = λ later. refl }
-
 step : (packets rest others : List SoupPacket) (done : List (List ℕ)) (p : SoupPacket) (a : Action) → Upto packets rest done → rest ≡ p ∷ others → later_action p ≡ a
     → (later : List SoupPacket) → asked (packets ++ later) ≡ done ++ asked_by a p.payload.items (asked (others ++ later))
 step packets rest others done p a u is acts later =
@@ -95,21 +89,8 @@ upto_submit packets rest others done p u is acts =
 pub upto_ignore : (packets rest others : List SoupPacket) (done : List (List ℕ)) (p : SoupPacket) → Upto packets rest done → rest ≡ p ∷ others → later_action p ≡ action.Ignore → Upto packets others done
 upto_ignore packets rest others done p u is acts = record { asks = λ later. step packets rest others done p action.Ignore u is acts later }
 
-pub upto_closed : (packets rest others : List SoupPacket) (done : List (List ℕ)) (p : SoupPacket) (a : Action) → Upto packets rest done → rest ≡ p ∷ others → later_action p ≡ a
-    → ((text : List ℕ) (more : List (List ℕ)) → asked_by a text more ≡ []) → Closed packets done
-upto_closed packets rest others done p a u is acts none = record { asks = λ later. step packets rest others done p a u is acts later ∙ (ap (λ l. done ++ l) (none p.payload.items (asked (others ++ later))) ∙ append-nil done) }
-
-pub has_at : (packets before rest others : List SoupPacket) (p : SoupPacket) → before ++ rest ≡ packets → rest ≡ p ∷ others → later_action p ≡ action.Logout → HasLogout packets
-has_at packets before rest others p all is acts = record {
-  before = before;
-  logout = p;
-  after = others;
-  splits = sym all ∙ ap (λ l. before ++ l) is;
-  is = acts;
-}
-
-has_behind : (ps qs : List SoupPacket) → HasLogout qs → HasLogout (ps ++ qs)
-has_behind ps qs h = record {
+has_after : (ps qs : List SoupPacket) → HasLogout qs → HasLogout (ps ++ qs)
+has_after ps qs h = record {
   before = ps ++ h.before;
   logout = h.logout;
   after = h.after;
@@ -130,7 +111,7 @@ closed_cut packets texts c = record { asks = λ later. ([], append-nil texts ∙
 
 until_cut : (packets : List SoupPacket) (texts : List (List ℕ)) (stop : Option Stop) → AsksUntil packets texts stop → Cut packets texts
 until_cut packets texts None a = acting_cut packets texts a
-until_cut packets texts (Some stop.Told) a = absurd a
+until_cut packets texts (Some stop.PeerStopped) a = absurd a
 until_cut packets texts (Some (stop.Ended e)) (is, has, c) = closed_cut packets texts c
 until_cut packets texts (Some (stop.Faulted f)) (inl (is, c)) = closed_cut packets texts c
 until_cut packets texts (Some (stop.Faulted f)) (inr c) = c
@@ -192,8 +173,8 @@ cut_some ps qs ds es a c =
     (p.0, append_assoc ds es p.0 ∙ (ap (λ l. ds ++ l) p.1 ∙ sym (a.asks qs)))
 
 pub why_join : (left : Option (List ℕ)) (ps qs : List SoupPacket) (ds es : List (List ℕ)) (s : Stop) → Acting ps ds → ActedUntil qs es s → Why left (ps ++ qs) (ds ++ es) s
-why_join left ps qs ds es stop.Told a u = absurd u
-why_join left ps qs ds es (stop.Ended ended.Logout) a (is, has, c) = (closed_all ps qs ds es a c, has_behind ps qs has)
+why_join left ps qs ds es stop.PeerStopped a u = absurd u
+why_join left ps qs ds es (stop.Ended ended.Logout) a (is, has, c) = (closed_all ps qs ds es a c, has_after ps qs has)
 why_join left ps qs ds es (stop.Ended ended.ReaderEnd) a (is, has, c) = absurd (cc is)
 why_join left ps qs ds es (stop.Ended ended.DayEnd) a (is, has, c) = absurd (cc is)
 why_join left ps qs ds es (stop.Faulted f) a (inl (is, c)) = ([], append-nil (ds ++ es) ∙ closed_all ps qs ds es a c)
@@ -212,24 +193,24 @@ receiving_none member a sent = record {
   rest = [];
   done = [];
   read = Consumes-nil a;
-  kept = refl;
+  retained = refl;
   cuts = record { whole = refl; each = λ k d l. absurd (omega arith); unfinished = tt };
   submits = submits_none member sent;
   acting = record { asks = λ later. refl };
 }
 
-same_kept : (a b : List ℕ) → Some a ≡ Some b → a ≡ b
-same_kept a b e = cc
+same_retained : (a b : List ℕ) → Some a ≡ Some b → a ≡ b
+same_retained a b e = cc
 
 pub receiving_more : (member : ℕ) (a b c f g : Option (List ℕ)) (piece : List ℕ) (s t u : List (ℕ × Event)) (x : Unit {0}) → Receiving member a b f s t → Consumes b c piece → Takes member f g piece t u (Ok x) → Receiving member a c g s u
-receiving_more member a b c f g piece s t u x r read (kept, rest, packets, done, was, is, cuts, submits, acting) =
-    let same : kept ≡ r.rest = same_kept kept r.rest (sym was ∙ r.kept) in record {
+receiving_more member a b c f g piece s t u x r read (retained, rest, packets, done, was, is, cuts, submits, acting) =
+    let same : retained ≡ r.rest = same_retained retained r.rest (sym was ∙ r.retained) in record {
       bytes = r.bytes ++ piece;
       packets = r.packets ++ packets;
       rest = rest;
       done = r.done ++ done;
       read = Consumes-trans a b c r.bytes piece r.read read;
-      kept = is;
+      retained = is;
       cuts = cuts_join r.bytes piece r.rest rest r.packets packets r.cuts (subst (λ k. Cuts (k ++ piece) packets rest) same cuts);
       submits = submits_join member s t u r.done done r.submits submits;
       acting = acting_join r.packets packets r.done done r.acting acting;
@@ -250,8 +231,8 @@ received_here member a b f s t w r why = record {
 }
 
 pub received_stop : (member : ℕ) (a b c f g : Option (List ℕ)) (piece : List ℕ) (s t u : List (ℕ × Event)) (w : Stop) → Receiving member a b f s t → Consumes b c piece → Takes member f g piece t u (Err w) → Received member a c s u w
-received_stop member a b c f g piece s t u w r read (kept, was, inl (packets, done, stream, submits, until)) =
-    let same : kept ≡ r.rest = same_kept kept r.rest (sym was ∙ r.kept) in record {
+received_stop member a b c f g piece s t u w r read (retained, was, inl (packets, done, stream, submits, until)) =
+    let same : retained ≡ r.rest = same_retained retained r.rest (sym was ∙ r.retained) in record {
       bytes = r.bytes ++ piece;
       lost = [];
       packets = r.packets ++ packets;
@@ -262,7 +243,7 @@ received_stop member a b c f g piece s t u w r read (kept, was, inl (packets, do
       submits = submits_join member s t u r.done done r.submits submits;
       why = why_join c r.packets packets r.done done w r.acting until;
     }
-received_stop member a b c f g piece s t u w r read (kept, was, inr (is, none)) = record {
+received_stop member a b c f g piece s t u w r read (retained, was, inr (is, none)) = record {
   bytes = r.bytes;
   lost = piece;
   packets = r.packets;
@@ -275,14 +256,14 @@ received_stop member a b c f g piece s t u w r read (kept, was, inr (is, none)) 
 }
 
 -- a read that failed leaves the stream
-pub receiving_kept : (member : ℕ) (a b c f : Option (List ℕ)) (s t : List (ℕ × Event)) → Receiving member a b f s t → Keeps b c → Receiving member a c f s t
-receiving_kept member a b c f s t r k = record {
+pub receiving_retained : (member : ℕ) (a b c f : Option (List ℕ)) (s t : List (ℕ × Event)) → Receiving member a b f s t → Keeps b c → Receiving member a c f s t
+receiving_retained member a b c f s t r k = record {
   bytes = r.bytes;
   packets = r.packets;
   rest = r.rest;
   done = r.done;
   read = Consumes-kept a b c r.bytes r.read k;
-  kept = r.kept;
+  retained = r.retained;
   cuts = r.cuts;
   submits = r.submits;
   acting = r.acting;
@@ -307,11 +288,11 @@ pub more_taken : (member : ℕ) (b c f g : Option (List ℕ)) (piece : List ℕ)
 more_taken member b c f g piece t u (Ok x) read takes = λ a s so_far. receiving_more member a b c f g piece s t u x so_far read takes
 more_taken member b c f g piece t u (Err w) read takes = λ a s so_far. received_stop member a b c f g piece s t u w so_far read takes
 
--- packets and what stays behind them
+-- packets, and what is left after them
 pub takes_ok : (member : ℕ) (old new : Option (List ℕ)) (piece : List ℕ) (before after : List (ℕ × Event)) (packets : List SoupPacket) (r : Result (Unit {0}) Stop) → Gives old new piece packets → Acted member before after packets r → Takes member old new piece before after r
-takes_ok member old new piece before after packets (Ok u) t (done, submits, acting) = (t.kept, t.rest, packets, done, t.was, t.is, t.cuts, submits, acting)
-takes_ok member old new piece before after packets (Err s) t (done, submits, until) = (t.kept, t.was, inl (packets, done, inl (t.rest, t.cuts), submits, until))
+takes_ok member old new piece before after packets (Ok u) t (done, submits, acting) = (t.retained, t.rest, packets, done, t.was, t.is, t.cuts, submits, acting)
+takes_ok member old new piece before after packets (Err s) t (done, submits, until) = (t.retained, t.was, inl (packets, done, inl (t.rest, t.cuts), submits, until))
 
 pub takes_fault : (member : ℕ) (old new : Option (List ℕ)) (piece : List ℕ) (before after : List (ℕ × Event)) (packets : List SoupPacket) (bad : ℕ) (s : Stop) (done : List (List ℕ)) → StopsAt old new piece packets bad → Submits member before after done → ActedUntil packets done s
     → Takes member old new piece before after (Err s)
-takes_fault member old new piece before after packets bad s done f submits until = (f.kept, f.was, inl (packets, done, inr (bad, f.fault), submits, until))
+takes_fault member old new piece before after packets bad s done f submits until = (f.retained, f.was, inl (packets, done, inr (bad, f.fault), submits, until))

@@ -1,16 +1,16 @@
--- What the packets of a client behind his login ask to submit, and what a pass sent for it.
+-- What the packets of a client ask to submit after its login, and what a pass sent for them.
 use Rattle.std.specs.Prelude.{ℕ, ◌≡◌, ◌⊎◌, List, [], ◌∷◌, ◌++◌, map, take, Bool, false}
 use mathlib.Core.List.{IsPrefix}
 use Rattle.hx_soup.specs.declared.packet.SoupPacket.{SoupPacket}
 use Rattle.hx_soup.specs.Packets.{Cuts, HasFault}
-use Rattle.hx_session_core.specs.Intakes.{later_action}
-use Rattle.hx_session_core.specs.declared.intake.Action.{Action}
-use Rattle.hx_session_core.specs.declared.intake.Action.TheVariants as action
+use Rattle.hx_sessions.specs.Intakes.{later_action}
+use Rattle.hx_sessions.specs.declared.intake.Action.{Action}
+use Rattle.hx_sessions.specs.declared.intake.Action.TheVariants as action
 use Rattle.hx_rules.specs.declared.event.Event.{Event}
 use Rattle.hx_rules.specs.declared.event.Event.TheVariants.{Message}
 use Rattle.hx_engine.specs.Passes.{PassState}
 
--- one packet's message, before those of the packets behind it; a logout or a fault is the last packet that counts
+-- one packet's message, before those of the later packets; a logout or a fault is the last packet that counts
 abbrev pub asked_by : Action → List ℕ → List (List ℕ) → List (List ℕ)
 asked_by (action.Login login) text more = []
 asked_by action.Submit text more = text ∷ more
@@ -31,7 +31,8 @@ pub record HasLogout (packets : List SoupPacket) : Type 0 where
   pub splits : packets ≡ before ++ logout ∷ after
   pub is : later_action logout ≡ action.Logout
 
--- the packets of all bytes that were read: they are cut into these and less than a whole one, or a fault stands behind these
+-- the packets of all bytes that were read: they are cut into these and less than a whole one, or a fault comes after
+-- these
 abbrev pub IsStream : List ℕ → List SoupPacket → Type 0
 IsStream bytes packets =
     ((rest : List ℕ) × Cuts bytes packets rest) ⊎ ((bad : ℕ) × HasFault bytes packets bad)
@@ -44,7 +45,7 @@ AreMessages member (e ∷ es) [] = ⊥
 AreMessages member (e ∷ es) (t ∷ ts) =
     (time : ℕ) × (e ≡ Message member time t) × AreMessages member es ts
 
--- a pass sent these events, each at its place, and nothing else
+-- a pass sent these events, one after another, and nothing else
 pub record SendsOn (old new : List (ℕ × Event)) (events : List Event) : Type 0 where
   pub more : List (ℕ × Event)
   pub sent : new ≡ old ++ more
@@ -60,7 +61,7 @@ pub record Submits (member : ℕ) (old new : List (ℕ × Event)) (texts : List 
   pub sends : SendsOn old new events
   pub are : AreMessages member events texts
 
--- a pass keeps its number, and knows as much or more; where nothing may be sent it has sent nothing
+-- a pass retains its number, and knows as much or more; if it may send nothing, it has sent nothing
 pub record CarriesOn (may_send : Bool) (old new : PassState) : Type 0 where
   pub number : new.number ≡ old.number
   pub known : IsPrefix old.known new.known

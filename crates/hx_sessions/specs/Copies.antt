@@ -12,7 +12,7 @@ abbrev pub member_or : Option ℕ → (other : ℕ) → ℕ
 member_or None other = other
 member_or (Some member) other = member
 
--- whose replies a login gets: those to the member that it is a copy of, or else its own
+-- the member whose replies a login gets: the one that it is a copy of, or else its own
 abbrev pub read_by : List DropCopy → (login : ℕ) → ℕ
 read_by copies login = member_or (copied_by copies login) login
 

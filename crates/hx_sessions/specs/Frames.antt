@@ -4,7 +4,7 @@ use Rattle.std.specs.List.{concat}
 use Rattle.std.specs.Io.KnownBytes.{Appends}
 use Rattle.hx_soup.specs.Kinds.{sequenced_data, server_heartbeat, end_of_session}
 use Rattle.hx_soup.specs.Packets.{framed}
-use Rattle.hx_session_core.specs.Deliveries.{Delivery}
+use Rattle.hx_sessions.specs.Deliveries.{Delivery}
 use Rattle.hx_members.specs.Setups.{Setup}
 use Rattle.hx_blog.specs.Feed.{Entries}
 use Rattle.hx_desk.specs.declared.entry.Entry.{Entry}
@@ -35,8 +35,8 @@ day_over setup known = is_over (known_market setup known)
 
 -- ---- frames
 
--- The frames are one of sequenced data for each of these replies, in order, with heartbeats between them, and where
--- the session is over one end of the session behind them.
+-- The frames are one of sequenced data for each of these replies, in order, with heartbeats between them, and, if the
+-- session is over, one end of the session after them.
 abbrev pub AreFrames : List (List ℕ) → Bool → List (List ℕ) → Type 0
 AreFrames rows over [] = (rows ≡ []) × (over ≡ false)
 AreFrames rows over (frame ∷ frames) =
@@ -59,7 +59,7 @@ Sends old new [] false frames =
     ((frames ≡ framed server_heartbeat [] ∷ []) ⊎ (frames ≡ [])) × (new.next ≡ old.next)
     × (new.over ≡ false)
 
--- Of these replies those from number `first` on have gone out in these frames, and the rest is left: nothing where the
+-- Of these replies those from number `first` on have gone out in these frames, and the rest is left: nothing, if the
 -- end of the session has gone out.
 pub record Delivers (first : ℕ) (replies rest : List (List ℕ)) (d : Delivery)
     (frames : List (List ℕ)) : Type 0 where

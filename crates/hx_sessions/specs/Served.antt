@@ -14,8 +14,8 @@ use Rattle.hx_blog.specs.Ends.{ReaderState}
 use Rattle.hx_desk.specs.declared.entry.Entry.{Entry}
 use Rattle.hx_desk.specs.Known.{known_replies}
 use Rattle.hx_engine.specs.Passes.{PassState}
-use Rattle.hx_session_core.specs.Starts.{start_of}
-use Rattle.hx_session_core.specs.declared.opening.Start.{Start}
+use Rattle.hx_sessions.specs.Starts.{start_of}
+use Rattle.hx_sessions.specs.declared.beginning.Start.{Start}
 use Rattle.hx_sessions.specs.declared.ending.Ended.{Ended}
 use Rattle.hx_sessions.specs.declared.ending.Ended.TheVariants as ended
 use Rattle.hx_sessions.specs.declared.ending.Fault.{Fault}
@@ -26,8 +26,8 @@ use Rattle.hx_sessions.specs.Copies.{read_by, may_send}
 use Rattle.hx_sessions.specs.Frames.{Writes, day_over, AreFrames}
 use Rattle.hx_sessions.specs.Logins.{LogsIn, Opens}
 
--- What contracts see of a part: the bytes that its input still has and those that its output has taken,
--- where these are known, its pass and its reader.
+-- What contracts see of a part: the bytes that its input still has and those that its output has taken, if these are
+-- known, its pass and its reader.
 pub record Side : Type 0 where
   pub input : Option (List ℕ)
   pub output : Option (List ℕ)
@@ -44,8 +44,8 @@ rejection reason = framed login_rejected (reason ∷ [])
 
 -- ---- what goes out
 
--- The frames bring the replies from number `first` on, each once and in order, and the rest is left. Where the end of
--- the session is among them nothing is left, and the day is past.
+-- The frames bring the replies from number `first` on, each once and in order, and the rest is left. If the end of the
+-- session is among them, nothing is left, and the day is past.
 pub record Brings
     (past : Bool) (first : ℕ) (replies rest : List (List ℕ)) (over : Bool)
     (frames : List (List ℕ))
@@ -57,7 +57,7 @@ pub record Brings
   pub are : AreFrames rows over frames
   pub ends : over ≡ true → (rest ≡ []) × (past ≡ true)
 
--- The answer to the login was written, and behind it such frames.
+-- The answer to the login was written, and after it such frames.
 pub record Wrote
     (past : Bool) (answer : List ℕ) (first : ℕ) (replies rest : List (List ℕ)) (over : Bool)
     (old new : Option (List ℕ))
@@ -104,8 +104,8 @@ EndsAs past answer first replies packets done unread old new (Err f) =
 abbrev pub KnowsItsOwn : PassState → (known : Entries Entry) → Result Ended Fault → Type 0
 KnowsItsOwn pass known result = result ≡ Ok ended.Logout → IsPrefix pass.known known
 
--- Behind the login: the packets that were read, what was submitted for them, and what was written.
--- Bytes are lost only when out of memory.
+-- After the login: the packets that were read, what was submitted for them, and what was written. Bytes are lost only
+-- when out of memory.
 pub record Converses
     (setup : Setup) (member first : ℕ) (answer : List ℕ) (old new : Side)
     (result : Result Ended Fault)
@@ -207,8 +207,8 @@ pub record Opened
       Converses setup (read_by copies start.member) start.first (acceptance own start.first)
       (record old { input = input }) new result
 
--- What a part is behind a session: its reader is of the same log, and the reader and the pass know what
--- they knew, or more.
+-- The state of a part after a session: its reader is of the same log, and the reader and the pass know what they knew,
+-- or more.
 pub record GoesOn (old new : Side) : Type 0 where
   pub log : new.reader.log ≡ old.reader.log
   pub reader : IsPrefix old.reader.known new.reader.known
@@ -230,8 +230,8 @@ pub record Serves
   pub goes_on : GoesOn old new
   pub went : Went setup own copies old new result
 
--- Of two sessions of one part, one after the other: the part knows behind both what it knew before and
--- between them, and the replies to a member are those up to the first one's end, and others behind them.
+-- Two sessions of one part, one after the other: after both the part knows what it knew before and between them, and
+-- the replies to a member are those up to the first one's end, and others after them.
 abbrev pub SessionsGoOn : Type 0
 SessionsGoOn =
     (setup own : Setup) (copies : List DropCopy) (before between after : Side)

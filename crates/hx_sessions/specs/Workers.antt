@@ -4,7 +4,7 @@ use Rattle.std.specs.Io.KnownBytes.{Consumes, IsAtEnd}
 use mathlib.Core.List.{IsPrefix}
 use Rattle.hx_soup.specs.declared.packet.SoupPacket.{SoupPacket}
 use Rattle.hx_soup.specs.Packets.{Cuts}
-use Rattle.hx_session_core.specs.Deliveries.{Delivery}
+use Rattle.hx_sessions.specs.Deliveries.{Delivery}
 use Rattle.hx_rules.specs.declared.event.Event.{Event}
 use Rattle.hx_sessions.specs.declared.ending.Ended.{Ended}
 use Rattle.hx_sessions.specs.declared.ending.Ended.TheVariants as ended
@@ -16,31 +16,31 @@ use Rattle.hx_sessions.specs.Asked.{asked, HasLogout, IsStream, AreMessages, Sub
 use Rattle.hx_sessions.specs.Frames.{Sent, SentSome}
 
 -- How both ended, as one: a fault before an ending, the inbound fault first, and the end of the day before the other
--- endings. Where neither ended by itself there was no session, as when out of memory.
+-- endings. If neither ended by itself, there was no session, as when out of memory.
 abbrev pub both_of : (inbound outbound : Stop) → Result Ended Fault
 both_of (stop.Faulted f) out = Err f
 both_of (stop.Ended e) (stop.Faulted f) = Err f
 both_of (stop.Ended e) (stop.Ended x) = Ok x
-both_of (stop.Ended e) stop.Told = Ok e
-both_of stop.Told (stop.Faulted f) = Err f
-both_of stop.Told (stop.Ended x) = Ok x
-both_of stop.Told stop.Told = Err fault.NoMemory
+both_of (stop.Ended e) stop.PeerStopped = Ok e
+both_of stop.PeerStopped (stop.Faulted f) = Err f
+both_of stop.PeerStopped (stop.Ended x) = Ok x
+both_of stop.PeerStopped stop.PeerStopped = Err fault.NoMemory
 
 -- ---- what goes out
 
--- After a round that goes on: where no reply went out, none is left.
+-- After a round that goes on: if no reply went out, none is left.
 abbrev pub SentRound :
     ℕ → List (List ℕ) → Delivery → Option (List ℕ) → Option (List ℕ) → Bool → Type 0
 SentRound first replies d old new moved =
     (d.over ≡ false) × (rest : List (List ℕ)) × Sent first replies rest d old new
     × (moved ≡ false → rest ≡ [])
 
--- By why it stopped: some replies may be left; none at the end of the day, which comes only once it is past; and
--- where the output failed a beginning of the bytes was written.
+-- By why it stopped: some replies may be left; none is left at the end of the day, which comes only once it is past;
+-- and if the output failed, a beginning of the bytes was written.
 abbrev pub SentUntil :
     (past : Bool) → ℕ → List (List ℕ) → Delivery → Option (List ℕ) → Option (List ℕ) → Stop
     → Type 0
-SentUntil past first replies d old new stop.Told =
+SentUntil past first replies d old new stop.PeerStopped =
     (d.over ≡ false) × (rest : List (List ℕ)) × Sent first replies rest d old new
 SentUntil past first replies d old new (stop.Ended e) =
     (e ≡ ended.DayEnd) × (d.over ≡ true) × (past ≡ true) × Sent first replies [] d old new
@@ -53,15 +53,15 @@ SentUntil past first replies d old new (stop.Faulted f) =
 -- Whatever went out before: these replies, which were the next ones, have gone out as well.
 abbrev pub SendsMore : List (List ℕ) → (old new : Delivery) → (before after : List ℕ) → Type 0
 SendsMore rows old new before after =
-    (first : ℕ) (replies behind : List (List ℕ)) (start : Option (List ℕ))
-    → Sent first replies (rows ++ behind) old start (Some before)
-    → Sent first replies behind new start (Some after)
+    (first : ℕ) (replies rest_after : List (List ℕ)) (start : Option (List ℕ))
+    → Sent first replies (rows ++ rest_after) old start (Some before)
+    → Sent first replies rest_after new start (Some after)
 
 -- The same, until it stops: some of them have gone out.
 abbrev pub StopsIn : List (List ℕ) → (old new : Delivery) → (before after : List ℕ) → Stop → Type 0
 StopsIn rows old new before after s =
-    (past : Bool) (first : ℕ) (replies behind : List (List ℕ)) (start : Option (List ℕ))
-    → Sent first replies (rows ++ behind) old start (Some before)
+    (past : Bool) (first : ℕ) (replies rest_after : List (List ℕ)) (start : Option (List ℕ))
+    → Sent first replies (rows ++ rest_after) old start (Some before)
     → SentUntil past first replies new start (Some after) s
 
 -- ---- what comes in
@@ -79,13 +79,13 @@ pub record Cut (packets : List SoupPacket) (done : List (List ℕ)) : Type 0 whe
   pub asks : (later : List SoupPacket) → IsPrefix done (asked (packets ++ later))
 
 abbrev pub ActedUntil : List SoupPacket → List (List ℕ) → Stop → Type 0
-ActedUntil packets done stop.Told = ⊥
+ActedUntil packets done stop.PeerStopped = ⊥
 ActedUntil packets done (stop.Ended e) =
     (e ≡ ended.Logout) × HasLogout packets × Closed packets done
 ActedUntil packets done (stop.Faulted f) =
     ((f ≡ fault.Framing) × Closed packets done) ⊎ Cut packets done
 
--- Behind the texts that packets ask to submit either nothing is wrong so far, or it stops.
+-- After the texts that packets ask to submit, either nothing is wrong so far, or it stops.
 abbrev pub AsksUntil : List SoupPacket → List (List ℕ) → Option Stop → Type 0
 AsksUntil packets texts None = Acting packets texts
 AsksUntil packets texts (Some s) = ActedUntil packets texts s
@@ -110,15 +110,15 @@ pub record Receiving (member : ℕ) (old new : Option (List ℕ)) (framer : Opti
   pub rest : List ℕ
   pub done : List (List ℕ)
   pub read : Consumes old new bytes
-  pub kept : framer ≡ Some rest
+  pub retained : framer ≡ Some rest
   pub cuts : Cuts bytes packets rest
   pub submits : Submits member before after done
   pub acting : Acting packets done
 
--- All that the packets ask was submitted; where the client has logged out, a logout is among them; where the input
--- has ended, all bytes were read; a refusal cuts the rest off.
+-- All that the packets ask was submitted; if the client has logged out, a logout is among them; if the input has ended,
+-- all bytes were read; a refusal cuts the rest off.
 abbrev pub Why : Option (List ℕ) → List SoupPacket → List (List ℕ) → Stop → Type 0
-Why left packets done stop.Told = done ≡ asked packets
+Why left packets done stop.PeerStopped = done ≡ asked packets
 Why left packets done (stop.Ended ended.Logout) = (done ≡ asked packets) × HasLogout packets
 Why left packets done (stop.Ended ended.ReaderEnd) = (done ≡ asked packets) × IsAtEnd left
 Why left packets done (stop.Ended ended.DayEnd) = ⊥
@@ -153,10 +153,10 @@ abbrev pub Takes :
     ℕ → Option (List ℕ) → Option (List ℕ) → List ℕ → List (ℕ × Event) → List (ℕ × Event)
     → Result (Unit {0}) Stop → Type 0
 Takes member old new piece before after (Ok u) =
-    (kept : List ℕ) × (rest : List ℕ) × (packets : List SoupPacket) × (done : List (List ℕ))
-    × (old ≡ Some kept) × (new ≡ Some rest) × Cuts (kept ++ piece) packets rest
+    (retained : List ℕ) × (rest : List ℕ) × (packets : List SoupPacket) × (done : List (List ℕ))
+    × (old ≡ Some retained) × (new ≡ Some rest) × Cuts (retained ++ piece) packets rest
     × Submits member before after done × Acting packets done
-Takes member old new piece before after (Err s) = (kept : List ℕ) × (old ≡ Some kept)
-    × (((packets : List SoupPacket) × (done : List (List ℕ)) × IsStream (kept ++ piece) packets
+Takes member old new piece before after (Err s) = (retained : List ℕ) × (old ≡ Some retained)
+    × (((packets : List SoupPacket) × (done : List (List ℕ)) × IsStream (retained ++ piece) packets
     × Submits member before after done × ActedUntil packets done s)
     ⊎ ((s ≡ stop.Faulted fault.NoMemory) × (after ≡ before)))

@@ -8,9 +8,9 @@ use hx_units::MemberNo;
 /// A login that gets the replies to another member, as a broker's risk desk or clearing firm does. It may send nothing.
 #[derive(Clone, Copy, Debug, PartialEq, Eq)]
 pub struct DropCopy {
-    /// Who logs in.
+    /// The member that logs in.
     pub login: MemberNo,
-    /// The member whose replies go to him.
+    /// The member whose replies the login gets.
     pub member: MemberNo,
 }
 

@@ -31,7 +31,7 @@ pub enum Fault {
         /// The letter of the rejection.
         reason: u8,
     },
-    /// A growth was refused, or a thread.
+    /// There was no memory for a growth, or no thread.
     #[error("no memory")]
     NoMemory,
     /// All reads, or all turns of the output, are used up.
@@ -40,7 +40,7 @@ pub enum Fault {
     /// The exchange refused a message.
     #[error("{0}")]
     Refused(DeskError),
-    /// The exchange's journal failed: nothing more is told.
+    /// The exchange's journal failed: nothing more is published.
     #[error("the journal failed")]
     Stopped,
 }
@@ -49,7 +49,7 @@ pub enum Fault {
 #[derive(Drop)]
 pub enum Stop {
     /// The other direction has ended.
-    Told,
+    PeerStopped,
     /// It ended by itself.
     Ended(Ended),
     /// A fault.

@@ -1,6 +1,6 @@
 //! The direction of a session that takes messages in.
 ghost use Rattle.std.specs.Prelude.{ℕ, List, ◌≡◌, ◌⊎◌, ◌<◌, ◌+◌, ◌++◌, [], ◌∷◌, OnOk, OnErr, Some, IsSome, true, false, length};
-ghost use Rattle.hx_session_core.specs.declared.intake.Intake.TheVariants as intakes;
+ghost use Rattle.hx_sessions.specs.declared.intake.Intake.TheVariants as intakes;
 ghost use Rattle.hx_rules.specs.declared.event.Event.TheVariants.{Message};
 ghost use Rattle.hx_sessions.specs.Asked.{CarriesOn, Submits, SendsOn, SendsSome};
 ghost use Rattle.hx_sessions.specs.Workers.{ActedUntil, Acted, Gathers, Takes, TakesMore};
@@ -10,13 +10,13 @@ ghost use Rattle.hx_sessions.specs.declared.ending.Stop.TheVariants as stops;
 use crate::clock_and_gate::{Clock, Gate};
 use crate::debt::Debt;
 use crate::ending::{Ended, Fault, Stop};
+use crate::intake::{Action, Intake};
 use arrayvec::ArrayVec;
-use hx_bells::{Bell, Source};
 use hx_engine::{DeskError, Exchange, Journal, Pass, SubmitError, Venue};
 use hx_market::{Bytes, Event};
-use hx_session_core::{Action, Intake};
 use hx_soup::{Framer, FramerError, SoupPacket};
 use hx_units::{MemberNo, NoMemory};
+use hx_wake::{Source, Waker};
 use std::alloc::Global;
 use std::io::{Error, ErrorKind, Read};
 use std::sync::Wait;
@@ -26,15 +26,15 @@ use std::time::Duration;
 // once.
 const PIECE: usize = 4096;
 
-// The same where nobody else is at the lock: their replies go out before the next ones are read, so that a client who sends
-// much and the exchange work at the same time.
+// The same if no other thread is at the lock: their replies go out before the next messages are read, so that a client
+// that sends much and the exchange work at the same time.
 const SHORT_PIECE: usize = 2048;
 
-// How long a session rests at a time, in nanoseconds.
+// The time that a session rests at once, in nanoseconds.
 const SLICE: u64 = 5_000_000;
 
-/// Who is logged in: the exchange that his messages go to, who is called round each of them, whose replies he gets, and
-/// whether he may send messages. A drop copy may not.
+/// The member that is logged in: the exchange to which its messages go, the gate that is called around each of them,
+/// the member whose replies it gets, and whether it may send messages. A drop copy may not.
 #[derive(Drop)]
 pub struct Trader<'a, V: Venue, J: Journal + Drop, G> {
     pub exchange: &'a Exchange<V, J>,
@@ -43,8 +43,8 @@ pub struct Trader<'a, V: Venue, J: Journal + Drop, G> {
     pub may_send: bool,
 }
 
-/// What submits his messages: his pass, the clock of their times, the number of the last one in this session, and what the
-/// session owes for them.
+/// What submits the member's messages: its pass, the clock of their times, the number of the last one in this session,
+/// and what the session owes for them.
 #[derive(Drop)]
 pub struct Sender<V: Venue, C> {
     pub pass: Pass<V>,
@@ -54,20 +54,20 @@ pub struct Sender<V: Venue, C> {
 }
 
 impl<V: Venue, C> Sender<V, C> {
-    // Owes for the orders that the market has passed over for his events since the last time.
+    // Adds what the session owes for the orders that the market has passed over for its events since the last time.
     fn owe<J: Journal + Drop>(&mut self, exchange: &Exchange<V, J>)
         ensures { self.new.pass ≡ self.old.pass }
     {
         self.debt.grow(exchange.rest_for(self.pass.take_passed()));
     }
 
-    // Sleeps for what the session owes, or for so long at most: a few milliseconds, since its replies wait meanwhile.
+    // Sleeps for what the session owes, or at most for `limit`: a few milliseconds, since its replies wait meanwhile.
     fn rest(&mut self, limit: Duration)
         ensures { self.new.pass ≡ self.old.pass }
     {
         let slice = Duration::from_nanos(self.debt.nanos.min(SLICE)).min(limit);
-        // Nobody rings this one.
-        Bell::new().sleep(slice);
+        // No thread wakes this waker.
+        Waker::new().sleep(slice);
         self.debt.pay(u64::from(slice.subsec_nanos()));
     }
 }
@@ -88,7 +88,7 @@ fn fault_of(error: SubmitError) -> Fault {
     }
 }
 
-// What packets ask for: messages to submit, and why it stops behind them, if it does.
+// What packets ask for: messages to submit, and why the session stops after them, if it does.
 #[derive(Drop)]
 struct Gathered {
     events: Vec<Event>,
@@ -96,7 +96,7 @@ struct Gathered {
 }
 
 impl Gathered {
-    // These, and behind them it stops.
+    // These events, and after them the session stops.
     fn until(events: Vec<Event>, stop: Stop) -> Gathered
         ensures { result ≡ record { events = events; stop = Some stop } }
     {
@@ -107,7 +107,7 @@ impl Gathered {
     }
 }
 
-// Puts a message of the member behind others.
+// Puts a message of the member after others.
 fn add_message(
     alloc: Global,
     events: &mut Vec<Event>,
@@ -129,7 +129,7 @@ fn add_message(
     Ok(())
 }
 
-// Gathers the messages of packets behind the login, up to a logout or a fault, and where nothing may be sent up to the
+// Gathers the messages of packets after the login, up to a logout or a fault, and, if nothing may be sent, up to the
 // first of them. They bear the time at which they are read.
 fn gather<C: Clock>(
     alloc: Global,
@@ -165,22 +165,22 @@ fn gather<C: Clock>(
     Gathered { events, stop: None }
 }
 
-// Calls the gate before each message behind this number, up to the other one.
-fn open_gate<G: Gate>(gate: &G, member: MemberNo, behind: u64, last: u64) {
-    for number in behind..last {
+// Calls the gate before each message with a number above `later`, up to `last`.
+fn open_gate<G: Gate>(gate: &G, member: MemberNo, later: u64, last: u64) {
+    for number in later..last {
         gate.before(member, number.saturating_add(1));
     }
 }
 
-// Calls the gate after each message behind this number, up to the other one.
-fn close_gate<G: Gate>(gate: &G, member: MemberNo, behind: u64, last: u64) {
-    for number in behind..last {
+// Calls the gate after each message with a number above `later`, up to `last`.
+fn close_gate<G: Gate>(gate: &G, member: MemberNo, later: u64, last: u64) {
+    for number in later..last {
         gate.after(member, number.saturating_add(1));
     }
 }
 
-// Submits events, in as many turns at the lock as they take. Between two of them the session rests a little, so that others
-// come to the lock, whoever it would let in first.
+// Submits events, in the number of turns at the lock that they take. Between two of them the session rests a little, so
+// that other threads get the lock, whichever it would let in first.
 fn submit_all<V: Venue, J: Journal + Drop, C, T: Wait>(
     rt: &T,
     exchange: &Exchange<V, J>,
@@ -221,15 +221,15 @@ fn submit<V: Venue, J: Journal + Drop, C: Clock, G: Gate, T: Wait>(
     if events.is_empty() {
         return Ok(());
     }
-    let behind = sender.number;
-    sender.number = behind.saturating_add(events.len() as u64);
-    open_gate(trader.gate, trader.member, behind, sender.number);
+    let later = sender.number;
+    sender.number = later.saturating_add(events.len() as u64);
+    open_gate(trader.gate, trader.member, later, sender.number);
     let done = submit_all(rt, trader.exchange, sender, events);
-    close_gate(trader.gate, trader.member, behind, sender.number);
+    close_gate(trader.gate, trader.member, later, sender.number);
     done
 }
 
-// Acts on packets behind the login, up to a logout or a fault.
+// Acts on packets after the login, up to a logout or a fault.
 fn act<V: Venue, J: Journal + Drop, C: Clock, G: Gate, T: Wait>(
     rt: &T,
     alloc: Global,
@@ -258,7 +258,7 @@ fn act<V: Venue, J: Journal + Drop, C: Clock, G: Gate, T: Wait>(
     }
 }
 
-// Acts on the packets before a fault of the stream, and says why it stops.
+// Acts on the packets before a fault of the stream, and says why the session stops.
 fn act_last<V: Venue, J: Journal + Drop, C: Clock, G: Gate, T: Wait>(
     rt: &T,
     alloc: Global,
@@ -313,8 +313,8 @@ pub fn is_passing(error: &Error) -> bool {
     )
 }
 
-// Takes a piece of the stream in, as much as has come and the buffer has room for: the packets that are whole with it are
-// acted on.
+// Takes a piece of the stream in, as much as has come and fits the buffer: the packets that are whole with it are acted
+// on.
 fn read_piece<V: Venue, J: Journal + Drop, R: Read, C: Clock, G: Gate, T: Wait>(
     rt: &T,
     alloc: Global,
@@ -345,8 +345,8 @@ fn read_piece<V: Venue, J: Journal + Drop, R: Read, C: Clock, G: Gate, T: Wait>(
     }
 }
 
-/// Sleeps until there is something to do, for so long at most, and takes a piece of the stream in where one has come:
-/// the packets that are whole with it are acted on. A session that owes a rest takes nothing in before that is over.
+/// Sleeps until there is something to do, at most for `limit`, and takes a piece of the stream in, if one has come: the
+/// packets that are whole with it are acted on. A session that owes a rest takes nothing in before that is over.
 pub fn receive<V: Venue, J: Journal + Drop, R: Read + Source, C: Clock, G: Gate, T: Wait>(
     rt: &T,
     alloc: Global,
@@ -361,12 +361,12 @@ pub fn receive<V: Venue, J: Journal + Drop, R: Read + Source, C: Clock, G: Gate,
         (R.remaining inbox.old.input) (R.remaining inbox.new.input) framer.old framer.new
         inbox.old.sender.pass.sent inbox.new.sender.pass.sent result }
 {
-    let bell = trader.exchange.bell(&inbox.sender.pass);
+    let waker = trader.exchange.waker(&inbox.sender.pass);
     if inbox.sender.debt.is_due() {
         inbox.sender.rest(limit);
         return Ok(());
     }
-    if !inbox.input.wait(bell, limit) {
+    if !inbox.input.wait(waker, limit) {
         if trader.exchange.failure(rt).is_some() {
             return Err(Stop::Faulted(Fault::Stopped));
         }

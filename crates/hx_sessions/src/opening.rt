@@ -1,28 +1,30 @@
 //! The login of a session.
 ghost use Rattle.std.specs.Prelude.{ℕ, List, Result, Err, IfErr, IsSome, ◌≡◌, ◌⊎◌, ◌+◌, ◌<◌, ◌≤◌, ◌^◌, ◌++◌, [], length, IfOk, OnErr};
 ghost use mathlib.Core.List.{IsPrefix};
-ghost use Rattle.hx_session_core.specs.Starts.{start_of};
+ghost use Rattle.hx_sessions.specs.Starts.{start_of};
 ghost use Rattle.hx_desk.specs.Known.{known_replies};
 ghost use Rattle.hx_sessions.specs.Frames.{day_over};
 ghost use Rattle.hx_sessions.specs.Logins.{LogsIn, Opens, NoLogin, ReadsFirst, FailsFirst};
 ghost use Rattle.hx_sessions.specs.Served.{Admits, Dismisses};
 
+use crate::beginning::Start;
 use crate::copies::{Logins, read_by};
 use crate::ending::{Ended, Fault, Stop};
 use crate::inbound::is_passing;
+use crate::intake::{Action, Intake};
+use crate::login::start;
 use crate::writing::{Broken, write_whole};
 use hx_blog::Reader;
 use hx_engine::{Entry, Exchange, Journal, Venue};
-use hx_session_core::{Action, Intake, Start, start};
 use hx_soup::{Framer, FramerError, LoginRequest, accepted, rejected};
 use std::alloc::Global;
 use std::io::{Read, Write};
 use std::sync::Wait;
 
-// The bytes of a login packet. No byte behind them is read with it.
+// The bytes of a login packet. No byte after them is read with it.
 const LOGIN: usize = 49;
 
-// Reads once: the login where it is whole now, and how many bytes came.
+// Reads once: returns the login, if it is whole now, and the number of bytes that came.
 fn read_more<R: Read>(
     alloc: Global,
     input: &mut R,
@@ -61,9 +63,9 @@ fn read_more<R: Read>(
     }
 }
 
-/// Reads the first packet, which must be a login, and no byte behind it. Returns the reads that are left. Behind each
-/// read that leaves less than a login it looks whether the day is over, or the journal has failed, and stops there: who is
-/// silent keeps no day.
+/// Reads the first packet, which must be a login, and no byte after it. Returns the reads that are left. After each
+/// read that leaves less than a login it looks whether the day is over, or the journal has failed, and stops then: a
+/// silent client does not hold up the end of the day.
 pub fn read_login<V: Venue, J: Journal + Drop, R: Read, T: Wait>(
     rt: &T,
     alloc: Global,
@@ -81,16 +83,16 @@ pub fn read_login<V: Venue, J: Journal + Drop, R: Read, T: Wait>(
 {
     let mut framer = Framer::new();
     let mut buffer = [0; LOGIN];
-    let mut kept = 0;
+    let mut retained = 0;
     for turn in 0..turns {
-        if kept >= LOGIN {
+        if retained >= LOGIN {
             return Err(Stop::Faulted(Fault::Framing));
         }
-        let space = &mut buffer[kept..];
+        let space = &mut buffer[retained..];
         match read_more(alloc, input, &mut framer, space) {
             Ok((Some(login), _count)) => return Ok((login, turns - turn - 1)),
             Ok((None, count)) => {
-                kept += count;
+                retained += count;
                 if exchange.failure(rt).is_some() {
                     return Err(Stop::Faulted(Fault::Stopped));
                 }
@@ -138,8 +140,8 @@ pub struct Line<R, W> {
     pub output: W,
 }
 
-/// Logs a client in, and answers him. Returns where his session begins and the reads that are left, or how it ends
-/// here.
+/// Logs a client in, and answers it. Returns the beginning of its session and the reads that are left, or how the
+/// session ends here.
 pub fn admit<V: Venue, J: Journal + Drop, R: Read, W: Write, T: Wait>(
     rt: &T,
     alloc: Global,
@@ -165,7 +167,7 @@ pub fn admit<V: Venue, J: Journal + Drop, R: Read, W: Write, T: Wait>(
         Ok(read) => read,
         Err(Stop::Ended(ended)) => return Err(Ok(ended)),
         Err(Stop::Faulted(fault)) => return Err(Err(fault)),
-        Err(Stop::Told) => return Err(Err(Fault::Turns)),
+        Err(Stop::PeerStopped) => return Err(Err(Fault::Turns)),
     };
     match open(rt, exchange, logins, reader, &login) {
         Ok(begun) => {

@@ -7,12 +7,12 @@ ghost use Rattle.hx_sessions.specs.Frames.{day_over, IsNextOf, Sends, Sent, Writ
 ghost use Rattle.hx_sessions.specs.Workers.{SendsMore, StopsIn, SentRound, SentUntil};
 
 use crate::clock_and_gate::Clock;
+use crate::delivery::{Delivery, Turn};
 use crate::ending::{Ended, Fault, Stop};
 use crate::writing::{Broken, write_whole};
 use arrayvec::ArrayVec;
 use hx_blog::{Reader, Receipt};
 use hx_engine::{Entry, Exchange, Journal, Venue};
-use hx_session_core::{Delivery, Turn};
 use hx_units::MemberNo;
 use std::io::Write;
 use std::sync::Wait;
@@ -20,7 +20,7 @@ use std::sync::Wait;
 // The most replies that are taken from the exchange at once.
 const PAGE: u64 = 64;
 
-// Room for a page of replies, each behind the three bytes of its packet's head.
+// The bytes of a page of replies, each after the three bytes of its packet's head.
 const BATCH: usize = 64 * 83;
 
 /// What it has, and gives back.
@@ -95,8 +95,8 @@ fn fill<C: Clock>(
 }
 
 impl<W: Write, C: Clock> Outbox<W, C> {
-    // Sends a page of the replies from the next one on, by one write, or else what a turn without replies gives. Answers
-    // whether there may be more to send: the page was full, or the day is over.
+    // Sends a page of the replies from the next one on, by one write, or else what a turn without replies gives.
+    // Returns whether there may be more to send: the page was full, or the day is over.
     fn round<V: Venue, J: Journal + Drop, T: Wait>(
         &mut self,
         rt: &T,
@@ -155,9 +155,9 @@ impl<W: Write, C: Clock> Outbox<W, C> {
     }
 }
 
-/// Sends all replies to a member that are there, and behind the last of the day the end of the session; where none is there
-/// a heartbeat, if one is due. It takes one of the turns that are left for each packet, and one where there is nothing to
-/// send.
+/// Sends all replies to a member that are there, and after the last of the day the end of the session; if there is
+/// none, it sends a heartbeat, if one is due. It takes one of the turns that are left for each packet, and one if there
+/// is nothing to send.
 pub fn deliver<V: Venue, J: Journal + Drop, W: Write, C: Clock, T: Wait>(
     rt: &T,
     exchange: &Exchange<V, J>,
@@ -183,7 +183,7 @@ pub fn deliver<V: Venue, J: Journal + Drop, W: Write, C: Clock, T: Wait>(
 {
     for _ in 0..u64::MAX {
         match outbox.round(rt, exchange, member, left) {
-            Ok(true) => exchange.ring_feed(),
+            Ok(true) => exchange.wake_feed(),
             Ok(false) => return (outbox, Ok(())),
             Err(stop) => return (outbox, Err(stop)),
         }
@@ -206,7 +206,7 @@ pub fn finish<V: Venue, J: Journal + Drop, W: Write, C: Clock, T: Wait>(
         outbox.delivery.next }
     ensures log { result.0.reader.log ≡ V.log }
     ensures known { IsPrefix outbox.reader.known result.0.reader.known }
-    ensures told { IsPrefix receipt.known result.0.reader.known }
+    ensures published_end { IsPrefix receipt.known result.0.reader.known }
     ensures ok { OnOk result.1 (
         (result.0.delivery.over ≡ false)
         × Sent outbox.delivery.next

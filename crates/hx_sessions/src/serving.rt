@@ -9,18 +9,18 @@ use crate::copies::Logins;
 use crate::ending::{Ended, Fault};
 use crate::part::Part;
 use crate::session::Session;
-use hx_bells::Source;
 use hx_engine::{Exchange, Journal, Venue};
+use hx_wake::Source;
 use std::alloc::Global;
 use std::io::{Read, Write};
 use std::sync::Wait;
 use std::thread::{Threads, for_each_mut};
 use std::time::Clock as Timer;
 
-// A part behind its session, and how that ended.
+// A part after its session, and how that ended.
 type Served<V, R, W, C> = (Part<V, R, W, C>, Result<Ended, Fault>);
 
-// A part that waits for its session, and what is there behind it.
+// A part that waits for its session, and the part after the session.
 #[derive(Drop)]
 struct Slot<V: Venue, R, W, C> {
     waiting: Option<Part<V, R, W, C>>,
@@ -148,7 +148,7 @@ fn wait_all<V: Venue, R: Drop, W: Drop, C: Drop>(
     }
 }
 
-// Puts what was served in a slot behind the others.
+// Puts what was served in a slot after the others.
 fn put<V: Venue, R: Drop, W: Drop, C: Drop>(
     all: &mut Vec<Served<V, R, W, C>>,
     slot: Slot<V, R, W, C>,
@@ -178,8 +178,8 @@ fn take_all<V: Venue, R: Drop, W: Drop, C: Drop>(
     }
 }
 
-/// Runs one session a part at the same time, and gives their results in the parts' order. Where there is no memory
-/// nothing has run, and the parts come back.
+/// Runs one session per part, all at the same time, and returns their results in the parts' order. If there is no
+/// memory, nothing has run, and the parts come back.
 pub fn serve_all<
     V: Venue + Send + Sync,
     J: Journal + Drop + Send,

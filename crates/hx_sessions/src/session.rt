@@ -10,23 +10,23 @@ ghost use Rattle.hx_sessions.specs.Served.{Converses, Serves};
 use crate::clock_and_gate::{Clock, Gate};
 use crate::copies::{Logins, may_send, read_by};
 use crate::debt::Debt;
+use crate::delivery::Delivery;
 use crate::ending::{Ended, Fault, Stop};
 use crate::inbound::{Inbox, Sender, Trader};
 use crate::opening::{Line, admit};
 use crate::outbound::{Outbox, finish};
 use crate::part::Part;
 use crate::workers::work;
-use hx_bells::Source;
 use hx_blog::Reader;
 use hx_engine::{Entry, Exchange, Journal, Pass, Venue};
-use hx_session_core::Delivery;
 use hx_units::MemberNo;
+use hx_wake::Source;
 use std::alloc::Global;
 use std::io::{Read, Write};
 use std::sync::Wait;
 
 /// How both directions ended, as one: a fault before an ending, the inbound fault first, and the end of the day before
-/// the other endings. Where neither ended by itself there was no session, as when out of memory.
+/// the other endings. If neither ended by itself, there was no session, as when out of memory.
 pub fn both(inbound: Stop, outbound: Stop) -> Result<Ended, Fault>
     ensures { result ≡ both_of inbound outbound }
 {
@@ -35,12 +35,12 @@ pub fn both(inbound: Stop, outbound: Stop) -> Result<Ended, Fault>
         Stop::Ended(ended) => match outbound {
             Stop::Faulted(fault) => Err(fault),
             Stop::Ended(other) => Ok(other),
-            Stop::Told => Ok(ended),
+            Stop::PeerStopped => Ok(ended),
         },
-        Stop::Told => match outbound {
+        Stop::PeerStopped => match outbound {
             Stop::Faulted(fault) => Err(fault),
             Stop::Ended(other) => Ok(other),
-            Stop::Told => Err(Fault::NoMemory),
+            Stop::PeerStopped => Err(Fault::NoMemory),
         },
     }
 }
@@ -152,7 +152,7 @@ impl Session {
     }
 }
 
-// A session behind its login: both directions, and after a logout the replies so far.
+// A session after its login: both directions, and after a logout the replies so far.
 fn converse<
     V: Venue,
     J: Journal + Drop,
@@ -193,7 +193,7 @@ fn converse<
         result.2 }
 {
     let (mut inbox, inn, outbox, out) = work(rt, alloc, trader, inbox, outbox, reads, turns);
-    trader.exchange.ring_feed();
+    trader.exchange.wake_feed();
     match both(inn, out) {
         Ok(Ended::Logout) => {
             let exchange = trader.exchange;
@@ -201,7 +201,7 @@ fn converse<
             let (outbox, last) = finish(rt, exchange, trader.member, outbox, receipt);
             match last {
                 Ok(()) => (inbox, outbox, Ok(Ended::Logout)),
-                Err(stop) => (inbox, outbox, both(Stop::Told, stop)),
+                Err(stop) => (inbox, outbox, both(Stop::PeerStopped, stop)),
             }
         }
         Ok(Ended::ReaderEnd) => (inbox, outbox, Ok(Ended::ReaderEnd)),

@@ -7,33 +7,34 @@ ghost use Rattle.hx_sessions.specs.Frames.{day_over, IsNextOf};
 ghost use Rattle.hx_sessions.specs.Workers.{Received, SentUntil};
 
 use crate::clock_and_gate::{Clock, Gate};
+use crate::delivery::Delivery;
 use crate::ending::{Fault, Stop};
 use crate::inbound::{Inbox, Trader, receive};
 use crate::outbound::{Outbox, deliver};
-use hx_bells::Source;
 use hx_engine::{Journal, Venue};
-use hx_session_core::Delivery;
 use hx_soup::Framer;
+use hx_wake::Source;
 use std::alloc::Global;
 use std::io::{Read, Write};
 use std::sync::Wait;
 use std::time::Duration;
 
-// How long the session may sleep: until the next heartbeat is due.
+// The time for which the session may sleep: until the next heartbeat is due.
 fn patience(delivery: &Delivery, now: u64) -> Duration {
     Duration::from_nanos(delivery.until_heartbeat(now))
 }
 
-// Whether the reply to what was submitted behind this number may go out before the publisher of the feed is woken: it is
-// one message, and the line takes a page of replies at once, so that the feed waits for no member who does not read.
-fn may_reply_first<V: Venue, R: Source, C>(inbox: &Inbox<V, R, C>, behind: u64) -> bool {
-    inbox.sender.number == behind.saturating_add(1) && inbox.input.takes_at_once()
+// Whether the reply to what was submitted after message number `later` may go out before the publisher of the feed is
+// woken: if it is one message, and the connection takes a page of replies at once, so that the feed does not wait for a
+// member that does not read.
+fn may_reply_first<V: Venue, R: Source, C>(inbox: &Inbox<V, R, C>, later: u64) -> bool {
+    inbox.sender.number == later.saturating_add(1) && inbox.input.takes_at_once()
 }
 
-/// Both directions, by turns: all replies that are there are sent, and then it sleeps until a piece of the stream comes, or
-/// there is news for the member, or a heartbeat is due. It arms its bell before it looks for replies, so no news is missed.
-/// Each ends at its next turn once the other has. The publisher of the feed may have a ring due then: whoever calls this
-/// calls `ring_feed`.
+/// Both directions, by turns: all replies that are there are sent, and then it sleeps until a piece of the stream
+/// comes, or there is news for the member, or a heartbeat is due. It arms its waker before it looks for replies, so no
+/// news is missed. Each direction ends at its next turn once the other has. The publisher of the feed may have a wake
+/// due then: a caller calls `wake_feed` after it.
 pub fn work<V: Venue, J: Journal + Drop, R: Read + Source, W: Write, C: Clock, G: Gate, T: Wait>(
     rt: &T,
     alloc: Global,
@@ -61,24 +62,29 @@ pub fn work<V: Venue, J: Journal + Drop, R: Read + Source, W: Write, C: Clock, G
     let mut framer = Framer::new();
     let mut left = turns;
     for _ in 0..reads {
-        exchange.bell(&inbox.sender.pass).arm();
+        exchange.waker(&inbox.sender.pass).arm();
         let (sent, all) = deliver(rt, exchange, member, outbox, &mut left);
-        exchange.ring_feed();
+        exchange.wake_feed();
         outbox = sent;
         match all {
             Ok(()) => {}
-            Err(stop) => return (inbox, Stop::Told, outbox, stop),
+            Err(stop) => return (inbox, Stop::PeerStopped, outbox, stop),
         }
         let now = outbox.clock.now();
         let limit = patience(&outbox.delivery, now);
-        let behind = inbox.sender.number;
+        let later = inbox.sender.number;
         match receive(rt, alloc, trader, &mut inbox, &mut framer, limit) {
             Ok(()) => {}
-            Err(stop) => return (inbox, stop, outbox, Stop::Told),
+            Err(stop) => return (inbox, stop, outbox, Stop::PeerStopped),
         }
-        if !may_reply_first(&inbox, behind) {
-            exchange.ring_feed();
+        if !may_reply_first(&inbox, later) {
+            exchange.wake_feed();
         }
     }
-    (inbox, Stop::Faulted(Fault::Turns), outbox, Stop::Told)
+    (
+        inbox,
+        Stop::Faulted(Fault::Turns),
+        outbox,
+        Stop::PeerStopped,
+    )
 }

@@ -9,7 +9,7 @@ use std::io::{ErrorKind, Write};
 #[derive(Drop)]
 pub struct Broken;
 
-/// Writes the bytes. Where it fails, a front of them was written.
+/// Writes the bytes. If it fails, a front of them was written.
 pub fn write_whole<W: Write>(writer: &mut W, bytes: &[u8]) -> Result<(), Broken>
     ensures ok { OnOk result (Appends (W.contents writer.old) (W.contents writer.new) bytes.now) }
     ensures err { OnErr result (

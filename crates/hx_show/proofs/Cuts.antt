@@ -1,4 +1,4 @@
--- The words of a line: where a text is cut, and the numbers and bytes that it is.
+-- The words of a line: the cuts of a text, and the numbers and bytes that it is.
 use Rattle.std.proofs.Common.{◌≡◌, ℕ, ◌^◌, ◌<◌, ◌≤◌, List, [], ◌∷◌, ◌++◌, length, Option, Some, None, ltb, true, false, ◌&&◌, refl, sym, ap, ◌∙◌, arith}
 use denote.Ref.{Bor}
 use Rattle.std.specs.Prelude.{◌≢◌, ◌==◌, Ok, IfSome, IfNone, bytes_eq}

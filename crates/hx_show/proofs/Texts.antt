@@ -4,7 +4,7 @@ use Rattle.std.specs.Prelude.{◌≢◌, IfSome, OnErr, Result, Ok, Err}
 use Rattle.std.specs.Io.{StopsAt}
 use Rattle.std.specs.Io.KnownBytes.{Consumes, Appends}
 use Rattle.std.specs.Io.BufRead.{take_through}
-use Rattle.std.proofs.KnownBytes.{Consumes-trans, Consumes-nil, Appends-trans, Appends-nil}
+use Rattle.std.proofs.KnownBytes.{Consumes-trans, Appends-trans, Appends-nil}
 use Rattle.std.proofs.lemmas.Bool.{ne_eqb, eqb-true, cond-true, cond-false, cases_Bool}
 use Rattle.std.proofs.lemmas.List.{append-nil, nil_from_length, length-append, take-append-le, take_all}
 use Rattle.std.proofs.lemmas.List.Elements.{All-nil, All-head, All-tail, All-push}
@@ -32,7 +32,7 @@ pub shown_last : (choice : Choice) (l : List ℕ) → Lacks 10 l → 0 < length 
 shown_last choice [] p some = absurd (omega (arith, some))
 shown_last choice (b ∷ l) p some = rw (line_last b l p) (append-nil (shown_line choice (b ∷ l)))
 
--- what a reader takes to a line feed is all, where it has none
+-- what a reader takes to a line feed is all, if it has none
 pub take_through_all : (xs : List ℕ) → Lacks 10 (take_through 10 xs) → xs ≡ take_through 10 xs
 take_through_all [] p = refl
 take_through_all (x ∷ xs) p = elim (cases_Bool (eqb x 10)) [
@@ -54,9 +54,6 @@ pub record SoFar (choice : Choice) (r s w v : Option (List ℕ)) : Type 0 where
   pub written : List ℕ
   pub wrote : Appends w v written
   pub whole : (more : List ℕ) → shown choice (text ++ more) ≡ written ++ shown choice more
-
-pub starts_so : (choice : Choice) (r w : Option (List ℕ)) → SoFar choice r r w w
-starts_so choice r w = record { text = []; read = Consumes-nil r; written = []; wrote = Appends-nil w; whole = λ more. refl }
 
 -- one line more
 pub so_far_more : (choice : Choice) (r s s' w v v' : Option (List ℕ)) (line : List ℕ) → SoFar choice r s w v → Lacks 10 line → Consumes s s' (line ++ 10 ∷ []) → Appends v v' (shown_line choice line) → SoFar choice r s' w v'
@@ -80,7 +77,7 @@ all_after (Some xs) (Some ys) text bytes read all = read ∙ ap (λ (x : List �
 
 -- ---- a fault
 
--- bytes behind a text, whose words are words behind its words
+-- bytes after a text, whose words come after its words
 pub shows_some : (choice : Choice) (r s s' w v v' : Option (List ℕ)) (part front rest : List ℕ) → (f : SoFar choice r s w v) → Consumes s s' part → shown choice (f.text ++ part) ≡ f.written ++ (front ++ rest) → Appends v v' front → ShowsSome choice r s' w v'
 shows_some choice r s s' w v v' part front rest f read words wrote = record {
   text = f.text ++ part;
@@ -102,10 +99,6 @@ lacks_front front b stops =
     let size : length (front ++ b ∷ []) - 1 ≡ length front = omega (arith, length-append front (b ∷ [])) in
     let same : take (length (front ++ b ∷ []) - 1) (front ++ b ∷ []) ≡ front = ap (λ (n : ℕ). take n (front ++ b ∷ [])) size ∙ take-append-le (length front) front (b ∷ []) (omega arith) ∙ take_all (length front) front (omega arith) in
     subst (Lacks 10) same stops
-
-pub cut_empty : (line : List ℕ) → length line ≡ 0 → IsCut line line false
-cut_empty [] none = record { line_is = refl; lacks = All-nil (λ n. n ≢ 10) }
-cut_empty (x ∷ xs) none = absurd (omega (arith, none))
 
 pub cut_fed : (line front : List ℕ) (b : ℕ) → StopsAt line 10 → line ≡ front ++ b ∷ [] → b ≡ 10 → IsCut line front true
 cut_fed line front b stops is feed = record {

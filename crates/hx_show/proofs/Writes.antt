@@ -1,12 +1,8 @@
 -- What a writer has taken so far.
-use Rattle.std.proofs.Common.{◌≡◌, ℕ, List, [], ◌++◌, length, take, drop, Option, refl, sym, ap, ◌∙◌, subst, append_assoc, take-append-drop}
+use Rattle.std.proofs.Common.{◌≡◌, ℕ, List, [], ◌++◌, take, drop, Option, sym, ap, ◌∙◌, append_assoc, take-append-drop}
 use Rattle.std.specs.Io.KnownBytes.{Appends, Keeps}
-use Rattle.std.proofs.KnownBytes.{Appends-nil, Appends-trans, Appends-kept}
-use Rattle.std.proofs.lemmas.List.{append-nil, nil_from_length}
+use Rattle.std.proofs.KnownBytes.{Appends-trans, Appends-kept}
 use Rattle.hx_show.specs.Showing.{Writes}
-
-pub writes_none : (w : Option (List ℕ)) (bytes : List ℕ) → Writes w w bytes bytes
-writes_none w bytes = record { front = []; bytes_are = refl; wrote = Appends-nil w }
 
 pub writes_more : (a b c : Option (List ℕ)) (bytes rest : List ℕ) (n : ℕ) → Writes a b bytes rest → Appends b c (take n rest) → Writes a c bytes (drop n rest)
 writes_more a b c bytes rest n h more = record {
@@ -15,10 +11,5 @@ writes_more a b c bytes rest n h more = record {
   wrote = Appends-trans a b c h.front (take n rest) h.wrote more;
 }
 
-pub writes_kept : (a b c : Option (List ℕ)) (bytes rest : List ℕ) → Writes a b bytes rest → Keeps b c → Writes a c bytes rest
-writes_kept a b c bytes rest h kept = record { front = h.front; bytes_are = h.bytes_are; wrote = Appends-kept a b c h.front h.wrote kept }
-
-pub writes_all : (a b : Option (List ℕ)) (bytes rest : List ℕ) → Writes a b bytes rest → length rest ≡ 0 → Appends a b bytes
-writes_all a b bytes rest h none =
-    let same : h.front ≡ bytes = sym (append-nil h.front) ∙ ap (λ (x : List ℕ). h.front ++ x) (sym (nil_from_length rest none)) ∙ sym h.bytes_are in
-    subst (Appends a b) same h.wrote
+pub writes_retained : (a b c : Option (List ℕ)) (bytes rest : List ℕ) → Writes a b bytes rest → Keeps b c → Writes a c bytes rest
+writes_retained a b c bytes rest h retained = record { front = h.front; bytes_are = h.bytes_are; wrote = Appends-kept a b c h.front h.wrote retained }

@@ -6,7 +6,7 @@ use Rattle.hx_text.specs.Spaces.{spaces}
 abbrev pub gap : List ℕ
 gap = codes "  "
 
--- a text in a column of this width, filled with spaces on its right, and the gap behind it
+-- a text in a column of this width, filled with spaces on its right, and the gap after it
 abbrev pub column : (width : ℕ) (text : List ℕ) → List ℕ
 column width text = text ++ (spaces (width - length text) ++ gap)
 
@@ -14,7 +14,7 @@ column width text = text ++ (spaces (width - length text) ++ gap)
 abbrev pub time_width : ℕ
 time_width = 18
 
--- the width of who it is: `member 4095 reply 1000000`
+-- the width of the sender or receiver: `member 4095 reply 1000000`
 abbrev pub who_width : ℕ
 who_width = 25
 

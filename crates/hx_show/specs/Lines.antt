@@ -26,7 +26,7 @@ use Rattle.hx_show.specs.Operators.{unreadable_message, event_message}
 
 -- ---- What a line says
 
--- a text cut at the first such byte: what stands before it, and behind it
+-- a text cut at the first such byte: what comes before it, and after it
 abbrev pub cut : (byte : ℕ) → List ℕ → Option (List ℕ × List ℕ)
 cut byte [] = None
 cut byte (b ∷ text) =
@@ -84,7 +84,7 @@ line_of_words first second others =
     then option_and_then (λ p. reply_line second p.0 p.1) (cut space others)
     else tape_line first second others
 
--- what a line is, where it is one
+-- what a line is, if it is one
 abbrev pub line_of : List ℕ → Option Parsed
 line_of line =
     option_and_then (λ p. option_and_then (λ q. line_of_words p.0 q.0 q.1) (cut space p.1))
@@ -92,7 +92,7 @@ line_of line =
 
 -- ---- Its words
 
--- a line of words: when, who, and what
+-- a line of words: time, sender or receiver, and message
 abbrev pub row : (time who message : List ℕ) → List ℕ
 row time who message = column time_width time ++ (column who_width who ++ message)
 
@@ -100,7 +100,7 @@ row time who message = column time_width time ++ (column who_width who ++ messag
 abbrev pub unreadable_line : List ℕ
 unreadable_line = codes "unreadable line"
 
--- who sent an event
+-- the sender of an event
 abbrev pub sender : ℕ → List ℕ
 sender member =
     if member == 0 then codes "operator" else codes "member " ++ decimal member

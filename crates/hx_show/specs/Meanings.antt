@@ -1,4 +1,4 @@
--- What the letters of fields mean, in words; nothing where a letter means nothing.
+-- What the letters of fields mean, in words; nothing if a letter means nothing.
 use Rattle.std.specs.Prelude.{ℕ, ◌==◌, if◌then◌else◌, List, [], codes}
 use Rattle.hx_units.specs.Letters.{letter}
 use Rattle.hx_show.specs.declared.label.Label.{Label}

@@ -56,7 +56,7 @@ or_else first second = if length first == 0 then second else first
 abbrev pub letter_words : Label → ℕ → List ℕ
 letter_words l c = or_else (meaning l c) (labelled l (name_words (c ∷ [])))
 
--- how an order is displayed: it is hidden where it asks for that, and where it never rests
+-- how an order is displayed: it is hidden if it asks for that, and if it never rests
 abbrev pub display_words : (display time_in_force : ℕ) → List ℕ
 display_words display time_in_force =
     if is_shown display time_in_force

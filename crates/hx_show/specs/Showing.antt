@@ -14,7 +14,7 @@ abbrev pub in_front : ℕ → List (List ℕ) → List (List ℕ)
 in_front b [] = (b ∷ []) ∷ []
 in_front b (line ∷ lines) = (b ∷ line) ∷ lines
 
--- the lines of a text, without their line feeds; what stands behind the last line feed is one too
+-- the lines of a text, without their line feeds; what follows the last line feed is one too
 abbrev pub lines_in : List ℕ → List (List ℕ)
 lines_in [] = []
 lines_in (b ∷ text) = if b == line_feed then [] ∷ lines_in text else in_front b (lines_in text)
@@ -23,11 +23,11 @@ lines_in (b ∷ text) = if b == line_feed then [] ∷ lines_in text else in_fron
 abbrev pub shown : Choice → List ℕ → List ℕ
 shown choice text = flat_map (shown_line choice) (lines_in text)
 
--- these are all the bytes, where they are known
+-- these are all the bytes, if they are known
 abbrev pub IsAllOf : Option (List ℕ) → List ℕ → Type 0
 IsAllOf known bytes = IfSome known (λ xs. xs ≡ bytes)
 
--- a line was read, with its line feed if it has one; it is empty where nothing was left
+-- a line was read, with its line feed if it has one; it is empty if nothing was left
 pub record ReadsLine (r s : Option (List ℕ)) (line : List ℕ) : Type 0 where
   pub stops : StopsAt line line_feed
   pub read : Consumes r s line

@@ -4,7 +4,7 @@ use Rattle.std.specs.Fmt.{decimal}
 use Rattle.hx_units.specs.Letters.{letter}
 use Rattle.hx_text.specs.Spaces.{trimmed}
 
--- a number in decimal with this many digits or more, filled with noughts in front
+-- a number in decimal with at least `width` digits, filled with noughts in front
 abbrev pub zero_filled : (width number : ℕ) → List ℕ
 zero_filled width number =
     replicate (width - length (decimal number)) (letter "0") ++ decimal number
@@ -17,7 +17,7 @@ time_of_day t =
     ++ (codes ":" ++ (zero_filled 2 (t / 1000000000 % 60)
     ++ (codes "." ++ zero_filled 9 (t % 1000000000))))))
 
--- this many shares
+-- a number of shares
 abbrev pub shares_words : ℕ → List ℕ
 shares_words n = decimal n ++ codes " shares"
 
@@ -26,7 +26,7 @@ abbrev pub dollars_words : ℕ → List ℕ
 dollars_words n =
     decimal (n / 10000) ++ (codes "." ++ (zero_filled 4 (n % 10000) ++ codes " dollars"))
 
--- a byte as it is written: itself where it is printable ASCII, else a question mark
+-- a byte as it is written: itself if it is printable ASCII, else a question mark
 abbrev pub printable : ℕ → ℕ
 printable b = if nat_le 32 b && nat_le b 126 then b else letter "?"
 

@@ -12,7 +12,7 @@ pub enum Choice {
     All,
     /// The messages of the feed.
     Feed,
-    /// What a member sent, and the replies to him.
+    /// The messages of a member, and the replies to it.
     Member(MemberNo),
 }
 

@@ -7,7 +7,7 @@ ghost use Rattle.hx_show.specs.Lines.{is_chosen, line_words, shown_line};
 ghost use Rattle.hx_show.specs.Spelling.{IsHead, IsMessage, spelling};
 
 /// The one line that is spelled for a message, on a tape or in an output, is shown as what it says; no other words are
-/// written for it, and none where it is not chosen.
+/// written for it, and none if it is not chosen.
 #[tactic(auto, using(crate::proofs::Spelled::shown_as_said))]
 pub fn lines_are_read()
     ensures { (choice : Choice) (h : Head) (bytes : List ℕ) → IsHead h → IsMessage bytes

@@ -7,7 +7,7 @@ use crate::reading::{cut, number_of};
 /// What a line is.
 #[derive(Clone, Copy)]
 pub enum Head {
-    /// A line of a tape: when, in nanoseconds since midnight, and who; the operator has number 0.
+    /// A line of a tape: the time, in nanoseconds since midnight, and the sender; the operator has number 0.
     Sent { time: u64, member: u64 },
     /// A message of the feed.
     OfFeed { number: u64 },
@@ -82,7 +82,7 @@ fn line_of_words<'a>(first: &[u8], second: &[u8], others: &'a [u8]) -> Option<Pa
     tape_line(first, second, others)
 }
 
-/// What a line is, where it is one.
+/// What a line is, if it is one.
 pub fn line_of(line: &[u8]) -> Option<Parsed<'_>>
     ensures some { IfSome result (λ p. line_of line.now
         ≡ Some (record { head = p.head; digits = p.digits.now })) }

@@ -1,4 +1,4 @@
-//! What the letters of fields mean, in words; nothing where a letter means nothing.
+//! What the letters of fields mean, in words; nothing if a letter means nothing.
 ghost use Rattle.std.specs.Prelude.{◌≡◌};
 ghost use Rattle.hx_show.specs.Meanings.{side, liquidity, cancel_reason, reject_reason, break_reason, day_event, hours_event, trading_state, meaning};
 

@@ -11,7 +11,7 @@ use hx_rules::is_shown;
 use hx_units::{Firm, Symbol, Token};
 use std::alloc::AllocError;
 
-/// A field of a message, as it is told in words.
+/// A field of a message, as it is shown in words.
 #[derive(Clone, Copy)]
 pub enum Part {
     /// A member's name of an order.
@@ -22,13 +22,13 @@ pub enum Part {
     Firm(Firm),
     /// The reason of a halt.
     Reason([u8; 4]),
-    /// A letter, told by what it means.
+    /// A letter, shown by what it means.
     Letter(Label, u8),
     /// A number without a unit.
     Number(Label, u64),
-    /// This many shares.
+    /// A number of shares.
     Shares(u32),
-    /// This many shares of a kind.
+    /// A number of shares of a kind.
     Counted(Label, u32),
     /// A price, in units of 1/10,000 dollar.
     Price(u32),
@@ -38,7 +38,7 @@ pub enum Part {
     TimeInForce(u32),
 }
 
-// Appends a label and the space behind it.
+// Appends a label and the space after it.
 fn put_label(out: &mut Vec<u8>, label: Label) -> Result<(), AllocError>
     ensures { OnOk result (out.new.items ≡ out.old.items ++ labelled label (codes "")) }
 {

@@ -11,7 +11,7 @@ use std::alloc::Global;
 // The most digits of a message: those of 1,023 bytes.
 const MOST_DIGITS: usize = 2046;
 
-/// What stands before the first space, and behind it.
+/// What comes before the first space, and after it.
 pub fn cut(text: &[u8]) -> Option<(&[u8], &[u8])>
     ensures some { IfSome result (λ p. cut 32 text.now ≡ Some (p.0.now, p.1.now)) }
     ensures none { IfNone result (cut 32 text.now ≡ None) }

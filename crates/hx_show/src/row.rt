@@ -1,4 +1,4 @@
-//! The words of a line: when, who, and what.
+//! The words of a line: time, sender or receiver, and message.
 ghost use Rattle.std.specs.Prelude.{◌≡◌, ◌++◌, OnOk, IfOk};
 ghost use Rattle.hx_show.specs.Columns.{column, time_width};
 ghost use Rattle.hx_show.specs.Units.{time_of_day};
@@ -29,7 +29,7 @@ fn put_when(alloc: Global, out: &mut Vec<u8>, time: u64) -> Result<(), AllocErro
     put_column(out, TIME_WIDTH, &text)
 }
 
-// Who sent an event: the operator has number 0.
+// The sender of an event: the operator has number 0.
 fn sender(alloc: Global, member: u64) -> Result<Vec<u8>, AllocError>
     ensures { IfOk result (λ who. who.items ≡ sender member) }
 {

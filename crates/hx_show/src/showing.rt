@@ -11,7 +11,7 @@ use crate::writing::write_whole;
 use std::alloc::Global;
 use std::io::{BufRead, ErrorKind, Write};
 
-// Reads the next line into the place of what stood in `line`, with its line feed if it has one.
+// Reads the next line into `line`, over its former content, with its line feed if it has one.
 fn read_line<R: BufRead>(reader: &mut R, line: &mut Vec<u8>) -> Result<(), ShowError>
     ensures ok { OnOk result (ReadsLine (R.remaining reader.old) (R.remaining reader.new)
         line.new.items) }
@@ -42,9 +42,9 @@ fn without_feed(line: &[u8]) -> (&[u8], bool)
     (line, false)
 }
 
-/// Shows a tape, or the output of a replay, in words: reads it to its end, and writes for each line that is chosen when
-/// it was, who it was, the message by its name in the standard, and its fields with their units. The last line may lack
-/// its line feed.
+/// Shows a tape, or the output of a replay, in words: reads it to its end, and writes for each line that is chosen the
+/// time, the sender or receiver, the message by its name in the standard, and its fields with their units. The last
+/// line may lack its line feed.
 pub fn show<R: BufRead, W: Write>(
     alloc: Global,
     reader: &mut R,

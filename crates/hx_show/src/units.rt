@@ -16,7 +16,7 @@ pub fn put_number(out: &mut Vec<u8>, number: u64) -> Result<(), AllocError>
     out.extend_from_slice(buffer.format(number).as_bytes())
 }
 
-/// Appends a number in decimal with this many digits or more, filled with noughts in front.
+/// Appends a number in decimal with at least `width` digits, filled with noughts in front.
 fn put_zero_filled(out: &mut Vec<u8>, width: usize, number: u64) -> Result<(), AllocError>
     ensures { OnOk result (out.new.items ≡ out.old.items ++ zero_filled width number) }
 {
@@ -39,7 +39,7 @@ pub fn put_time(out: &mut Vec<u8>, time: u64) -> Result<(), AllocError>
     put_zero_filled(out, 9, time % 1_000_000_000)
 }
 
-/// Appends this many shares.
+/// Appends a number of shares.
 pub fn put_shares(out: &mut Vec<u8>, shares: u32) -> Result<(), AllocError>
     ensures { OnOk result (out.new.items ≡ out.old.items ++ shares_words shares) }
 {
@@ -57,7 +57,7 @@ pub fn put_dollars(out: &mut Vec<u8>, units: u32) -> Result<(), AllocError>
     out.extend_from_slice(b" dollars")
 }
 
-// A byte as it is written: itself where it is printable ASCII, else a question mark.
+// A byte as it is written: itself if it is printable ASCII, else a question mark.
 fn printable(byte: u8) -> u8
     ensures { result ≡ printable byte }
 {

@@ -6,7 +6,7 @@ ghost use Rattle.hx_show.specs.Showing.{Writes};
 use crate::fault::ShowError;
 use std::io::{ErrorKind, Write};
 
-/// Writes the bytes. Where it fails, a front of them was written.
+/// Writes the bytes. If it fails, a front of them was written.
 pub fn write_whole<W: Write>(writer: &mut W, bytes: &[u8]) -> Result<(), ShowError>
     ensures ok { OnOk result (Appends (W.contents writer.old) (W.contents writer.new) bytes.now) }
     ensures err { OnErr result (

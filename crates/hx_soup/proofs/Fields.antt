@@ -1,4 +1,4 @@
--- A login is read from its payload exactly where the payload is its fields.
+-- A login is read from its payload exactly if the payload is its fields.
 use Rattle.std.proofs.Common.{◌≡◌, ℕ, ◌+◌, ◌≤◌, List, ◌++◌, length, drop, refl, sym, ap, ◌∙◌, subst, arith}
 use Rattle.std.proofs.lemmas.List.{length-take, length-drop}
 use Rattle.hx_units.specs.Fields.{text_at}
@@ -6,7 +6,7 @@ use Rattle.hx_units.proofs.FieldLaws.{cells, by_cells}
 use Rattle.hx_soup.specs.declared.login.LoginRequest.{LoginRequest}
 use Rattle.hx_soup.specs.Logins.{SpellsNumber, IsLogin}
 
--- what stands at the places of a login
+-- the fields of a login at their offsets
 abbrev pub fields : List ℕ → ℕ → LoginRequest
 fields payload n = record { user = text_at 0 6 payload; password = text_at 6 10 payload; session = text_at 16 10 payload; sequence = n }
 

@@ -23,8 +23,8 @@ whole_join stream x rest tail ps qs first next =
     ∙ sym (append_assoc (stream_of ps) (stream_of qs) tail) ∙ ap (λ (s : List ℕ). s ++ tail) (sym (flat_map-append packet_bytes ps qs))
 
 reads_join : (stream x rest : List ℕ) (ps qs : List SoupPacket) (new : Option (List ℕ)) → Cuts stream ps rest → Reads (rest ++ x) qs new → Reads (stream ++ x) (ps ++ qs) new
-reads_join stream x rest ps qs (Some kept) c r = record {
-  whole = whole_join stream x rest kept ps qs c.whole r.whole;
+reads_join stream x rest ps qs (Some retained) c r = record {
+  whole = whole_join stream x rest retained ps qs c.whole r.whole;
   each = All-append IsPacket ps qs c.each r.each;
   unfinished = r.unfinished;
 }
@@ -54,8 +54,8 @@ fault_join stream x ps bad f = record {
 
 -- ---- the pieces
 
-same_kept : (a b : List ℕ) → Some a ≡ Some b → a ≡ b
-same_kept a b e = cc
+same_retained : (a b : List ℕ) → Some a ≡ Some b → a ≡ b
+same_retained a b e = cc
 
 not_failed : (a : List ℕ) → Some a ≡ None → ⊥
 not_failed a e = cc
@@ -64,38 +64,38 @@ none_after : (pieces : List (List ℕ)) (packets : List SoupPacket) (new : Optio
 none_after [] packets new g = (g.1, g.0)
 none_after (piece ∷ pieces) packets new (between, first, others, g, rest, is) =
     elim g [
-      | inl t ↦ absurd (not_failed t.kept (sym t.was))
+      | inl t ↦ absurd (not_failed t.retained (sym t.was))
       | inr i ↦ elim i [
-        | inl s ↦ absurd (not_failed s.1.kept (sym s.1.was))
+        | inl s ↦ absurd (not_failed s.1.retained (sym s.1.was))
         | inr failed ↦
             let r = none_after pieces others new (subst (λ (o : Option (List ℕ)). GivesAll o new pieces others) failed.1 rest) in
             (is ∙ ap (λ (ps : List SoupPacket). ps ++ others) failed.2 ∙ r.0, r.1)
       ]
     ]
 
--- the first piece behind the bytes kept, and the pieces after it
-first_piece : (kept piece tail : List ℕ) (packets : List SoupPacket) (new : Option (List ℕ)) → Reads ((kept ++ piece) ++ tail) packets new → Reads (kept ++ (piece ++ tail)) packets new
-first_piece kept piece tail packets new r = subst (λ (s : List ℕ). Reads s packets new) (append_assoc kept piece tail) r
+-- the first piece after the bytes retained, and the pieces after it
+first_piece : (retained piece tail : List ℕ) (packets : List SoupPacket) (new : Option (List ℕ)) → Reads ((retained ++ piece) ++ tail) packets new → Reads (retained ++ (piece ++ tail)) packets new
+first_piece retained piece tail packets new r = subst (λ (s : List ℕ). Reads s packets new) (append_assoc retained piece tail) r
 
-reads_all : (kept : List ℕ) (pieces : List (List ℕ)) (packets : List SoupPacket) (new : Option (List ℕ)) → IsUnfinished kept → GivesAll (Some kept) new pieces packets → Reads (kept ++ concat pieces) packets new
-reads_all kept [] packets new u (is, none) =
-    let P : List SoupPacket → Option (List ℕ) → Type 0 = λ ps o. Reads (kept ++ []) ps o in
-    let c : Reads (kept ++ []) [] (Some kept) = subst (λ (s : List ℕ). Cuts s [] kept) (sym (append-nil kept)) (cuts_none kept u) in
-    subst (λ (o : Option (List ℕ)). P packets o) (sym is) (subst (λ (ps : List SoupPacket). P ps (Some kept)) (sym none) c)
-reads_all kept (piece ∷ pieces) packets new u (between, first, others, g, rest, is) =
-    subst (λ (ps : List SoupPacket). Reads (kept ++ (piece ++ concat pieces)) ps new) (sym is) (first_piece kept piece (concat pieces) (first ++ others) new (elim g [
+reads_all : (retained : List ℕ) (pieces : List (List ℕ)) (packets : List SoupPacket) (new : Option (List ℕ)) → IsUnfinished retained → GivesAll (Some retained) new pieces packets → Reads (retained ++ concat pieces) packets new
+reads_all retained [] packets new u (is, none) =
+    let P : List SoupPacket → Option (List ℕ) → Type 0 = λ ps o. Reads (retained ++ []) ps o in
+    let c : Reads (retained ++ []) [] (Some retained) = subst (λ (s : List ℕ). Cuts s [] retained) (sym (append-nil retained)) (cuts_none retained u) in
+    subst (λ (o : Option (List ℕ)). P packets o) (sym is) (subst (λ (ps : List SoupPacket). P ps (Some retained)) (sym none) c)
+reads_all retained (piece ∷ pieces) packets new u (between, first, others, g, rest, is) =
+    subst (λ (ps : List SoupPacket). Reads (retained ++ (piece ++ concat pieces)) ps new) (sym is) (first_piece retained piece (concat pieces) (first ++ others) new (elim g [
       | inl t ↦
-          let cut : Cuts (kept ++ piece) first t.rest = subst (λ (k : List ℕ). Cuts (k ++ piece) first t.rest) (same_kept t.kept kept (sym t.was)) t.cuts in
-          reads_join (kept ++ piece) (concat pieces) t.rest first others new cut
+          let cut : Cuts (retained ++ piece) first t.rest = subst (λ (k : List ℕ). Cuts (k ++ piece) first t.rest) (same_retained t.retained retained (sym t.was)) t.cuts in
+          reads_join (retained ++ piece) (concat pieces) t.rest first others new cut
           (reads_all t.rest pieces others new cut.unfinished (subst (λ (o : Option (List ℕ)). GivesAll o new pieces others) t.is rest))
       | inr i ↦ elim i [
         | inl s ↦
             let none = none_after pieces others new (subst (λ (o : Option (List ℕ)). GivesAll o new pieces others) s.1.is rest) in
-            let f : HasFault (kept ++ piece) first s.0 = subst (λ (k : List ℕ). HasFault (k ++ piece) first s.0) (same_kept s.1.kept kept (sym s.1.was)) s.1.fault in
-            let r : Reads ((kept ++ piece) ++ concat pieces) first None = (s.0, fault_join (kept ++ piece) (concat pieces) first s.0 f) in
-            subst (λ (o : Option (List ℕ)). Reads ((kept ++ piece) ++ concat pieces) (first ++ others) o) (sym none.1)
-            (subst (λ (ps : List SoupPacket). Reads ((kept ++ piece) ++ concat pieces) ps None) (sym (ap (λ (ps : List SoupPacket). first ++ ps) none.0 ∙ append-nil first)) r)
-        | inr failed ↦ absurd (not_failed kept failed.0)
+            let f : HasFault (retained ++ piece) first s.0 = subst (λ (k : List ℕ). HasFault (k ++ piece) first s.0) (same_retained s.1.retained retained (sym s.1.was)) s.1.fault in
+            let r : Reads ((retained ++ piece) ++ concat pieces) first None = (s.0, fault_join (retained ++ piece) (concat pieces) first s.0 f) in
+            subst (λ (o : Option (List ℕ)). Reads ((retained ++ piece) ++ concat pieces) (first ++ others) o) (sym none.1)
+            (subst (λ (ps : List SoupPacket). Reads ((retained ++ piece) ++ concat pieces) ps None) (sym (ap (λ (ps : List SoupPacket). first ++ ps) none.0 ∙ append-nil first)) r)
+        | inr failed ↦ absurd (not_failed retained failed.0)
       ]
     ]))
 

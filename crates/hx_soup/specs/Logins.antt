@@ -8,8 +8,8 @@ use Rattle.hx_soup.specs.declared.login.LoginRequest.{LoginRequest}
 pub record SpellsNumber (text : List ℕ) (n : ℕ) : Type 0 where
   pub before : ℕ
   pub digits : List ℕ
-  pub behind : ℕ
-  pub whole : text ≡ spaces before ++ (digits ++ spaces behind)
+  pub after : ℕ
+  pub whole : text ≡ spaces before ++ (digits ++ spaces after)
   pub are_digits : AllDigits 10 digits
   pub value : n ≡ digits_value 10 digits
   pub fits : n < 2 ^ 64

@@ -33,36 +33,36 @@ pub enum FramerError {
     Failed,
 }
 
-/// Takes the packets out of a stream that comes in pieces (SoupBinTCP 3.00, Logical Packets). It keeps the
-/// bytes of at most one unfinished packet. Contracts see it as these bytes, or as None once it has failed.
+/// Takes the packets out of a stream that comes in pieces (SoupBinTCP 3.00, Logical Packets). It retains the bytes of
+/// at most one unfinished packet. Contracts see it as these bytes, or as None once it has failed.
 #[derive(Drop)]
 pub struct Framer {
-    kept: ArrayVec<u8, 1026>,
+    retained: ArrayVec<u8, 1026>,
     failed: bool,
 }
 
 impl Model for Framer {
     ghost Value = { Option (List ℕ) };
 
-    ghost view = { λ f. if f.failed then None else Some f.kept.items };
+    ghost view = { λ f. if f.failed then None else Some f.retained.items };
 
-    ghost invariant = { λ f. IsUnfinished f.kept.items };
+    ghost invariant = { λ f. IsUnfinished f.retained.items };
 }
 
 impl Framer {
-    /// A framer of a new stream, which keeps nothing. It takes no memory.
+    /// A framer of a new stream, which retains nothing. It takes no memory.
     pub fn new() -> Self
         ensures { result ≡ Some [] }
     {
         Framer {
-            kept: ArrayVec::new(),
+            retained: ArrayVec::new(),
             failed: false,
         }
     }
 
-    /// The packets that are whole with this piece of the stream, in order. A length of 0 or above 1,024 is a
-    /// fault: the framer fails, and answers `Failed` from then on. It takes memory for these packets; where there
-    /// is none, the framer is as it was. A piece that completes no packet takes no memory.
+    /// The packets that are whole with this piece of the stream, in order. A length of 0 or above 1,024 is a fault: the
+    /// framer fails, and answers `Failed` from then on. It takes memory for these packets; if there is none, the framer
+    /// is as it was. A piece that completes no packet takes no memory.
     pub fn feed(&mut self, alloc: Global, piece: &[u8]) -> Result<Vec<SoupPacket>, FramerError>
         ensures ok { IfOk result (λ packets. Takes self.old self.new piece.now packets.items) }
         ensures err { IfErr result (Fails self.old self.new piece.now) }
@@ -70,11 +70,11 @@ impl Framer {
         if self.failed {
             return Err(FramerError::Failed);
         }
-        let mut kept = ArrayVec::new();
-        put(&mut kept, self.kept.as_slice());
-        let taken = take_piece(alloc, &mut kept, piece);
+        let mut retained = ArrayVec::new();
+        put(&mut retained, self.retained.as_slice());
+        let taken = take_piece(alloc, &mut retained, piece);
         match &taken {
-            Ok(_) => self.kept = kept,
+            Ok(_) => self.retained = retained,
             Err(FramerError::NoMemory) => {}
             Err(_) => self.failed = true,
         }
@@ -82,21 +82,21 @@ impl Framer {
     }
 }
 
-// The packets of a piece behind the bytes that are kept.
+// The packets of a piece after the bytes that are retained.
 fn take_piece(
     alloc: Global,
-    kept: &mut ArrayVec<u8, 1026>,
+    retained: &mut ArrayVec<u8, 1026>,
     piece: &[u8],
 ) -> Result<Vec<SoupPacket>, FramerError>
-    requires { IsUnfinished kept.old.items }
+    requires { IsUnfinished retained.old.items }
     ensures ok { IfOk result (λ packets.
-        Cuts (kept.old.items ++ piece.now) packets.items kept.new.items) }
-    ensures err { IfErr result (Ends (kept.old.items ++ piece.now)) }
+        Cuts (retained.old.items ++ piece.now) packets.items retained.new.items) }
+    ensures err { IfErr result (Ends (retained.old.items ++ piece.now)) }
 {
     let mut packets = Vec::new(alloc);
     let mut at = 0;
     while at < piece.len() {
-        match advance(kept, &piece[at..]) {
+        match advance(retained, &piece[at..]) {
             Step::More => at += 1,
             Step::Whole(packet, count) => {
                 let Ok(()) = packets.push(packet) else {

@@ -26,8 +26,8 @@ pub fn cut_or_fault()
         Cuts stream packets rest → HasFault stream before length → ⊥ }
 {}
 
-/// It does not matter how a stream was cut into pieces: a new framer gives the same packets in all, and keeps
-/// the same bytes or has failed, where memory is ample.
+/// It does not matter how a stream was cut into pieces: a new framer gives the same packets in all, and retains the
+/// same bytes or has failed, if memory is ample.
 pub fn any_pieces()
     ensures { (pieces others : List (List ℕ)) (packets more : List SoupPacket)
         (new other : Option (List ℕ)) → concat pieces ≡ concat others

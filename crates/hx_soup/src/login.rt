@@ -12,7 +12,8 @@ use hx_units::fields::array_at;
 use std::fmt::{self, Debug, Formatter, Write};
 use std::str;
 
-/// Who logs in, and from which number on he wants sequenced messages (SoupBinTCP 3.00, Login Request Packet).
+/// The user that logs in, and the number from which on it wants sequenced messages (SoupBinTCP 3.00, Login Request
+/// Packet).
 #[derive(Clone, Copy, PartialEq, Eq)]
 pub struct LoginRequest {
     /// The user name, filled with spaces (Username).
@@ -36,9 +37,9 @@ impl Debug for LoginRequest {
     }
 }
 
-/// The login that the payload of a packet is, or none where it is none: where it is not 46 bytes long, and
-/// where its last 20 are not spaces, digits and spaces that spell a number below 2^64 (SoupBinTCP 3.00, Login
-/// Request Packet). It takes no memory.
+/// The login that the payload of a packet is, or none if it is none: if it is not 46 bytes long, and if its last 20 are
+/// not spaces, digits and spaces that spell a number below 2^64 (SoupBinTCP 3.00, Login Request Packet). It takes no
+/// memory.
 pub fn decode_login(payload: &[u8]) -> Option<LoginRequest>
     ensures found { IfSome result (IsLogin payload.now) }
     ensures only { (login : LoginRequest) → IsLogin payload.now login → result ≡ Some login }
@@ -63,7 +64,7 @@ fn read_number(text: &[u8]) -> Option<u64>
     read_digits(trimmed(text))
 }
 
-// The number that digits spell, 0 where there is none.
+// The number that digits spell, 0 if there is none.
 fn read_digits(digits: &[u8]) -> Option<u64>
     ensures { SomeIff result
         (AllDigits 10 digits.now × (digits_value 10 digits.now < 2 ^ 64))

@@ -22,19 +22,19 @@ pub(crate) enum Step {
     Fault(u16),
 }
 
-/// Takes bytes of a piece, at least one of them, behind those of an unfinished packet. A packet that stands whole in the
-/// piece is taken at once. Behind a whole packet nothing is kept.
-pub(crate) fn advance(kept: &mut ArrayVec<u8, 1026>, piece: &[u8]) -> Step
+/// Takes bytes of a piece, at least one of them, after those of an unfinished packet. A packet that is whole in the
+/// piece is taken at once. After a whole packet nothing is retained.
+pub(crate) fn advance(retained: &mut ArrayVec<u8, 1026>, piece: &[u8]) -> Step
     requires some { 0 < length piece.now }
-    requires unfinished { IsUnfinished kept.old.items }
-    ensures { Steps kept.old.items kept.new.items piece.now result }
+    requires unfinished { IsUnfinished retained.old.items }
+    ensures { Steps retained.old.items retained.new.items piece.now result }
 {
-    if kept.is_empty() {
+    if retained.is_empty() {
         if let Some(size) = whole_size(piece) {
             return Step::Whole(read_packet(&piece[..size]), size);
         }
     }
-    add(kept, piece[0])
+    add(retained, piece[0])
 }
 
 // The size of the packet that stands whole in front.
@@ -53,12 +53,12 @@ fn whole_size(bytes: &[u8]) -> Option<usize>
 }
 
 // Adds a byte to those of an unfinished packet.
-fn add(kept: &mut ArrayVec<u8, 1026>, byte: u8) -> Step
-    requires { IsUnfinished kept.old.items }
-    ensures { Adds kept.old.items kept.new.items byte result }
+fn add(retained: &mut ArrayVec<u8, 1026>, byte: u8) -> Step
+    requires { IsUnfinished retained.old.items }
+    ensures { Adds retained.old.items retained.new.items byte result }
 {
-    kept.push(byte);
-    let bytes = kept.as_slice();
+    retained.push(byte);
+    let bytes = retained.as_slice();
     if bytes.len() < 2 {
         return Step::More;
     }
@@ -70,7 +70,7 @@ fn add(kept: &mut ArrayVec<u8, 1026>, byte: u8) -> Step
         return Step::More;
     }
     let packet = read_packet(bytes);
-    kept.clear();
+    retained.clear();
     Step::Whole(packet, 1)
 }
 

@@ -26,24 +26,24 @@ use Rattle.hx_replay.proofs.OneReading.{line_no_feed, tape-cons}
 use Rattle.hx_replay.proofs.Runs.{tape-append}
 use Rattle.hx_replay.proofs.Strikes.{recorded}
 
--- the line whose tokens stand at a place, and the next place
+-- the line whose tokens are at an index, and the next index
 pub record LineAt (es : List Entry) (i n : ℕ) (b : Bearing) : Type 0 where
   pub entry : Entry
   pub known : IsKnown entry
   pub bears : (choice : Choice) → is_borne choice b ≡ bears choice (event_of entry)
   pub before : take n es ≡ take i es ++ entry ∷ []
-  pub behind : drop i es ≡ entry ∷ drop n es
+  pub after : drop i es ≡ entry ∷ drop n es
 
-at_place : (es : List Entry) (bs : List Bearing) (i : ℕ) (d : Bearing) → AllByRecursion IsKnown es → AreBearings (map event_of es) bs → i < length bs → LineAt es i (suc i) (get_or bs i d)
-at_place [] [] i d k h below = absurd (omega (arith, below))
-at_place [] (c ∷ bs) i d k h below = absurd h
-at_place (e ∷ es) [] i d k h below = absurd h
-at_place (e ∷ es) (c ∷ bs) zero d k h below = record {
+at_index : (es : List Entry) (bs : List Bearing) (i : ℕ) (d : Bearing) → AllByRecursion IsKnown es → AreBearings (map event_of es) bs → i < length bs → LineAt es i (suc i) (get_or bs i d)
+at_index [] [] i d k h below = absurd (omega (arith, below))
+at_index [] (c ∷ bs) i d k h below = absurd h
+at_index (e ∷ es) [] i d k h below = absurd h
+at_index (e ∷ es) (c ∷ bs) zero d k h below = record {
   entry = e;
   known = k.0;
   bears = h.0;
   before = at es;
-  behind = at_all es;
+  after = at_all es;
 }
   where
     at : (xs : List Entry) → e ∷ take 0 xs ≡ [] ++ e ∷ []
@@ -53,18 +53,18 @@ at_place (e ∷ es) (c ∷ bs) zero d k h below = record {
     at_all : (xs : List Entry) → e ∷ xs ≡ e ∷ drop 0 xs
     at_all [] = refl
     at_all (x ∷ xs) = refl
-at_place (e ∷ es) (c ∷ bs) (suc i) d k h below =
-    let r = at_place es bs i d k.1 h.1 (omega (arith, below)) in
+at_index (e ∷ es) (c ∷ bs) (suc i) d k h below =
+    let r = at_index es bs i d k.1 h.1 (omega (arith, below)) in
     record {
       entry = r.entry;
       known = r.known;
       bears = r.bears;
       before = ap (λ (l : List Entry). e ∷ l) r.before;
-      behind = r.behind;
+      after = r.after;
     }
 
 pub line_at : (es : List Entry) (bs : List Bearing) (i : ℕ) (d : Bearing) → AllByRecursion IsKnown es → AreBearings (map event_of es) bs → i < length bs → LineAt es i (i + 1) (get_or bs i d)
-line_at es bs i d k h below = subst (λ n. LineAt es i n (get_or bs i d)) (next i) (at_place es bs i d k h below)
+line_at es bs i d k h below = subst (λ n. LineAt es i n (get_or bs i d)) (next i) (at_index es bs i d k h below)
   where
     next : (j : ℕ) → suc j ≡ j + 1
     next j = omega arith
@@ -83,7 +83,7 @@ pub record IsCut (es : List Entry) (i : ℕ) (entry : Entry) (text others : List
 pub cut_off : (es : List Entry) (i : ℕ) (b : Bearing) (rest text others : List ℕ) (l : LineAt es i (i + 1) b) → rest ≡ tape (drop i es) → rest ≡ text ++ 10 ∷ others → Lacks 10 text → IsCut es i l.entry text others
 cut_off es i b rest text others l is cut lacks =
     let whole : rest ≡ line l.entry ++ 10 ∷ tape (drop (i + 1) es) =
-    is ∙ ap tape l.behind ∙ tape-cons l.entry (drop (i + 1) es) in
+    is ∙ ap tape l.after ∙ tape-cons l.entry (drop (i + 1) es) in
     let same = same_split 10 text others (line l.entry) (tape (drop (i + 1) es)) lacks (line_no_feed l.entry l.known.entry) (sym cut ∙ whole) in
     record { line_is = same.0; others_are = same.1 }
 
@@ -95,7 +95,7 @@ is_there (e ∷ es) [] i k h below lacks = h
 is_there (e ∷ es) (c ∷ bs) zero k h below lacks = none_split 10 (line e) (tape es) (subst (Lacks 10) (tape-cons e es) lacks)
 is_there (e ∷ es) (c ∷ bs) (suc i) k h below lacks = is_there es bs i k.1 h.1 (omega (arith, below)) lacks
 
--- as many lines as they bear tokens
+-- the number of lines is that of their bearings
 pub as_many : (es : List Entry) (bs : List Bearing) → AreBearings (map event_of es) bs → length es ≡ length bs
 as_many [] [] h = refl
 as_many [] (c ∷ bs) h = absurd h
@@ -131,25 +131,25 @@ one_line : (e : Entry) → tape (e ∷ []) ≡ line e ++ 10 ∷ []
 one_line e = tape-cons e []
 
 -- one line more was written
-pub wrote_more : (w v u : Option (List ℕ)) (kept : List Entry) (e : Entry) → Appends w v (tape kept) → Appends v u (line e ++ 10 ∷ []) → Appends w u (tape (kept ++ e ∷ []))
-wrote_more w v u kept e p q =
-    subst (Appends w u) (ap (λ (x : List ℕ). tape kept ++ x) (sym (one_line e)) ∙ sym (tape-append kept (e ∷ [])))
-    (Appends-trans w v u (tape kept) (line e ++ 10 ∷ []) p q)
+pub wrote_more : (w v u : Option (List ℕ)) (retained : List Entry) (e : Entry) → Appends w v (tape retained) → Appends v u (line e ++ 10 ∷ []) → Appends w u (tape (retained ++ e ∷ []))
+wrote_more w v u retained e p q =
+    subst (Appends w u) (ap (λ (x : List ℕ). tape retained ++ x) (sym (one_line e)) ∙ sym (tape-append retained (e ∷ [])))
+    (Appends-trans w v u (tape retained) (line e ++ 10 ∷ []) p q)
 
 -- the beginning of a line more, which is a beginning of all that stays
 pub front_more : (choice : Choice) (es : List Entry) (i : ℕ) (b : Bearing) (l : LineAt es i (i + 1) b) (part rest : List ℕ) → is_borne choice b ≡ false → line l.entry ++ 10 ∷ [] ≡ part ++ rest
     → IsFront (tape (without_chosen choice (take i es)) ++ part) (tape (without_chosen choice es))
 front_more choice es i b l part rest h is =
-    let kept : List Entry = without_chosen choice (take i es) in
+    let retained : List Entry = without_chosen choice (take i es) in
     let more : List Entry = without_chosen choice (drop (i + 1) es) in
-    let split : without_chosen choice es ≡ (kept ++ l.entry ∷ []) ++ more =
+    let split : without_chosen choice es ≡ (retained ++ l.entry ∷ []) ++ more =
     ap (without_chosen choice) (sym (take-append-drop (i + 1) es)) ∙ filter-append (λ e. not (bears choice (event_of e))) (take (i + 1) es) (drop (i + 1) es)
     ∙ ap (λ (x : List Entry). x ++ more) (stays choice es i b l h) in (
       rest ++ tape more,
-      ap tape split ∙ tape-append (kept ++ l.entry ∷ []) more
-          ∙ ap (λ (x : List ℕ). x ++ tape more) (tape-append kept (l.entry ∷ []) ∙ ap (λ (x : List ℕ). tape kept ++ x) (one_line l.entry ∙ is))
-          ∙ ap (λ (x : List ℕ). x ++ tape more) (sym (append_assoc (tape kept) part rest))
-          ∙ append_assoc (tape kept ++ part) rest (tape more),
+      ap tape split ∙ tape-append (retained ++ l.entry ∷ []) more
+          ∙ ap (λ (x : List ℕ). x ++ tape more) (tape-append retained (l.entry ∷ []) ∙ ap (λ (x : List ℕ). tape retained ++ x) (one_line l.entry ∙ is))
+          ∙ ap (λ (x : List ℕ). x ++ tape more) (sym (append_assoc (tape retained) part rest))
+          ∙ append_assoc (tape retained ++ part) rest (tape more),
     )
 
 -- ---- a whole tape, whose lines were taken
@@ -198,7 +198,7 @@ strikes_some setup whose a bs text front r s w v same is t read end begins wrote
       wrote = wrote;
     }
 
--- of one who is not there no line is struck: all that was read is written
+-- of a number that is no member's no line is struck: all that was read is written
 pub echoes : (setup : Setup) (whose : Whose) (a : Audit) (text all : List ℕ) (r s w v : Option (List ℕ)) → a.setup ≡ setup → a.whose ≡ whose → text ≡ all
     → Consumes r s all → (IsStranger a.setup a.whose → Appends w v text) → IsStranger setup whose → Echoes r s w v
 echoes setup whose a text all r s w v same is whole read wrote stranger =

@@ -24,7 +24,7 @@ use Rattle.hx_replay.specs.Run.{Progress, start, kind_of, fault_of, check_of, af
 use Rattle.hx_replay.specs.FirstFaults.{FirstFault}
 use Rattle.hx_strike.specs.Striking.{StrikeStops}
 use Rattle.hx_strike.specs.Taking.{AreBearings, Takes, IsFaultOf, StopsReading}
-use Rattle.hx_replay.proofs.Playing.{unknown_is_bad}
+use Rattle.hx_replay.proofs.Applying.{unknown_is_bad}
 use Rattle.hx_replay.proofs.OneReading.{tape-cons}
 use Rattle.hx_replay.proofs.Runs.{tape-append}
 use Rattle.hx_replay.proofs.Strikes.{recorded, refused_then, all_more}
@@ -62,7 +62,7 @@ takes_more a next bs b all bytes others event t l more bearing =
     one_line : line l.entry ++ 10 ∷ others ≡ tape (l.entry ∷ []) ++ others
     one_line = sym (ap (λ (x : List ℕ). x ++ others) (tape-cons l.entry []) ∙ append_assoc (line l.entry) (10 ∷ []) others)
 
--- more text is behind what was taken
+-- more text is after what was taken
 pub takes_on : (a : Audit) (bs : List Bearing) (all rest piece : List ℕ) → Takes a bs all rest → Takes a bs (all ++ piece) (rest ++ piece)
 takes_on a bs all rest piece t = record {
   entries = t.entries;

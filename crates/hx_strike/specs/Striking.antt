@@ -1,4 +1,4 @@
--- What is read and written where a tape is struck.
+-- What is read and written when a tape is struck.
 use Rattle.std.specs.Prelude.{◌≡◌, ℕ, List, [], length, Option}
 use Rattle.std.specs.Io.KnownBytes.{Consumes, Appends, IsAtEnd}
 use Rattle.hx_members.specs.Setups.{Setup}
@@ -9,7 +9,7 @@ use Rattle.hx_replay.specs.declared.run.Counts.{Counts}
 use Rattle.hx_replay.specs.Run.{start, AreEvents, IsFront}
 use Rattle.hx_replay.specs.FirstFaults.{StopsBefore, ReadsSome}
 
--- this many lines, and nothing else
+-- counts of lines, and nothing else
 abbrev pub counts_of_lines : ℕ → Counts
 counts_of_lines lines = record { events = lines; feed = 0; replies = 0 }
 
@@ -35,7 +35,7 @@ pub record StrikesSome (setup : Setup) (left : List Entry → List Entry)
   pub is_front : IsFront front (tape (left events))
   pub wrote : Appends w v front
 
--- why a tape was not struck: but for a writer that failed, nothing was written
+-- why a tape was not struck: except for a writer that failed, nothing was written
 abbrev pub StrikeStops :
     Setup → (List Entry → List Entry) → TapeError → (r s w v : Option (List ℕ)) → Type 0
 StrikeStops setup left (fault.Line n k) r s w v = StopsBefore setup n k r s × Appends w v []

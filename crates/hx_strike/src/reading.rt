@@ -30,14 +30,14 @@ pub(crate) struct Tape {
     taken: usize,
 }
 
-// The number of the line behind those that were taken.
+// The number of the line after those that were taken.
 fn next_line(bearings: &[Bearing]) -> u64
     ensures { result ≡ length bearings.now + 1 }
 {
     bearings.len() as u64 + 1
 }
 
-// Its fault, where it is no line.
+// Its fault, if it is no line.
 fn bad_line(bearings: &[Bearing]) -> TapeError
     ensures { result ≡ fault.Line (length bearings.now + 1) kinds.Bad }
 {
@@ -47,7 +47,7 @@ fn bad_line(bearings: &[Bearing]) -> TapeError
     }
 }
 
-// Takes the event of the next line, whose digits are read into a room, and keeps what it bears.
+// Takes the event of the next line, whose digits are read into a buffer, and stores its bearing.
 fn take_line(
     alloc: Global,
     room: &mut Vec<u8>,
@@ -75,7 +75,7 @@ fn take_line(
     Ok(())
 }
 
-// Takes the whole lines of a text, and returns the bytes behind them.
+// Takes the whole lines of a text, and returns the bytes after them.
 fn take_lines<'a>(
     alloc: Global,
     auditor: &mut Auditor,
@@ -118,8 +118,8 @@ fn take_piece(alloc: Global, tape: &mut Tape, piece: &[u8]) -> Result<(), TapeEr
 {
     tape.text.extend_from_slice(piece)?;
     let text = tape.text.as_slice();
-    let behind = &text[tape.taken..];
-    let rest = take_lines(alloc, &mut tape.auditor, &mut tape.bearings, behind)?;
+    let after = &text[tape.taken..];
+    let rest = take_lines(alloc, &mut tape.auditor, &mut tape.bearings, after)?;
     if rest.len() > LONGEST_LINE {
         return Err(bad_line(&tape.bearings));
     }
@@ -127,7 +127,7 @@ fn take_piece(alloc: Global, tape: &mut Tape, piece: &[u8]) -> Result<(), TapeEr
     Ok(())
 }
 
-// The tape, where nothing stands behind its whole lines.
+// The tape, if nothing follows its whole lines.
 fn whole(tape: Tape) -> Result<Tape, TapeError>
     ensures ok { IfOk result (λ t. (t ≡ tape) × (length tape.text.items ≤ tape.taken)) }
     ensures fault { IfErr result (λ e.

@@ -87,10 +87,10 @@ fn strike_lines<R: Read, W: Write>(
     })
 }
 
-/// Writes a tape without the messages of a member's quiet chains: of the lines that it reads, to their end, those
-/// stay, as they were read, that bear no token of his chains that the whole tape never displayed and never traded. It
-/// writes only once all was read, and counts the lines written. A line that fails a check ends it at once. A member number that the setup has not strikes
-/// nothing.
+/// Writes a tape without the messages of a member's quiet chains: of the lines that it reads, to their end, those stay,
+/// as they were read, that bear no token of the member's chains that the whole tape never displayed and never traded.
+/// It writes only once all was read, and counts the lines written. A line that fails a check ends it at once. A member
+/// number that the setup has not strikes nothing.
 pub fn strike_tape<R: Read, W: Write>(
     alloc: Global,
     setup: &Setup,
@@ -103,8 +103,8 @@ pub fn strike_tape<R: Read, W: Write>(
         StrikesAll setup.now (struck setup.now member) counts
         (R.remaining reader.old) (R.remaining reader.new)
         (W.contents writer.old) (W.contents writer.new)) }
-    // But for a failed write, nothing was written. A line is named where it is the first that fails a check, as soon as it
-    // was read.
+    // Except after a failed write, nothing was written. A line is named if it is the first that fails a check, as soon
+    // as it was read.
     ensures err { IfErr result (λ e.
         StrikeStops setup.now (struck setup.now member) e
         (R.remaining reader.old) (R.remaining reader.new)

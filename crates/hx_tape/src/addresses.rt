@@ -2,8 +2,8 @@
 
 use crate::failure::Failure;
 use clap::ArgMatches;
-use hx_doors::{Addresses, MOST_FEEDS, address_of};
-use hx_runs::RunError;
+use hx_cli::RunError;
+use hx_listener::{Addresses, MOST_FEEDS, address_of};
 use std::alloc::Global;
 use std::net::{Ipv4Addr, SocketAddr};
 

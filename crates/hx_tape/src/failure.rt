@@ -1,14 +1,14 @@
 //! Why the program ends without success.
 
+use hx_cli::RunError;
 use hx_day_journal::DayJournalError;
 use hx_day_log::DayLogError;
+use hx_feed_clients::{RelayError, WatchError};
 use hx_journal_tool::ToolError;
+use hx_log_commands::LogCommandError;
 use hx_operator::{OperateError, ScheduleError, SocketError};
-use hx_relay::RelayError;
-use hx_runs::RunError;
 use hx_serve::{ServeError, fault_of_resume};
 use hx_units::NoMemory;
-use hx_watch::WatchError;
 use std::alloc::{AllocError, AllocFailed};
 
 /// Why the program ends without success.
@@ -41,7 +41,7 @@ pub enum Failure {
         /// The word.
         word: String,
     },
-    /// The page of figures could not be opened.
+    /// The metrics page could not be opened.
     #[error("network failed: --metrics")]
     NoMetrics,
     /// The page of a vendor's screen could not be opened.
@@ -62,24 +62,6 @@ pub enum Failure {
     /// A feed that is relayed fell silent before its end, or some of it is missing.
     #[error("the end was not heard")]
     NoEnd,
-    /// A copy of a log can't be read or written.
-    #[error("copy failed: {path}")]
-    CopyFile {
-        /// Its file.
-        path: String,
-    },
-    /// Another process keeps the copy.
-    #[error("copy in use")]
-    CopyInUse,
-    /// A file is no copy of this log, or the log is trimmed behind it.
-    #[error("{path} is no copy of this log, or the log is trimmed behind it")]
-    OtherLog {
-        /// Its name.
-        path: String,
-    },
-    /// A word that is no number of a copy.
-    #[error("error: --copies takes numbers from 1 on, with commas between")]
-    NoCopies,
     /// Another server has taken over.
     #[error("deposed")]
     Deposed,
@@ -93,6 +75,8 @@ pub enum Failure {
     Day(DayJournalError),
     #[error(transparent)]
     Log(DayLogError),
+    #[error(transparent)]
+    LogCommand(LogCommandError),
     #[error(transparent)]
     Run(RunError),
     #[error(transparent)]
@@ -114,17 +98,16 @@ impl Failure {
             | Failure::ManyFeeds
             | Failure::ManySessions
             | Failure::NoCopy { .. }
-            | Failure::NoCopies
             | Failure::NoDay => 2,
             Failure::Day(error) => error.status(),
             Failure::Log(error) => error.status(),
+            Failure::LogCommand(error) => error.status(),
             Failure::Run(error) => error.status(),
             Failure::Serve(ServeError::Line { .. }) | Failure::Watch(WatchError::Screen { .. }) => {
                 1
             }
             Failure::Serve(ServeError::NoMemory) | Failure::Watch(WatchError::NoMemory) => 3,
-            Failure::OtherLog { .. } => 1,
-            Failure::HistoryIsThere { .. } | Failure::CopyFile { .. } | Failure::CopyInUse => 4,
+            Failure::HistoryIsThere { .. } => 4,
             Failure::Serve(
                 ServeError::Read
                 | ServeError::Write
@@ -184,6 +167,15 @@ impl From<DayLogError> for Failure {
         match e {
             DayLogError::Refused(error) => Failure::Serve(fault_of_resume(error)),
             other => Failure::Log(other),
+        }
+    }
+}
+
+impl From<LogCommandError> for Failure {
+    fn from(e: LogCommandError) -> Failure {
+        match e {
+            LogCommandError::Log(error) => Failure::from(error),
+            other => Failure::LogCommand(other),
         }
     }
 }

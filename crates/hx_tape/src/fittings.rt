@@ -1,8 +1,8 @@
-//! What the command line says an open day has besides its doors.
+//! What the command line says an open day has besides its acceptors.
 
 use crate::failure::Failure;
 use clap::ArgMatches;
-use hx_doors::address_of;
+use hx_listener::address_of;
 use hx_members::Setup;
 use hx_operator::{OperatorSocket, Schedule, read_schedule};
 use hx_serve::{Duties, Fittings, Metrics};
@@ -63,7 +63,7 @@ fn metrics_of<R: Net<Listener = TcpListener, Stream = TcpStream> + RandomSource>
     }
 }
 
-/// What an open day has besides its doors: nothing, if the day is not open.
+/// What an open day has besides its acceptors: nothing, if the day is not open.
 pub fn fittings_of<
     R: AllocGlobal
         + Net<Listener = TcpListener, Stream = TcpStream>

@@ -1,4 +1,4 @@
-//! A day that is served from what it begins with: that nothing keeps, or a journal in a file, or a log.
+//! A day that is served from what it begins with: without a journal, over a journal in a file, or over a log.
 ghost use Rattle.std.specs.Prelude.{◌≡◌, true};
 ghost use Rattle.hx_disk.specs.Calls.{seen_of};
 ghost use Rattle.hx_journal.specs.Files.{stored, appended};
@@ -6,18 +6,19 @@ ghost use Rattle.hx_journal.specs.Records.{records_of};
 ghost use Rattle.hx_tape_lines.specs.Text.{record_of};
 ghost use Rattle.hx_desk.specs.Entries.{restored};
 ghost use Rattle.hx_engine.specs.Journals.{lines};
-ghost use Rattle.hx_etcd_log.specs.Copied.{records_of as told_of};
-ghost use Rattle.hx_log_journal.specs.States.{kept, is_open, appended as logged};
-ghost use Rattle.hx_mirror.specs.Mirrors.{Mirrors};
+ghost use Rattle.hx_etcd_log.specs.Copied.{records_of as reported_of};
+ghost use Rattle.hx_fenced_log.specs.JournalStates.{durable, is_open, appended as logged};
+ghost use Rattle.hx_fenced_log.specs.Mirrors.{Mirrors};
 
 use crate::failure::Failure;
-use crate::signs::Beacon;
 use hx_engine::Journal;
 use hx_etcd_log::{CopiedLog, Nodes, Pages};
+use hx_fenced_log::{LogJournal, MirroredJournal};
 use hx_journal::{FileJournal, Noted, RawFile};
-use hx_log_journal::LogJournal;
-use hx_mirror::MirroredJournal;
-use hx_serve::{Beginning, Board, Hosting, PlayedBeginning, ServeError, serve_kept, serve_played};
+use hx_log_commands::Heartbeat;
+use hx_serve::{
+    AppliedBeginning, Beginning, Hosting, NoticeSink, ServeError, serve_applied, serve_durable,
+};
 use hx_sessions::Gate;
 use log::Log;
 use std::alloc::Global;
@@ -53,7 +54,7 @@ pub(crate) fn host<
         + Sync,
     J: Journal + Drop + Send,
     G: Gate + Sync,
-    B: Board + Sync,
+    B: NoticeSink + Sync,
     I: Read + Send + Drop,
 >(
     rt: &R,
@@ -64,17 +65,17 @@ pub(crate) fn host<
 ) -> Result<(), Failure>
     requires journal { J.appended beginning.recovered.journal
         ≡ lines record_of (restored beginning.recovered.events.items) }
-    requires safe { (J.kept beginning.recovered.journal ≡ J.appended beginning.recovered.journal)
+    requires safe { (J.durable beginning.recovered.journal ≡ J.appended beginning.recovered.journal)
         × (J.is_open beginning.recovered.journal ≡ true) }
 {
     let alloc = rt.alloc();
     let mut output = io::writer(rt);
-    let served = serve_kept(rt, alloc, hosting, beginning, input, &mut output, path);
+    let served = serve_durable(rt, alloc, hosting, beginning, input, &mut output, path);
     ended(alloc, path, served)
 }
 
-// The same of a day that is played.
-fn host_played<
+// The same of an applied day.
+fn host_applied<
     R: AllocGlobal
         + Print
         + Files
@@ -86,29 +87,29 @@ fn host_played<
         + Sync,
     J: Journal + Drop + Send,
     G: Gate + Sync,
-    B: Board + Sync,
+    B: NoticeSink + Sync,
     I: Read + Send + Drop,
 >(
     rt: &R,
     path: Option<&str>,
     hosting: &Hosting<'_, G, B>,
-    beginning: PlayedBeginning<'_, J>,
+    beginning: AppliedBeginning<'_, J>,
     input: I,
 ) -> Result<(), Failure>
     requires of_setup { beginning.day.setup ≡ hosting.now.setup.now }
     requires journal { J.appended beginning.journal
         ≡ lines record_of (restored beginning.day.events) }
-    requires safe { (J.kept beginning.journal ≡ J.appended beginning.journal)
+    requires safe { (J.durable beginning.journal ≡ J.appended beginning.journal)
         × (J.is_open beginning.journal ≡ true) }
 {
     let alloc = rt.alloc();
     let mut output = io::writer(rt);
-    let served = serve_played(rt, alloc, hosting, beginning, input, &mut output, path);
+    let served = serve_applied(rt, alloc, hosting, beginning, input, &mut output, path);
     ended(alloc, path, served)
 }
 
-// Serves a day from what its journal in a file keeps.
-pub(crate) fn host_kept<
+// Serves a day on from the events of its journal in a file.
+pub(crate) fn host_durable<
     R: AllocGlobal
         + Print
         + Files
@@ -119,7 +120,7 @@ pub(crate) fn host_kept<
         + Wait
         + Sync,
     G: Gate + Sync,
-    B: Board + Sync,
+    B: NoticeSink + Sync,
     F: RawFile + Drop + Send,
     I: Read + Send + Drop,
 >(
@@ -131,14 +132,14 @@ pub(crate) fn host_kept<
 ) -> Result<(), Failure>
     requires journal { records_of (appended (λ d. seen_of d.log.events) beginning.recovered.journal)
         ≡ lines record_of (restored beginning.recovered.events.items) }
-    requires kept { records_of (stored (λ d. seen_of d.log.events) beginning.recovered.journal)
+    requires durable { records_of (stored (λ d. seen_of d.log.events) beginning.recovered.journal)
         ≡ lines record_of (restored beginning.recovered.events.items) }
     requires is_open { beginning.recovered.journal.is_open ≡ true }
 {
     host(rt, path, hosting, beginning, input)
 }
 
-// Serves a day that is played, and shows meanwhile that its writer is in office.
+// Serves an applied day, and meanwhile writes the heartbeat of its active writer.
 fn host_shown<
     R: AllocGlobal
         + Print
@@ -151,35 +152,35 @@ fn host_shown<
         + Sync,
     J: Journal + Drop + Send,
     G: Gate + Sync,
-    B: Board + Sync,
+    B: NoticeSink + Sync,
     N: Nodes + Drop + Send,
     I: Read + Send + Drop,
 >(
     rt: &R,
     path: Option<&str>,
     hosting: &Hosting<'_, G, B>,
-    beginning: PlayedBeginning<'_, J>,
+    beginning: AppliedBeginning<'_, J>,
     input: I,
-    beacon: Beacon<'_, N>,
+    heartbeat: Heartbeat<'_, N>,
 ) -> Result<(), Failure>
     requires of_setup { beginning.day.setup ≡ hosting.now.setup.now }
     requires journal { J.appended beginning.journal
         ≡ lines record_of (restored beginning.day.events) }
-    requires safe { (J.kept beginning.journal ≡ J.appended beginning.journal)
+    requires safe { (J.durable beginning.journal ≡ J.appended beginning.journal)
         × (J.is_open beginning.journal ≡ true) }
 {
     let is_over = AtomicBool::new(false);
     let flag = &is_over;
     let ((), served) = join(
         rt,
-        move || beacon.shine(rt, flag),
+        move || heartbeat.shine(rt, flag),
         move ||
             requires { (beginning.day.setup ≡ hosting.now.setup.now)
                 × (J.appended beginning.journal ≡ lines record_of (restored beginning.day.events))
-                × (J.kept beginning.journal ≡ J.appended beginning.journal)
+                × (J.durable beginning.journal ≡ J.appended beginning.journal)
                 × (J.is_open beginning.journal ≡ true) }
         {
-            let served = host_played(rt, path, hosting, beginning, input);
+            let served = host_applied(rt, path, hosting, beginning, input);
             flag.store(true, Ordering::SeqCst);
             served
         },
@@ -187,7 +188,8 @@ fn host_shown<
     served
 }
 
-// Serves a day of which all that its log keeps is played, and shows meanwhile that its writer is in office there.
+// Serves a day to which all events of its log are applied, and meanwhile writes the heartbeat of the log's active
+// writer.
 pub(crate) fn host_logged<
     R: AllocGlobal
         + Print
@@ -199,7 +201,7 @@ pub(crate) fn host_logged<
         + Wait
         + Sync,
     G: Gate + Sync,
-    B: Board + Sync,
+    B: NoticeSink + Sync,
     P: Pages + Drop + Send,
     N: Nodes + Drop + Send,
     S: Nodes + Drop + Send,
@@ -208,21 +210,21 @@ pub(crate) fn host_logged<
     rt: &R,
     path: Option<&str>,
     hosting: &Hosting<'_, G, B>,
-    beginning: PlayedBeginning<'_, LogJournal<CopiedLog<P, N>>>,
+    beginning: AppliedBeginning<'_, LogJournal<CopiedLog<P, N>>>,
     input: I,
-    beacon: Beacon<'_, S>,
+    heartbeat: Heartbeat<'_, S>,
 ) -> Result<(), Failure>
     requires of_setup { beginning.day.setup ≡ hosting.now.setup.now }
-    requires journal { logged told_of beginning.journal
+    requires journal { logged reported_of beginning.journal
         ≡ lines record_of (restored beginning.day.events) }
-    requires kept { kept told_of beginning.journal
+    requires durable { durable reported_of beginning.journal
         ≡ lines record_of (restored beginning.day.events) }
     requires is_open { is_open beginning.journal.fault ≡ true }
 {
-    host_shown(rt, path, hosting, beginning, input, beacon)
+    host_shown(rt, path, hosting, beginning, input, heartbeat)
 }
 
-// The same, and a mirror beside the log keeps what the log does.
+// The same, with a mirror beside the log, which has the same records.
 fn host_mirrored<
     R: AllocGlobal
         + Print
@@ -234,7 +236,7 @@ fn host_mirrored<
         + Wait
         + Sync,
     G: Gate + Sync,
-    B: Board + Sync,
+    B: NoticeSink + Sync,
     P: Pages + Drop + Send,
     N: Nodes + Drop + Send,
     M: Journal + Drop + Send,
@@ -244,31 +246,31 @@ fn host_mirrored<
     rt: &R,
     path: Option<&str>,
     hosting: &Hosting<'_, G, B>,
-    beginning: PlayedBeginning<'_, LogJournal<CopiedLog<P, N>>>,
+    beginning: AppliedBeginning<'_, LogJournal<CopiedLog<P, N>>>,
     mirror: M,
     input: I,
-    beacon: Beacon<'_, S>,
+    heartbeat: Heartbeat<'_, S>,
 ) -> Result<(), Failure>
     requires of_setup { beginning.day.setup ≡ hosting.now.setup.now }
-    requires journal { logged told_of beginning.journal
+    requires journal { logged reported_of beginning.journal
         ≡ lines record_of (restored beginning.day.events) }
-    requires kept { kept told_of beginning.journal
+    requires durable { durable reported_of beginning.journal
         ≡ lines record_of (restored beginning.day.events) }
     requires is_open { is_open beginning.journal.fault ≡ true }
-    requires mirror { Mirrors M.appended M.kept M.is_open mirror
+    requires mirror { Mirrors M.appended M.durable M.is_open mirror
         (lines record_of (restored beginning.day.events)) }
 {
     let (day, journal, ahead, fittings) = beginning.into_parts();
-    let beginning = PlayedBeginning {
+    let beginning = AppliedBeginning {
         day,
         journal: MirroredJournal::new(rt.alloc(), journal, mirror),
         ahead,
         fittings,
     };
-    host_shown(rt, path, hosting, beginning, input, beacon)
+    host_shown(rt, path, hosting, beginning, input, heartbeat)
 }
 
-// The same, where the mirror is a journal in a file.
+// The same, if the mirror is a journal in a file.
 pub(crate) fn host_filed<
     R: AllocGlobal
         + Print
@@ -280,7 +282,7 @@ pub(crate) fn host_filed<
         + Wait
         + Sync,
     G: Gate + Sync,
-    B: Board + Sync,
+    B: NoticeSink + Sync,
     P: Pages + Drop + Send,
     N: Nodes + Drop + Send,
     F: RawFile + Drop + Send,
@@ -290,20 +292,20 @@ pub(crate) fn host_filed<
     rt: &R,
     path: Option<&str>,
     hosting: &Hosting<'_, G, B>,
-    beginning: PlayedBeginning<'_, LogJournal<CopiedLog<P, N>>>,
+    beginning: AppliedBeginning<'_, LogJournal<CopiedLog<P, N>>>,
     mirror: FileJournal<Noted<F>>,
     input: I,
-    beacon: Beacon<'_, S>,
+    heartbeat: Heartbeat<'_, S>,
 ) -> Result<(), Failure>
     requires of_setup { beginning.day.setup ≡ hosting.now.setup.now }
-    requires journal { logged told_of beginning.journal
+    requires journal { logged reported_of beginning.journal
         ≡ lines record_of (restored beginning.day.events) }
-    requires kept { kept told_of beginning.journal
+    requires durable { durable reported_of beginning.journal
         ≡ lines record_of (restored beginning.day.events) }
     requires is_open { is_open beginning.journal.fault ≡ true }
     requires mirror { Mirrors (λ j. records_of (appended (λ d. seen_of d.log.events) j))
         (λ j. records_of (stored (λ d. seen_of d.log.events) j)) (λ j. j.is_open) mirror
         (lines record_of (restored beginning.day.events)) }
 {
-    host_mirrored(rt, path, hosting, beginning, mirror, input, beacon)
+    host_mirrored(rt, path, hosting, beginning, mirror, input, heartbeat)
 }

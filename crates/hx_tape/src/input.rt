@@ -8,8 +8,8 @@ use std::io::{ErrorKind, Read};
 // A read of standard input waits so long at most, in milliseconds.
 const LIMIT: i32 = 200;
 
-/// Standard input, of which a read that would wait for long is `Interrupted`: whoever reads it looks meanwhile whether he
-/// still has to.
+/// Standard input, of which a read that would wait for long is `Interrupted`: the caller checks meanwhile whether it
+/// still has to read.
 #[derive(Drop)]
 pub struct WakingInput<R> {
     reader: R,

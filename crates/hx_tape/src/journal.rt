@@ -2,12 +2,12 @@
 
 use crate::failure::Failure;
 use clap::ArgMatches;
+use hx_cli::RunError;
 use hx_journal_tool::{cut_file, report_file, tape_file};
-use hx_runs::RunError;
 use std::rt::Files;
 use std::{fs, io};
 
-/// Tells how far a journal goes, or writes its history, or cuts it, as the command line asks.
+/// Reports how far a journal goes, or writes its history, or cuts it, as the command line asks.
 pub fn journal_file<R: AllocGlobal + Print + Files<File = fs::File>>(
     rt: &R,
     matches: &ArgMatches<'_>,

@@ -2,34 +2,24 @@
 //! to standard output; or serves a day, speaks to one that is served, or watches the feed of one.
 #![tactic(auto)]
 
+mod active;
 mod addresses;
-mod copy;
-mod copy_file;
 mod failure;
 mod fittings;
-mod follow;
-mod handover;
 mod hosting;
 mod input;
 mod journal;
-mod leaving;
 mod logged;
-mod office;
 mod operate;
 mod plan;
 mod relay;
 mod serve;
-mod signs;
-mod trim;
 mod watch;
 
 use clap::ArgMatches;
-use copy::copy_log;
 use failure::Failure;
-use follow::follow_log;
-use handover::hand_over;
-use hx_commands::command;
-use hx_runs::{RunError, read_words, refuse, run_command};
+use hx_cli::{RunError, command, read_words, refuse, run_command};
+use hx_log_commands::{copy_log, follow_log, hand_over, trim_log};
 use journal::journal_file;
 use log::Log;
 use operate::operate_server;
@@ -42,7 +32,6 @@ use std::random::RandomSource;
 use std::rt::{Clock, Env, Files};
 use std::sync::Wait;
 use std::thread::Threads;
-use trim::trim_log;
 use watch::watch_feed;
 
 fn answer<
@@ -93,10 +82,10 @@ where
         "watch" => watch_feed(rt, own),
         "operate" => operate_server(rt, own),
         "journal" => journal_file(rt, own),
-        "follow" => follow_log(rt, own),
-        "handover" => hand_over(rt, own),
-        "copy" => copy_log(rt, own),
-        "trim" => trim_log(rt, own),
+        "follow" => Ok(follow_log(rt, own)?),
+        "handover" => Ok(hand_over(rt, own)?),
+        "copy" => Ok(copy_log(rt, own)?),
+        "trim" => Ok(trim_log(rt, own)?),
         "relay" => relay_day(rt, own),
         _ => Ok(run_command(rt, matches)?),
     }

@@ -2,8 +2,8 @@
 
 use crate::failure::Failure;
 use clap::ArgMatches;
+use hx_cli::RunError;
 use hx_operator::operate;
-use hx_runs::RunError;
 use std::io;
 use std::net::Net;
 

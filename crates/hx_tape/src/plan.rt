@@ -1,4 +1,4 @@
-//! What the command line asks of a day, and the file that keeps one.
+//! What the command line asks of a day, and the file of its journal.
 ghost use Rattle.std.specs.Prelude.{◌≡◌, true, IfOk};
 ghost use Rattle.hx_disk.specs.Calls.{seen_of};
 ghost use Rattle.hx_journal.specs.Files.{stored, appended};
@@ -12,7 +12,7 @@ use clap::ArgMatches;
 use hx_day_journal::{DayFile, Syncs, Wanted, digest_of, open_journal};
 use hx_engine::Recovered;
 use hx_members::Setup;
-use hx_serve::{Addresses, Board, Meter, OpenArgs, ServeArgs};
+use hx_serve::{Addresses, Counters, NoticeSink, OpenArgs, ServeArgs};
 use hx_sessions::DropCopy;
 use std::fs;
 use std::rt::{Clock, Files};
@@ -31,7 +31,7 @@ pub(crate) struct Plan<'a> {
     pub(crate) day: u64,
     pub(crate) last: &'a AtomicU64,
     // What is counted, and the drop copies.
-    pub(crate) meter: &'a Meter,
+    pub(crate) counters: &'a Counters,
     pub(crate) copies: &'a [DropCopy],
 }
 
@@ -43,18 +43,18 @@ fn syncs_of(matches: &ArgMatches<'_>) -> Syncs {
     }
 }
 
-// Opens the file that keeps a day.
-pub(crate) fn open_file<'x, R: AllocGlobal + Files<File = fs::File> + Clock, B: Board>(
+// Opens the journal of a day in its file.
+pub(crate) fn open_file<'x, R: AllocGlobal + Files<File = fs::File> + Clock, B: NoticeSink>(
     rt: &'x R,
     matches: &ArgMatches<'_>,
     plan: Plan<'_>,
-    board: &'x B,
+    notice_sink: &'x B,
     path: &str,
 ) -> Result<Recovered<DayFile<'x, B, R>>, Failure>
     ensures appended { IfOk result (λ r.
         records_of (appended (λ d. seen_of d.log.events) r.journal)
         ≡ lines record_of (restored r.events.items)) }
-    ensures kept { IfOk result (λ r.
+    ensures durable { IfOk result (λ r.
         records_of (stored (λ d. seen_of d.log.events) r.journal)
         ≡ lines record_of (restored r.events.items)) }
     ensures is_open { IfOk result (λ r. r.journal.is_open ≡ true) }
@@ -66,5 +66,5 @@ pub(crate) fn open_file<'x, R: AllocGlobal + Files<File = fs::File> + Clock, B: 
         setup: &setup,
         syncs: syncs_of(matches),
     };
-    Ok(open_journal(rt, board, path, wanted)?)
+    Ok(open_journal(rt, notice_sink, path, wanted)?)
 }

@@ -2,8 +2,8 @@
 
 use crate::failure::Failure;
 use clap::ArgMatches;
-use hx_doors::address_of;
-use hx_relay::{RelayArgs, relay_feed};
+use hx_feed_clients::{RelayArgs, relay_feed};
+use hx_listener::address_of;
 use std::alloc::Global;
 use std::net::{Net, SocketAddr};
 use std::rt::Clock;

@@ -1,19 +1,19 @@
 //! The command that serves a day.
 
+use crate::active::begin_logged;
 use crate::addresses::addresses_of;
 use crate::failure::Failure;
 use crate::fittings::{copies_of, fittings_of};
-use crate::hosting::{host, host_kept};
+use crate::hosting::{host, host_durable};
 use crate::input::WakingInput;
-use crate::office::begin_logged;
 use crate::plan::{Plan, open_file};
 use clap::ArgMatches;
+use hx_cli::{read_setup_text, setup_of};
 use hx_day_journal::{day_of, last_time};
 use hx_members::Seed;
-use hx_runs::{read_setup_text, setup_of};
 use hx_serve::{
-    Addresses, Beginning, Board, Fittings, Hosting, JsonNotices, Meter, Metered, Notices, OpenArgs,
-    ServeArgs, ServeError, Silent, Tally, Times, today,
+    Addresses, Beginning, Counted, Counters, Fittings, Hosting, JsonNotices, NoticeSink, Notices,
+    OpenArgs, ServeArgs, ServeError, Silent, Tally, Times, today,
 };
 use hx_sessions::Gate;
 use log::Log;
@@ -29,7 +29,7 @@ use std::thread::Threads;
 // The most sessions of a day that is not open.
 const SESSIONS: u16 = 63;
 
-// The numbers of the command line, whose ranges `clap` has looked at.
+// The numbers of the command line, whose ranges `clap` has checked.
 fn args_of(matches: &ArgMatches<'_>, addresses: &Addresses) -> Option<ServeArgs> {
     let sessions = matches.get_one::<u16>("sessions")?;
     let args = ServeArgs::of(
@@ -44,12 +44,12 @@ fn args_of(matches: &ArgMatches<'_>, addresses: &Addresses) -> Option<ServeArgs>
         .with_answers(matches.get_one::<u32>("answers")?)?
         .with_share(matches.get_one::<u32>("share")?)?;
     if sessions > SESSIONS {
-        return args.with_places(sessions);
+        return args.with_indices(sessions);
     }
     Some(args)
 }
 
-// What is asked of an open day, where one is.
+// The arguments of an open day, if the day is open.
 fn open_of(matches: &ArgMatches<'_>) -> Option<OpenArgs> {
     if !matches.get_flag("open") {
         return None;
@@ -76,7 +76,7 @@ struct Start {
     fittings: Fittings,
 }
 
-// Serves a day that no journal keeps.
+// Serves a day without a journal.
 fn begin_unkept<
     R: AllocGlobal
         + Input
@@ -89,7 +89,7 @@ fn begin_unkept<
         + Wait
         + Sync,
     G: Gate + Sync,
-    B: Board + Sync,
+    B: NoticeSink + Sync,
 >(
     rt: &R,
     matches: &ArgMatches<'_>,
@@ -110,8 +110,9 @@ where
     host(rt, path, hosting, beginning, input)
 }
 
-// Serves a day over its journal. The journal may fail, or the day end, and then nobody waits for the operator's next line.
-fn begin_kept<
+// Serves a day over its journal. The journal may fail, or the day end, and then nobody waits for the operator's next
+// line.
+fn begin_durable<
     'x,
     R: AllocGlobal
         + Input
@@ -124,13 +125,13 @@ fn begin_kept<
         + Wait
         + Sync,
     G: Gate + Sync,
-    B: Board + Sync,
+    B: NoticeSink + Sync,
 >(
     rt: &'x R,
     matches: &ArgMatches<'_>,
     plan: Plan<'x>,
     hosting: &Hosting<'_, G, B>,
-    board: &'x B,
+    notice_sink: &'x B,
     path: &str,
     start: Start,
 ) -> Result<(), Failure>
@@ -138,7 +139,7 @@ where
     R::Reader: Send,
 {
     let Start { seed, fittings } = start;
-    let recovered = open_file(rt, matches, plan, board, path)?;
+    let recovered = open_file(rt, matches, plan, notice_sink, path)?;
     plan.last
         .fetch_max(last_time(&recovered.events), Ordering::SeqCst);
     let input = WakingInput::new(rt.reader());
@@ -149,20 +150,20 @@ where
         fittings,
     };
     let path = matches.get_str("history");
-    host_kept(rt, path, hosting, beginning, input)
+    host_durable(rt, path, hosting, beginning, input)
 }
 
-// The times of a day: those of one that is open, or kept, never fall.
+// The times of a day: those of one that is open, or durable, never fall.
 fn times_of<'x>(matches: &ArgMatches<'_>, plan: Plan<'x>) -> Times<'x> {
-    let is_kept = matches.get_str("journal").is_some() || matches.get_str("log").is_some();
-    if plan.open.is_some() || is_kept {
+    let is_durable = matches.get_str("journal").is_some() || matches.get_str("log").is_some();
+    if plan.open.is_some() || is_durable {
         Times::of_day(plan.day, plan.last)
     } else {
         Times::of_machine()
     }
 }
 
-// Serves a day over a journal of this machine, or one that nothing keeps.
+// Serves a day over a journal of this machine, or one without a journal.
 fn begin_here<
     'x,
     R: AllocGlobal
@@ -177,13 +178,13 @@ fn begin_here<
         + Wait
         + Sync,
     G: Gate + Sync,
-    B: Board + Sync,
+    B: NoticeSink + Sync,
 >(
     rt: &'x R,
     matches: &ArgMatches<'_>,
     plan: Plan<'x>,
     hosting: &Hosting<'_, G, B>,
-    board: &'x B,
+    notice_sink: &'x B,
     seed: Seed,
 ) -> Result<(), Failure>
 where
@@ -192,7 +193,7 @@ where
     let fittings = fittings_of(rt, matches)?;
     let start = Start { seed, fittings };
     match matches.get_str("journal") {
-        Some(path) => begin_kept(rt, matches, plan, hosting, board, path, start),
+        Some(path) => begin_durable(rt, matches, plan, hosting, notice_sink, path, start),
         None => begin_unkept(rt, matches, hosting, start),
     }
 }
@@ -212,13 +213,13 @@ fn begin<
         + Wait
         + Sync,
     G: Gate + Sync,
-    B: Board + Sync,
+    B: NoticeSink + Sync,
 >(
     rt: &'x R,
     matches: &ArgMatches<'_>,
     plan: Plan<'x>,
     gate: &'x G,
-    board: &'x B,
+    notice_sink: &'x B,
 ) -> Result<(), Failure>
 where
     R::Reader: Send,
@@ -233,21 +234,21 @@ where
         args: plan.args,
         addresses: plan.addresses,
         gate,
-        board,
+        notice_sink,
         open: plan.open,
         times: times_of(matches, plan),
         tally: &Tally::new(),
-        meter: plan.meter,
+        counters: plan.counters,
         copies: plan.copies,
     };
     match matches.get_str("log") {
-        Some(nodes) => begin_logged(rt, matches, plan, &hosting, board, nodes, seed),
-        None => begin_here(rt, matches, plan, &hosting, board, seed),
+        Some(nodes) => begin_logged(rt, matches, plan, &hosting, notice_sink, nodes, seed),
+        None => begin_here(rt, matches, plan, &hosting, notice_sink, seed),
     }
 }
 
-// The same, with a board that counts what concerns the journal.
-fn begin_metered<
+// The same, with a notice sink that counts what concerns the journal.
+fn begin_counted<
     'x,
     R: AllocGlobal
         + Input
@@ -261,25 +262,25 @@ fn begin_metered<
         + Wait
         + Sync,
     G: Gate + Sync,
-    B: Board + Sync,
+    B: NoticeSink + Sync,
 >(
     rt: &'x R,
     matches: &ArgMatches<'_>,
     plan: Plan<'x>,
     gate: &'x G,
-    board: &'x B,
+    notice_sink: &'x B,
 ) -> Result<(), Failure>
 where
     R::Reader: Send,
 {
-    let board = Metered {
-        board,
-        meter: plan.meter,
+    let notice_sink = Counted {
+        notice_sink,
+        counters: plan.counters,
     };
-    begin(rt, matches, plan, gate, &board)
+    begin(rt, matches, plan, gate, &notice_sink)
 }
 
-// Serves a day of this plan, and tells it to those who watch: in words or as JSON if it is open.
+// Serves a day of this plan, and writes its notices: in words or as JSON if it is open.
 fn serve_plan<
     'x,
     R: AllocGlobal
@@ -300,12 +301,12 @@ where
 {
     let notices = Notices { rt };
     if plan.open.is_none() {
-        return begin_metered(rt, matches, plan, &notices, &notices);
+        return begin_counted(rt, matches, plan, &notices, &notices);
     }
     if matches.get_flag("json") {
-        return begin_metered(rt, matches, plan, &Silent, &JsonNotices { rt });
+        return begin_counted(rt, matches, plan, &Silent, &JsonNotices { rt });
     }
-    begin_metered(rt, matches, plan, &Silent, &notices)
+    begin_counted(rt, matches, plan, &Silent, &notices)
 }
 
 /// Serves a day as the command line asks.
@@ -346,7 +347,7 @@ where
         open,
         day: day_asked(rt, matches)?,
         last: &AtomicU64::new(0),
-        meter: &Meter::new(),
+        counters: &Counters::new(),
         copies: &copies,
     };
     serve_plan(rt, matches, plan)

@@ -2,9 +2,9 @@
 
 use crate::failure::Failure;
 use clap::ArgMatches;
-use hx_runs::RunError;
+use hx_cli::RunError;
+use hx_feed_clients::{WatchArgs, watch, watch_on_page};
 use hx_units::Symbol;
-use hx_watch::{WatchArgs, watch, watch_on_page};
 use std::hash::RandomState;
 use std::io;
 use std::net::{Ipv4Addr, Net, TcpListener, TcpStream};
@@ -13,7 +13,7 @@ use std::rt::Clock;
 use std::sync::Wait;
 use std::thread::Threads;
 
-// The name of a stock, filled with spaces on the right; none where it has no or more than 8 bytes.
+// The name of a stock, filled with spaces on the right; none if it has no or more than 8 bytes.
 fn symbol_of(word: &str) -> Option<Symbol> {
     let mut name = [b' '; 8];
     let bytes = word.as_bytes();
@@ -24,7 +24,7 @@ fn symbol_of(word: &str) -> Option<Symbol> {
     Some(Symbol(name))
 }
 
-// The words of the command line, whose ranges `clap` has looked at.
+// The words of the command line, whose ranges `clap` has checked.
 fn args_of(matches: &ArgMatches<'_>) -> Option<WatchArgs> {
     let stock = match matches.get_str("stock") {
         Some(word) => Some(symbol_of(word)?),
@@ -57,7 +57,7 @@ fn watch_with_page<
     }
 }
 
-/// Watches a feed, and writes what changes as it changes; and serves its page, where the command
+/// Watches a feed, and writes what changes as it changes; and serves its web page, if the command
 /// line has a port for it.
 pub fn watch_feed<
     R: AllocGlobal

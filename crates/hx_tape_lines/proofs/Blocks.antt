@@ -16,11 +16,11 @@ unfolding encode_with
 encode-append [] ys = refl
 encode-append (x ∷ xs) ys = ap (λ (t : List ℕ). encode_lower (x ∷ []) ++ t) (encode-append xs ys)
 
--- digits behind those of the first bytes
-encode-behind : (k : ℕ) (xs : List ℕ) → encode_lower xs ≡ encode_lower (take k xs) ++ encode_lower (drop k xs)
-encode-behind k xs = ap encode_lower (sym (take-append-drop k xs)) ∙ encode-append (take k xs) (drop k xs)
+-- digits after those of the first bytes
+encode-after : (k : ℕ) (xs : List ℕ) → encode_lower xs ≡ encode_lower (take k xs) ++ encode_lower (drop k xs)
+encode-after k xs = ap encode_lower (sym (take-append-drop k xs)) ∙ encode-append (take k xs) (drop k xs)
 
--- the digits behind those of the first bytes
+-- the digits after those of the first bytes
 encode-drop : (k : ℕ) (xs : List ℕ) → drop (2 * k) (encode_lower xs) ≡ encode_lower (drop k xs)
 unfolding encode_with
 encode-drop zero xs = refl
@@ -40,42 +40,42 @@ encode-take (suc k) (x ∷ xs) =
 
 -- ---- written
 
--- a list from a place on at which others were written
+-- a list from an index on at which others were written
 put_drop : (xs ys : List ℕ) (a k : ℕ) → a ≤ length xs → drop a (take a xs ++ (ys ++ drop k (drop a xs))) ≡ ys ++ drop (a + k) xs
 put_drop xs ys a k le = drop_at (take a xs) (ys ++ drop k (drop a xs)) a (length-take-le a xs le) ∙ ap (λ (l : List ℕ). ys ++ l) (drop-drop k a xs)
 
--- a block more is written in front of those behind it
-pub block_written : (bytes text behind block : List ℕ) (start place size a k : ℕ) → place + size ≤ length bytes → start + 2 * length bytes ≤ length text
-    → a ≡ start + 2 * place → k ≡ 2 * size → block ≡ encode_lower (take size (drop place bytes))
-    → AreWritten bytes (place + size) start text behind → AreWritten bytes place start (take a text ++ (block ++ drop k (drop a text))) behind
-block_written bytes text behind block start place size a k within room at two is written =
-    let next : a + k ≡ start + 2 * (place + size) = omega arith in
-    let front : List ℕ = encode_lower (take size (drop place bytes)) in
+-- a block more is written in front of those after it
+pub block_written : (bytes text rest_after block : List ℕ) (start index size a k : ℕ) → index + size ≤ length bytes → start + 2 * length bytes ≤ length text
+    → a ≡ start + 2 * index → k ≡ 2 * size → block ≡ encode_lower (take size (drop index bytes))
+    → AreWritten bytes (index + size) start text rest_after → AreWritten bytes index start (take a text ++ (block ++ drop k (drop a text))) rest_after
+block_written bytes text rest_after block start index size a k within room at two is written =
+    let next : a + k ≡ start + 2 * (index + size) = omega arith in
+    let front : List ℕ = encode_lower (take size (drop index bytes)) in
     ap (λ (n : ℕ). drop n (take a text ++ (block ++ drop k (drop a text)))) (sym at) ∙ put_drop text block a k (omega arith)
     ∙ ap (λ (n : ℕ). block ++ drop n text) next ∙ ap (λ (l : List ℕ). block ++ l) written
-    ∙ ap (λ (l : List ℕ). l ++ (encode_lower (drop (place + size) bytes) ++ behind)) is
-    ∙ ap (λ (l : List ℕ). front ++ (encode_lower l ++ behind)) (sym (drop-drop size place bytes))
-    ∙ sym (append_assoc front (encode_lower (drop size (drop place bytes))) behind)
-    ∙ ap (λ (l : List ℕ). l ++ behind) (sym (encode-behind size (drop place bytes)))
+    ∙ ap (λ (l : List ℕ). l ++ (encode_lower (drop (index + size) bytes) ++ rest_after)) is
+    ∙ ap (λ (l : List ℕ). front ++ (encode_lower l ++ rest_after)) (sym (drop-drop size index bytes))
+    ∙ sym (append_assoc front (encode_lower (drop size (drop index bytes))) rest_after)
+    ∙ ap (λ (l : List ℕ). l ++ rest_after) (sym (encode-after size (drop index bytes)))
 
--- what is written from a place on is written from a later one on
-pub written_later : (bytes text behind : List ℕ) (start place later : ℕ) → place ≤ later → later ≤ length bytes → AreWritten bytes place start text behind → AreWritten bytes later start text behind
-written_later bytes text behind start place later le within written =
-    let on : start + 2 * later ≡ start + 2 * place + 2 * (later - place) = omega arith in
-    let whole : place + (later - place) ≡ later = omega arith in
-    let long : 2 * (later - place) ≤ length (encode_lower (drop place bytes)) = omega (arith, digits_length (drop place bytes), length-drop place bytes) in
-    ap (λ (n : ℕ). drop n text) on ∙ sym (drop-drop (2 * (later - place)) (start + 2 * place) text)
-    ∙ ap (λ (l : List ℕ). drop (2 * (later - place)) l) written
-    ∙ drop-append-le (2 * (later - place)) (encode_lower (drop place bytes)) behind long
-    ∙ ap (λ (l : List ℕ). l ++ behind) (encode-drop (later - place) (drop place bytes) ∙ ap encode_lower (drop-drop (later - place) place bytes))
-    ∙ ap (λ (n : ℕ). encode_lower (drop n bytes) ++ behind) whole
+-- what is written from an index on is written from a later one on
+pub written_later : (bytes text rest_after : List ℕ) (start index later : ℕ) → index ≤ later → later ≤ length bytes → AreWritten bytes index start text rest_after → AreWritten bytes later start text rest_after
+written_later bytes text rest_after start index later le within written =
+    let on : start + 2 * later ≡ start + 2 * index + 2 * (later - index) = omega arith in
+    let whole : index + (later - index) ≡ later = omega arith in
+    let long : 2 * (later - index) ≤ length (encode_lower (drop index bytes)) = omega (arith, digits_length (drop index bytes), length-drop index bytes) in
+    ap (λ (n : ℕ). drop n text) on ∙ sym (drop-drop (2 * (later - index)) (start + 2 * index) text)
+    ∙ ap (λ (l : List ℕ). drop (2 * (later - index)) l) written
+    ∙ drop-append-le (2 * (later - index)) (encode_lower (drop index bytes)) rest_after long
+    ∙ ap (λ (l : List ℕ). l ++ rest_after) (encode-drop (later - index) (drop index bytes) ∙ ap encode_lower (drop-drop (later - index) index bytes))
+    ∙ ap (λ (n : ℕ). encode_lower (drop n bytes) ++ rest_after) whole
 
 -- all are written
-pub all_written : (bytes text behind : List ℕ) (start place : ℕ) → place < 1 → AreWritten bytes place start text behind → drop start text ≡ encode_lower bytes ++ behind
-all_written bytes text behind start place none h =
-    let nothing : place ≡ 0 = omega (arith, none) in
+pub all_written : (bytes text rest_after : List ℕ) (start index : ℕ) → index < 1 → AreWritten bytes index start text rest_after → drop start text ≡ encode_lower bytes ++ rest_after
+all_written bytes text rest_after start index none h =
+    let nothing : index ≡ 0 = omega (arith, none) in
     let same : start ≡ start + 2 * 0 = omega arith in
-    ap (λ (n : ℕ). drop n text) same ∙ subst (λ (k : ℕ). AreWritten bytes k start text behind) nothing h
+    ap (λ (n : ℕ). drop n text) same ∙ subst (λ (k : ℕ). AreWritten bytes k start text rest_after) nothing h
 
 -- ---- read
 
@@ -101,35 +101,35 @@ none_read text bytes size = record {
   are_bytes = subst IsBytes (sym (drop-length bytes)) (λ i. omega arith);
 }
 
--- a block more is read in front of those behind it
-pub block_read : (text bytes block : List ℕ) (place k : ℕ) → k ≡ 16 → place + 16 ≤ length bytes → take 32 (drop (2 * place) text) ≡ encode_lower block → IsBytes block
-    → AreRead text (place + 16) bytes → AreRead text place (take place bytes ++ (block ++ drop k (drop place bytes)))
-block_read text bytes block place k size within is fits behind =
-    let rest = drop (place + 16) bytes in
-    let now = put_drop bytes block place k (omega (arith, within)) ∙ ap (λ (n : ℕ). block ++ drop (place + n) bytes) size in
-    let next : 2 * place + 32 ≡ 2 * (place + 16) = omega arith in
+-- a block more is read in front of those after it
+pub block_read : (text bytes block : List ℕ) (index k : ℕ) → k ≡ 16 → index + 16 ≤ length bytes → take 32 (drop (2 * index) text) ≡ encode_lower block → IsBytes block
+    → AreRead text (index + 16) bytes → AreRead text index (take index bytes ++ (block ++ drop k (drop index bytes)))
+block_read text bytes block index k size within is fits rest_after =
+    let rest = drop (index + 16) bytes in
+    let now = put_drop bytes block index k (omega (arith, within)) ∙ ap (λ (n : ℕ). block ++ drop (index + n) bytes) size in
+    let next : 2 * index + 32 ≡ 2 * (index + 16) = omega arith in
     record {
-      digits = sym (take-append-drop 32 (drop (2 * place) text)) ∙ ap (λ (l : List ℕ). l ++ drop 32 (drop (2 * place) text)) is
-          ∙ ap (λ (l : List ℕ). encode_lower block ++ l) (drop-drop 32 (2 * place) text ∙ ap (λ (n : ℕ). drop n text) next ∙ behind.digits)
+      digits = sym (take-append-drop 32 (drop (2 * index) text)) ∙ ap (λ (l : List ℕ). l ++ drop 32 (drop (2 * index) text)) is
+          ∙ ap (λ (l : List ℕ). encode_lower block ++ l) (drop-drop 32 (2 * index) text ∙ ap (λ (n : ℕ). drop n text) next ∙ rest_after.digits)
           ∙ sym (encode-append block rest) ∙ ap encode_lower (sym now);
-      are_bytes = subst IsBytes (sym now) (bytes-append block rest fits behind.are_bytes);
+      are_bytes = subst IsBytes (sym now) (bytes-append block rest fits rest_after.are_bytes);
     }
 
--- what is read from a place on is read from a later one on
-pub read_later : (text bytes : List ℕ) (place later : ℕ) → place ≤ later → AreRead text place bytes → AreRead text later bytes
-read_later text bytes place later le a =
-    let on : 2 * later ≡ 2 * place + 2 * (later - place) = omega (arith, le) in
-    let whole : place + (later - place) ≡ later = omega (arith, le) in
-    let same : drop (later - place) (drop place bytes) ≡ drop later bytes = drop-drop (later - place) place bytes ∙ ap (λ (n : ℕ). drop n bytes) whole in
+-- what is read from an index on is read from a later one on
+pub read_later : (text bytes : List ℕ) (index later : ℕ) → index ≤ later → AreRead text index bytes → AreRead text later bytes
+read_later text bytes index later le a =
+    let on : 2 * later ≡ 2 * index + 2 * (later - index) = omega (arith, le) in
+    let whole : index + (later - index) ≡ later = omega (arith, le) in
+    let same : drop (later - index) (drop index bytes) ≡ drop later bytes = drop-drop (later - index) index bytes ∙ ap (λ (n : ℕ). drop n bytes) whole in
     record {
-      digits = ap (λ (n : ℕ). drop n text) on ∙ sym (drop-drop (2 * (later - place)) (2 * place) text)
-          ∙ ap (λ (l : List ℕ). drop (2 * (later - place)) l) a.digits ∙ encode-drop (later - place) (drop place bytes) ∙ ap encode_lower same;
-      are_bytes = subst IsBytes same (bytes-drop (later - place) (drop place bytes) a.are_bytes);
+      digits = ap (λ (n : ℕ). drop n text) on ∙ sym (drop-drop (2 * (later - index)) (2 * index) text)
+          ∙ ap (λ (l : List ℕ). drop (2 * (later - index)) l) a.digits ∙ encode-drop (later - index) (drop index bytes) ∙ ap encode_lower same;
+      are_bytes = subst IsBytes same (bytes-drop (later - index) (drop index bytes) a.are_bytes);
     }
 
 -- all are read
-pub all_read : (text bytes : List ℕ) (place : ℕ) → place ≡ 0 → AreRead text place bytes → (text ≡ encode_lower bytes) × IsBytes bytes
-all_read text bytes place none a =
+pub all_read : (text bytes : List ℕ) (index : ℕ) → index ≡ 0 → AreRead text index bytes → (text ≡ encode_lower bytes) × IsBytes bytes
+all_read text bytes index none a =
     let whole = subst (λ (k : ℕ). AreRead text k bytes) none a in
     let nothing : 0 ≡ 2 * 0 = omega arith in
     (ap (λ (n : ℕ). drop n text) nothing ∙ whole.digits, whole.are_bytes)
@@ -139,12 +139,12 @@ pub front_digits : (xs rest : List ℕ) (n m : ℕ) → length xs ≡ n → m �
 front_digits xs rest n m e two = ap (λ (k : ℕ). take k (encode_lower (xs ++ rest))) two ∙ encode-take n (xs ++ rest) ∙ ap encode_lower (take_at xs rest n e)
 
 -- a text that somewhere has a block of no digits has the digits of no bytes
-pub block_none : (text : List ℕ) (place : ℕ) → ((bytes : List ℕ) → IsBytes bytes → take 32 (drop (2 * place) text) ≢ encode_lower bytes) → (others : List ℕ) → IsBytes others → text ≢ encode_lower others
-block_none text place none others fits is =
+pub block_none : (text : List ℕ) (index : ℕ) → ((bytes : List ℕ) → IsBytes bytes → take 32 (drop (2 * index) text) ≢ encode_lower bytes) → (others : List ℕ) → IsBytes others → text ≢ encode_lower others
+block_none text index none others fits is =
     let two : 32 ≡ 2 * 16 = omega arith in
-    none (take 16 (drop place others)) (bytes-take 16 (drop place others) (bytes-drop place others fits))
-    (ap (λ (t : List ℕ). take 32 (drop (2 * place) t)) is ∙ ap (λ (l : List ℕ). take 32 l) (encode-drop place others)
-    ∙ ap (λ (n : ℕ). take n (encode_lower (drop place others))) two ∙ encode-take 16 (drop place others))
+    none (take 16 (drop index others)) (bytes-take 16 (drop index others) (bytes-drop index others fits))
+    (ap (λ (t : List ℕ). take 32 (drop (2 * index) t)) is ∙ ap (λ (l : List ℕ). take 32 l) (encode-drop index others)
+    ∙ ap (λ (n : ℕ). take n (encode_lower (drop index others))) two ∙ encode-take 16 (drop index others))
 
 -- before the first block is written
 pub none_written : (bytes was : List ℕ) → was ≡ encode_lower (drop (length bytes) bytes) ++ was

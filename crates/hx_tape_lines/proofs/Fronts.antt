@@ -1,4 +1,4 @@
--- The number in front of a text, behind which a space stands.
+-- The number in front of a text, followed by a space.
 use Rattle.std.proofs.Common.{◌≡◌, ℕ, suc, ◌+◌, ◌^◌, ◌<◌, ◌≤◌, List, ◌∷◌, ◌++◌, length, take, drop, get_or, sym, ap, ◌∙◌, arith, drop-cons, take-append-drop, true≢false, inl, inr}
 use Rattle.std.specs.Prelude.{false, ◌⊎◌}
 use Rattle.std.specs.Fmt.{decimal}
@@ -12,10 +12,10 @@ use Rattle.std.proofs.lemmas.Str.Parse.{digit_at}
 use Rattle.hx_text.proofs.Numbers.{is_digit, is_decimal, value_small}
 
 -- what stands at the end of a number
-pub space_behind : (text rest : List ℕ) (n : ℕ) → text ≡ decimal n ++ 32 ∷ rest → get_or text (length (decimal n)) 0 ≡ 32
-space_behind text rest n is = ap (λ (t : List ℕ). get_or t (length (decimal n)) 0) is ∙ get_or-append_seam (decimal n) 32 rest 0
+pub space_after : (text rest : List ℕ) (n : ℕ) → text ≡ decimal n ++ 32 ∷ rest → get_or text (length (decimal n)) 0 ≡ 32
+space_after text rest n is = ap (λ (t : List ℕ). get_or t (length (decimal n)) 0) is ∙ get_or-append_seam (decimal n) 32 rest 0
 
--- the text goes on behind the number
+-- the text goes on after the number
 pub number_longer : (text rest : List ℕ) (n : ℕ) → text ≡ decimal n ++ 32 ∷ rest → length (decimal n) < length text
 number_longer text rest n is = omega (arith, ap length is, length-append (decimal n) (32 ∷ rest))
 
@@ -24,7 +24,7 @@ pub within_number : (text rest : List ℕ) (at n : ℕ) → text ≡ decimal n +
 within_number text rest at n is all beyond =
     let range = digit_at (take at text) (length (decimal n)) all (omega (arith, length-take at text, number_longer text rest n is, beyond)) in
     let same = get_or-take at text (length (decimal n)) 0 beyond in
-    omega (arith, range, same, space_behind text rest n is)
+    omega (arith, range, same, space_after text rest n is)
 
 -- where the digits end, the number ends
 pub number_end : (text rest : List ℕ) (at n : ℕ) → n < 10 ^ 14 → text ≡ decimal n ++ 32 ∷ rest → AllDigits 10 (take at text) → is_ascii_digit (get_or text at 0) ≡ false → at ≡ length (decimal n)
@@ -41,7 +41,7 @@ number_end text rest at n lt is all ends = which (cases_lt at (length (decimal n
     which (inr _) (inl more) = absurd (within_number text rest at n is all more)
     which (inr most) (inr least) = omega (arith, most, least)
 
--- a text of digits, a space, and what stands behind it
+-- a text of digits, a space, and what follows it
 pub front_is : (text : List ℕ) (at n : ℕ) → at < length text → n ≡ digits_value 10 (take at text) → AllDigits 10 (take at text) → at ≤ 14 → 0 < at → get_or text at 0 ≡ 32 → (get_or text 0 0 ≡ 48 → at ≡ 1)
     → (n < 10 ^ 14) × (text ≡ decimal n ++ 32 ∷ drop (at + 1) text)
 front_is text at n inside value all few some here nought =

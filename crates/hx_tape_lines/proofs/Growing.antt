@@ -4,7 +4,7 @@ use Rattle.std.proofs.lemmas.List.{append-nil}
 use Rattle.hx_rules.specs.declared.event.Event.{Event}
 use Rattle.hx_tape_lines.specs.Text.{entry_of_event, HasGrown, line}
 
--- of the bytes a front stands behind the text that stood there before, and the rest is left
+-- a front of the bytes comes after the text that was there before, and the rest is left
 pub record Wrote (old new front rest bytes : List ℕ) : Type 0 where
   pub new_is : new ≡ old ++ front
   pub bytes_are : bytes ≡ front ++ rest
@@ -36,7 +36,7 @@ wrote_member old two three front b y bytes h next = wrote_part old two three fro
 pub wrote_second_space : (old three four front y bytes : List ℕ) → Wrote old three front (32 ∷ y) bytes → four ≡ three ++ 32 ∷ [] → Wrote old four (front ++ 32 ∷ []) y bytes
 wrote_second_space old three four front y bytes h next = wrote_part old three four front (32 ∷ []) y bytes h next
 
--- ---- the line of an event, and the line feed behind it
+-- the line of an event, and the line feed after it
 
 -- a beginning of the line is one of the line with its line feed
 pub begins_line : (old new : List ℕ) (event : Event) → HasGrown old new (line (entry_of_event event)) → HasGrown old new (line (entry_of_event event) ++ 10 ∷ [])

@@ -35,9 +35,9 @@ three_fields e text a others b x fits is cut none cut2 none2 =
     let second = same_split 32 b x (decimal e.member) (encode_lower e.bytes) none2 (member_Lacks e fits) (sym cut2 ∙ first.1) in
     record { time = first.0; member = second.0; hex = second.1 }
 
--- the same where the fields are numbers that were read
-pub behind_time : (e : Entry) (text : List ℕ) (t : ℕ) (others : List ℕ) → IsEntry e → text ≡ line e → t < 10 ^ 14 → text ≡ decimal t ++ 32 ∷ others → others ≡ after_time e
-behind_time e text t others fits is small cut = (two_fields e text (decimal t) others fits is cut (lacks-decimal 32 t (omega arith) (omega (arith, small)))).1
+-- the same if the fields are numbers that were read
+pub later_time : (e : Entry) (text : List ℕ) (t : ℕ) (others : List ℕ) → IsEntry e → text ≡ line e → t < 10 ^ 14 → text ≡ decimal t ++ 32 ∷ others → others ≡ after_time e
+later_time e text t others fits is small cut = (two_fields e text (decimal t) others fits is cut (lacks-decimal 32 t (omega arith) (omega (arith, small)))).1
 
 pub numbers_read : (e : Entry) (text others x : List ℕ) (t m : ℕ) → IsEntry e → text ≡ line e → t < 10 ^ 14 → text ≡ decimal t ++ 32 ∷ others → m < 10 ^ 14 → others ≡ decimal m ++ 32 ∷ x
     → Fields e (decimal t) (decimal m) x

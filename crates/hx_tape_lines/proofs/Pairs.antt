@@ -65,7 +65,7 @@ byte_fits b h = omega (arith, h)
 pub byte_parts : (h l : ℕ) → h < 16 → l < 16 → ((h * 16 % 256 + l) % 256 / 16 ≡ h) × ((h * 16 % 256 + l) % 256 % 16 ≡ l)
 byte_parts h l hs ls = (omega (arith, hs, ls), omega (arith, hs, ls))
 
--- two digits more are read, where all so far were digits
+-- two digits more are read, if all so far were digits
 pub digits_read : (text bytes : List ℕ) (i h l : ℕ) (so_far : Bool) → length text ≡ 2 * length bytes → i < length bytes
     → (h < 16 → get_or text (2 * i) 0 ≡ slice_index lower_digits h) → (l < 16 → get_or text (2 * i + 1) 0 ≡ slice_index lower_digits l)
     → (so_far ≡ true → encode_lower (take i bytes) ≡ take (2 * i) text) → (so_far && (nat_lt h 16 && nat_lt l 16)) ≡ true
@@ -80,7 +80,7 @@ digits_read text bytes i h l so_far size lt high low front all =
     (high hs ∙ ap (λ (d : ℕ). slice_index lower_digits d) (sym parts.0))
     (low ls ∙ ap (λ (d : ℕ). slice_index lower_digits d) (sym parts.1))
 
--- what is no digit, or stands behind one that is none, makes the text no text of bytes
+-- what is no digit, or comes after one that is none, makes the text no text of bytes
 pub digits_unread : (text others : List ℕ) (i h l : ℕ) (so_far : Bool) → 2 * i + 1 < length text
     → (16 ≤ h → (d : ℕ) → d < 16 → get_or text (2 * i) 0 ≢ slice_index lower_digits d)
     → (16 ≤ l → (d : ℕ) → d < 16 → get_or text (2 * i + 1) 0 ≢ slice_index lower_digits d)

@@ -186,7 +186,7 @@ chosen v long h = ap (λ (n : ℕ). choices n v) (sym long) ∙ all_values v h
 
 -- ---- values in a vector, joined
 
--- two vectors, one behind the other, joined lane by lane
+-- two vectors, one after the other, joined lane by lane
 abbrev pub joined_in_turn : ℕ → ℕ → List ℕ → List ℕ
 joined_in_turn zero k l = []
 joined_in_turn (suc n) k l = (get_or l k 0 * 16 % 256 + get_or l (k + 1) 0) % 256 ∷ joined_in_turn n (k + 2) l

@@ -2,16 +2,16 @@
 use Rattle.std.specs.Prelude.{◌≡◌, ℕ, ◌+◌, ◌-◌, ◌*◌, ◌%◌, ◌<◌, ◌&&◌, nat_le, if◌then◌else◌, List, [], ◌∷◌, ◌++◌, drop, slice_index}
 use Rattle.hex.specs.Hex.{encode_lower, IsBytes}
 
--- of some bytes, whose digits would all start at `start`, those from a place on have their digits in the text, and
--- behind these stands what stood there
-abbrev pub AreWritten : (bytes : List ℕ) (place start : ℕ) (text behind : List ℕ) → Type 0
-AreWritten bytes place start text behind =
-    drop (start + 2 * place) text ≡ encode_lower (drop place bytes) ++ behind
+-- of some bytes, whose digits would all start at `start`, those from an index on have their digits in the text, and
+-- after these is what was there
+abbrev pub AreWritten : (bytes : List ℕ) (index start : ℕ) (text later : List ℕ) → Type 0
+AreWritten bytes index start text later =
+    drop (start + 2 * index) text ≡ encode_lower (drop index bytes) ++ later
 
--- of the bytes of a text of digits, those from a place on are read: the text has their digits there
-pub record AreRead (text : List ℕ) (place : ℕ) (bytes : List ℕ) : Type 0 where
-  pub digits : drop (2 * place) text ≡ encode_lower (drop place bytes)
-  pub are_bytes : IsBytes (drop place bytes)
+-- of the bytes of a text of digits, those from an index on are read: the text has their digits there
+pub record AreRead (text : List ℕ) (index : ℕ) (bytes : List ℕ) : Type 0 where
+  pub digits : drop (2 * index) text ≡ encode_lower (drop index bytes)
+  pub are_bytes : IsBytes (drop index bytes)
 
 -- the value of a digit by its code, and 16 of what is none
 abbrev pub value_of : ℕ → ℕ

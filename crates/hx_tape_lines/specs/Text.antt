@@ -9,7 +9,7 @@ use Rattle.hx_rules.specs.declared.event.Event.TheVariants.{Message, Tick, Hours
 use Rattle.hx_rules.specs.OperatorMessages.{halt_bytes, break_bytes}
 use Rattle.hx_tape_lines.specs.declared.line.Fields.{Fields}
 
--- what a line says: the time, the member's number and the bytes of his message
+-- what a line says: the time, the member's number and the bytes of its message
 pub record Entry : Type 0 where
   pub time : ℕ
   pub member : ℕ
@@ -81,7 +81,7 @@ pub record IsPlain (text : List ℕ) : Type 0 where
   pub spelled : AllByRecursion IsSpelled text
   pub first : BeginsWithDigit text
 
--- a front of the bytes, all of them or fewer, stands behind the text that stood there before
+-- a front of the bytes, all of them or fewer, comes after the text that was there before
 pub record HasGrown (old new bytes : List ℕ) : Type 0 where
   pub front : List ℕ
   pub rest : List ℕ
@@ -96,6 +96,6 @@ pub record HasParts (text : List ℕ) (t m : ℕ) (digits : List ℕ) : Type 0 w
   pub some : 0 < length digits
   pub few : length digits ≤ 2046
 
--- the bytes of the longest line: 14 digits, 4, and those of 1,023 bytes, with a space behind each number
+-- the bytes of the longest line: 14 digits, 4, and those of 1,023 bytes, with a space after each number
 abbrev pub longest_line : ℕ
 longest_line = 2066

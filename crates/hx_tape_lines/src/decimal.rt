@@ -47,8 +47,8 @@ fn few_digits(number: u64) -> usize
 // The most digits of a number that is read.
 const MOST_DIGITS: usize = 14;
 
-/// The number in front of the first space, and what stands behind the space; or none where no number of at most 14 digits
-/// stands there, the first of them no 0 where there are more.
+/// The number in front of the first space, and what follows the space; or none if no number of at most 14 digits is
+/// there, the first of them no 0 if there are more.
 #[inline(always)]
 pub fn split_number(text: &[u8]) -> Option<(u64, &[u8])>
     ensures some { IfSome result (λ p. (p.0 < 10 ^ 14)
@@ -63,7 +63,7 @@ pub fn split_number(text: &[u8]) -> Option<(u64, &[u8])>
     split_from(text, 0, 0)
 }
 
-/// The same, sooner where the number has eight digits or more, and soonest where it has fourteen.
+/// The same, sooner if the number has eight digits or more, and soonest if it has fourteen.
 pub fn split_long_number(text: &[u8]) -> Option<(u64, &[u8])>
     ensures some { IfSome result (λ p. (p.0 < 10 ^ 14)
         × (text.now ≡ decimal p.0 ++ space ∷ p.1.now)) }
@@ -79,7 +79,7 @@ pub fn split_long_number(text: &[u8]) -> Option<(u64, &[u8])>
     }
 }
 
-// The same, where the digits before the place `start` are read and write this number.
+// The same, if the digits before the index `start` are read and write this number.
 fn split_from(text: &[u8], start: usize, front: u64) -> Option<(u64, &[u8])>
     requires start { start ≤ 8 }
     requires digits { AllDigits 10 (take start text.now) }
@@ -100,8 +100,8 @@ fn split_from(text: &[u8], start: usize, front: u64) -> Option<(u64, &[u8])>
     None
 }
 
-// The number that the first fourteen bytes write, where they are digits and a space stands behind them, as at a time of
-// the day. They are read as two words of eight, which share two digits.
+// The number that the first fourteen bytes write, if they are digits and a space follows them, as at a time of the day.
+// They are read as two words of eight, which share two digits.
 fn fourteen_digits(text: &[u8]) -> Option<u64>
     ensures space { IfSome result (λ _. (14 < length text.now)
         × (slice_index text.now 14 ≡ space)) }
@@ -116,8 +116,8 @@ fn fourteen_digits(text: &[u8]) -> Option<u64>
     Some(front * 1_000_000 + back % 1_000_000)
 }
 
-// The number that the first eight bytes write, where they are digits. It stands out of line: in its caller it would share
-// its word with `fourteen_digits`, and the compiler would then test that word byte by byte.
+// The number that the first eight bytes write, if they are digits. It is not inlined: in its caller it would share its
+// word with `fourteen_digits`, and the compiler would then test that word byte by byte.
 #[inline(never)]
 fn first_eight(text: &[u8]) -> Option<u64>
     ensures { IfSome result (λ n. (n ≡ digits_value 10 (take 8 text.now))
@@ -129,7 +129,7 @@ fn first_eight(text: &[u8]) -> Option<u64>
     eight_digits(array_at(text, 0))
 }
 
-// The number that eight digits write, where all are digits. They are the bytes of one word, the first digit its lowest
+// The number that eight digits write, if all are digits. They are the bytes of one word, the first digit its lowest
 // byte: each two of them are joined at once, and then twice two pairs.
 fn eight_digits(block: [u8; 8]) -> Option<u64>
     ensures { IfSome result (λ n. (n ≡ digits_value 10 block) × AllDigits 10 block) }
@@ -156,7 +156,7 @@ fn are_digits(block: [u8; 8]) -> bool
     are_digits
 }
 
-// The number that the digits before the place `at` write, where a space stands there, and what stands behind the space.
+// The number that the digits before the index `at` write, if a space is there, and what follows the space.
 fn whole(text: &[u8], at: usize, number: u64) -> Option<(u64, &[u8])>
     requires here { (at < length text.now) × (at ≤ 14) }
     requires digits { AllDigits 10 (take at text.now) }

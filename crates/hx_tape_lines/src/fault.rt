@@ -10,7 +10,7 @@ pub enum Kind {
     Time,
     /// The setup has no such member.
     Member,
-    /// As many events of the member as allowed were before.
+    /// The member's events have reached its limit.
     Limit,
 }
 

@@ -1,5 +1,5 @@
-//! Bytes in hexadecimal: two lower case digits for each. Sixteen bytes go at once, by vectors, from the last ones on; those
-//! that are left over go once more with those behind them, or one by one where all are fewer.
+//! Bytes in hexadecimal: two lower case digits for each. Sixteen bytes go at once, by vectors, from the last ones on;
+//! those that are left over go once more with those after them, or one by one if all are fewer.
 ghost use Rattle.std.specs.Prelude.{◌≡◌, ◌≢◌, ◌≤◌, ◌<◌, ◌+◌, ◌*◌, ◌/◌, ◌%◌, ◌++◌, [], ℕ, List, true, false, length, drop, IfSome, IfNone, IfOk, slice_index};
 ghost use Rattle.hx_tape_lines.specs.Digits.{AreWritten, AreRead};
 ghost use Rattle.hex.specs.Hex.{encode_lower, lower_digits, IsBytes};
@@ -47,21 +47,21 @@ fn write_blocks<const N: usize, const M: usize>(
     left
 }
 
-// Writes the digits of the block that begins at a place of the bytes, where those behind it are written.
+// Writes the digits of the block that begins at an index of the bytes, if those after it are written.
 fn write_block<const N: usize, const M: usize>(
     bytes: &[u8],
     text: &mut [u8],
     start: usize,
-    place: usize,
+    index: usize,
 )
     requires block { (N ≤ 16) × (M ≡ 2 * N) }
-    requires within { place + N ≤ length bytes.now }
+    requires within { index + N ≤ length bytes.now }
     requires room { start + 2 * length bytes.now ≤ length text.old }
-    ensures { (behind : List ℕ) → AreWritten bytes.now (place + N) start text.old behind
-        → AreWritten bytes.now place start text.new behind }
+    ensures { (later : List ℕ) → AreWritten bytes.now (index + N) start text.old later
+        → AreWritten bytes.now index start text.new later }
 {
-    let at = start + 2 * place;
-    text[at..at + M].copy_from_slice(&digits_of::<N, M>(array_at(bytes, place)));
+    let at = start + 2 * index;
+    text[at..at + M].copy_from_slice(&digits_of::<N, M>(array_at(bytes, index)));
 }
 
 // The digits of a block of at most sixteen bytes, which are those in front of sixteen.
@@ -74,7 +74,7 @@ fn digits_of<const N: usize, const M: usize>(bytes: [u8; N]) -> [u8; M]
     array_at(&block_digits(block), 0)
 }
 
-/// Reads the bytes of a text of such digits into a room, in place of what stood there, and returns whether it is one.
+/// Reads the bytes of a text of such digits into a buffer, over its former content, and returns whether it is one.
 pub fn read_bytes(room: &mut Vec<u8>, text: &[u8]) -> Result<bool, AllocError>
     ensures yes { IfOk result (λ found. found ≡ true
         → (text.now ≡ encode_lower room.new.items) × IsBytes room.new.items) }
@@ -108,24 +108,24 @@ fn read_all(text: &[u8], bytes: &mut [u8]) -> bool
     if left == 0 {
         return true;
     }
-    // Some of the first sixteen are left: they are read with those behind them, which are read once more.
+    // Some of the first sixteen are left: they are read with those after them, which are read once more.
     read_block(text, bytes, 0)
 }
 
-// Reads the sixteen bytes that begin at a place, where those behind them are read, and returns whether their digits are
+// Reads the sixteen bytes that begin at an index, if those after them are read, and returns whether their digits are
 // digits.
-fn read_block(text: &[u8], bytes: &mut [u8], place: usize) -> bool
+fn read_block(text: &[u8], bytes: &mut [u8], index: usize) -> bool
     requires size { length text.now ≡ 2 * length bytes.old }
-    requires within { place + 16 ≤ length bytes.old }
-    ensures yes { result ≡ true → AreRead text.now (place + 16) bytes.old
-        → AreRead text.now place bytes.new }
+    requires within { index + 16 ≤ length bytes.old }
+    ensures yes { result ≡ true → AreRead text.now (index + 16) bytes.old
+        → AreRead text.now index bytes.new }
     ensures no { result ≡ false → (others : List ℕ) → IsBytes others
         → text.now ≢ encode_lower others }
 {
-    let Some(block) = block_bytes(array_at(text, 2 * place)) else {
+    let Some(block) = block_bytes(array_at(text, 2 * index)) else {
         return false;
     };
-    bytes[place..place + 16].copy_from_slice(&block);
+    bytes[index..index + 16].copy_from_slice(&block);
     true
 }
 

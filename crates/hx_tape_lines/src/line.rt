@@ -9,7 +9,7 @@ use std::alloc::AllocError;
 /// The bytes of the longest line, without its line feed.
 pub const LONGEST_LINE: usize = 2066;
 
-/// A timed message of a member. Its bytes stand in the room that they were read into.
+/// A timed message of a member. Its bytes are in the buffer that they were read into.
 #[derive(Debug, Drop)]
 pub struct Fields<'a> {
     pub time: u64,
@@ -17,7 +17,7 @@ pub struct Fields<'a> {
     pub bytes: &'a [u8],
 }
 
-// The time and the member of a line, and the digits of his message.
+// The time and the member of a line, and the digits of its message.
 #[derive(Drop)]
 struct Parts<'a> {
     time: u64,
@@ -25,8 +25,8 @@ struct Parts<'a> {
     digits: &'a [u8],
 }
 
-/// What a line says, where it is the event's one line. Its bytes are read into a room, in place of what stood there: that
-/// takes memory only where they are more than ever stood there.
+/// What a line says, if it is the event's one line. Its bytes are read into a buffer, over its former content: that
+/// takes memory only if they are more than the buffer ever held.
 pub fn read_in<'a>(room: &'a mut Vec<u8>, text: &[u8]) -> Result<Option<Fields<'a>>, AllocError>
     ensures found { IfOk result (λ o. IfSome o (λ e.
         (text.now ≡ line (entry_of e)) × IsEntry (entry_of e))) }
@@ -45,7 +45,7 @@ pub fn read_in<'a>(room: &'a mut Vec<u8>, text: &[u8]) -> Result<Option<Fields<'
     }))
 }
 
-// The parts of a line, where time, member and length are those of a line.
+// The parts of a line, if time, member and length are those of a line.
 fn parts_of(text: &[u8]) -> Option<Parts<'_>>
     ensures some { IfSome result (λ p. HasParts text.now p.time p.member p.digits.now) }
     ensures none { IfNone result ((e : Entry) → IsEntry e → text.now ≢ line e) }

@@ -8,9 +8,9 @@ use hx_rules::{Bytes, Event, decode_operator};
 use hx_units::NoMemory;
 use std::alloc::Global;
 
-/// The event of an entry: a member's message, its bytes in the place of others, or what the operator's bytes say, where
+/// The event of an entry: a member's message, its bytes in the memory of others, or what the operator's bytes say, if
 /// they say something.
-pub fn event_of(alloc: Global, place: Bytes, fields: Fields<'_>) -> Result<Option<Event>, NoMemory>
+pub fn event_of(alloc: Global, buffer: Bytes, fields: Fields<'_>) -> Result<Option<Event>, NoMemory>
     ensures event { IfOk result (λ o.
         IfSome o (λ event. event ≡ event_of (entry_of fields.entry))) }
     ensures known { IfOk result (λ o. OnSome o (is_unknown (entry_of fields.entry) ≡ false)) }
@@ -22,15 +22,15 @@ pub fn event_of(alloc: Global, place: Bytes, fields: Fields<'_>) -> Result<Optio
     Ok(Some(Event::Message {
         member: fields.member,
         time: fields.time,
-        bytes: place.replaced_by(alloc, fields.bytes)?,
+        bytes: buffer.replaced_by(alloc, fields.bytes)?,
     }))
 }
 
-/// The event of a line, where it is one: its digits are read into a room, and its bytes stand in the place of others.
+/// The event of a line, if it is one: its digits are read into a buffer, and its bytes reuse the memory of others.
 pub fn read_event(
     alloc: Global,
     room: &mut Vec<u8>,
-    place: Bytes,
+    buffer: Bytes,
     text: &[u8],
 ) -> Result<Option<Event>, NoMemory>
     ensures some { IfOk result (λ o. IfSome o (IsLineOf text.now)) }
@@ -39,5 +39,5 @@ pub fn read_event(
     let Some(fields) = read_in(room, text)? else {
         return Ok(None);
     };
-    event_of(alloc, place, fields)
+    event_of(alloc, buffer, fields)
 }

@@ -69,7 +69,7 @@ fn joined(front: u8x16, back: u8x16) -> u8x16
     high * u8x16::splat(16) + low
 }
 
-/// The bytes of thirty-two digits, or none where one of them is no digit.
+/// The bytes of thirty-two digits, or none if one of them is no digit.
 pub fn block_bytes(digits: [u8; 32]) -> Option<[u8; 16]>
     ensures some { IfSome result (λ bytes. (digits ≡ encode_lower bytes) × IsBytes bytes) }
     ensures none { IfNone result ((others : List ℕ) → IsBytes others

@@ -109,8 +109,8 @@ fn spell(alloc: Global, text: &mut Vec<u8>, event: &Event) -> Result<(), AllocEr
     }
 }
 
-/// Appends the record of an event: its line, without the line feed. It takes memory: where a growth was refused, a
-/// beginning of the record stands behind what stood there before.
+/// Appends the record of an event: its line, without the line feed. It takes memory: if a growth was refused, a
+/// beginning of the record comes after what was there before.
 pub fn write_record(alloc: Global, text: &mut Vec<u8>, event: &Event) -> Result<(), AllocError>
     ensures ok { OnOk result (text.new.items ≡ text.old.items ++ record_of event.now) }
     ensures err { OnErr result (HasGrown text.old.items text.new.items (record_of event.now)) }
@@ -118,8 +118,8 @@ pub fn write_record(alloc: Global, text: &mut Vec<u8>, event: &Event) -> Result<
     spell(alloc, text, event)
 }
 
-/// Appends the line of an event, with its line feed. It takes memory: where a growth was refused, a beginning of the line
-/// stands behind what stood there before.
+/// Appends the line of an event, with its line feed. It takes memory: if a growth was refused, a beginning of the line
+/// comes after what was there before.
 #[tactic(auto, using(crate::proofs::Growing::begins_line, crate::proofs::Growing::lacks_feed, crate::proofs::Growing::whole_line))]
 pub fn write_event(alloc: Global, text: &mut Vec<u8>, event: &Event) -> Result<(), AllocError>
     ensures ok { OnOk result (

@@ -1,4 +1,4 @@
-//! Worked tapes: what is told of each, what is struck, how it is shown, and what a report says of it.
+//! Worked tapes: the output of each, what is struck, how it is shown, and what a report says of it.
 
 mod all_members;
 mod feed_book;

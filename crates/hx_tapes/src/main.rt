@@ -2,8 +2,7 @@
 //! input to standard output: the part of `hx_tape` that needs no sockets.
 #![tactic(auto)]
 
-use hx_commands::tape_command;
-use hx_runs::{RunError, read_words, refuse, run_command};
+use hx_cli::{RunError, read_words, refuse, run_command, tape_command};
 use std::process::ExitCode;
 use std::rt::{Env, Files};
 use std::thread::Threads;

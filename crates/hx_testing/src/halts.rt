@@ -40,9 +40,9 @@ pub const HALTS_AND_BREAKS: &str = "\
   M 1 5 accepted 2
 ";
 
-/// A halt is told also where the state stays; one of no stock of the setup, or to no state, does nothing. It stands
-/// behind the stock and before the side among the reasons to reject, is of one stock alone, and keeps neither ticks
-/// nor hours. A Replace that would fail is ignored in it, and uses up nothing.
+/// A halt is published also if the state stays; one of no stock of the setup, or to no state, does nothing. It comes
+/// after the stock and before the side among the reasons to reject, is of one stock alone, and stops neither ticks nor
+/// hours. A Replace that would fail is ignored in it, and uses up nothing.
 pub const HALTS_AT_THEIR_EDGES: &str = "\
 10 0 halt ABCD T1
   F 1 halted ABCD T1

@@ -1,6 +1,6 @@
-//! What tests share: worked days in words, lines of a tape, orders as members send them, messages
-//! and replies told shortly, and inputs and outputs in memory whose calls go wrong where a test says
-//! so. No contract speaks of it: what it gives is compared where a test runs.
+//! What tests share: worked days in words, lines of a tape, orders as members send them, messages and replies in
+//! shorthand, and inputs and outputs in memory whose calls go wrong when a test says so. No contract speaks of it: what
+//! it gives is compared when a test runs.
 #![tactic(auto)]
 
 pub mod halts;

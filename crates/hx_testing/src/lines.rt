@@ -5,7 +5,7 @@ use memchr::memchr;
 use std::alloc::{AllocError, Global};
 use std::test::Fail;
 
-/// The first line of a text, without its line feed, and the text behind it.
+/// The first line of a text, without its line feed, and the text after it.
 pub fn split_line(text: &[u8]) -> Option<(&[u8], &[u8])> {
     let at = memchr(b'\n', text)?;
     Some((&text[..at], &text[at + 1..]))
@@ -81,7 +81,7 @@ pub fn count_lines(text: &[u8], beginning: &[u8]) -> u64 {
     count
 }
 
-/// The text behind this many lines at its front.
+/// The text after `but` lines at its front.
 pub fn last_lines(text: &[u8], but: u64) -> &[u8] {
     let mut rest = text;
     for _ in 0..but {
@@ -92,12 +92,12 @@ pub fn last_lines(text: &[u8], but: u64) -> &[u8] {
     rest
 }
 
-/// This many lines at the front of a text.
+/// `count` lines at the front of a text.
 pub fn first_lines(text: &[u8], count: u64) -> &[u8] {
     &text[..text.len().saturating_sub(last_lines(text, count).len())]
 }
 
-/// This many bytes at the front of a text, or all where it is shorter.
+/// `count` bytes at the front of a text, or all if it is shorter.
 pub fn front(text: &[u8], count: usize) -> &[u8] {
     &text[..count.min(text.len())]
 }

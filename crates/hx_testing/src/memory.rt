@@ -9,7 +9,7 @@ use std::time::Duration;
 
 const SECOND: u64 = 1_000_000_000;
 
-/// A time in place of the machine's, which goes on only where somebody sleeps, up to an end. It is in nanoseconds.
+/// A clock instead of the machine's, which goes on only when somebody sleeps, up to an end. It is in nanoseconds.
 #[derive(Drop)]
 pub struct Rest {
     slept: AtomicU64,
@@ -50,9 +50,9 @@ impl Rest {
     }
 }
 
-/// What an input does behind its bytes.
+/// What an input does after its bytes.
 #[derive(Clone, Copy)]
-pub enum Behind<'a> {
+pub enum After<'a> {
     /// It ends.
     End,
     /// Each read fails so.
@@ -65,7 +65,7 @@ pub enum Behind<'a> {
         wanted: u64,
         last: &'a [u8],
     },
-    /// It ends where this time does.
+    /// It ends when this clock does.
     Rests(&'a Rest),
 }
 
@@ -86,11 +86,11 @@ pub const NONE_BAD: Bad = Bad {
 #[derive(Clone, Copy)]
 pub struct Input<'a> {
     pub bytes: &'a [u8],
-    /// No read goes on behind this place.
+    /// No read goes on after this offset.
     pub cut: usize,
-    /// A read gives at most this many bytes.
+    /// The largest number of bytes that a read gives.
     pub most: usize,
-    pub behind: Behind<'a>,
+    pub after: After<'a>,
     pub bad: Bad,
     pub calls: u64,
 }
@@ -102,7 +102,7 @@ impl<'a> Input<'a> {
             bytes,
             cut: 0,
             most: usize::MAX,
-            behind: Behind::End,
+            after: After::End,
             bad: NONE_BAD,
             calls: 0,
         }
@@ -133,17 +133,17 @@ impl Read for Input<'_> {
             };
         }
         if self.bytes.is_empty() {
-            match self.behind {
-                Behind::End => return Ok(0),
-                Behind::Fails(kind) => return Err(Error::from(kind)),
-                Behind::Heartbeats => self.bytes = HEARTBEAT,
-                Behind::Rests(rest) => {
+            match self.after {
+                After::End => return Ok(0),
+                After::Fails(kind) => return Err(Error::from(kind)),
+                After::Heartbeats => self.bytes = HEARTBEAT,
+                After::Rests(rest) => {
                     if rest.slept() < rest.end {
                         return Err(Error::from(ErrorKind::WouldBlock));
                     }
                     return Ok(0);
                 }
-                Behind::Waits {
+                After::Waits {
                     count,
                     wanted,
                     last,
@@ -152,7 +152,7 @@ impl Read for Input<'_> {
                         return Err(Error::from(ErrorKind::TimedOut));
                     }
                     self.bytes = last;
-                    self.behind = Behind::End;
+                    self.after = After::End;
                 }
             }
         }
@@ -168,13 +168,13 @@ impl Read for Input<'_> {
 pub struct Output<'a> {
     /// What it has taken.
     pub taken: Vec<u8>,
-    /// A write takes at most this many bytes.
+    /// The largest number of bytes that a write takes.
     pub most: usize,
     pub bad: Bad,
     pub calls: u64,
     /// How often it was flushed.
     pub flushed: u64,
-    /// Here it tells how many bytes it has taken.
+    /// Here it writes the number of bytes that it has taken.
     pub count: &'a AtomicU64,
 }
 

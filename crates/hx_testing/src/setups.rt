@@ -1,4 +1,4 @@
-//! Setups, of which callers know nothing: what made them is not told, so that proofs do not compute with it.
+//! Setups of which callers know nothing: no contract says what made them, so that proofs do not compute with it.
 
 use hx_members::{Setup, SetupError};
 use hx_units::NoMemory;
@@ -45,8 +45,8 @@ pub fn setup_of(alloc: Global, text: &[u8]) -> Result<Setup, Fail> {
     }
 }
 
-/// The text of a day that begins closed, of as many stocks and members as may be: S1 to S1000, and members 1 to 4,095
-/// with the users U1 to U4095 and the password P.
+/// The text of a day that begins closed, of the largest number of stocks and members: S1 to S1000, and members 1 to
+/// 4,095 with the users U1 to U4095 and the password P.
 pub fn widest(alloc: Global) -> Result<Vec<u8>, AllocError> {
     let mut text = Vec::from_slice(alloc, b"session HX00000002\nstart closed\n")?;
     for n in 1..=1000 {

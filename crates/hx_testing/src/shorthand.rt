@@ -1,4 +1,4 @@
-//! Messages of the feed and replies, told shortly.
+//! Messages of the feed and replies, in shorthand.
 
 use hx_itch::{Feed, decode};
 use hx_ouch::{Outbound, decode_out};
@@ -75,7 +75,7 @@ pub fn read_reply(bytes: &[u8]) -> Reply {
     }
 }
 
-/// The member's private reference of this number: 2^63, his number by 2^40, and the number.
+/// The member's private reference of this number: 2^63, its number by 2^40, and the number.
 pub fn private(member: u16, number: u8) -> u64 {
     0x8000_0000_0000_0000 + u64::from(member) * 0x100_0000_0000 + u64::from(number)
 }

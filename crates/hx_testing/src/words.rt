@@ -1,8 +1,8 @@
 //! Worked days in words, and their bytes.
 //!
-//! An event is a line `TIME MEMBER ..`. Below it, two spaces in, stands what it tells: `F NUMBER ..`, a message of the
-//! feed, and `M MEMBER NUMBER ..`, a reply. What is told carries the time of its event. Prices are dollars with four
-//! decimals; `1.2` is the second private reference of member 1.
+//! An event is a line `TIME MEMBER ..`. Below it, two spaces in, is its output: `F NUMBER ..`, a message of the feed,
+//! and `M MEMBER NUMBER ..`, a reply. The output carries the time of its event. Prices are dollars with four decimals;
+//! `1.2` is the second private reference of member 1.
 //!
 //! ```text
 //! 10 1 enter T1 buy 100 ABCD 10.0000 day shown
@@ -79,10 +79,10 @@ impl Day {
 
     // One more line in words.
     fn take(&mut self, alloc: Global, line: &str, current: &mut Current) -> Result<(), Fail> {
-        if let Some(told) = line.strip_prefix("  F ") {
-            self.publish(alloc, Words::of(told), current.time)
-        } else if let Some(told) = line.strip_prefix("  M ") {
-            self.answer(alloc, Words::of(told), *current)
+        if let Some(outputs) = line.strip_prefix("  F ") {
+            self.publish(alloc, Words::of(outputs), current.time)
+        } else if let Some(outputs) = line.strip_prefix("  M ") {
+            self.answer(alloc, Words::of(outputs), *current)
         } else {
             *current = self.enter(alloc, Words::of(line))?;
             Ok(())

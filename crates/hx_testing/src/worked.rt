@@ -1,4 +1,4 @@
-//! Worked days in words: each event, and below it what it tells, worked out by hand from the rules of the market.
+//! Worked days in words: each event, and below it its output, worked out by hand from the rules of the market.
 
 /// One displayed order.
 pub const ONE_DISPLAYED_ORDER: &str = "\
@@ -61,7 +61,7 @@ pub const MINIMUM_PASSED_OVER: &str = "\
   M 3 2 executed S1 500 10.0000 removed match 1
 ";
 
-/// What is left of an order keeps its minimum.
+/// What is left of an order has the same minimum.
 pub const MINIMUM_STAYS: &str = "\
 10 1 enter H1 buy 600 ABCD 10.0000 day hidden
   M 1 1 accepted 1.1
@@ -109,7 +109,7 @@ pub const TWO_LEVELS_TAKEN: &str = "\
 40 3 enter S1 buy 100 ABCD 10.0000 day shown
 ";
 
-/// Each output carries the time of its own event, also where times go back.
+/// Each output carries the time of its own event, also if times go back.
 pub const TIMES_GOING_BACK: &str = "\
 500 1 enter T1 buy 100 ABCD 10.0000 day shown
   F 1 add 1 buy 100 ABCD 10.0000
@@ -174,7 +174,7 @@ pub const CHAIN_THAT_TRADED: &str = "\
   M 1 6 canceled H4 99 user
 ";
 
-/// Replaces change the display: one message of the feed where both orders are displayed alike, else two.
+/// Replaces change the display: one message of the feed if both orders are displayed alike, else two.
 pub const DISPLAY_CHANGES: &str = "\
 10 1 enter T1 buy 100 ABCD 10.0000 day shown
   F 1 add 1 buy 100 ABCD 10.0000
@@ -311,7 +311,7 @@ pub const REASONS: &str = "\
 ";
 
 /// Short sales are published as sells and echoed as they are; the second stock has its own book; a firm that is not
-/// blank is told; an order with attribution carries it.
+/// blank is published; an order with attribution carries it.
 pub const SIDES_STOCKS_FIRMS: &str = "\
 10 1 enter T1 short 100 WXYZ 20.0000 day shown
   F 1 add 1 sell 100 WXYZ 20.0000
@@ -408,7 +408,8 @@ pub const AFTER_THE_MARKET_HOURS: &str = "\
   M 2 3 replaced buy 100 3
 ";
 
-/// Two orders end at one tick, in the order of their entry; a hidden order is cancelled in part, and keeps its place.
+/// Two orders end at one tick, in the order of their entry; a hidden order is cancelled in part, and retains its time
+/// priority.
 pub const TWO_END_AT_ONE_TICK: &str = "\
 10 2 enter H1 buy 100 ABCD 10.0000 2 hidden
   M 2 1 accepted 2.1
@@ -423,7 +424,7 @@ pub const TWO_END_AT_ONE_TICK: &str = "\
   M 1 2 canceled T1 70 timeout
 ";
 
-/// A member who may send two messages: an unreadable one counts, and the third is refused.
+/// A member that may send two messages: an unreadable one counts, and the third is refused.
 pub const LIMIT_OF_TWO_MESSAGES: &str = "\
 10 1 bytes 00
 20 1 enter T1 buy 100 ABCD 10.0000 day shown

@@ -23,7 +23,7 @@ value_small_front ds i short all = value_small (take i ds) (omega (arith, length
 pub decimal_size : (n : ℕ) → n < 10 ^ 14 → (0 < length (decimal n)) × (length (decimal n) ≤ 14)
 decimal_size n lt = (decimal_nonempty n (omega arith), length-decimal-le 14 n (omega arith) lt (omega arith))
 
--- the first of them is no 0 where there are more
+-- the first of them is no 0 if there are more
 pub decimal_front : (n : ℕ) → n < 10 ^ 14 → get_or (decimal n) 0 0 ≡ 48 → length (decimal n) ≡ 1
 decimal_front zero lt e = ap length (decimal_digit 0 (omega arith))
 decimal_front (suc k) lt e = absurd (omega (arith, first_decimal (suc k) (omega arith) (omega arith), e))

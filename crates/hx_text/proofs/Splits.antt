@@ -1,4 +1,4 @@
--- Text that is cut at the first place of a byte.
+-- Text that is cut at the first offset of a byte.
 use Rattle.std.proofs.Common.{◌≡◌, ◌+◌, ◌<◌, ℕ, suc, List, [], ◌∷◌, ◌++◌, length, take, drop, get_or, refl, sym, ap, ◌∙◌, arith, drop-cons, take-append-drop}
 use Rattle.std.specs.Prelude.{◌≢◌}
 use Rattle.std.proofs.lemmas.Bool.{eqb-true, eq-eqb}
@@ -25,9 +25,9 @@ none_split b (a ∷ as') x p = none_split b as' x (All-tail (λ n. n ≢ b) a (a
 passes : (text : List ℕ) (b k : ℕ) → get_or text k 0 ≡ b → Passes (is_byte b) text k
 passes text b k e = eq-eqb (get_or text k 0) b e
 
--- a text is cut at the first place that a search finds
-pub first_place : (text : List ℕ) (b k : ℕ) → NoneBefore (Passes (is_byte b) text) 0 (length text) k × Passes (is_byte b) text k → (text ≡ take k text ++ b ∷ drop (k + 1) text) × Lacks b (take k text)
-first_place text b k h =
+-- a text is cut at the first offset that a search finds
+pub first_index : (text : List ℕ) (b k : ℕ) → NoneBefore (Passes (is_byte b) text) 0 (length text) k × Passes (is_byte b) text k → (text ≡ take k text ++ b ∷ drop (k + 1) text) × Lacks b (take k text)
+first_index text b k h =
     let here : get_or text k 0 ≡ b = eqb-true (get_or text k 0) b h.1 in
     let next : suc k ≡ k + 1 = omega arith in
     let rest : drop k text ≡ b ∷ drop (k + 1) text = drop-cons text k 0 h.0.high ∙ ap (λ (x : ℕ). x ∷ drop (suc k) text) here ∙ ap (λ (j : ℕ). b ∷ drop j text) next in (
@@ -39,5 +39,5 @@ first_place text b k h =
           h.0.before j (omega arith) inside (passes text b j same),
     )
 
-pub no_place : (text : List ℕ) (b : ℕ) → Nowhere (Passes (is_byte b) text) 0 (length text) → Lacks b text
-no_place text b h k d below e = h k (omega arith) below (passes text b k (sym (get_or_default_zero text k d below) ∙ e))
+pub no_index : (text : List ℕ) (b : ℕ) → Nowhere (Passes (is_byte b) text) 0 (length text) → Lacks b text
+no_index text b h k d below e = h k (omega arith) below (passes text b k (sym (get_or_default_zero text k d below) ∙ e))

@@ -55,8 +55,8 @@ without_front-digits [] zero are = refl
 without_front-digits [] (suc n) are = without_front-digits [] n are
 without_front-digits (c ∷ digits) n are = rw (not_space c are.0) (without_back-digits (c ∷ digits) n are)
 
-pub trimmed-digits : (before behind : ℕ) (digits : List ℕ) → AllDigits 10 digits → trimmed (spaces before ++ (digits ++ spaces behind)) ≡ digits
-trimmed-digits before behind digits are = ap without_back (without_front-spaces before (digits ++ spaces behind)) ∙ without_front-digits digits behind are
+pub trimmed-digits : (before after : ℕ) (digits : List ℕ) → AllDigits 10 digits → trimmed (spaces before ++ (digits ++ spaces after)) ≡ digits
+trimmed-digits before after digits are = ap without_back (without_front-spaces before (digits ++ spaces after)) ∙ without_front-digits digits after are
 
 -- ---- the rest and the spaces are the text
 
@@ -83,7 +83,7 @@ back_spaces (b ∷ text) =
     (suc w.0, ap (λ (c : ℕ). c ∷ text) (eqb-true b 32 t.0) ∙ ap (λ (t : List ℕ). 32 ∷ t) (w.1 ∙ ap (λ (r : List ℕ). r ++ spaces w.0) (is_empty (without_back text) t.1))))
     (w.0, ap (λ (t : List ℕ). b ∷ t) w.1)
 
-pub trimmed_spaces : (text : List ℕ) → (before : ℕ) × (behind : ℕ) × (text ≡ spaces before ++ (trimmed text ++ spaces behind))
+pub trimmed_spaces : (text : List ℕ) → (before : ℕ) × (after : ℕ) × (text ≡ spaces before ++ (trimmed text ++ spaces after))
 trimmed_spaces text =
     let f = front_spaces text in
     let b = back_spaces (without_front text) in

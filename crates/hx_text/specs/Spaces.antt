@@ -2,7 +2,7 @@
 use Rattle.std.specs.Prelude.{ℕ, List, replicate, [], ◌∷◌, ◌==◌, ◌&&◌, bytes_eq, if◌then◌else◌}
 use Rattle.hx_units.specs.Letters.{space}
 
--- this many spaces
+-- a number of spaces
 abbrev pub spaces : ℕ → List ℕ
 spaces n = replicate n space
 

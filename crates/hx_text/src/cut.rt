@@ -4,7 +4,7 @@ ghost use Rattle.hx_text.specs.Cuts.{Lacks};
 
 use memchr::memchr;
 
-/// What stands before the first such byte, and after it; or none where no place has it.
+/// What comes before the first such byte, and after it; or none if the text does not have it.
 pub fn split_once(text: &[u8], byte: u8) -> Option<(&[u8], &[u8])>
     ensures some { IfSome result (λ p.
         (text.now ≡ p.0.now ++ byte ∷ p.1.now) × Lacks byte p.0.now) }

@@ -3,8 +3,8 @@ ghost use Rattle.std.specs.Prelude.{◌≡◌, ◌≢◌, ◌≤◌, ◌<◌, �
 ghost use Rattle.std.specs.Str.Parse.{digits_value, AllDigits};
 ghost use Rattle.std.specs.Fmt.{decimal};
 
-/// The number that the digits write, or none where they write none: they are 1 to 14, and the first of them is no 0
-/// where there are more.
+/// The number that the digits write, or none if they write none: they are 1 to 14, and the first of them is no 0 if
+/// there are more.
 pub fn read_number(digits: &[u8]) -> Option<u64>
     ensures some { IfSome result (λ n. (n < 10 ^ 14) × (digits.now ≡ decimal n)) }
     ensures none { IfNone result ((n : ℕ) → n < 10 ^ 14 → digits.now ≢ decimal n) }

@@ -16,7 +16,7 @@ mod time;
 pub use heartbeat::is_heartbeat_due;
 pub use known::Known;
 pub use member::MemberNo;
-pub use memory::{NoMemory, places_ahead, reserve_ahead};
+pub use memory::{NoMemory, indices_ahead, reserve_ahead};
 pub use names::{Firm, Symbol, Token};
 pub use price::Price;
 pub use shares::Shares;

@@ -4,7 +4,7 @@ ghost use Rattle.hx_units.specs.Ranges.{IsMember};
 
 use std::marker::Model;
 
-/// A member's number, from 1 to 4,095. The operator, who has number 0, is no member.
+/// A member's number, from 1 to 4,095. The operator, which has number 0, is no member.
 #[derive(Clone, Copy, Debug, PartialEq, Eq, PartialOrd, Ord, Hash)]
 pub struct MemberNo {
     number: u16,
@@ -24,7 +24,7 @@ impl MemberNo {
     /// The greatest number that a member may have.
     pub const MAX: u16 = 4095;
 
-    /// The member of this number, or none where no member may have it.
+    /// The member of this number, or none if no member may have it.
     pub fn of(number: u16) -> Option<MemberNo>
         ensures exists { IsSome result ↔ IsMember number }
         ensures value { IfSome result (λ member. member ≡ number) }

@@ -21,21 +21,21 @@ impl<T: Drop> From<AllocFailed<T>> for NoMemory {
     }
 }
 
-/// A list of this many elements is long.
+/// A list of at least this number of elements is long.
 const MANY: usize = 2_000;
 
-/// How many places more a full list of this many elements gets beside those that it needs: none where it is short, and
-/// fifteen times as many as it has where it is long. To move a list costs every thread of the program, and places that
-/// nobody has touched yet cost nothing.
-pub fn places_ahead(len: usize) -> usize {
+/// How many slots more a full list of `len` elements gets beside those that it needs: none if it is short, and fifteen
+/// times its length if it is long. To move a list costs every thread of the program, and slots that nobody has touched
+/// yet cost nothing.
+pub fn indices_ahead(len: usize) -> usize {
     if len < MANY {
         return 0;
     }
     len.saturating_mul(15)
 }
 
-/// Makes room for this many elements more behind those of a list. One that is full gets the places ahead, too, where these are to
-/// be had. After `NoMemory` the list has the same elements.
+/// Makes room for `count` elements more after those of a list. One that is full gets the slots ahead, too, if there is
+/// memory for these. After `NoMemory` the list has the same elements.
 #[inline(always)]
 pub fn reserve_ahead<T>(list: &mut Vec<T>, more: usize) -> Result<(), NoMemory>
     ensures items { list.new.items ≡ list.old.items }
@@ -58,7 +58,7 @@ fn grow_ahead<T>(list: &mut Vec<T>, more: usize) -> Result<(), NoMemory>
     ensures room { OnOk result (vec_len list.new + more ≤ vec_capacity list.new) }
     ensures capacity { vec_capacity list.old ≤ vec_capacity list.new }
 {
-    let _refused = list.reserve(places_ahead(list.len()));
+    let _refused = list.reserve(indices_ahead(list.len()));
     list.reserve(more)?;
     Ok(())
 }

@@ -1,5 +1,5 @@
-//! Tests of what stands around an exchange: a day's doors, the operator's words and socket, the screen of a vendor, its
-//! page, and the page of figures. Nothing is called from here.
+//! Tests of what stands around an exchange: a day's acceptors, the operator's words and socket, the screen of a vendor,
+//! its web page, and the metrics page. Nothing is called from here.
 #![tactic(auto)]
 
 #[cfg(test)]

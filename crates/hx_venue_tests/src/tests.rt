@@ -1,8 +1,8 @@
-//! A day's doors and its operator, the screen of a vendor, its page, and the page of figures.
+//! A day's acceptors and its operator, the screen of a vendor, its web page, and the metrics page.
 
+mod acceptors;
 mod answered;
-mod board;
-mod doors;
+mod market_view;
 mod metrics;
 mod operator;
 mod page;

@@ -26,7 +26,7 @@ pub fn holds<R: Abort>(rt: &R, is_so: bool) {
     assert!(rt; is_so);
 }
 
-/// There are this many, or the test ends.
+/// There are `wanted`, or the test ends.
 pub fn count<R: Abort>(rt: &R, found: usize, wanted: usize)
     ensures { found ≡ wanted }
 {

@@ -1,4 +1,4 @@
-//! Two members who send at once over a journal whose sync is slow: nobody is told of what is not synced.
+//! Two members that send at once over a journal whose sync is slow: nothing is published that is not synced.
 ghost use Rattle.std.specs.Prelude.{◌≡◌, []};
 ghost use Rattle.hx_engine.specs.Opening.{IsNewLog};
 ghost use Rattle.hx_rules.specs.declared.event.Event.{Event};
@@ -20,10 +20,10 @@ use std::test::*;
 use std::thread;
 use std::thread::Threads;
 
-// How many orders each member sends.
+// The number of orders that each member sends.
 const EACH: u8 = 20;
 
-// Who says how many records are synced.
+// Holds the number of synced records.
 #[derive(Drop)]
 struct Counter<'a> {
     synced: &'a AtomicU64,
@@ -35,10 +35,10 @@ impl Witness for Counter<'_> {
     }
 }
 
-// A journal of which is known how many records are synced.
+// A journal whose number of synced records is known.
 type Counted<'a> = Witnessed<Counter<'a>>;
 
-// A member with his pass and his reader, and how many records are synced.
+// A member with its pass and its reader, and the number of synced records.
 #[derive(Drop)]
 struct Sender<'a, V: Venue> {
     member: u16,
@@ -58,7 +58,7 @@ fn order_of(member: u16, number: u8) -> Order {
 }
 
 impl<V: Venue> Sender<'_, V> {
-    // How many replies the two members have.
+    // The number of replies that the two members have.
     fn replies<R: Wait + Abort>(&mut self, rt: &R, exchange: &Exchange<V, Counted>) -> u64 {
         let first = self.replies_to(rt, exchange, 1);
         let second = self.replies_to(rt, exchange, 2);
@@ -75,7 +75,7 @@ impl<V: Venue> Sender<'_, V> {
         exchange.news(rt, &mut self.reader, member).replies
     }
 
-    // Sends his orders: none is answered, and no reply told to anybody, before its record is synced.
+    // Sends the member's orders: none is answered, and no reply published, before its record is synced.
     fn session<R: Wait + Abort>(&mut self, rt: &R, alloc: Global, exchange: &Exchange<V, Counted>) {
         for number in 0..EACH {
             let event = enter(alloc, &order_of(self.member, number)).expect(rt, "an order");
@@ -89,14 +89,14 @@ impl<V: Venue> Sender<'_, V> {
     }
 }
 
-// How many events may be admitted that are not told, and how many syncs there are at least.
+// The number of events that may be admitted and not published, and the least number of syncs.
 #[derive(Clone, Copy)]
 struct Bounds {
     ahead: u64,
     syncs: u64,
 }
 
-// Both send at once, within these bounds: all is answered, kept and told, by at most as many syncs as there are orders.
+// Both send at once, within these bounds: all is answered, durable and published, by at most one sync per order.
 fn two_senders<V: Venue + Send + Sync, R: Threads + Wait + Abort + Sync>(
     rt: &R,
     alloc: Global,
@@ -106,7 +106,7 @@ fn two_senders<V: Venue + Send + Sync, R: Threads + Wait + Abort + Sync>(
 )
     requires feed { IsNewLog V.log ground.logs.feed }
     requires admitted { IsNewLog V.admitted ground.logs.admitted }
-    requires kept { IsNewLog V.kept ground.logs.kept }
+    requires durable { IsNewLog V.durable ground.logs.durable }
     requires of_setup { ground.setup ≡ V.setup }
     requires before { V.before ≡ [] }
     requires reader { ground.reader.log ≡ V.log }
@@ -146,11 +146,12 @@ fn two_senders<V: Venue + Send + Sync, R: Threads + Wait + Abort + Sync>(
     equal(rt, first.replies(rt, &exchange), both);
     passes.push(first.pass).expect(rt, "a place");
     passes.push(second.pass).expect(rt, "a place");
-    expect_kept(rt, exchange, passes, both, bounds.syncs);
+    expect_durable(rt, exchange, passes, both, bounds.syncs);
 }
 
-// The exchange ends with this number of entries, all of them synced, by as many syncs or fewer, and at least this many.
-fn expect_kept<V: Venue, R: Abort>(
+// The exchange ends with this number of entries, all of them synced, by at most one sync per entry, and at least
+// `least` syncs.
+fn expect_durable<V: Venue, R: Abort>(
     rt: &R,
     exchange: Exchange<V, Counted>,
     passes: Vec<Pass<V>>,
@@ -192,7 +193,7 @@ fn two_members_send_at_once(rt: HostRuntime) -> Result<(), Fail> {
     send_within(&rt, bounds)
 }
 
-// Where one event may be admitted that is not told, each is synced alone.
+// If one event may be admitted that is not published, each is synced alone.
 #[test]
 fn one_waits_for_the_other(rt: HostRuntime) -> Result<(), Fail> {
     let bounds = Bounds {

@@ -19,8 +19,8 @@ use std::test::*;
 use std::thread;
 use std::thread::Threads;
 
-// Who says that a record is about to be appended, and waits until that was seen. The journal is quick, so that meanwhile
-// the lock is held.
+// Announces that a record is about to be appended, and waits until that was seen. The journal is quick, so that
+// meanwhile the lock is held.
 #[derive(Drop)]
 struct Seen<'a> {
     is_written: &'a AtomicU64,
@@ -44,7 +44,7 @@ fn look_at_one_who_writes<V: Venue + Send + Sync, R: Threads + Wait + Abort + Sy
 )
     requires feed { IsNewLog V.log ground.logs.feed }
     requires admitted { IsNewLog V.admitted ground.logs.admitted }
-    requires kept { IsNewLog V.kept ground.logs.kept }
+    requires durable { IsNewLog V.durable ground.logs.durable }
     requires of_setup { ground.setup ≡ V.setup }
     requires before { V.before ≡ [] }
     requires blank { (ground.blank.name ≡ V.name) × (ground.blank.parts ≡ V.parts) × (V.parts ≡ 1) }

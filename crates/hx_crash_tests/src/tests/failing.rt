@@ -1,4 +1,4 @@
-//! A journal that takes no more records: the exchange stops, and tells nothing of what is not kept.
+//! A journal that takes no more records: the exchange stops, and publishes nothing that is not durable.
 ghost use Rattle.std.specs.Prelude.{◌≡◌};
 
 use super::crash_points::whole_day;
@@ -17,8 +17,8 @@ use std::process::Abort;
 use std::sync::Wait;
 use std::test::*;
 
-// Plays a day over a journal in memory that has room for this number of records.
-fn play<R: Wait + Abort>(rt: &R, alloc: Global, day: Day, room: usize) -> Result<Course, Fail> {
+// Runs a day over a journal in memory that has room for this number of records.
+fn apply<R: Wait + Abort>(rt: &R, alloc: Global, day: Day, room: usize) -> Result<Course, Fail> {
     let setup = Setup::read(alloc, day.setup).expect(rt, "a setup");
     let ground = ground_of(alloc, setup, 100, 1)?;
     let recovered = Recovered {
@@ -28,19 +28,19 @@ fn play<R: Wait + Abort>(rt: &R, alloc: Global, day: Day, room: usize) -> Result
     Ok(go_on::<Brand, Memory, R>(rt, alloc, day, ground, recovered))
 }
 
-// As much is told as on a day of the events that the journal took.
+// The same is published as on a day of the events that the journal took.
 fn expect_beginning<R: Wait + Abort>(
     rt: &R,
     alloc: Global,
     day: Day,
     room: usize,
 ) -> Result<(), Fail> {
-    let course = play(rt, alloc, day, room)?;
+    let course = apply(rt, alloc, day, room)?;
     equal(rt, course.answered, room);
     equal(rt, course.failure, Some(JournalError::Full));
     let events = day.events.get(..room).expect(rt, "a beginning");
     let whole = whole_day(rt, alloc, Day { events, ..day })?;
-    equal(rt, course.told, whole);
+    equal(rt, course.output, whole);
     Ok(())
 }
 
@@ -57,8 +57,8 @@ fn a_journal_that_takes_no_more_records(rt: HostRuntime) -> Result<(), Fail> {
     for room in 0..events.len() {
         expect_beginning(&rt, alloc, day, room)?;
     }
-    // Where there is room for all of them, the day ends.
-    let course = play(&rt, alloc, day, events.len())?;
+    // If there is room for all of them, the day ends.
+    let course = apply(&rt, alloc, day, events.len())?;
     holds(&rt, course.failure.is_none());
     equal(&rt, course.answered, events.len());
     Ok(())

@@ -5,8 +5,8 @@ ghost use Rattle.hx_desk.specs.Entries.{restored};
 ghost use Rattle.hx_engine.specs.Journals.{lines};
 ghost use Rattle.hx_engine.specs.Opening.{IsNewLog};
 
+use super::output::{EventOutput, hear};
 use super::shared_file::SharedFile;
-use super::told::{Told, hear};
 use super::{equal, holds};
 use hx_engine::{
     Exchange, FinishError, Journal, JournalError, Pass, Recovered, SubmitError, Venue,
@@ -33,21 +33,21 @@ pub struct Day<'a> {
 /// How a day went.
 #[derive(Drop)]
 pub struct Course {
-    /// What was told of the events that the journal had, before another was sent.
-    pub again: Told,
-    /// What was told in the end.
-    pub told: Told,
+    /// What was published of the events that the journal had, before another was sent.
+    pub again: EventOutput,
+    /// What was published in the end.
+    pub output: EventOutput,
     /// How many events were answered, those that the journal had among them.
     pub answered: usize,
-    /// Why the journal failed, where it did.
+    /// Why the journal failed, if it did.
     pub failure: Option<JournalError>,
 }
 
-type Kept = FileJournal<Noted<SharedFile>>;
+type Durable = FileJournal<Noted<SharedFile>>;
 
-/// Plays a day over a file that has these bytes: the events that it has are told again, and the others are sent, until
-/// the file fails.
-pub fn play<R: Wait + Abort>(
+/// Runs a day over a file that has these bytes: the events that it has are published again, and the others are sent,
+/// until the file fails.
+pub fn apply<R: Wait + Abort>(
     rt: &R,
     alloc: Global,
     day: Day,
@@ -58,11 +58,11 @@ pub fn play<R: Wait + Abort>(
     let ground = ground_of(alloc, setup, 1000, 1)?;
     let head = Head::new(alloc, b"HX00000001", b"20260711", b"9fc2").expect(rt, "a head");
     Ok(match recover(alloc, file, bytes, &head, &Unwatched) {
-        Ok(recovered) => go_on::<Brand, Kept, R>(rt, alloc, day, ground, recovered),
+        Ok(recovered) => go_on::<Brand, Durable, R>(rt, alloc, day, ground, recovered),
         Err(RecoveryError::Open(OpenError::Journal(error))) => {
             Course {
-                again: Told::nothing(rt, alloc),
-                told: Told::nothing(rt, alloc),
+                again: EventOutput::nothing(rt, alloc),
+                output: EventOutput::nothing(rt, alloc),
                 answered: 0,
                 failure: Some(error),
             }
@@ -71,7 +71,7 @@ pub fn play<R: Wait + Abort>(
     })
 }
 
-/// Plays a day over a journal that keeps some of its events: the rest of the day is sent.
+/// Runs a day over a journal that holds some of its events: the rest of the day is sent.
 pub fn go_on<V: Venue, J: Journal + Drop, R: Wait + Abort>(
     rt: &R,
     alloc: Global,
@@ -81,11 +81,11 @@ pub fn go_on<V: Venue, J: Journal + Drop, R: Wait + Abort>(
 ) -> Course
     requires feed { IsNewLog V.log ground.logs.feed }
     requires admitted { IsNewLog V.admitted ground.logs.admitted }
-    requires kept { IsNewLog V.kept ground.logs.kept }
+    requires durable { IsNewLog V.durable ground.logs.durable }
     requires of_setup { ground.setup ≡ V.setup }
     requires before { recovered.events.items ≡ V.before }
     requires journal { J.appended recovered.journal ≡ lines record_of (restored V.before) }
-    requires safe { (J.kept recovered.journal ≡ J.appended recovered.journal)
+    requires safe { (J.durable recovered.journal ≡ J.appended recovered.journal)
         × (J.is_open recovered.journal ≡ true) }
     requires reader { ground.reader.log ≡ V.log }
     requires blank { (ground.blank.name ≡ V.name) × (ground.blank.parts ≡ V.parts) × (V.parts ≡ 1) }
@@ -111,29 +111,29 @@ pub fn go_on<V: Venue, J: Journal + Drop, R: Wait + Abort>(
     let mut pass = passes.pop().expect(rt, "a pass");
     let again = hear(rt, alloc, &exchange, &mut reader);
     let (answered, stopped) = send_from(rt, alloc, &exchange, &mut pass, day, first);
-    let told = hear(rt, alloc, &exchange, &mut reader);
+    let output = hear(rt, alloc, &exchange, &mut reader);
     let failure = exchange.failure(rt);
     equal(rt, failure.is_some(), stopped);
     if stopped {
-        // Nothing is recorded any more, and nothing told.
+        // Nothing is recorded any more, and nothing published.
         let tick = exchange.submit(rt, &mut pass, &Event::Tick { time: 0 });
         equal(rt, tick, Err(SubmitError::Stopped));
-        holds(rt, hear(rt, alloc, &exchange, &mut reader) == told);
+        holds(rt, hear(rt, alloc, &exchange, &mut reader) == output);
     }
-    // (nobody is left at the lock)
+    // (no thread is left at the lock)
     holds(rt, !exchange.is_busy());
     passes.push(pass).expect(rt, "a place");
     expect_end(rt, exchange, passes, answered, stopped);
     Course {
         again,
-        told,
+        output,
         answered,
         failure,
     }
 }
 
-// Sends the events of a day from a place on, until the exchange stops: how many were answered, those before among them,
-// and whether it stopped.
+// Sends the events of a day from an index on, until the exchange stops. Returns the number of events that were
+// answered, those before among them, and whether it stopped.
 fn send_from<V: Venue, J: Journal + Drop, R: Wait + Abort>(
     rt: &R,
     alloc: Global,
@@ -150,7 +150,7 @@ fn send_from<V: Venue, J: Journal + Drop, R: Wait + Abort>(
             break;
         }
         let done = exchange.submit_all(rt, pass, batch);
-        exchange.ring_feed();
+        exchange.wake_feed();
         match done {
             Ok(submitted) => {
                 answered = answered.saturating_add(count.saturating_sub(submitted.rest.len()));
@@ -173,7 +173,7 @@ fn batch_from<R: Abort>(rt: &R, alloc: Global, day: Day, first: usize, turn: usi
     batch
 }
 
-// The exchange ends with the events that were answered, or does not end where it stopped.
+// The exchange ends with the events that were answered, or does not end if it stopped.
 fn expect_end<V: Venue, J: Journal + Drop, R: Abort>(
     rt: &R,
     exchange: Exchange<V, J>,

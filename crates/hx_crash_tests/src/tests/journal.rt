@@ -1,4 +1,4 @@
-//! The journal of a day in a file: what it keeps, what a crash leaves, what is damaged.
+//! The journal of a day in a file: what it holds, what a crash leaves, what is damaged.
 
 use crate::tests::five_records::{DAY, FIRST_END, HEAD_END, SECOND_END, TAPE};
 use crate::tests::{equal, holds};
@@ -12,7 +12,7 @@ type MemoryJournal = FileJournal<Noted<MemoryFile>>;
 
 type Opened = Result<(MemoryJournal, Vec<u8>), OpenError>;
 
-// Opens a file in memory, whose calls fail after this many, as the journal of a day.
+// Opens a file in memory, whose calls fail after `calls` of them, as the journal of a day.
 fn opened_for(rt: &impl Abort, alloc: Global, day: &[u8], bytes: &[u8], calls: u64) -> Opened {
     let head = Head::new(alloc, b"HX00000006", day, b"9fc2").expect(rt, "a head");
     let file = MemoryFile::new(alloc, bytes, calls).expect(rt, "a file");
@@ -43,8 +43,7 @@ fn third_block<J: Journal>(journal: &mut J) -> Result<(), JournalError> {
     journal.sync()
 }
 
-// Writes the day until a call fails, and returns how long the tape is whose records are then told
-// of.
+// Writes the day until a call fails, and returns the length of the tape of the records whose sync succeeded.
 fn write_day<J: Journal>(journal: &mut J) -> usize {
     if first_block(journal).is_err() {
         return 0;
@@ -71,12 +70,12 @@ fn a_day_is_a_text(rt: HostRuntime) {
     equal(&rt, journal.count(), 5);
 }
 
-// What is read of a file that a crash left begins with what was told, and is a beginning of the
-// day; and the day goes on.
-fn recovers(rt: &impl Abort, alloc: Global, image: &[u8], told: usize) {
+// What is read of a file that a crash left has at least the first `output` bytes of the day's tape, and is a beginning
+// of that; and the day goes on.
+fn recovers(rt: &impl Abort, alloc: Global, image: &[u8], output: usize) {
     let (mut journal, tape) = opened(rt, alloc, image, 99).expect(rt, "opened");
     holds(rt, TAPE.starts_with(&tape));
-    holds(rt, told <= tape.len());
+    holds(rt, output <= tape.len());
     holds(rt, matches!(tape.len(), 0 | 8 | 14 | 24));
     equal(rt, journal.append(b"more"), Ok(()));
     equal(rt, journal.sync(), Ok(()));
@@ -86,16 +85,15 @@ fn recovers(rt: &impl Abort, alloc: Global, image: &[u8], told: usize) {
     holds(rt, again.ends_with(b"more\n"));
 }
 
-// Each of the files that a crash leaves where bytes in front or behind are written, and the others
-// are not.
-fn recovers_torn(rt: &impl Abort, alloc: Global, file: &MemoryFile, told: usize) {
+// Each of the files that a crash leaves if the first or the last of the bytes are written, and the others are not.
+fn recovers_torn(rt: &impl Abort, alloc: Global, file: &MemoryFile, output: usize) {
     let (old, new) = (file.stable_len(), file.bytes().len());
     for len in old.min(new)..=old.max(new) {
         for part in 0..=len {
-            let behind = file.torn(alloc, len, 0..part).expect(rt, "a file");
-            recovers(rt, alloc, &behind, told);
+            let after = file.torn(alloc, len, 0..part).expect(rt, "a file");
+            recovers(rt, alloc, &after, output);
             let in_front = file.torn(alloc, len, part..len).expect(rt, "a file");
-            recovers(rt, alloc, &in_front, told);
+            recovers(rt, alloc, &in_front, output);
         }
     }
 }
@@ -103,29 +101,28 @@ fn recovers_torn(rt: &impl Abort, alloc: Global, file: &MemoryFile, told: usize)
 // The day is written, and each call of the file fails in turn: the first sync, the second write,
 // and so on.
 #[test]
-fn a_crash_at_each_call_leaves_what_was_told(rt: HostRuntime) {
+fn a_crash_at_each_call_leaves_what_was_published(rt: HostRuntime) {
     let alloc = rt.alloc();
     for calls in 4..11 {
         let (mut journal, _tape) = opened(&rt, alloc, b"", calls).expect(&rt, "a new day");
-        let told = write_day(&mut journal);
-        recovers_torn(&rt, alloc, journal.device().file(), told);
-        if told < 24 {
+        let output = write_day(&mut journal);
+        recovers_torn(&rt, alloc, journal.device().file(), output);
+        if output < 24 {
             equal(&rt, journal.append(b"more"), Err(JournalError::Closed));
             equal(&rt, journal.sync(), Err(JournalError::Closed));
         }
     }
 }
 
-// A file whose calls fail after this many is not opened, and what a crash then leaves of it is read as
-// before.
-fn fails_to_open(rt: &impl Abort, alloc: Global, bytes: &[u8], calls: u64, told: usize) {
+// A file whose calls fail after `calls` of them is not opened, and what a crash then leaves of it is read as before.
+fn fails_to_open(rt: &impl Abort, alloc: Global, bytes: &[u8], calls: u64, output: usize) {
     let head = Head::new(alloc, b"HX00000006", b"20260711", b"9fc2").expect(rt, "a head");
     let file = MemoryFile::new(alloc, bytes, calls).expect(rt, "a file");
     match FileJournal::open(alloc, Noted::opened(file, bytes), bytes, &head) {
         Ok((_journal, _tape)) => panic!(rt; "opened"),
         Err((error, file)) => {
             equal(rt, error, OpenError::Journal(JournalError::Failed));
-            recovers_torn(rt, alloc, file.file(), told);
+            recovers_torn(rt, alloc, file.file(), output);
         }
     }
 }
@@ -145,42 +142,42 @@ fn a_crash_while_it_is_opened_changes_nothing(rt: HostRuntime) {
     }
 }
 
-// The first byte of the block that has this place of the day's text; 0 for the head.
-fn block_at(place: usize) -> usize {
-    if place < HEAD_END {
+// The first byte of the block that has this offset of the day's text; 0 for the head.
+fn block_at(index: usize) -> usize {
+    if index < HEAD_END {
         0
-    } else if place < FIRST_END {
+    } else if index < FIRST_END {
         HEAD_END
-    } else if place < SECOND_END {
+    } else if index < SECOND_END {
         FIRST_END
     } else {
         SECOND_END
     }
 }
 
-// Where a bit that was flipped in the last block looks like a torn end: its mark is none any more,
-// since its `#` or the line feed in front is gone, or it does not end, or a byte is zero.
-fn looks_torn(place: usize, byte: u8) -> bool {
-    place >= SECOND_END && (matches!(place, 102 | 103 | 128) || byte == 0)
+// Whether a bit that was flipped in the last block looks like a torn end: its mark is none any more, since its `#` or
+// the line feed before it is gone, or it does not end, or a byte is zero.
+fn looks_torn(index: usize, byte: u8) -> bool {
+    index >= SECOND_END && (matches!(index, 102 | 103 | 128) || byte == 0)
 }
 
-// What is found where this bit of the day's text was flipped, so that its byte is this one.
-fn expect_damage(rt: &impl Abort, found: Opened, place: usize, bit: u32, byte: u8) {
+// What is found if this bit of the day's text was flipped, so that its byte is this one.
+fn expect_damage(rt: &impl Abort, found: Opened, index: usize, bit: u32, byte: u8) {
     match found {
         Ok((_journal, tape)) => {
             assert!(rt;
-                looks_torn(place, byte),
-                "bit {bit} of byte {place} was missed"
+                looks_torn(index, byte),
+                "bit {bit} of byte {index} was missed"
             );
             equal(rt, tape.as_slice(), b"one\ntwo\nthree\n".as_slice());
         }
-        Err(OpenError::OtherHead(_)) => holds(rt, place < HEAD_END),
+        Err(OpenError::OtherHead(_)) => holds(rt, index < HEAD_END),
         Err(error) => {
-            let at = block_at(place);
+            let at = block_at(index);
             assert_eq!(rt;
                 error,
                 OpenError::Damaged { at },
-                "bit {bit} of byte {place}"
+                "bit {bit} of byte {index}"
             );
         }
     }
@@ -191,13 +188,13 @@ fn expect_damage(rt: &impl Abort, found: Opened, place: usize, bit: u32, byte: u
 fn each_flipped_bit_is_damage(rt: HostRuntime) {
     let alloc = rt.alloc();
     let mut text = Vec::from_slice(alloc, DAY).expect(&rt, "the day");
-    for place in 0..text.len() {
+    for index in 0..text.len() {
         for bit in 0..8u32 {
-            let flipped = text[place] ^ (1 << bit);
-            text[place] = flipped;
+            let flipped = text[index] ^ (1 << bit);
+            text[index] = flipped;
             let found = opened(&rt, alloc, &text, 99);
-            expect_damage(&rt, found, place, bit, flipped);
-            text[place] = flipped ^ (1 << bit);
+            expect_damage(&rt, found, index, bit, flipped);
+            text[index] = flipped ^ (1 << bit);
         }
     }
 }
@@ -241,11 +238,11 @@ fn a_second_open_of_a_file_is_refused(rt: HostRuntime) {
 fn another_thread_may_write_the_day(rt: HostRuntime) {
     let (mut journal, _tape) = opened(&rt, rt.alloc(), b"", 99).expect(&rt, "a new day");
     let mut unkept = Unkept::new();
-    let (told, other) = thread::join(
+    let (output, other) = thread::join(
         &rt,
         move || write_day(&mut journal),
         move || write_day(&mut unkept),
     );
-    equal(&rt, told, 24);
+    equal(&rt, output, 24);
     equal(&rt, other, 24);
 }

@@ -1,4 +1,4 @@
-//! What the tool tells of a journal, and what it cuts off.
+//! What the tool says of a journal, and what it cuts off.
 
 use crate::tests::five_records::{DAY, DAY_END, FIRST_END, HEAD_END, SECOND_END, TAPE};
 use crate::tests::{equal, holds};
@@ -13,9 +13,9 @@ use std::io::{self, ErrorKind, Write};
 use std::process::Abort;
 use std::rt::Files;
 
-// Both are the same where a file was changed at this place, or the test ends.
-fn equal_at<R: Abort, T: PartialEq + Debug + Drop>(rt: &R, place: usize, found: T, wanted: T) {
-    assert_eq!(rt; found, wanted, "at {place}");
+// Both are the same when a file was changed at this offset, or the test ends.
+fn equal_at<R: Abort, T: PartialEq + Debug + Drop>(rt: &R, index: usize, found: T, wanted: T) {
+    assert_eq!(rt; found, wanted, "at {index}");
 }
 
 type Opened = Result<(FileJournal<Noted<MemoryFile>>, Vec<u8>), OpenError>;
@@ -45,11 +45,11 @@ type Answer = Result<Option<Cut>, ToolError>;
 fn try_cut(alloc: Global, bytes: &[u8], calls: u64) -> Result<(Answer, Vec<u8>), AllocError> {
     let mut file = Noted::opened(MemoryFile::new(alloc, bytes, calls)?, bytes);
     let survey = survey_of(alloc, bytes)?;
-    let answer = cut_behind(&mut file, bytes, &survey);
+    let answer = cut_after(&mut file, bytes, &survey);
     Ok((answer, file.file().bytes().to_vec(alloc)?))
 }
 
-// Cuts a file in memory whose calls fail after this many: the answer, and the file then.
+// Cuts a file in memory whose calls fail after `calls` of them: the answer, and the file then.
 fn cut<R: Abort>(rt: &R, alloc: Global, bytes: &[u8], calls: u64) -> (Answer, Vec<u8>) {
     try_cut(alloc, bytes, calls).expect(rt, "memory")
 }
@@ -59,15 +59,15 @@ fn copy_of<R: Abort>(rt: &R, alloc: Global, text: &[u8]) -> Vec<u8> {
     Vec::from_slice(alloc, text).expect(rt, "memory")
 }
 
-// A text, and bytes behind it.
-fn text_with<R: Abort>(rt: &R, alloc: Global, text: &[u8], behind: &[u8]) -> Vec<u8> {
+// A text, and bytes after it.
+fn text_with<R: Abort>(rt: &R, alloc: Global, text: &[u8], after: &[u8]) -> Vec<u8> {
     let mut whole = copy_of(rt, alloc, text);
-    whole.extend_from_slice(behind).expect(rt, "memory");
+    whole.extend_from_slice(after).expect(rt, "memory");
     whole
 }
 
-// What is told of a text, and how that ends.
-fn told(alloc: Global, text: &[u8]) -> (Result<(), ToolError>, Vec<u8>) {
+// What the tool says of a text, and how that ends.
+fn output(alloc: Global, text: &[u8]) -> (Result<(), ToolError>, Vec<u8>) {
     let mut words = Vec::new(alloc);
     let answer = report(alloc, text, &mut words);
     (answer, words)
@@ -81,9 +81,9 @@ fn taped(alloc: Global, text: &[u8]) -> (Result<(), ToolError>, Vec<u8>) {
 }
 
 #[test]
-fn a_sound_day_is_told(rt: HostRuntime) {
+fn a_sound_day_is_reported(rt: HostRuntime) {
     let alloc = rt.alloc();
-    let (answer, words) = told(alloc, DAY);
+    let (answer, words) = output(alloc, DAY);
     equal(&rt, answer, Ok(()));
     let wanted = b"session HX00000006
 day 20260711
@@ -107,7 +107,7 @@ zeros ahead 0 bytes
 fn zeros_ahead_are_no_torn_end(rt: HostRuntime) {
     let alloc = rt.alloc();
     let ahead = text_with(&rt, alloc, DAY, b"\0\0\0\0");
-    let (answer, words) = told(alloc, &ahead);
+    let (answer, words) = output(alloc, &ahead);
     equal(&rt, answer, Ok(()));
     holds(
         &rt,
@@ -119,10 +119,10 @@ fn zeros_ahead_are_no_torn_end(rt: HostRuntime) {
 }
 
 #[test]
-fn zeros_behind_a_torn_end_are_ahead(rt: HostRuntime) {
+fn zeros_after_a_torn_end_are_ahead(rt: HostRuntime) {
     let alloc = rt.alloc();
     let torn = text_with(&rt, alloc, DAY, b"six\n\0\0se\0\0\0");
-    let (answer, words) = told(alloc, &torn);
+    let (answer, words) = output(alloc, &torn);
     equal(&rt, answer, Ok(()));
     holds(
         &rt,
@@ -137,7 +137,7 @@ fn zeros_behind_a_torn_end_are_ahead(rt: HostRuntime) {
     equal(&rt, left.as_slice(), DAY);
 }
 
-// Of the day's first bytes: where the whole blocks end, how many records and blocks these are.
+// Of the day's first bytes: the end of the whole blocks, and the numbers of records and blocks that these are.
 fn whole(len: usize) -> (usize, usize, usize) {
     if len < HEAD_END {
         (0, 0, 0)
@@ -152,13 +152,13 @@ fn whole(len: usize) -> (usize, usize, usize) {
     }
 }
 
-// What is told of a text that a crash left of the day's first bytes; its opening reads the same.
-fn is_told<R: Abort>(rt: &R, alloc: Global, text: &[u8], len: usize) {
+// What the tool says of a text that a crash left of the day's first bytes; its opening reads the same.
+fn is_output<R: Abort>(rt: &R, alloc: Global, text: &[u8], len: usize) {
     let survey = surveyed(rt, alloc, text);
     let (end, records, blocks) = whole(len);
-    let told = (survey.end, survey.records, survey.blocks);
-    equal(rt, told, (end, records, blocks));
-    equal(rt, (survey.damage, survey.whole_behind), (None, 0));
+    let output = (survey.end, survey.records, survey.blocks);
+    equal(rt, output, (end, records, blocks));
+    equal(rt, (survey.damage, survey.whole_after), (None, 0));
     equal(rt, survey.head.is_some(), len >= HEAD_END);
     equal(rt, survey.torn, len.saturating_sub(end));
     let tape = tape_of(rt, alloc, text);
@@ -179,38 +179,38 @@ fn is_cut<R: Abort>(rt: &R, alloc: Global, text: &[u8], len: usize) {
 }
 
 #[test]
-fn a_day_torn_at_each_byte_is_told_and_cut(rt: HostRuntime) {
+fn a_day_torn_at_each_byte_is_reported_and_cut(rt: HostRuntime) {
     let alloc = rt.alloc();
     for len in 0..=DAY_END {
         let text = copy_of(&rt, alloc, &DAY[..len]);
-        is_told(&rt, alloc, &text, len);
+        is_output(&rt, alloc, &text, len);
         is_cut(&rt, alloc, &text, len);
         let text = text_with(&rt, alloc, &DAY[..len], b"\0\0\0\0");
-        is_told(&rt, alloc, &text, len);
+        is_output(&rt, alloc, &text, len);
         is_cut(&rt, alloc, &text, len);
     }
 }
 
-// What is told of a text is what its opening says, but for a first line that is not the day's.
-fn agrees<R: Abort>(rt: &R, alloc: Global, text: &[u8], place: usize) {
+// What the tool says of a text is what its opening says, except for a first line that is not the day's.
+fn agrees<R: Abort>(rt: &R, alloc: Global, text: &[u8], index: usize) {
     let survey = surveyed(rt, alloc, text);
     match opened(rt, alloc, text) {
         Ok((_journal, tape)) => {
-            equal_at(rt, place, survey.damage, None);
+            equal_at(rt, index, survey.damage, None);
             equal(rt, tape.as_slice(), survey.tape.as_slice());
         }
-        Err(OpenError::Damaged { at }) if place >= HEAD_END => {
-            equal_at(rt, place, survey.damage, Some(at));
+        Err(OpenError::Damaged { at }) if index >= HEAD_END => {
+            equal_at(rt, index, survey.damage, Some(at));
         }
         Err(_) => {
             let is_early = survey.damage.is_some_and(|at| at < FIRST_END);
-            equal_at(rt, place, is_early, true);
+            equal_at(rt, index, is_early, true);
         }
     }
 }
 
-// A text that is damaged behind its first line is cut so that it is opened; another is not cut.
-fn is_mended<R: Abort>(rt: &R, alloc: Global, text: &[u8], place: usize) {
+// A text that is damaged after its first line is cut so that it can be opened; another is not cut.
+fn is_mended<R: Abort>(rt: &R, alloc: Global, text: &[u8], index: usize) {
     let survey = surveyed(rt, alloc, text);
     let (answer, left) = cut(rt, alloc, text, 2);
     if survey.head.is_none() {
@@ -219,43 +219,43 @@ fn is_mended<R: Abort>(rt: &R, alloc: Global, text: &[u8], place: usize) {
         return;
     }
     equal(rt, Some(left.as_slice()), text.get(..survey.end));
-    if place >= HEAD_END {
+    if index >= HEAD_END {
         let is_same = match opened(rt, alloc, &left) {
             Ok((_journal, tape)) => tape.as_slice() == survey.tape.as_slice(),
             Err(_) => false,
         };
-        equal_at(rt, place, is_same, true);
+        equal_at(rt, index, is_same, true);
     }
 }
 
-// The day, with this byte at this place.
-fn damaged_at<R: Abort>(rt: &R, alloc: Global, place: usize, byte: u8) -> Vec<u8> {
+// The day, with this byte at this offset.
+fn damaged_at<R: Abort>(rt: &R, alloc: Global, index: usize, byte: u8) -> Vec<u8> {
     let mut text = copy_of(rt, alloc, DAY);
-    if place < text.len() {
-        text[place] = byte;
+    if index < text.len() {
+        text[index] = byte;
     }
     text
 }
 
 #[test]
-fn each_flipped_bit_is_told_and_mended(rt: HostRuntime) {
+fn each_flipped_bit_is_reported_and_mended(rt: HostRuntime) {
     let alloc = rt.alloc();
-    for (place, byte) in DAY.iter().enumerate() {
+    for (index, byte) in DAY.iter().enumerate() {
         for bit in [1u8, 2, 4, 8, 16, 32, 64, 128] {
-            let text = damaged_at(&rt, alloc, place, *byte ^ bit);
-            agrees(&rt, alloc, &text, place);
-            is_mended(&rt, alloc, &text, place);
+            let text = damaged_at(&rt, alloc, index, *byte ^ bit);
+            agrees(&rt, alloc, &text, index);
+            is_mended(&rt, alloc, &text, index);
         }
     }
 }
 
-// The first of three blocks is damaged: what is told.
+// The first of three blocks is damaged: what the tool says.
 #[test]
-fn a_damaged_day_is_told(rt: HostRuntime) {
+fn a_damaged_day_is_reported(rt: HostRuntime) {
     let alloc = rt.alloc();
     let text = damaged_at(&rt, alloc, FIRST_END + 1, b'x');
     let damaged = Err(ToolError::Damaged { at: FIRST_END });
-    let (answer, words) = told(alloc, &text);
+    let (answer, words) = output(alloc, &text);
     equal(&rt, answer, damaged);
     let wanted = b"events 2
 blocks 1
@@ -285,7 +285,7 @@ fn a_damaged_day_is_cut_and_goes_on(rt: HostRuntime) {
 }
 
 #[test]
-fn a_block_in_the_wrong_place_is_damage(rt: HostRuntime) {
+fn a_block_at_the_wrong_index_is_damage(rt: HostRuntime) {
     let alloc = rt.alloc();
     let twice = text_with(&rt, alloc, DAY, &DAY[SECOND_END..]);
     let (answer, left) = cut(&rt, alloc, &twice, 2);
@@ -295,9 +295,9 @@ fn a_block_in_the_wrong_place_is_damage(rt: HostRuntime) {
 }
 
 #[test]
-fn what_is_no_journal_is_told(rt: HostRuntime) {
+fn what_is_no_journal_is_reported(rt: HostRuntime) {
     let alloc = rt.alloc();
-    let (answer, words) = told(alloc, b"");
+    let (answer, words) = output(alloc, b"");
     equal(&rt, answer, Ok(()));
     let wanted = b"no first line of a journal
 events 0
@@ -307,7 +307,7 @@ torn end 0 bytes
 zeros ahead 0 bytes
 ";
     equal(&rt, words.as_slice(), wanted.as_slice());
-    let (answer, words) = told(alloc, TAPE);
+    let (answer, words) = output(alloc, TAPE);
     equal(&rt, answer, Err(ToolError::Damaged { at: 0 }));
     let wanted = b"byte 0\nbehind the damage 24 bytes, 0 whole blocks\nzeros ahead 0 bytes\n";
     holds(&rt, words.ends_with(wanted));
@@ -358,22 +358,26 @@ fn remove<R: Files + Abort>(rt: &R, path: &str) {
 fn a_file_that_is_not_there_is_not_made(rt: HostRuntime) {
     const PATH: &str = "hx_journal_tool_none.journal";
     let _ = fs::remove_file(&rt, PATH);
-    let mut told = Vec::new(rt.alloc());
-    equal(&rt, report_file(&rt, PATH, &mut told), Err(ToolError::Read));
-    equal(&rt, tape_file(&rt, PATH, &mut told), Err(ToolError::Read));
-    equal(&rt, cut_file(&rt, PATH, &mut told), Err(ToolError::Read));
+    let mut output = Vec::new(rt.alloc());
+    equal(
+        &rt,
+        report_file(&rt, PATH, &mut output),
+        Err(ToolError::Read),
+    );
+    equal(&rt, tape_file(&rt, PATH, &mut output), Err(ToolError::Read));
+    equal(&rt, cut_file(&rt, PATH, &mut output), Err(ToolError::Read));
     holds(&rt, fs::metadata(&rt, PATH).is_err());
-    equal(&rt, told.len(), 0);
+    equal(&rt, output.len(), 0);
 }
 
 #[test]
-fn a_file_is_told(rt: HostRuntime) {
+fn a_file_is_reported(rt: HostRuntime) {
     const PATH: &str = "hx_journal_tool_told.journal";
     let text = damaged_at(&rt, rt.alloc(), FIRST_END, b'x');
     put(&rt, PATH, &text);
-    let mut told = Vec::new(rt.alloc());
+    let mut output = Vec::new(rt.alloc());
     let damaged = Err(ToolError::Damaged { at: FIRST_END });
-    equal(&rt, report_file(&rt, PATH, &mut told), damaged);
+    equal(&rt, report_file(&rt, PATH, &mut output), damaged);
     let unwritten = Err(ToolError::Write);
     equal(&rt, report_file(&rt, PATH, &mut FullOutput), unwritten);
     equal(&rt, tape_file(&rt, PATH, &mut FullOutput), unwritten);
@@ -386,14 +390,14 @@ fn a_file_is_cut(rt: HostRuntime) {
     const PATH: &str = "hx_journal_tool_cut.journal";
     let text = damaged_at(&rt, rt.alloc(), FIRST_END, b'x');
     put(&rt, PATH, &text);
-    let mut told = Vec::new(rt.alloc());
-    equal(&rt, cut_file(&rt, PATH, &mut told), Ok(()));
+    let mut output = Vec::new(rt.alloc());
+    equal(&rt, cut_file(&rt, PATH, &mut output), Ok(()));
     let words = b"cut at byte 62: 67 bytes, 1 whole block\n";
-    equal(&rt, told.as_slice(), words.as_slice());
+    equal(&rt, output.as_slice(), words.as_slice());
     has(&rt, PATH, &DAY[..FIRST_END]);
-    told.clear();
-    equal(&rt, cut_file(&rt, PATH, &mut told), Ok(()));
-    equal(&rt, told.as_slice(), b"nothing to cut\n".as_slice());
+    output.clear();
+    equal(&rt, cut_file(&rt, PATH, &mut output), Ok(()));
+    equal(&rt, output.as_slice(), b"nothing to cut\n".as_slice());
     remove(&rt, PATH);
 }
 
@@ -403,9 +407,9 @@ fn a_journal_in_use_is_not_cut(rt: HostRuntime) {
     let torn = text_with(&rt, rt.alloc(), DAY, b"six\nse");
     put(&rt, PATH, &torn);
     let (_device, _text) = open_file(&rt, PATH).expect(&rt, "a journal");
-    let mut told = Vec::new(rt.alloc());
-    equal(&rt, cut_file(&rt, PATH, &mut told), Err(ToolError::InUse));
-    equal(&rt, report_file(&rt, PATH, &mut told), Ok(()));
+    let mut output = Vec::new(rt.alloc());
+    equal(&rt, cut_file(&rt, PATH, &mut output), Err(ToolError::InUse));
+    equal(&rt, report_file(&rt, PATH, &mut output), Ok(()));
     has(&rt, PATH, &torn);
     remove(&rt, PATH);
 }

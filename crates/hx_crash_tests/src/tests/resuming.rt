@@ -1,4 +1,4 @@
-//! A small worked day, and an exchange that goes on from each beginning of it: the rest of the day gives the same
+//! A small worked day, and an exchange that resumes from each beginning of it: the rest of the day gives the same
 //! history, feed and replies as the day that was not interrupted.
 ghost use Rattle.std.specs.Prelude.{◌≡◌, take, IfOk};
 ghost use Rattle.hx_tape_lines.specs.Text.{record_of};
@@ -24,11 +24,11 @@ use std::sync::Wait;
 use std::sync::ledger::Blank;
 use std::test::*;
 
-// How many events the day has.
+// The number of events that the day has.
 const DAY: u64 = 4;
 
 // A displayed order of the first member, a hidden one of the second, a sale of the third to both, and a tick.
-fn event_at<R: Abort>(rt: &R, alloc: Global, place: u64) -> Event {
+fn event_at<R: Abort>(rt: &R, alloc: Global, index: u64) -> Event {
     let hidden = Order {
         time: 1001,
         member: 2,
@@ -43,7 +43,7 @@ fn event_at<R: Abort>(rt: &R, alloc: Global, place: u64) -> Event {
         shares: 200,
         ..SELL
     };
-    let order = match place {
+    let order = match index {
         0 => BUY,
         1 => hidden,
         2 => sale,
@@ -52,21 +52,21 @@ fn event_at<R: Abort>(rt: &R, alloc: Global, place: u64) -> Event {
     enter(alloc, &order).expect(rt, "an order")
 }
 
-// The first so many events of the day.
+// The first `count` events of the day.
 fn beginning<R: Abort>(rt: &R, alloc: Global, count: u64) -> Vec<Event> {
     let mut events = Vec::new(alloc);
-    for place in 0..count {
-        let event = event_at(rt, alloc, place);
+    for index in 0..count {
+        let event = event_at(rt, alloc, index);
         events.push(event).expect(rt, "a place");
     }
     events
 }
 
-// A journal that keeps the records of these events.
+// A journal that holds the records of these events.
 fn journal_of(alloc: Global, events: &[Event]) -> Result<Memory, Fail>
     ensures records { IfOk result (λ j.
         record_texts j.records.items ≡ lines record_of (restored events.now)) }
-    ensures kept { IfOk result (λ j.
+    ensures durable { IfOk result (λ j.
         take j.synced (record_texts j.records.items) ≡ record_texts j.records.items) }
 {
     let mut records = Vec::new(alloc);
@@ -93,7 +93,7 @@ fn go_on<V: Venue, R: Wait + Abort>(
 )
     requires feed { IsNewLog V.log logs.feed }
     requires admitted { IsNewLog V.admitted logs.admitted }
-    requires kept { IsNewLog V.kept logs.kept }
+    requires durable { IsNewLog V.durable logs.durable }
     requires of_setup { setup ≡ V.setup }
     requires before { recovered.events.items ≡ V.before }
     requires records { record_texts recovered.journal.records.items
@@ -117,10 +117,10 @@ fn go_on<V: Venue, R: Wait + Abort>(
     };
     let mut pass = passes.pop().expect(rt, "a pass");
     equal(rt, pass.sent().len(), 0);
-    for place in first..DAY {
-        let event = event_at(rt, alloc, place);
+    for index in first..DAY {
+        let event = event_at(rt, alloc, index);
         let done = exchange.submit(rt, &mut pass, &event).expect(rt, "a place");
-        equal(rt, done.place, place + 1);
+        equal(rt, done.place, index + 1);
     }
     expect_replies(rt, &exchange, &mut reader);
     expect_feed(rt, &exchange, &mut reader);
@@ -128,7 +128,8 @@ fn go_on<V: Venue, R: Wait + Abort>(
     expect_end(rt, exchange, passes, first);
 }
 
-// The exchange ends with the history of the whole day, of which the journal keeps all; so many events were there before.
+// The exchange ends with the history of the whole day, all of which the journal holds; `first` events were there
+// before.
 fn expect_end<V: Venue, R: Abort>(
     rt: &R,
     exchange: Exchange<V, Memory>,
@@ -140,9 +141,9 @@ fn expect_end<V: Venue, R: Abort>(
     };
     equal(rt, finished.history.len() as u64, DAY);
     equal(rt, finished.feed, 3);
-    for (place, entry) in finished.history.iter().enumerate() {
-        equal(rt, u64::from(entry.pass), u64::from(place as u64 >= first));
-        equal(rt, time_of(&entry.event), 1000 + place as u64);
+    for (index, entry) in finished.history.iter().enumerate() {
+        equal(rt, u64::from(entry.pass), u64::from(index as u64 >= first));
+        equal(rt, time_of(&entry.event), 1000 + index as u64);
     }
     let journal = finished.journal.expect(rt, "a journal");
     equal(rt, journal.synced as u64, DAY);
@@ -198,7 +199,7 @@ fn expect_feed<V: Venue, R: Abort>(
     holds(rt, reader.next(exchange.feed_log()).is_none());
 }
 
-// An exchange goes on from the first few events.
+// An exchange resumes from the first few events.
 fn go_on_from<R: Wait + Abort>(rt: &R, alloc: Global, count: u64) -> Result<(), Fail> {
     let (log, writer, reader) = Log::<Entry>::new(alloc, 100).expect(rt, "a log");
     let logs = logs_of(alloc, log, writer)?;

@@ -1,4 +1,4 @@
-//! A file in memory whose test looks at it when the journal over it is gone.
+//! A file in memory that a test looks at when the journal over it is gone.
 
 use hx_journal::{DeviceError, MemoryFile, RawFile};
 use std::alloc::{AllocError, Global};
@@ -7,7 +7,7 @@ use std::ops::Range;
 use std::process::Abort;
 use std::rc::Rc;
 
-/// A file in memory that several hold: a journal, and the test.
+/// A file in memory with several owners: a journal, and the test.
 #[derive(Drop)]
 pub struct SharedFile {
     file: Rc<RefCell<MemoryFile>>,
@@ -16,8 +16,8 @@ pub struct SharedFile {
 }
 
 impl SharedFile {
-    /// A file with these bytes, all of them on the disk. Behind this number of calls each one answers this fault, and does
-    /// nothing.
+    /// A file with these bytes, all of them on the disk. After this number of calls each one answers this fault, and
+    /// does nothing.
     pub fn new(
         alloc: Global,
         bytes: &[u8],
@@ -39,8 +39,8 @@ impl SharedFile {
         })
     }
 
-    /// What a crash now may leave, of which the first is what was synced. Where something was written since, that may be
-    /// there whole, or cut in the middle, or half of it not written, the front or the end.
+    /// What a crash now may leave; the first is what was synced. If something was written since, it may be there whole,
+    /// or cut in the middle, or without its first or its last half.
     pub fn left<R: Abort>(&self, rt: &R, alloc: Global) -> Vec<Vec<u8>> {
         let Ok(file) = self.file.try_borrow() else {
             panic!(rt; "the file is in use");
@@ -75,28 +75,28 @@ fn put_torn<R: Abort>(
 impl RawFile for SharedFile {
     fn write_at(&mut self, at: usize, bytes: &[u8]) -> Result<(), DeviceError> {
         match self.file.try_borrow_mut() {
-            Ok(mut file) => told(file.write_at(at, bytes), self.fault),
+            Ok(mut file) => first_fault(file.write_at(at, bytes), self.fault),
             Err(_) => Err(DeviceError::Failed),
         }
     }
 
     fn cut(&mut self, len: usize) -> Result<(), DeviceError> {
         match self.file.try_borrow_mut() {
-            Ok(mut file) => told(file.cut(len), self.fault),
+            Ok(mut file) => first_fault(file.cut(len), self.fault),
             Err(_) => Err(DeviceError::Failed),
         }
     }
 
     fn sync(&mut self) -> Result<(), DeviceError> {
         match self.file.try_borrow_mut() {
-            Ok(mut file) => told(file.sync(), self.fault),
+            Ok(mut file) => first_fault(file.sync(), self.fault),
             Err(_) => Err(DeviceError::Failed),
         }
     }
 }
 
 // A call that fails answers this fault.
-fn told(answer: Result<(), DeviceError>, fault: DeviceError) -> Result<(), DeviceError> {
+fn first_fault(answer: Result<(), DeviceError>, fault: DeviceError) -> Result<(), DeviceError> {
     match answer {
         Err(DeviceError::Failed) => Err(fault),
         other => other,

@@ -1,5 +1,5 @@
-//! Worked days that stop at each call of the journal's file, and so at each of their events: what goes on from there tells
-//! the rest byte for byte.
+//! Worked days that stop at each call of the journal's file, and so at each of their events: what resumes from there
+//! publishes the rest byte for byte.
 
 use super::crash_points::stops_at_calls;
 use super::equal;

@@ -32,7 +32,7 @@ const FOUR_MEMBERS: &[u8] = b"session HX00000004\n\
      member 3 FMC3 CHARLI PWCHARLI 5000\n\
      member 4 FMD4 DELTA PWDELTA 5000\n";
 
-// A member's thread: what he sends through, what he reads by, and what he has read.
+// A member's thread: the pass through which it sends, the reader by which it reads, and what it has read.
 #[derive(Drop)]
 struct Worker<V: Venue> {
     pass: Pass<V>,
@@ -104,7 +104,7 @@ impl<V: Venue> Worker<V> {
         Ok(())
     }
 
-    // Sends all his orders, and counts them.
+    // Sends all its orders, and counts them.
     fn work<R: Wait>(&mut self, rt: &R, alloc: Global, exchange: &Exchange<V, Memory>) {
         for number in 0..EACH {
             if self.step(rt, alloc, exchange, number).is_err() {
@@ -140,7 +140,7 @@ fn hire<V: Venue, R: Abort>(
     workers
 }
 
-// Each worker has sent all his orders, and read a beginning of the feed, of which this reader knows all.
+// Each worker has sent all its orders, and read a beginning of the feed, of which this reader knows all.
 fn expect_workers<V: Venue, R: Abort>(
     rt: &R,
     alloc: Global,
@@ -174,7 +174,7 @@ fn busy_day<V: Venue + Send + Sync, R: Threads + Wait + Abort + Sync>(
 )
     requires feed { IsNewLog V.log logs.feed }
     requires admitted { IsNewLog V.admitted logs.admitted }
-    requires kept { IsNewLog V.kept logs.kept }
+    requires durable { IsNewLog V.durable logs.durable }
     requires of_setup { setup ≡ V.setup }
     requires before { V.before ≡ [] }
     requires reader { reader.log ≡ V.log }

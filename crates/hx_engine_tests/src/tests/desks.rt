@@ -20,7 +20,7 @@ fn opened<R: Abort>(
     capacity: u64,
 ) -> (Log<Entry>, Desk, Reader<Entry>)
     requires { (1 ≤ capacity) × (capacity ≤ 1000000) }
-    ensures desk { (result.1.log ≡ result.0) × (result.1.told ≡ length result.1.history) }
+    ensures desk { (result.1.log ≡ result.0) × (result.1.published_end ≡ length result.1.history) }
     ensures reader { result.2.log ≡ result.0 }
 {
     let (log, writer, reader) = Log::<Entry>::new(alloc, capacity).expect(rt, "a log");
@@ -44,16 +44,16 @@ fn full(free: u64, needed: u64) -> Answer {
 
 // The event is submitted, and answered so.
 fn expect<R: Abort>(rt: &R, desk: &mut Desk, log: &Log<Entry>, event: &Event, want: Answer)
-    requires { (desk.old.log ≡ log.now) × (desk.old.told ≡ length desk.old.history) }
-    ensures { (desk.new.log ≡ desk.old.log) × (desk.new.told ≡ length desk.new.history) }
+    requires { (desk.old.log ≡ log.now) × (desk.old.published_end ≡ length desk.old.history) }
+    ensures { (desk.new.log ≡ desk.old.log) × (desk.new.published_end ≡ length desk.new.history) }
 {
     equal(rt, desk.submit(log, 1, event), want);
 }
 
-// The event is submitted, and again where there was no memory for it: nothing of the first time is left.
+// The event is submitted, and again if there was no memory for it: nothing of the first time is left.
 fn submit_again(desk: &mut Desk, log: &Log<Entry>, event: &Event) -> Answer
-    requires { (desk.old.log ≡ log.now) × (desk.old.told ≡ length desk.old.history) }
-    ensures { (desk.new.log ≡ desk.old.log) × (desk.new.told ≡ length desk.new.history) }
+    requires { (desk.old.log ≡ log.now) × (desk.old.published_end ≡ length desk.old.history) }
+    ensures { (desk.new.log ≡ desk.old.log) × (desk.new.published_end ≡ length desk.new.history) }
 {
     match desk.submit(log, 1, event) {
         Err(DeskError::NoMemory) => desk.submit(log, 1, event),
@@ -62,15 +62,15 @@ fn submit_again(desk: &mut Desk, log: &Log<Entry>, event: &Event) -> Answer
 }
 
 // The orders are entered one after the other, and answered so.
-fn play<R: Abort>(
+fn apply<R: Abort>(
     rt: &R,
     alloc: Global,
     desk: &mut Desk,
     log: &Log<Entry>,
     orders: &[(Order, Answer)],
 )
-    requires { (desk.old.log ≡ log.now) × (desk.old.told ≡ length desk.old.history) }
-    ensures { (desk.new.log ≡ desk.old.log) × (desk.new.told ≡ length desk.new.history) }
+    requires { (desk.old.log ≡ log.now) × (desk.old.published_end ≡ length desk.old.history) }
+    ensures { (desk.new.log ≡ desk.old.log) × (desk.new.published_end ≡ length desk.new.history) }
 {
     for (order, want) in orders {
         let event = entered(rt, alloc, order);
@@ -171,7 +171,7 @@ fn a_log_of_one_slot(rt: HostRuntime) {
     let alloc = rt.alloc();
     let setup = Setup::standard(alloc).expect(&rt, "a setup");
     let (log, mut desk, mut reader) = opened(&rt, alloc, setup, 1);
-    play(&rt, alloc, &mut desk, &log, &one_slot());
+    apply(&rt, alloc, &mut desk, &log, &one_slot());
     equal(&rt, desk.history_len(), 3);
     equal(&rt, desk.feed_count(), 1);
     holds(&rt, !desk.ended());
@@ -205,7 +205,7 @@ fn limits_times_and_strangers(rt: HostRuntime) {
     let nothing = message(alloc, 1, 10, &[0]).expect(&rt, "a message");
     expect(&rt, &mut desk, &log, &nothing, done(1, 1, 0));
     let first = Order { time: 20, ..BUY };
-    play(&rt, alloc, &mut desk, &log, &[(first, done(2, 1, 1))]);
+    apply(&rt, alloc, &mut desk, &log, &[(first, done(2, 1, 1))]);
     refused(&rt, alloc, &mut desk, &log);
     let second = Order {
         time: 40,
@@ -213,13 +213,13 @@ fn limits_times_and_strangers(rt: HostRuntime) {
         token: *b"T2",
         ..BUY
     };
-    play(&rt, alloc, &mut desk, &log, &[(second, done(3, 2, 1))]);
+    apply(&rt, alloc, &mut desk, &log, &[(second, done(3, 2, 1))]);
     equal(&rt, desk.history_len(), 3);
 }
 
 fn refused<R: Abort>(rt: &R, alloc: Global, desk: &mut Desk, log: &Log<Entry>)
-    requires { (desk.old.log ≡ log.now) × (desk.old.told ≡ length desk.old.history) }
-    ensures { (desk.new.log ≡ desk.old.log) × (desk.new.told ≡ length desk.new.history) }
+    requires { (desk.old.log ≡ log.now) × (desk.old.published_end ≡ length desk.old.history) }
+    ensures { (desk.new.log ≡ desk.old.log) × (desk.new.published_end ≡ length desk.new.history) }
 {
     let cancel = message(alloc, 1, 30, b"XT1            \0\0\0\0").expect(rt, "a cancel");
     expect(rt, desk, log, &cancel, Err(DeskError::Limit { member: 1 }));
@@ -246,7 +246,7 @@ fn a_reader_looks_before_and_after_two_publishes(rt: HostRuntime) {
         ..BUY
     };
     let orders = [(BUY, done(1, 1, 1)), (second, done(2, 2, 1))];
-    play(&rt, alloc, &mut desk, &log, &orders);
+    apply(&rt, alloc, &mut desk, &log, &orders);
     equal(&rt, reader.look(&log), 2);
     let added = [
         Message::Added(1, b'B', 100, 100_000),

@@ -2,7 +2,7 @@
 ghost use Rattle.std.specs.Prelude.{◌≡◌, []};
 ghost use Rattle.hx_rules.specs.declared.event.Event.{Event};
 
-use super::scenario::{Scenario, play};
+use super::scenario::{Scenario, apply};
 use super::{entered, equal, holds, member_of};
 use hx_blog::Reader;
 use hx_engine::{Entry, Exchange, FinishError, Journal, Pass, Venue};
@@ -57,7 +57,7 @@ fn expect_replies<V: Venue, R: Wait + Abort>(
 struct DisplayBeatsTime;
 
 impl Scenario for DisplayBeatsTime {
-    fn play<V: Venue + Send + Sync, R: Threads + Wait + Clock + Abort + Sync>(
+    fn apply<V: Venue + Send + Sync, R: Threads + Wait + Clock + Abort + Sync>(
         rt: &R,
         alloc: Global,
         exchange: Exchange<V, Memory>,
@@ -101,14 +101,14 @@ impl Scenario for DisplayBeatsTime {
 fn display_beats_time_and_replies_are_fresh(rt: HostRuntime) -> Result<(), Fail> {
     let alloc = rt.alloc();
     let setup = Setup::standard(alloc).expect(&rt, "a setup");
-    play::<DisplayBeatsTime, _>(&rt, alloc, setup, 100, 1)
+    apply::<DisplayBeatsTime, _>(&rt, alloc, setup, 100, 1)
 }
 
 // The first and the third of three passes are not enough; all three are.
 struct OnePassMissing;
 
 impl Scenario for OnePassMissing {
-    fn play<V: Venue + Send + Sync, R: Threads + Wait + Clock + Abort + Sync>(
+    fn apply<V: Venue + Send + Sync, R: Threads + Wait + Clock + Abort + Sync>(
         rt: &R,
         alloc: Global,
         exchange: Exchange<V, Memory>,
@@ -138,7 +138,7 @@ impl Scenario for OnePassMissing {
     }
 }
 
-/// The exchange ends with this many entries, and this many messages of the feed.
+/// The exchange ends with `entries` entries, and `messages` messages of the feed.
 pub fn ends<V: Venue, J: Journal + Drop, R: Abort>(
     rt: &R,
     exchange: Exchange<V, J>,
@@ -157,7 +157,7 @@ pub fn ends<V: Venue, J: Journal + Drop, R: Abort>(
 fn a_pass_is_missing(rt: HostRuntime) -> Result<(), Fail> {
     let alloc = rt.alloc();
     let setup = Setup::standard(alloc).expect(&rt, "a setup");
-    play::<OnePassMissing, _>(&rt, alloc, setup, 100, 3)
+    apply::<OnePassMissing, _>(&rt, alloc, setup, 100, 3)
 }
 
 const CLOSED: &[u8] = b"session HX00000002\n\
@@ -212,7 +212,7 @@ fn hidden_of_second(time: u64) -> Order {
 }
 
 impl Scenario for HoursOfADay {
-    fn play<V: Venue + Send + Sync, R: Threads + Wait + Clock + Abort + Sync>(
+    fn apply<V: Venue + Send + Sync, R: Threads + Wait + Clock + Abort + Sync>(
         rt: &R,
         alloc: Global,
         exchange: Exchange<V, Memory>,
@@ -253,5 +253,5 @@ impl Scenario for HoursOfADay {
 fn the_day_ends_after_its_last_code(rt: HostRuntime) -> Result<(), Fail> {
     let alloc = rt.alloc();
     let setup = Setup::read(alloc, CLOSED).expect(&rt, "a setup");
-    play::<HoursOfADay, _>(&rt, alloc, setup, 100, 1)
+    apply::<HoursOfADay, _>(&rt, alloc, setup, 100, 1)
 }

@@ -3,7 +3,7 @@ ghost use Rattle.std.specs.Prelude.{◌≡◌, []};
 ghost use Rattle.hx_rules.specs.declared.event.Event.{Event};
 
 use super::exchanges::ends;
-use super::scenario::{Scenario, play};
+use super::scenario::{Scenario, apply};
 use super::{entered, equal, holds};
 use hx_blog::Reader;
 use hx_engine::{DeskError, Done, Entry, Exchange, Pass, SubmitError, Venue};
@@ -43,7 +43,7 @@ fn submit<V: Venue, R: Wait + Abort>(
     exchange.submit(rt, pass, &event)
 }
 
-// The pass sent events at these places, in this order.
+// The pass sent events with these places in the history, in this order.
 fn expect_sent<V: Venue, R: Abort>(rt: &R, pass: &Pass<V>, places: &[u64]) {
     equal(rt, pass.sent().len(), places.len());
     for ((place, event), wanted) in pass.sent().iter().zip(places) {
@@ -52,11 +52,11 @@ fn expect_sent<V: Venue, R: Abort>(rt: &R, pass: &Pass<V>, places: &[u64]) {
     }
 }
 
-// The third message of the first member is beyond his limit; one of the second member goes on behind it.
+// The third message of the first member is beyond its limit; one of the second member goes on after it.
 struct BeyondTheLimit;
 
 impl Scenario for BeyondTheLimit {
-    fn play<V: Venue + Send + Sync, R: Threads + Wait + Clock + Abort + Sync>(
+    fn apply<V: Venue + Send + Sync, R: Threads + Wait + Clock + Abort + Sync>(
         rt: &R,
         alloc: Global,
         exchange: Exchange<V, Memory>,
@@ -90,14 +90,14 @@ impl Scenario for BeyondTheLimit {
 fn a_message_beyond_the_limit(rt: HostRuntime) -> Result<(), Fail> {
     let alloc = rt.alloc();
     let setup = Setup::read(alloc, FEW).expect(&rt, "a setup");
-    play::<BeyondTheLimit, _>(&rt, alloc, setup, 100, 1)
+    apply::<BeyondTheLimit, _>(&rt, alloc, setup, 100, 1)
 }
 
 // Three orders; one that lacks memory is sent again, and stands once. Here there is all the memory that they need.
 struct LacksMemory;
 
 impl Scenario for LacksMemory {
-    fn play<V: Venue + Send + Sync, R: Threads + Wait + Clock + Abort + Sync>(
+    fn apply<V: Venue + Send + Sync, R: Threads + Wait + Clock + Abort + Sync>(
         rt: &R,
         alloc: Global,
         exchange: Exchange<V, Memory>,
@@ -124,5 +124,5 @@ impl Scenario for LacksMemory {
 fn an_event_that_lacks_memory(rt: HostRuntime) -> Result<(), Fail> {
     let alloc = rt.alloc();
     let setup = Setup::standard(alloc).expect(&rt, "a setup");
-    play::<LacksMemory, _>(&rt, alloc, setup, 100, 1)
+    apply::<LacksMemory, _>(&rt, alloc, setup, 100, 1)
 }

@@ -18,7 +18,7 @@ use std::time::Clock;
 
 /// What a test does with a new exchange, its passes and a reader of its log.
 pub trait Scenario {
-    fn play<V: Venue + Send + Sync, R: Threads + Wait + Clock + Abort + Sync>(
+    fn apply<V: Venue + Send + Sync, R: Threads + Wait + Clock + Abort + Sync>(
         rt: &R,
         alloc: Global,
         exchange: Exchange<V, Memory>,
@@ -36,7 +36,7 @@ fn start<S: Scenario, V: Venue + Send + Sync, R: Threads + Wait + Clock + Abort 
 )
     requires feed { IsNewLog V.log ground.logs.feed }
     requires admitted { IsNewLog V.admitted ground.logs.admitted }
-    requires kept { IsNewLog V.kept ground.logs.kept }
+    requires durable { IsNewLog V.durable ground.logs.durable }
     requires of_setup { ground.setup ≡ V.setup }
     requires before { V.before ≡ [] }
     requires reader { ground.reader.log ≡ V.log }
@@ -53,11 +53,11 @@ fn start<S: Scenario, V: Venue + Send + Sync, R: Threads + Wait + Clock + Abort 
     let (exchange, given) = Exchange::<V, Memory>::new(
         alloc, setup, logs, journal, blank, passes,
     ).expect(rt, "an exchange");
-    S::play(rt, alloc, exchange, given, reader);
+    S::apply(rt, alloc, exchange, given, reader);
 }
 
-/// Plays a scenario over a new exchange of this setup, with a log of this many slots and this many passes.
-pub fn play<S: Scenario, R: Threads + Wait + Clock + Abort + Sync>(
+/// Runs a scenario over a new exchange of this setup, with a log of `capacity` slots, and this number of passes.
+pub fn apply<S: Scenario, R: Threads + Wait + Clock + Abort + Sync>(
     rt: &R,
     alloc: Global,
     setup: Setup,

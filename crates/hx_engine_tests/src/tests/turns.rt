@@ -1,7 +1,7 @@
-//! A turn at the lock ends early where the market passes over many orders.
+//! A turn at the lock ends early if the market passes over many orders.
 
 use super::exchanges::ends;
-use super::scenario::{Scenario, play};
+use super::scenario::{Scenario, apply};
 use super::{equal, holds};
 use hx_blog::Reader;
 use hx_engine::{Entry, Exchange, Pass, Venue};
@@ -25,10 +25,11 @@ const SETUP: &[u8] = b"session HX00000002\n\
      member 1 FMA1 ALPHA PWALPHA 10000\n\
      member 2 FMB2 BRAVO PWBRAVO 10000\n";
 
-// So many orders of one share stand before one of a hundred shares.
+// The number of orders of one share that stand before one of a hundred shares.
 const SMALL: u32 = 4_096;
 
-// A hidden order at 10 dollars: who enters it, the number of its token, its side, its shares, its minimum and its life.
+// A hidden order at 10 dollars: the member that enters it, the number of its token, its side, its shares, its minimum
+// and its life.
 #[derive(Clone, Copy)]
 struct Hidden {
     member: u16,
@@ -89,7 +90,7 @@ fn entered<R: Abort>(rt: &R, alloc: Global, order: Hidden) -> Event {
     message(alloc, order.member, 1_000, bytes.as_slice()).expect(rt, "an order")
 }
 
-// The small orders, and the one behind them.
+// The small orders, and the one after them.
 fn resting<R: Abort>(rt: &R, alloc: Global) -> Vec<Event> {
     let mut events = Vec::new(alloc);
     for number in 0..SMALL {
@@ -120,7 +121,7 @@ fn incoming<R: Abort>(rt: &R, alloc: Global) -> Vec<Event> {
     vec![in alloc; first, second].expect(rt, "events")
 }
 
-// One turn: the events that it leaves, and over how many orders the market has passed.
+// One turn: the events that it leaves, and the number of orders that the market has passed over.
 fn turn<V: Venue, R: Wait + Abort>(
     rt: &R,
     exchange: &Exchange<V, Memory>,
@@ -133,14 +134,14 @@ fn turn<V: Venue, R: Wait + Abort>(
     let Ok(submitted) = exchange.submit_all(rt, pass, events) else {
         panic!(rt; "an event is refused");
     };
-    exchange.ring_feed();
+    exchange.wake_feed();
     (submitted.rest, pass.take_passed())
 }
 
 struct ManySmallOrders;
 
 impl Scenario for ManySmallOrders {
-    fn play<V: Venue + Send + Sync, R: Threads + Wait + Clock + Abort + Sync>(
+    fn apply<V: Venue + Send + Sync, R: Threads + Wait + Clock + Abort + Sync>(
         rt: &R,
         alloc: Global,
         exchange: Exchange<V, Memory>,
@@ -166,8 +167,8 @@ impl Scenario for ManySmallOrders {
 // The first order passes over all small ones and is executed against the large one, as a trade of the feed; the second waits
 // for another turn, and passes over the same for nothing.
 #[test]
-fn a_turn_ends_behind_many_orders(rt: HostRuntime) -> Result<(), Fail> {
+fn a_turn_ends_after_many_orders(rt: HostRuntime) -> Result<(), Fail> {
     let alloc = rt.alloc();
     let setup = Setup::read(alloc, SETUP).expect(&rt, "a setup");
-    play::<ManySmallOrders, _>(&rt, alloc, setup, 100, 1)
+    apply::<ManySmallOrders, _>(&rt, alloc, setup, 100, 1)
 }

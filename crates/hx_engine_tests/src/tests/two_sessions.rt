@@ -1,4 +1,4 @@
-//! Two members at one exchange at once, and one who waits for what the other's order brings him.
+//! Two members at one exchange at once, and one that waits for what the other's order brings it.
 ghost use Rattle.std.specs.Prelude.{◌≡◌, []};
 ghost use Rattle.hx_engine.specs.Opening.{IsNewLog};
 ghost use Rattle.hx_rules.specs.declared.event.Event.{Event};
@@ -27,7 +27,7 @@ use std::time::{Clock, Duration};
 // The one displayed order.
 const ADDED: Message = Message::Added(1, b'B', 100, 100_000);
 
-// A member with his pass and his reader.
+// A member with its pass and its reader.
 #[derive(Drop)]
 struct Client<V: Venue> {
     pass: Pass<V>,
@@ -38,14 +38,15 @@ struct Client<V: Venue> {
 // What a session came to know.
 #[derive(Drop)]
 struct Outcome {
-    // His one reply.
+    // The member's one reply.
     reply: Reply,
-    // How many of the one message of the feed his reader read before it learnt anything; none for another message.
+    // The number of messages that the member's reader read before it learnt anything, if each is the one message of the
+    // feed.
     early: Option<u64>,
 }
 
 impl<V: Venue> Client<V> {
-    // Enters an order, asks for his one reply, audits, and reads what he can.
+    // Enters an order, asks for the member's one reply, audits, and reads as far as it can.
     fn session<R: Wait + Abort>(
         &mut self,
         rt: &R,
@@ -96,7 +97,7 @@ impl<V: Venue> Client<V> {
         news
     }
 
-    // Sleeps at the bell until there is more than one reply, or until a ring is too late.
+    // Sleeps at the waker until there is more than one reply, or until a wake is too late.
     fn listen_for<R: Wait + Clock>(
         &mut self,
         rt: &R,
@@ -104,13 +105,13 @@ impl<V: Venue> Client<V> {
         member: MemberNo,
         limit: Duration,
     ) -> News {
-        let bell = exchange.bell(&self.pass);
-        bell.arm();
+        let waker = exchange.waker(&self.pass);
+        waker.arm();
         let news = exchange.news(rt, &mut self.reader, member);
         if news.replies > 1 {
             return news;
         }
-        bell.sleep(limit);
+        waker.sleep(limit);
         exchange.news(rt, &mut self.reader, member)
     }
 
@@ -147,7 +148,7 @@ fn clients<V: Venue, R: Abort>(
     (first, second)
 }
 
-// Reads on, ten messages at most, to the end: how many, where each is that of the one displayed order.
+// Reads on, ten messages at most, to the end: returns their number, if each is that of the one displayed order.
 fn read_all(log: &Log<Entry>, reader: &mut Reader<Entry>) -> Option<u64>
     requires { reader.old.log ≡ log.now }
     ensures { reader.new.log ≡ reader.old.log }
@@ -206,7 +207,7 @@ fn two_at_once<V: Venue + Send + Sync, R: Threads + Wait + Abort + Sync>(
 )
     requires feed { IsNewLog V.log logs.feed }
     requires admitted { IsNewLog V.admitted logs.admitted }
-    requires kept { IsNewLog V.kept logs.kept }
+    requires durable { IsNewLog V.durable logs.durable }
     requires of_setup { setup ≡ V.setup }
     requires before { V.before ≡ [] }
     requires reader { reader.log ≡ V.log }
@@ -255,7 +256,7 @@ fn two_sessions_at_once(rt: HostRuntime) -> Result<(), Fail> {
     Ok(())
 }
 
-// The first member waits for the execution of his order, which another thread's order brings; and then in vain.
+// The first member waits for the execution of its order, which another thread's order brings; and then in vain.
 fn wait_for_an_execution<V: Venue + Send + Sync, R: Threads + Wait + Clock + Abort + Sync>(
     rt: &R,
     alloc: Global,
@@ -266,7 +267,7 @@ fn wait_for_an_execution<V: Venue + Send + Sync, R: Threads + Wait + Clock + Abo
 )
     requires feed { IsNewLog V.log logs.feed }
     requires admitted { IsNewLog V.admitted logs.admitted }
-    requires kept { IsNewLog V.kept logs.kept }
+    requires durable { IsNewLog V.durable logs.durable }
     requires of_setup { setup ≡ V.setup }
     requires before { V.before ≡ [] }
     requires reader { reader.log ≡ V.log }

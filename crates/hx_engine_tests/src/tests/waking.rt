@@ -1,10 +1,9 @@
-//! Who is woken by what is told: only who has news.
+//! Which threads are woken by what is published: only those that have news.
 ghost use Rattle.std.specs.Prelude.{◌≡◌, [], true};
 ghost use Rattle.hx_engine.specs.Opening.{IsNewLog};
 
 use super::exchanges::ends;
 use super::{entered, equal, holds, member_of};
-use hx_bells::Bell;
 use hx_blog::{Log, Reader};
 use hx_engine::{Entry, Exchange, Journal, Logs, Pass, Venue};
 use hx_engine_testing::ground::logs_of;
@@ -12,6 +11,7 @@ use hx_engine_testing::memory::Memory;
 use hx_journal::Unkept;
 use hx_members::Setup;
 use hx_testing::sending::{BUY, Order, SELL};
+use hx_wake::Waker;
 use std::alloc::Global;
 use std::marker::Brand;
 use std::process::Abort;
@@ -20,14 +20,14 @@ use std::sync::ledger::Blank;
 use std::test::*;
 use std::time::{Clock, Duration, Instant};
 
-// How long it is waited for a ring, in milliseconds.
+// The time for which a test waits for a wake, in milliseconds.
 const SHORT: u64 = 5;
 
-// Whether a bell that was armed has rung.
-fn has_rung<R: Clock + Abort>(rt: &R, bell: &Bell) -> bool {
+// Whether a waker that was armed has woken.
+fn has_woken<R: Clock + Abort>(rt: &R, waker: &Waker) -> bool {
     let short = Duration::from_millis(SHORT);
     let start = Instant::now(rt).expect(rt, "the time before");
-    bell.sleep(short);
+    waker.sleep(short);
     start.elapsed(rt).expect(rt, "the time behind") < short
 }
 
@@ -41,20 +41,21 @@ struct Room<V: Venue, J: Journal> {
 }
 
 impl<V: Venue, J: Journal + Drop> Room<V, J> {
-    // Who is woken by an order of the first pass: the first member's session, the second's, and the publisher.
+    // Which threads are woken by an order of the first pass: the first member's session, the second's, and the
+    // publisher.
     fn woken<R: Wait + Clock + Abort>(&mut self, rt: &R, order: &Order) -> [bool; 3] {
         let event = entered(rt, self.alloc, order);
-        self.exchange.bell(&self.first).arm();
-        self.exchange.bell(&self.second).arm();
-        self.exchange.feed_bell().arm();
+        self.exchange.waker(&self.first).arm();
+        self.exchange.waker(&self.second).arm();
+        self.exchange.feed_waker().arm();
         holds(
             rt,
             self.exchange.submit(rt, &mut self.first, &event).is_ok(),
         );
         [
-            has_rung(rt, self.exchange.bell(&self.first)),
-            has_rung(rt, self.exchange.bell(&self.second)),
-            has_rung(rt, self.exchange.feed_bell()),
+            has_woken(rt, self.exchange.waker(&self.first)),
+            has_woken(rt, self.exchange.waker(&self.second)),
+            has_woken(rt, self.exchange.feed_waker()),
         ]
     }
 }
@@ -78,7 +79,7 @@ fn room_of<V: Venue, J: Journal + Drop, R: Wait + Abort>(
     }
 }
 
-// Orders that nobody sees wake their member alone, and those that are seen the publisher too.
+// Orders that are not displayed wake their member alone, and those that are displayed the publisher too.
 fn own_orders<V: Venue, J: Journal + Drop, R: Wait + Clock + Abort>(rt: &R, room: &mut Room<V, J>) {
     let hidden = Order {
         token: *b"H1",
@@ -96,7 +97,7 @@ fn own_orders<V: Venue, J: Journal + Drop, R: Wait + Clock + Abort>(rt: &R, room
     equal(rt, room.woken(rt, &others), [false, true, false]);
 }
 
-// An execution wakes both, and who has left is not woken.
+// An execution wakes both; a session that has left is not woken.
 fn an_execution<V: Venue, J: Journal + Drop, R: Wait + Clock + Abort>(
     rt: &R,
     room: &mut Room<V, J>,
@@ -115,8 +116,8 @@ fn an_execution<V: Venue, J: Journal + Drop, R: Wait + Clock + Abort>(
     equal(rt, room.woken(rt, &later), [false, false, true]);
 }
 
-// The publisher is woken by `submit_all` itself where a journal is written, and else by `ring_feed`, once.
-fn a_late_ring<V: Venue, J: Journal + Drop, R: Wait + Clock + Abort>(
+// The publisher is woken by `submit_all` itself if a journal is written, and else by `wake_feed`, once.
+fn a_late_wake<V: Venue, J: Journal + Drop, R: Wait + Clock + Abort>(
     rt: &R,
     room: &mut Room<V, J>,
     is_late: bool,
@@ -127,16 +128,16 @@ fn a_late_ring<V: Venue, J: Journal + Drop, R: Wait + Clock + Abort>(
     };
     let event = entered(rt, room.alloc, &last);
     let events = vec![in room.alloc; event].expect(rt, "events");
-    room.exchange.feed_bell().arm();
+    room.exchange.feed_waker().arm();
     let done = room.exchange.submit_all(rt, &mut room.first, events);
     holds(rt, done.is_ok());
-    equal(rt, has_rung(rt, room.exchange.feed_bell()), !is_late);
-    room.exchange.feed_bell().arm();
-    room.exchange.ring_feed();
-    equal(rt, has_rung(rt, room.exchange.feed_bell()), is_late);
-    room.exchange.feed_bell().arm();
-    room.exchange.ring_feed();
-    holds(rt, !has_rung(rt, room.exchange.feed_bell()));
+    equal(rt, has_woken(rt, room.exchange.feed_waker()), !is_late);
+    room.exchange.feed_waker().arm();
+    room.exchange.wake_feed();
+    equal(rt, has_woken(rt, room.exchange.feed_waker()), is_late);
+    room.exchange.feed_waker().arm();
+    room.exchange.wake_feed();
+    holds(rt, !has_woken(rt, room.exchange.feed_waker()));
 }
 
 fn wake<V: Venue, J: Journal + Drop, R: Wait + Clock + Abort>(
@@ -150,12 +151,12 @@ fn wake<V: Venue, J: Journal + Drop, R: Wait + Clock + Abort>(
 )
     requires feed { IsNewLog V.log logs.feed }
     requires admitted { IsNewLog V.admitted logs.admitted }
-    requires kept { IsNewLog V.kept logs.kept }
+    requires durable { IsNewLog V.durable logs.durable }
     requires of_setup { setup ≡ V.setup }
     requires before { V.before ≡ [] }
     requires reader { reader.log ≡ V.log }
     requires journal { J.appended journal ≡ [] }
-    requires safe { (J.kept journal ≡ J.appended journal) × (J.is_open journal ≡ true) }
+    requires safe { (J.durable journal ≡ J.appended journal) × (J.is_open journal ≡ true) }
     requires blank { (blank.name ≡ V.name) × (blank.parts ≡ V.parts) × (V.parts ≡ 2) }
 {
     let is_late = journal.is_quick();
@@ -167,7 +168,7 @@ fn wake<V: Venue, J: Journal + Drop, R: Wait + Clock + Abort>(
     let mut room = room_of(rt, alloc, exchange, passes);
     own_orders(rt, &mut room);
     an_execution(rt, &mut room);
-    a_late_ring(rt, &mut room, is_late);
+    a_late_wake(rt, &mut room, is_late);
     let passes = vec![in alloc; room.first, room.second].expect(rt, "passes");
     ends(rt, room.exchange, passes, 6, 4);
 }
@@ -178,7 +179,7 @@ fn wake_at<J: Journal + Drop, R: Wait + Clock + Abort>(
     journal: J,
 ) -> Result<(), Fail>
     requires journal { J.appended journal ≡ [] }
-    requires safe { (J.kept journal ≡ J.appended journal) × (J.is_open journal ≡ true) }
+    requires safe { (J.durable journal ≡ J.appended journal) × (J.is_open journal ≡ true) }
 {
     let setup = Setup::standard(alloc).expect(rt, "a setup");
     let (log, writer, reader) = Log::<Entry>::new(alloc, 100).expect(rt, "a log");

@@ -9,7 +9,7 @@ use super::{
 use arrayvec::ArrayVec;
 use hx_units::fields::{put, u16_bytes, u32_bytes, u48_bytes, u64_bytes};
 
-// The bytes of a message, whose fields fit into their places.
+// The bytes of a message, whose fields fit into their slots.
 pub fn write(message: &Feed) -> ArrayVec<u8, 44>
     requires { feed_time message.now < 2 ^ 48 }
     ensures bytes { result.items ≡ feed_bytes message.now }

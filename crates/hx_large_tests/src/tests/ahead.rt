@@ -1,13 +1,13 @@
-//! A large day, of which another thread reads the lines ahead, and writes what they tell.
+//! A large day, of which another thread reads the lines ahead, and writes their output.
 
 use super::day::{SETUP, day};
 use super::{equal, holds};
 use hx_replay::{Kind, TapeError, replay};
-use hx_replay_threads::replay_ahead;
+use hx_replay_parallel::replay_ahead;
 use hx_testing::Day;
 use hx_testing::halts::{BREAK_OF_BOTH_SIDES, HALTS_AND_BREAKS, HALTS_AT_THEIR_EDGES};
 use hx_testing::lines::{first_lines, front, last_lines};
-use hx_testing::memory::{Bad, Behind, Input, Output};
+use hx_testing::memory::{After, Bad, Input, Output};
 use hx_testing::setups::{setup_of, standard};
 use std::alloc::Global;
 use std::io::ErrorKind;
@@ -53,25 +53,25 @@ fn pieces_that_fill_their_room(rt: HostRuntime) -> Result<(), Fail> {
     let setup = setup_of(rt.alloc(), SETUP)?;
     let day = day(rt.alloc())?;
     let tape = seven_times_and_whole(&rt, rt.alloc(), &day);
-    let (mut told, mut output) = (Vec::new(rt.alloc()), Vec::new(rt.alloc()));
-    replay(rt.alloc(), &setup, &mut tape.as_slice(), &mut told).expect(&rt, "a day");
+    let (mut outputs, mut output) = (Vec::new(rt.alloc()), Vec::new(rt.alloc()));
+    replay(rt.alloc(), &setup, &mut tape.as_slice(), &mut outputs).expect(&rt, "a day");
     let mut reader = Input::new(&tape);
     let counts = replay_ahead(&rt, rt.alloc(), &setup, &mut reader, &mut output).expect(
         &rt, "a day",
     );
     equal(&rt, (counts.events, reader.calls), (125_000, 4));
-    holds(&rt, output.as_slice() == told.as_slice());
+    holds(&rt, output.as_slice() == outputs.as_slice());
     Ok(())
 }
 
-// The first read gives as much as there was room for, and the second one fails. What the whole lines of the first one tell
-// is written, and nothing more is read.
+// The first read fills its buffer, and the second one fails. The output of the whole lines of the first one is written,
+// and nothing more is read.
 #[test]
 fn a_second_read_that_fails(rt: HostRuntime) -> Result<(), Fail> {
     let setup = setup_of(rt.alloc(), SETUP)?;
     let day = day(rt.alloc())?;
     let tape = seven_times_and_whole(&rt, rt.alloc(), &day);
-    let (mut told, mut output) = (Vec::new(rt.alloc()), Vec::new(rt.alloc()));
+    let (mut outputs, mut output) = (Vec::new(rt.alloc()), Vec::new(rt.alloc()));
     let mut reader = Input {
         bad: Bad {
             call: 2,
@@ -84,8 +84,8 @@ fn a_second_read_that_fails(rt: HostRuntime) -> Result<(), Fail> {
     equal(&rt, reader.calls, 2);
     let read = tape.len().saturating_sub(reader.bytes.len());
     holds(&rt, read > 1 << 22);
-    // It breaks off in a line, of which nothing is told.
-    let whole = replay(rt.alloc(), &setup, &mut front(&tape, read), &mut told);
+    // It breaks off in a line, which has no output.
+    let whole = replay(rt.alloc(), &setup, &mut front(&tape, read), &mut outputs);
     let is_bad = matches!(
         whole,
         Err(TapeError::Line {
@@ -94,24 +94,24 @@ fn a_second_read_that_fails(rt: HostRuntime) -> Result<(), Fail> {
         })
     );
     holds(&rt, is_bad);
-    holds(&rt, output.as_slice() == told.as_slice());
+    holds(&rt, output.as_slice() == outputs.as_slice());
     Ok(())
 }
 
-// The first read gives 5,000 lines, which is less than there was room for. The second one waits until all that they tell is
+// The first read gives 5,000 lines, which does not fill its buffer. The second one waits until all of their output is
 // written.
 #[test]
 fn all_is_written_before_more_is_waited_for(rt: HostRuntime) -> Result<(), Fail> {
     let setup = setup_of(rt.alloc(), SETUP)?;
     let day = day(rt.alloc())?;
     let few = first_lines(&day.tape, 5_000);
-    let (mut lines, mut told) = (few, Vec::new(rt.alloc()));
-    replay(rt.alloc(), &setup, &mut lines, &mut told).expect(&rt, "a day");
+    let (mut lines, mut outputs) = (few, Vec::new(rt.alloc()));
+    replay(rt.alloc(), &setup, &mut lines, &mut outputs).expect(&rt, "a day");
     let written = AtomicU64::new(0);
     let mut reader = Input {
-        behind: Behind::Waits {
+        after: After::Waits {
             count: &written,
-            wanted: told.len() as u64,
+            wanted: outputs.len() as u64,
             last: last_lines(&day.tape, 5_000),
         },
         ..Input::new(few)
@@ -125,8 +125,8 @@ fn all_is_written_before_more_is_waited_for(rt: HostRuntime) -> Result<(), Fail>
     Ok(())
 }
 
-// Behind n lines of a long tape, in the middle of a turn, stands a line with this fault: what those lines tell is written,
-// as it is line by line.
+// After n lines of a long tape, in the middle of a turn, comes a line with this fault: the output of those lines is
+// written, as it is line by line.
 fn expect_stop<R: AllocGlobal + Abort + Threads>(
     rt: &R,
     lines: u64,
@@ -141,15 +141,15 @@ fn expect_stop<R: AllocGlobal + Abort + Threads>(
     put(rt, &mut tape, front);
     put(rt, &mut tape, bad);
     put(rt, &mut tape, &long);
-    let (mut told, mut output) = (Vec::new(rt.alloc()), Vec::new(rt.alloc()));
-    replay(rt.alloc(), &setup, &mut front, &mut told).expect(rt, "a day");
+    let (mut outputs, mut output) = (Vec::new(rt.alloc()), Vec::new(rt.alloc()));
+    replay(rt.alloc(), &setup, &mut front, &mut outputs).expect(rt, "a day");
     match replay_ahead(rt, rt.alloc(), &setup, &mut tape.as_slice(), &mut output) {
         Err(TapeError::Line { line, kind }) => {
             equal(rt, (line, kind), (lines.saturating_add(1), want));
         }
         _ => panic!(rt; "the line behind those is at fault"),
     }
-    holds(rt, output.as_slice() == told.as_slice());
+    holds(rt, output.as_slice() == outputs.as_slice());
     Ok(())
 }
 
@@ -194,8 +194,8 @@ fn a_write_that_fails(rt: HostRuntime) -> Result<(), Fail> {
     Ok(())
 }
 
-// A tape behind 20,000 ticks, which tell nothing of an empty book: it is long enough to be played in turns.
-fn behind_ticks<R: Abort>(rt: &R, alloc: Global, tape: &[u8]) -> Vec<u8> {
+// A tape after 20,000 ticks, which have no output with an empty book: it is long enough to be applied in turns.
+fn after_ticks<R: Abort>(rt: &R, alloc: Global, tape: &[u8]) -> Vec<u8> {
     let mut text = Vec::new(alloc);
     for _ in 0..20_000 {
         put(rt, &mut text, b"1 0 4b\n");
@@ -204,10 +204,10 @@ fn behind_ticks<R: Abort>(rt: &R, alloc: Global, tape: &[u8]) -> Vec<u8> {
     text
 }
 
-// A worked day behind these ticks tells what it tells by itself.
+// A worked day after these ticks has the output that it has by itself.
 fn expect_in_turns<R: AllocGlobal + Abort + Threads>(rt: &R, words: &str) -> Result<(), Fail> {
     let day = Day::of(rt.alloc(), words)?;
-    let tape = behind_ticks(rt, rt.alloc(), &day.tape);
+    let tape = after_ticks(rt, rt.alloc(), &day.tape);
     let setup = standard(rt.alloc()).expect(rt, "a setup");
     let mut output = Vec::new(rt.alloc());
     replay_ahead(rt, rt.alloc(), &setup, &mut tape.as_slice(), &mut output).expect(rt, "a day");

@@ -12,7 +12,7 @@ use std::alloc::Global;
 use std::process::Abort;
 use std::test::Fail;
 
-// The first chains of a member. Behind them are those of his 1,000 orders that rest.
+// The first chains of a member. After them are those of its 1,000 orders that rest.
 fn first_chains<R: Abort>(
     rt: &R,
     alloc: Global,
@@ -26,7 +26,7 @@ fn first_chains<R: Abort>(
     all
 }
 
-// There are this many chains, of this many tokens each, and each has done this.
+// There are `chains` chains, of `tokens` tokens each, and each has done this.
 fn expect_chains<R: Abort>(
     rt: &R,
     chains: &[Chain],

@@ -1,4 +1,4 @@
-//! A day of 20,000 lines, made so that what it tells can be told by counting.
+//! A day of 20,000 lines, made so that its output can be found by counting.
 //!
 //! Six members trade three stocks. 20 orders are executed 150 times each; 40 hidden and 10 displayed orders are replaced 50
 //! times each; 2,000 orders are rejected; 100 messages have 1,023 bytes; 7,276 cancels name no order; 5,000 displayed
@@ -66,7 +66,7 @@ pub const BEFORE_QUIET: u64 = SWEEPS * (EXECUTIONS + 1);
 /// How many lines the hidden chains of the third member have: an order each, its replaces, and its cancel.
 pub const QUIET_OF_THIRD: u64 = HIDDEN_CHAINS * (REPLACES + 2);
 
-/// How many lines the quiet chains of all have: behind those stand the rejected orders of the sixth member.
+/// How many lines the quiet chains of all have: after those come the rejected orders of the sixth member.
 pub const QUIET_OF_ALL: u64 = QUIET_OF_THIRD + REJECTED;
 
 fn sweep_all(script: &mut Script) {
@@ -116,7 +116,7 @@ fn offer(script: &mut Script, round: u64, number: u64) {
     script.reply(1, format_args!("accepted {reference}"));
 }
 
-// The executions of a round in the feed. Its offers, where they are displayed, drew the references behind this one.
+// The executions of a round in the feed. Its offers, if they are displayed, drew the references after this one.
 fn execute(script: &mut Script, round: u64, before: u64) {
     let stock = 1 + round % 3;
     for number in 0..EXECUTIONS {
@@ -207,7 +207,7 @@ fn display_chain(script: &mut Script, chain: u64) {
     script.reply(4, format_args!("canceled D{chain}-{REPLACES} 100 user"));
 }
 
-// Messages of the fifth member of as many bytes as may be. An Enter has 49 of them, so these are none, and tell nothing.
+// Messages of the fifth member of the largest length. An Enter has 49 bytes, so these are none, and have no output.
 fn send_long_messages(alloc: Global, script: &mut Script) -> Result<(), AllocError> {
     let digits = hex::encode(alloc, &[b'O'; 1_023])?;
     for _ in 0..LONG_MESSAGES {
@@ -227,7 +227,7 @@ fn reject_orders(script: &mut Script) {
     }
 }
 
-// Cancels of the fifth member, who uses no such token.
+// Cancels of the fifth member, which uses no such token.
 fn cancel_in_vain(script: &mut Script) {
     for number in 1..=VAIN_CANCELS {
         script.send(5, format_args!("cancel N{number} 0"));
@@ -265,7 +265,7 @@ fn end(script: &mut Script, before: u64) {
     script.publish("system C");
 }
 
-// By code E each order that rests is canceled. They drew the references behind this one.
+// By code E each order that rests is canceled. They drew the references after this one.
 fn cancel_all(script: &mut Script, before: u64) {
     for number in 1..=RESTING {
         let (_, stock) = owner(number);

@@ -20,7 +20,7 @@ use std::test::Fail;
 // All events are recorded.
 fn submit_all<R: Abort>(rt: &R, desk: &mut Desk, log: &Log<Entry>, events: &[Event])
     requires log { desk.old.log ≡ log.now }
-    requires still { desk.old.told ≡ length desk.old.history }
+    requires still { desk.old.published_end ≡ length desk.old.history }
     ensures { desk.new.log ≡ desk.old.log }
 {
     for event in events {
@@ -29,7 +29,7 @@ fn submit_all<R: Abort>(rt: &R, desk: &mut Desk, log: &Log<Entry>, events: &[Eve
     equal(rt, desk.history_len(), events.len() as u64);
 }
 
-/// Lines of messages, which count from 1, behind a beginning that all have.
+/// Lines of messages, which count from 1, after a beginning that all have.
 #[derive(Drop)]
 struct Lines<'a> {
     alloc: Global,
@@ -79,7 +79,7 @@ impl<'a> Lines<'a> {
     }
 }
 
-// The feed is what the day tells, out of the packets that a publisher sends. How many these are.
+// The feed is that of the day's output, out of the packets that a publisher sends. How many these are.
 fn expect_feed<R: AllocGlobal + Abort>(
     rt: &R,
     log: &Log<Entry>,
@@ -98,12 +98,12 @@ fn expect_feed<R: AllocGlobal + Abort>(
         };
         feed.add_packet(rt, packet.as_slice());
     }
-    let told = lines_that(rt.alloc(), &day.output, b"F ", true).expect(rt, "the feed's lines");
-    holds(rt, feed.text.as_slice() == told.as_slice());
+    let outputs = lines_that(rt.alloc(), &day.output, b"F ", true).expect(rt, "the feed's lines");
+    holds(rt, feed.text.as_slice() == outputs.as_slice());
     packets
 }
 
-// The replies to a member are what the day tells him.
+// The replies to a member are those that the day has for it.
 fn expect_replies<R: AllocGlobal + Abort>(rt: &R, desk: &Desk, number: u16, day: &Day) {
     let member = MemberNo::of(number).expect(rt, "a member");
     let beginning = format!(in rt.alloc(); "M {number} ").expect(rt, "a beginning");
@@ -111,9 +111,9 @@ fn expect_replies<R: AllocGlobal + Abort>(rt: &R, desk: &Desk, number: u16, day:
     for reply in &desk.replies_from(member, 1).expect(rt, "replies") {
         replies.add(rt, reply.as_slice());
     }
-    let told = lines_that(rt.alloc(), &day.output, beginning.as_bytes(), true);
-    let told = told.expect(rt, "the member's lines");
-    holds(rt, replies.text.as_slice() == told.as_slice());
+    let outputs = lines_that(rt.alloc(), &day.output, beginning.as_bytes(), true);
+    let outputs = outputs.expect(rt, "the member's lines");
+    holds(rt, replies.text.as_slice() == outputs.as_slice());
 }
 
 // A page in the midst of the first member's replies is the same part of all of them.

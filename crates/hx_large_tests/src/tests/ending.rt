@@ -4,7 +4,7 @@ use super::day::SETUP;
 use super::equal;
 use super::replaying::{expect_day, expect_day_on_list};
 use super::script::Script;
-use hx_expiries::Expiries;
+use hx_day::Expiries;
 use hx_replay::Counts;
 use hx_testing::Day;
 use hx_testing::setups::setup_of;
@@ -59,7 +59,7 @@ fn cancel_fifths(script: &mut Script) {
     }
 }
 
-// At a tick these orders end, but for those that are canceled.
+// At a tick these orders end, except for those that are canceled.
 fn tick(script: &mut Script, first: u64, last: u64) {
     script.send(0, "tick");
     for number in first..=last {
@@ -104,46 +104,46 @@ fn some_of_many_orders_end(rt: HostRuntime) -> Result<(), Fail> {
     Ok(())
 }
 
-// This many places, of which the later ones end sooner: place 0 at 10,000, the last one at 1.
-fn enter_places<R: Abort>(rt: &R, alloc: Global) -> Expiries {
+// Enters 10,000 indices, of which the later ones end sooner: index 0 at 10,000, the last one at 1.
+fn enter_indices<R: Abort>(rt: &R, alloc: Global) -> Expiries {
     let mut ends = Expiries::new(alloc);
-    for place in 0..10_000 {
-        ends.enter(10_000 - place, place).expect(rt, "a place");
+    for index in 0..10_000 {
+        ends.enter(10_000 - index, index).expect(rt, "a place");
     }
     ends
 }
 
-// The places that are entered until a time.
-fn expect_places<R: AllocGlobal + Abort>(rt: &R, ends: &Expiries, time: u64, want: &[u64]) {
-    let places = ends.places_until(rt.alloc(), time).expect(rt, "places");
-    equal(rt, places.as_slice(), want);
+// The indices that are entered until a time.
+fn expect_indices<R: AllocGlobal + Abort>(rt: &R, ends: &Expiries, time: u64, want: &[u64]) {
+    let indices = ends.indices_until(rt.alloc(), time).expect(rt, "places");
+    equal(rt, indices.as_slice(), want);
 }
 
 #[test]
-fn places_come_in_their_order(rt: HostRuntime) {
-    let mut ends = enter_places(&rt, rt.alloc());
-    expect_places(&rt, &ends, 0, &[]);
-    expect_places(&rt, &ends, 3, &[9_997, 9_998, 9_999]);
+fn indices_come_in_their_order(rt: HostRuntime) {
+    let mut ends = enter_indices(&rt, rt.alloc());
+    expect_indices(&rt, &ends, 0, &[]);
+    expect_indices(&rt, &ends, 3, &[9_997, 9_998, 9_999]);
     ends.leave(2, 9_998);
-    expect_places(&rt, &ends, 3, &[9_997, 9_999]);
+    expect_indices(&rt, &ends, 3, &[9_997, 9_999]);
     ends.leave(2, 9_997);
-    expect_places(&rt, &ends, 3, &[9_997, 9_999]);
+    expect_indices(&rt, &ends, 3, &[9_997, 9_999]);
     ends.leave_until(3);
-    expect_places(&rt, &ends, 4, &[9_996]);
+    expect_indices(&rt, &ends, 4, &[9_996]);
     let all = ends
-        .places_until(rt.alloc(), u64::MAX)
+        .indices_until(rt.alloc(), u64::MAX)
         .expect(&rt, "places");
     equal(&rt, all.len(), 9_997);
 }
 
 #[test]
-fn a_place_that_is_entered_twice_comes_once(rt: HostRuntime) {
+fn an_index_that_is_entered_twice_comes_once(rt: HostRuntime) {
     let mut ends = Expiries::new(rt.alloc());
     for expiry in [5, 3, 4] {
         ends.enter(expiry, 7).expect(&rt, "a place");
         ends.enter(expiry, 2).expect(&rt, "a place");
     }
-    expect_places(&rt, &ends, 4, &[2, 7]);
+    expect_indices(&rt, &ends, 4, &[2, 7]);
     ends.leave_until(4);
-    expect_places(&rt, &ends, 5, &[2, 7]);
+    expect_indices(&rt, &ends, 5, &[2, 7]);
 }

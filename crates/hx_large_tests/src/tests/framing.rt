@@ -1,5 +1,5 @@
-//! 200,070 bytes of a stream, from a reader that gives one at a time: 195 packets of as many bytes as may be. 70 of them
-//! in one piece.
+//! 200,070 bytes of a stream, from a reader that gives one at a time: 195 packets of the largest length. 70 of them in
+//! one piece.
 
 use super::{equal, holds};
 use hx_soup::{Framer, SoupPacket, frame};

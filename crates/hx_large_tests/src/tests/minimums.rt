@@ -2,7 +2,7 @@
 
 use super::script::Script;
 use super::{equal, holds};
-use hx_levels::ListBook;
+use hx_book::ListBook;
 use hx_members::Setup;
 use hx_replay::{replay, replay_on};
 use std::process::Abort;
@@ -11,7 +11,7 @@ use std::test::Fail;
 // How many lines the day has.
 const LINES: u64 = 2_400;
 
-// The next of numbers that look like chance.
+// The next of a series of pseudo-random numbers.
 fn next_number(state: &mut u64) -> u64 {
     let x = *state;
     let x = x ^ (x << 13);
@@ -72,7 +72,7 @@ fn lines(script: &mut Script) {
     }
 }
 
-// Both books tell the same of it.
+// Both books give the same output for it.
 #[test]
 fn a_day_with_minimums_over_both_books(rt: HostRuntime) -> Result<(), Fail> {
     let alloc = rt.alloc();

@@ -33,18 +33,18 @@ fn put<R: Abort>(rt: &R, bytes: &mut Vec<u8>, others: &[u8]) {
     bytes.extend_from_slice(others).expect(rt, "more bytes");
 }
 
-// The packet of this many messages from this one on: session, number, count, and each message behind its length.
+// The packet of `count` messages from number `first` on: session, number, count, and each message after its length.
 fn packet<R: Abort>(rt: &R, alloc: Global, first: u64, count: u16) -> Vec<u8> {
     let mut bytes = Vec::new(alloc);
     put(rt, &mut bytes, &SESSION);
     put(rt, &mut bytes, &first.to_be_bytes());
     put(rt, &mut bytes, &count.to_be_bytes());
-    for place in 0..u64::from(count) {
+    for index in 0..u64::from(count) {
         put(rt, &mut bytes, b"\0\x24");
         put(
             rt,
             &mut bytes,
-            message(first.saturating_add(place)).as_slice(),
+            message(first.saturating_add(index)).as_slice(),
         );
     }
     bytes

@@ -1,4 +1,4 @@
-//! A day in words as it is written line by line, with what each event tells, and the numbers that it draws.
+//! A day in words as it is written line by line, with the output of each event, and the numbers that it draws.
 
 use hx_testing::Day;
 use std::alloc::{AllocError, Global};
@@ -10,7 +10,7 @@ use std::test::Fail;
 pub struct Script {
     alloc: Global,
     words: String,
-    // The time of the last line, in nanoseconds since midnight. A line comes a nanosecond behind the one before.
+    // The time of the last line, in nanoseconds since midnight. A line comes a nanosecond after the one before.
     time: u64,
     /// Public references.
     pub references: u64,
@@ -18,15 +18,15 @@ pub struct Script {
     pub matches: u64,
     // Messages of the feed.
     feed: u64,
-    // Replies to each member, by his number.
+    // Replies to each member, by its number.
     replies: Vec<u64>,
-    // Private references of each member, by his number.
+    // Private references of each member, by its number.
     privates: Vec<u64>,
-    // Whether something is missing: a line that found no memory, or a number of a member who is none.
+    // Whether something is missing: a line that found no memory, or a number that is no member's.
     lacks: bool,
 }
 
-// Draws the next number of a member; none where there is no such member.
+// Draws the next number of a member; none if there is no such member.
 fn draw(counts: &mut [u64], member: usize) -> Option<u64> {
     let count = counts.get_mut(member)?;
     *count = count.saturating_add(1);
@@ -58,24 +58,24 @@ impl Script {
         self.lacks |= written.is_err();
     }
 
-    /// This many nanoseconds pass until the next line.
+    /// Lets this time pass until the next line, in nanoseconds.
     pub fn pass(&mut self, nanoseconds: u64) {
         self.time = self.time.saturating_add(nanoseconds);
     }
 
     /// The next message of the feed.
-    pub fn publish<D: Display + Drop>(&mut self, told: D) {
+    pub fn publish<D: Display + Drop>(&mut self, outputs: D) {
         self.feed = self.feed.saturating_add(1);
         let number = self.feed;
-        let written = writeln!(self.words, "  F {number} {told}");
+        let written = writeln!(self.words, "  F {number} {outputs}");
         self.lacks |= written.is_err();
     }
 
     /// The next reply to a member.
-    pub fn reply<D: Display + Drop>(&mut self, member: usize, told: D) {
+    pub fn reply<D: Display + Drop>(&mut self, member: usize, outputs: D) {
         let number = draw(&mut self.replies, member);
         let number = self.drawn(number);
-        let written = writeln!(self.words, "  M {member} {number} {told}");
+        let written = writeln!(self.words, "  M {member} {number} {outputs}");
         self.lacks |= written.is_err();
     }
 
@@ -91,13 +91,13 @@ impl Script {
         self.drawn(number)
     }
 
-    // A number that was drawn; 0 where there is none, and then it is missing.
+    // A number that was drawn; 0 if there is none, and then it is missing.
     fn drawn(&mut self, number: Option<u64>) -> u64 {
         self.lacks |= number.is_none();
         number.unwrap_or(0)
     }
 
-    /// The bytes of the day, where nothing is missing.
+    /// The bytes of the day, if nothing is missing.
     pub fn day(&self) -> Result<Day, Fail> {
         if self.lacks {
             return Err("a line, or a member".into());

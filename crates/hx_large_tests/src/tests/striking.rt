@@ -12,7 +12,7 @@ use std::alloc::Global;
 use std::process::Abort;
 use std::test::Fail;
 
-// The tape without this many lines of quiet chains.
+// The tape without its `quiet` lines of quiet chains.
 fn without_quiet<R: Abort>(rt: &R, alloc: Global, tape: &[u8], quiet: u64) -> Vec<u8> {
     let mut left = Vec::from_slice(alloc, first_lines(tape, BEFORE_QUIET)).expect(rt, "a front");
     let others = last_lines(tape, BEFORE_QUIET.saturating_add(quiet));
@@ -20,7 +20,7 @@ fn without_quiet<R: Abort>(rt: &R, alloc: Global, tape: &[u8], quiet: u64) -> Ve
     left
 }
 
-// The lines that a replay of this tape writes, and that begin so or do not, are those that the day tells.
+// The lines that a replay of this tape writes, and that begin so or do not, are those of the day's output.
 fn expect_lines<R: AllocGlobal + Abort>(
     rt: &R,
     day: &Day,
@@ -34,8 +34,8 @@ fn expect_lines<R: AllocGlobal + Abort>(
     let mut reader = tape;
     replay(alloc, &setup, &mut reader, &mut output).expect(rt, "a day");
     let lines = lines_that(alloc, &output, beginning, begin).expect(rt, "lines");
-    let told = lines_that(alloc, &day.output, beginning, begin).expect(rt, "lines");
-    holds(rt, lines.as_slice() == told.as_slice());
+    let outputs = lines_that(alloc, &day.output, beginning, begin).expect(rt, "lines");
+    holds(rt, lines.as_slice() == outputs.as_slice());
     Ok(())
 }
 
@@ -66,6 +66,6 @@ fn the_quiet_chains_of_all(rt: HostRuntime) -> Result<(), Fail> {
     equal(&rt, counts.events, 20_000 - QUIET_OF_ALL);
     let want = without_quiet(&rt, alloc, &day.tape, QUIET_OF_ALL);
     holds(&rt, left.as_slice() == want.as_slice());
-    // The feed does not tell that they are gone.
+    // The feed does not report that they are gone.
     expect_lines(&rt, &day, &left, b"F ", true)
 }

@@ -1,5 +1,5 @@
 //! Thousands of used tokens of several members, those that count up and others, under either seed: each is found at its
-//! place, and no other.
+//! index, and no other.
 
 use super::{equal, holds};
 use hx_members::{Seed, Tokens, name_hint};
@@ -12,7 +12,8 @@ const MEMBERS: u16 = 5;
 
 const COUNT: u32 = 2_000;
 
-// Where a token has its number: at its end, so that tokens count up, or in front, so that their last letters are all alike.
+// The position of a token's number: at its end, so that tokens count up, or in front, so that their last letters are
+// all alike.
 #[derive(Clone, Copy)]
 enum Form {
     AtTheEnd,
@@ -42,15 +43,15 @@ fn member_of<R: Abort>(rt: &R, number: u16) -> MemberNo {
     MemberNo::of(number).expect(rt, "a member")
 }
 
-// A token enters, with its place as the key of its order.
+// A token enters, with its index as the key of its order.
 fn enter(tokens: &mut Tokens, member: MemberNo, token: &Token) -> Result<(), Fail> {
     if tokens.state(member, token).is_some() {
         return Err(Fail::new("used"));
     }
-    let place = tokens.count();
+    let index = tokens.count();
     tokens.reserve(member, token)?;
     tokens.consume(member, token);
-    tokens.settle(member, token, Some(place as usize));
+    tokens.settle(member, token, Some(index as usize));
     Ok(())
 }
 
@@ -69,15 +70,15 @@ fn fill<R: Abort>(rt: &R, tokens: &mut Tokens, form: Form) -> Result<(), Fail> {
     Ok(())
 }
 
-// The tokens of a member stand from a place on, and tokens of other numbers are not used.
+// The tokens of a member are there from an index on, and tokens of other numbers are not used.
 fn expect_tokens<R: Abort>(rt: &R, tokens: &Tokens, form: Form, number: u16, first: u64) {
     let member = member_of(rt, number);
     for number in 0..COUNT {
         let token = numbered(form, number);
-        let told = tokens.state(member, &token).expect(rt, "a used token");
-        let place = first.wrapping_add(u64::from(number));
-        equal(rt, told.chain, place);
-        equal(rt, told.key, Some(place as usize));
+        let outputs = tokens.state(member, &token).expect(rt, "a used token");
+        let index = first.wrapping_add(u64::from(number));
+        equal(rt, outputs.chain, index);
+        equal(rt, outputs.key, Some(index as usize));
         let other = numbered(form, number + COUNT);
         holds(rt, tokens.state(member, &other).is_none());
     }
@@ -124,9 +125,9 @@ fn count_likely<R: Abort>(rt: &R, tokens: &Tokens, member: MemberNo) -> u32 {
     let mut found: u32 = 0;
     for number in 0..COUNT {
         let token = numbered(Form::AtTheEnd, number);
-        let told = tokens.state(member, &token).expect(rt, "a used token");
+        let outputs = tokens.state(member, &token).expect(rt, "a used token");
         let [key, ..] = tokens.likely_keys(&[name_hint(member, &token)]);
-        if told.key == Some(key) {
+        if outputs.key == Some(key) {
             found = found.wrapping_add(1);
         }
     }

@@ -48,7 +48,7 @@ fn trade(script: &mut Script) {
     script.reply(1, "executed A1 40 10.0000 removed match 2");
 }
 
-// A code of the hours that only the feed tells.
+// A code of the hours that only the feed reports.
 fn publish_code(script: &mut Script, code: &str) {
     script.send(0, format_args!("hours {code}"));
     script.publish(format_args!("system {code}"));

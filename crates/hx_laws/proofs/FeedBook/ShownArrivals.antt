@@ -1,14 +1,15 @@
--- An order that arrives keeps the book of the feed equal to the shown live orders.
+-- An order that arrives leaves the book of the feed equal to the shown live orders.
 use Rattle.std.proofs.Common.{◌≡◌, ℕ, ◌+◌, Bool, true, false, cond, ltb, leb, eqb, refl, ◌∙◌, arith, ◌&&◌, not, List, [], ◌∷◌, ◌++◌}
 use Rattle.std.specs.List.{AllByRecursion, filter}
 use Rattle.std.proofs.lemmas.List.{append-nil}
 use Rattle.std.proofs.lemmas.Bool.{and_parts, or_left}
 use Rattle.std.proofs.lemmas.Bool.Decides.{nat_tests}
 use Rattle.hx_units.specs.declared.names.Symbol.{Symbol}
-use Rattle.hx_levels.specs.Book.{crosses}
-use Rattle.hx_levels.proofs.Lists.{all_weaker, all_filtered}
+use Rattle.hx_book.specs.Book.{crosses}
+use Rattle.hx_book.proofs.Lists.{all_weaker, all_filtered}
 use Rattle.hx_match.specs.Matching.{Matched, terms, with_shares, matched, passes}
 use Rattle.hx_match.proofs.First.{all_append, none_is_left}
+use Rattle.hx_match.proofs.AnyShares.{IsOfAnyShares, matched_of}
 use Rattle.hx_members.specs.Setups.{Setup, symbol_of}
 use Rattle.hx_members.specs.Chains.{Used, is_used}
 use Rattle.hx_members.proofs.ChainLaws.{is_used-pushed, is_same-parts}
@@ -19,7 +20,6 @@ use Rattle.hx_rules.specs.Outputs.{Outcome, nothing}
 use Rattle.hx_rules.specs.Executions.{incoming_of, arrive, arrival_feed}
 use Rattle.hx_rules.specs.Enter.{next_reference, after_draw}
 use Rattle.hx_laws.specs.FeedBook.{book_from}
-use Rattle.hx_laws.proofs.History.CoherentMarkets.{IsOfAnyShares, matched_of}
 use Rattle.hx_laws.proofs.Quiet.QuietBefore.{not_both}
 use Rattle.hx_laws.proofs.FeedBook.ShownShares.{HasShares, HaveShares, some_rest, clear_of}
 use Rattle.hx_laws.proofs.FeedBook.ShownExecutions.{shows, IsApart, AreApart, executions_in_book, arrival_book}
@@ -30,15 +30,15 @@ pub record IsOld (n : ℕ) (ts : List Used) (y : Order) : Type 0 where
   pub minimum : y.shown ≡ true → y.minimum ≡ 0
   pub used : is_used ts y.member y.token ≡ true
 
--- what every market keeps, so that the book of the feed shows it
+-- what holds of every market, so that the book of the feed shows it
 pub record IsBooked (a : Market) : Type 0 where
   pub apart : AreApart a.live
   pub old : AllByRecursion (IsOld a.numbers.public a.tokens) a.live
   pub some : HaveShares a.live
 
--- what is told of an outcome brings the book up to date
+-- the output of an outcome brings the book up to date
 pub record KeepsBook (setup : Setup) (a : Market) (o : Outcome) : Type 0 where
-  pub book : book_from (shows setup a.live) o.told.feed ≡ shows setup o.market.live
+  pub book : book_from (shows setup a.live) o.output.feed ≡ shows setup o.market.live
   pub good : IsBooked o.market
 
 pub idle_keeps : (setup : Setup) (a : Market) → IsBooked a → KeepsBook setup a (nothing a)

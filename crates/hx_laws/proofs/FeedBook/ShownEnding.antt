@@ -1,7 +1,7 @@
 -- Orders that end together, in the book of the feed.
 use Rattle.std.proofs.Common.{◌≡◌, ℕ, Bool, true, false, cond, eqb, eq-eqb, refl, ap, sym, ◌∙◌, not, List, [], ◌∷◌, ◌++◌}
 use Rattle.std.specs.List.{AllByRecursion, filter}
-use Rattle.hx_levels.proofs.Lists.{all_weaker, all_filtered}
+use Rattle.hx_book.proofs.Lists.{all_weaker, all_filtered}
 use Rattle.hx_members.specs.Setups.{Setup}
 use Rattle.hx_itch.specs.declared.message.Feed.TheVariants.{OrderDelete}
 use Rattle.hx_rules.specs.Orders.{Order}
@@ -14,7 +14,7 @@ use Rattle.hx_laws.proofs.FeedBook.ShownLeaving.{shows-cons}
 abbrev pub HaveOthers : ℕ → List Order → Type 0
 HaveOthers r zs = AllByRecursion (λ z. z.shown ≡ true → eqb r z.reference ≡ false) zs
 
--- the first order of the book stays where none of its reference is deleted
+-- the first order of the book stays if none of its reference is deleted
 first_stays : (time : ℕ) (x : ShownOrder) (b : List ShownOrder) (zs : List Order) → HaveOthers x.reference zs → book_from (x ∷ b) (all_deleted time zs) ≡ x ∷ book_from b (all_deleted time zs)
 first_stays time x b [] a = refl
 first_stays time x b (z ∷ zs) a = choose z.shown a.0 (λ b. first_stays time x b zs a.1)

@@ -3,12 +3,13 @@ use Rattle.std.proofs.Common.{◌≡◌, ℕ, zero, suc, ◌+◌, ◌-◌, min, 
 use Rattle.std.specs.List.{AllByRecursion}
 use Rattle.std.proofs.lemmas.List.{append-nil}
 use Rattle.hx_units.specs.declared.names.Symbol.{Symbol}
-use Rattle.hx_levels.specs.Book.{crosses}
-use Rattle.hx_levels.proofs.Lists.{all_weaker}
+use Rattle.hx_book.specs.Book.{crosses}
+use Rattle.hx_book.proofs.Lists.{all_weaker}
 use Rattle.hx_match.specs.declared.fills.Incoming.{Incoming}
-use Rattle.hx_match.specs.Matching.{Place, Matched, terms, matched_by, matched_entries, matched, itself, with_shares, first_by_rank}
+use Rattle.hx_match.specs.Matching.{Position, Matched, terms, matched_by, matched_entries, matched, itself, with_shares, first_by_rank}
 use Rattle.hx_match.specs.Rules.{IsRightChoice}
 use Rattle.hx_match.proofs.First.{first_is_right}
+use Rattle.hx_match.proofs.AnyShares.{IsOfAnyShares}
 use Rattle.hx_members.specs.Setups.{Setup, symbol_of}
 use Rattle.hx_itch.specs.declared.message.Feed.{Feed}
 use Rattle.hx_itch.specs.declared.message.Feed.TheVariants.{OrderExecuted, Trade}
@@ -16,7 +17,6 @@ use Rattle.hx_rules.specs.Orders.{Order, is_called}
 use Rattle.hx_rules.specs.Executions.{incoming_of, feed_of_execution, feed_of_executions, published, shown_of, resting_of, arrival_feed}
 use Rattle.hx_rules.specs.Removal.{less}
 use Rattle.hx_laws.specs.FeedBook.{ShownOrder, taken_from, book_after, book_from, shown_as, shown_orders}
-use Rattle.hx_laws.proofs.History.CoherentMarkets.{IsOfAnyShares}
 
 -- the shown orders of a list, by recursion
 abbrev pub shows : Setup → List Order → List ShownOrder
@@ -44,7 +44,7 @@ shows-append setup (x ∷ xs) ys = rw (shows-append setup xs ys) (choose x.shown
     choose true = refl
     choose false = refl
 
--- y has another name than x, and where both are shown another reference
+-- y has another name than x, and if both are shown another reference
 pub record IsApart (x y : Order) : Type 0 where
   pub name : is_called x.member x.token y ≡ false
   pub reference : x.shown ≡ true → y.shown ≡ true → eqb x.reference y.reference ≡ false
@@ -78,7 +78,7 @@ shows-less setup x n back = choose (ltb n x.shares)
     choose true = refl
     choose false = refl
 
--- shares are taken off the shown order at a place
+-- shares are taken off the shown order at an index
 taken_at : (setup : Setup) (x : Order) (n : ℕ) → x.shown ≡ true → (front back : List Order) → Others x.reference front
     → taken_from x.reference n (shows setup (front ++ (x ∷ back))) ≡ shows setup (front ++ (less x n ++ back))
 taken_at setup x n e [] back o = sides x.shown e ∙ sym (shows-less setup x n back)
@@ -107,28 +107,28 @@ hidden_at setup x n e [] back = sides x.shown e (ltb n x.shares) ∙ sym (shows-
     sides false h false = refl
 hidden_at setup x n e (y ∷ front) back = rw (hidden_at setup x n e front back) refl
 
-all_place : (P : Order → Type 0) → IsOfAnyShares P → (x : Order) (f : ℕ) (front back : List Order)
+all_position : (P : Order → Type 0) → IsOfAnyShares P → (x : Order) (f : ℕ) (front back : List Order)
     → AllByRecursion P (front ++ (x ∷ back)) → AllByRecursion P (front ++ (less x f ++ back))
-all_place P closed x f [] back a = choose (ltb f x.shares)
+all_position P closed x f [] back a = choose (ltb f x.shares)
   where
     choose : (b : Bool) → AllByRecursion P (cond b (with_shares x (x.shares - f) ∷ []) [] ++ back)
     choose true = (closed x _ a.0, a.1)
     choose false = a.1
-all_place P closed x f (y ∷ front) back a = (a.0, all_place P closed x f front back a.1)
+all_position P closed x f (y ∷ front) back a = (a.0, all_position P closed x f front back a.1)
 
 pub apart_shares : (x : Order) → IsOfAnyShares (IsApart x)
 apart_shares x z n a = record { name = a.name; reference = a.reference; clear = a.clear }
 
-pub apart_place : (x : Order) (f : ℕ) (front back : List Order) → AreApart (front ++ (x ∷ back)) → AreApart (front ++ (less x f ++ back))
-apart_place x f [] back a = choose (ltb f x.shares)
+pub apart_position : (x : Order) (f : ℕ) (front back : List Order) → AreApart (front ++ (x ∷ back)) → AreApart (front ++ (less x f ++ back))
+apart_position x f [] back a = choose (ltb f x.shares)
   where
     choose : (b : Bool) → AreApart (cond b (with_shares x (x.shares - f) ∷ []) [] ++ back)
     choose true = (all_weaker (IsApart x) _ (λ y k. record { name = k.name; reference = k.reference; clear = k.clear }) back a.0, a.1)
     choose false = a.1
-apart_place x f (y ∷ front) back a = (all_place (IsApart y) (apart_shares y) x f front back a.0, apart_place x f front back a.1)
+apart_position x f (y ∷ front) back a = (all_position (IsApart y) (apart_shares y) x f front back a.0, apart_position x f front back a.1)
 
 -- one execution in the book
-pub book_execution : (setup : Setup) (time : ℕ) (stock : Symbol) (k : ℕ) (xs : List Order) (p : Place) (f : ℕ) → xs ≡ p.front ++ (p.order ∷ p.back) → AreApart xs
+pub book_execution : (setup : Setup) (time : ℕ) (stock : Symbol) (k : ℕ) (xs : List Order) (p : Position) (f : ℕ) → xs ≡ p.front ++ (p.order ∷ p.back) → AreApart xs
     → book_after (shows setup xs) (feed_of_execution time stock k (record { order = p.order; shares = f })) ≡ shows setup (p.front ++ (less p.order f ++ p.back))
 book_execution setup time stock k xs p f e a = choose p.order.shown refl
   where
@@ -154,13 +154,13 @@ unfolding matched_entries
 book_within setup time stock zero inc k r xs a = record { book = refl; apart = a }
 book_within setup time stock (suc n) inc k r xs a = choose (first_by_rank inc r xs) (λ l ys. book_within setup time stock n inc (k + 1) l ys) (first_is_right inc r xs)
   where
-    choose : (o : Option Place) → ((l : ℕ) (ys : List Order) → AreApart ys → InBook setup time stock (k + 1) ys (matched_entries itself with_shares n inc l ys)) → IsRightChoice inc r xs o
+    choose : (o : Option Position) → ((l : ℕ) (ys : List Order) → AreApart ys → InBook setup time stock (k + 1) ys (matched_entries itself with_shares n inc l ys)) → IsRightChoice inc r xs o
         → InBook setup time stock k xs (matched_by itself with_shares (matched_entries itself with_shares n inc) r xs o)
     choose None ih c = record { book = refl; apart = a }
     choose (Some p) ih c =
         let f : ℕ = min r p.order.shares in
         let ys : List Order = p.front ++ (less p.order f ++ p.back) in
-        let next = ih (r - f) ys (apart_place p.order f p.front p.back (rw c.0 at a)) in
+        let next = ih (r - f) ys (apart_position p.order f p.front p.back (rw c.0 at a)) in
         record {
           book = ap (λ b. book_from b (feed_of_executions time stock (k + 1) (matched_entries itself with_shares n inc (r - f) ys).fills)) (book_execution setup time stock (k + 1) xs p f c.0 a) ∙ next.book;
           apart = next.apart;

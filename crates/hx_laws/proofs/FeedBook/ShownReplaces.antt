@@ -1,10 +1,10 @@
--- An order that replaces another keeps the book of the feed equal to the shown live orders.
+-- An order that replaces another leaves the book of the feed equal to the shown live orders.
 use Rattle.std.proofs.Common.{◌≡◌, ℕ, Bool, true, false, cond, ltb, eqb-true, refl, ap, sym, ◌∙◌, ◌&&◌, not, List, [], ◌∷◌, ◌++◌, length, Some, None}
 use Rattle.std.specs.Prelude.{if◌then◌else◌, ◌==◌}
 use Rattle.std.specs.List.{find}
 use Rattle.std.proofs.lemmas.Bool.{and_parts}
 use Rattle.hx_units.specs.declared.names.Symbol.{Symbol}
-use Rattle.hx_levels.proofs.Lists.{all_filtered}
+use Rattle.hx_book.proofs.Lists.{all_filtered}
 use Rattle.hx_match.specs.Matching.{matched}
 use Rattle.hx_members.specs.Setups.{Setup, symbol_of}
 use Rattle.hx_members.specs.Chains.{is_used}
@@ -33,7 +33,7 @@ rests_whole time immediate x a e some late =
     ap (λ z. z ++ resting_of x immediate (matched (incoming_of x) x.shares a.live).left) n.rest
     ∙ ap (λ z. a.live ++ z) (ap (λ (k : ℕ). resting_of x immediate k) n.left ∙ ap (λ (b : Bool). cond b (x ∷ []) []) (ap (λ (b : Bool). b && not immediate) some ∙ ap not late))
 
--- x stands in the book for the order that it replaces, if one message tells so
+-- x stands in the book for the order that it replaces, if one message says so
 abbrev IsReplacement : Setup → Order → Order → Type 0
 IsReplacement setup old x = (old.display == x.display) ≡ true → record (shown_as setup old) { reference = x.reference; shares = x.shares; price = x.price } ≡ shown_as setup x
 
@@ -66,11 +66,11 @@ replace_book setup time stock k immediate old x b m t xs e apart found some late
         ∙ arrive_book setup time stock k immediate x b named (rw e (apart_filter _ xs apart))
 
 pub succeed_keeps : (setup : Setup) (a : Market) (m time : ℕ) (r : Change) (old : Order) → IsBooked a → find (is_called m r.existing_token) a.live ≡ Some old → old.member ≡ m
-    → is_used a.tokens m r.replacement_token ≡ false → replace_fails a.hours (executed_of a m r.existing_token) r ≡ false → KeepsBook setup a (succeed setup a m time r old)
+    → is_used a.tokens m r.replacement_token ≡ false → replace_fails a.phase (executed_of a m r.existing_token) r ≡ false → KeepsBook setup a (succeed setup a m time r old)
 succeed_keeps setup a m time r old g found own unused fits =
     record {
       book = replace_book setup time (symbol_of setup old.locate) a.numbers.matches immediate old x b m r.existing_token a.live refl g.apart found
-          (replaced_shares a.hours n r fits) (shown_not_immediate r.display r.time_in_force) refl same;
+          (replaced_shares a.phase n r fits) (shown_not_immediate r.display r.time_in_force) refl same;
       good = arrived_good setup a.numbers.public a.tokens time immediate x b new;
     }
   where
@@ -99,7 +99,7 @@ succeed_keeps setup a m time r old g found own unused fits =
           unused = rw own unused;
           reference = λ h. drawn_reference a.numbers m x.shown h;
           below = λ h. drawn_below a.numbers m x.shown h;
-          minimum = λ h. replaced_minimum a.hours n r fits h;
+          minimum = λ h. replaced_minimum a.phase n r fits h;
           drawn = drawn_public a.numbers m x.shown;
           stay = used_more a.tokens (joining a m r.existing_token r.replacement_token);
           used = rw own (used_last a.tokens (joining a m r.existing_token r.replacement_token));

@@ -4,14 +4,14 @@ use Rattle.std.specs.Prelude.{if◌then◌else◌}
 use Rattle.std.specs.List.{AllByRecursion}
 use Rattle.std.proofs.lemmas.Bool.Decides.{nat_tests}
 use Rattle.hx_units.specs.Side.{is_buy}
-use Rattle.hx_levels.specs.Book.{crosses}
+use Rattle.hx_book.specs.Book.{crosses}
 use Rattle.hx_match.specs.Matching.{terms}
 use Rattle.hx_members.specs.Setups.{Setup}
 use Rattle.hx_rules.specs.declared.event.Event.{Event}
 use Rattle.hx_rules.specs.Orders.{Order}
 use Rattle.hx_rules.specs.Markets.{Market, opening}
 use Rattle.hx_rules.specs.Executions.{incoming_of}
-use Rattle.hx_rules.specs.Steps.{with_record, step, market_after, told_from, run, told, feed, feed_of}
+use Rattle.hx_rules.specs.Steps.{with_record, step, market_after, outputs_from, run, output, feed, feed_of}
 use Rattle.hx_laws.specs.FeedBook.{ShownOrder, book_from, shown_book, shown_as, DoNotCross, IsUncrossed}
 use Rattle.hx_laws.specs.Laws.{FeedIsBook, FeedIsUncrossed}
 use Rattle.hx_laws.proofs.History.CoherentSteps.{Coherent, record_moves}
@@ -31,18 +31,18 @@ step_keeps setup a event s g =
 
 -- from any such market on
 record RunsBook (setup : Setup) (events : List Event) (a : Market) : Type 0 where
-  pub book : book_from (shows setup a.live) (feed_of (told_from setup a events)) ≡ shows setup (market_after setup a events).live
+  pub book : book_from (shows setup a.live) (feed_of (outputs_from setup a events)) ≡ shows setup (market_after setup a events).live
   pub good : IsBooked (market_after setup a events)
 
 runs_book : (setup : Setup) (events : List Event) (a : Market) → Coherent a → IsBooked a → RunsBook setup events a
-unfolding told_from market_after
+unfolding outputs_from market_after
 runs_book setup [] a s g = record { book = refl; good = g }
 runs_book setup (event ∷ events) a s g =
     let k = step_keeps setup a event s g in
     let b = (step setup a event).market in
     let next = runs_book setup events b ((step_moves setup a event s).coherent s) k.good in
     record {
-      book = book_from-append (shows setup a.live) (step setup a event).told.feed _ ∙ ap (λ z. book_from z (feed_of (told_from setup b events))) k.book ∙ next.book;
+      book = book_from-append (shows setup a.live) (step setup a event).output.feed _ ∙ ap (λ z. book_from z (feed_of (outputs_from setup b events))) k.book ∙ next.book;
       good = next.good;
     }
 
@@ -51,7 +51,7 @@ unfolding opening
 from_opening setup events = runs_book setup events (opening setup) (coherent_opening setup) (record { apart = tt; old = tt; some = tt })
 
 pub feed_is_book : FeedIsBook
-unfolding shown_book feed told run opening
+unfolding shown_book feed output run opening
 feed_is_book setup events = (from_opening setup events).book ∙ shows_shown setup (run setup events).live
 
 -- Shown orders that are apart do not cross.

@@ -1,11 +1,11 @@
--- Each event keeps the book of the feed equal to the shown live orders.
+-- Each event leaves the book of the feed equal to the shown live orders.
 use Rattle.std.proofs.Common.{◌≡◌, ℕ, ◌+◌, Bool, true, false, cond, leb, eqb, refl, ap, ◌∙◌, not, List, [], ◌∷◌, ◌++◌, length, Some, None, Option}
 use Rattle.std.specs.Prelude.{if◌then◌else◌}
 use Rattle.std.specs.List.{filter, find}
-use Rattle.hx_levels.proofs.Lists.{all_weaker, all_filtered}
+use Rattle.hx_book.proofs.Lists.{all_weaker, all_filtered}
 use Rattle.hx_units.specs.declared.names.Symbol.{Symbol}
 use Rattle.hx_members.specs.Setups.{Setup, locate_of, symbol_of}
-use Rattle.hx_members.specs.declared.stock.Stock.{Stock}
+use Rattle.hx_members.specs.Stock.{Stock}
 use Rattle.hx_members.specs.Chains.{is_used, entered_used}
 use Rattle.hx_ouch.specs.declared.inbound.Inbound.TheVariants.{Enter, Replace, Cancel}
 use Rattle.hx_ouch.specs.declared.inbound.Inbound.{Inbound}
@@ -18,21 +18,22 @@ use Rattle.hx_rules.specs.declared.event.Event.TheVariants.{Message, Tick, Hours
 use Rattle.hx_rules.specs.Orders.{Order, Token, is_called, is_shown, is_immediate}
 use Rattle.hx_rules.specs.declared.matches.Match.{Match}
 use Rattle.hx_rules.specs.Markets.{Market}
-use Rattle.hx_rules.specs.Outputs.{Told, silent}
+use Rattle.hx_rules.specs.Outputs.{EventOutput, silent}
 use Rattle.hx_rules.specs.Enter.{consumed, drawn, next_reference, rejection, reject, accept_order, entered_order, entered_by, enter}
 use Rattle.hx_rules.specs.Removal.{less, lessened}
 use Rattle.hx_rules.specs.Replace.{executed_of, is_order_halted, replace_fails, fail_replace, replaced_by, replace}
 use Rattle.hx_rules.specs.Cancel.{take_off, cancelled_by, cancel}
-use Rattle.hx_rules.specs.Hours.{end_orders, is_over, all_deleted, ends_by_code, directory, told_by_code, hours_by, next_hours}
+use Rattle.hx_rules.specs.Hours.{end_orders, is_over, all_deleted, ends_by_code, directory, output_by_code, hours_by, next_hours}
 use Rattle.hx_rules.specs.Halts.{is_trading_state, halted_by, halt}
 use Rattle.hx_rules.specs.Breaks.{execution_of, broken_if, broken_by, break_trade}
 use Rattle.hx_rules.specs.Steps.{receive, happens}
+use Rattle.hx_rules.proofs.Lessened.{all_lessened}
 use Rattle.hx_laws.specs.FeedBook.{ShownOrder, book_from}
 use Rattle.hx_laws.proofs.History.CoherentMarkets.{IsKnown}
-use Rattle.hx_laws.proofs.History.CoherentSteps.{Coherent, used_last, all_lessened, joining, found_of}
+use Rattle.hx_laws.proofs.History.CoherentSteps.{Coherent, used_last, joining, found_of}
 use Rattle.hx_laws.proofs.History.Rejections.{accepted_minimum, accepted_stock}
 use Rattle.hx_laws.proofs.FeedBook.ShownShares.{some_lessened}
-use Rattle.hx_laws.proofs.FeedBook.ShownExecutions.{shows, book_from-append, IsApart, AreApart, apart_shares, apart_place}
+use Rattle.hx_laws.proofs.FeedBook.ShownExecutions.{shows, book_from-append, IsApart, AreApart, apart_shares, apart_position}
 use Rattle.hx_laws.proofs.FeedBook.ShownLeaving.{deleted_found, taken_off_found}
 use Rattle.hx_laws.proofs.FeedBook.ShownReplaces.{succeed_keeps}
 use Rattle.hx_laws.proofs.FeedBook.ShownEnding.{ended_book}
@@ -97,7 +98,7 @@ apart_lessened m t by [] a = tt
 apart_lessened m t by (x ∷ xs) a = choose (is_called m t x) (apart_lessened m t by xs a.1)
   where
     choose : (b : Bool) → AreApart (lessened m t by xs) → AreApart (cond b (less x by ++ xs) (x ∷ lessened m t by xs))
-    choose true ih = apart_place x by [] xs a
+    choose true ih = apart_position x by [] xs a
     choose false ih = (all_lessened (IsApart x) (apart_shares x) m t by xs a.0, ih)
 
 take_off_keeps : (setup : Setup) (a : Market) (m time : ℕ) (t : Token) (by : ℕ) (x : Order) → IsBooked a → find (is_called m t) a.live ≡ Some x → KeepsBook setup a (take_off a m time t by x)
@@ -113,7 +114,7 @@ take_off_keeps setup a m time t by x g h =
 
 -- Orders end together.
 
-end_keeps : (setup : Setup) (due : Order → Bool) (time : ℕ) (a : Market) (first : Told) → IsBooked a → ((b : List ShownOrder) → book_from b first.feed ≡ b) → KeepsBook setup a (end_orders due time a first)
+end_keeps : (setup : Setup) (due : Order → Bool) (time : ℕ) (a : Market) (first : EventOutput) → IsBooked a → ((b : List ShownOrder) → book_from b first.feed ≡ b) → KeepsBook setup a (end_orders due time a first)
 end_keeps setup due time a first g h =
     record {
       book = book_from-append (shows setup a.live) first.feed _ ∙ ap (λ b. book_from b (all_deleted time (filter due a.live))) (h (shows setup a.live)) ∙ ended_book setup due time a.live g.apart;
@@ -124,7 +125,7 @@ directory_book : (time n : ℕ) (stocks : List Stock) (b : List ShownOrder) → 
 directory_book time n [] b = refl
 directory_book time n (s ∷ stocks) b = directory_book time (n + 1) stocks b
 
-code_book : (setup : Setup) (time code : ℕ) (b : List ShownOrder) → book_from b (told_by_code setup time code).feed ≡ b
+code_book : (setup : Setup) (time code : ℕ) (b : List ShownOrder) → book_from b (output_by_code setup time code).feed ≡ b
 code_book setup time code b = choose (eqb code 79)
   where
     choose : (c : Bool) → book_from b (if c then directory time 1 setup.stocks else []) ≡ b
@@ -134,22 +135,22 @@ code_book setup time code b = choose (eqb code 79)
 -- Every event.
 
 enter_keeps : (setup : Setup) (a : Market) (m time : ℕ) (e : NewOrder) → IsBooked a → KeepsBook setup a (enter setup a m time e)
-enter_keeps setup a m time e g = choose (is_used a.tokens m e.token) refl (rejection setup a.hours a.halted e) refl
+enter_keeps setup a m time e g = choose (is_used a.tokens m e.token) refl (rejection setup a.phase a.halted e) refl
   where
-    choose : (u : Bool) → is_used a.tokens m e.token ≡ u → (o : Option ℕ) → rejection setup a.hours a.halted e ≡ o → KeepsBook setup a (entered_by setup a m time e u o)
+    choose : (u : Bool) → is_used a.tokens m e.token ≡ u → (o : Option ℕ) → rejection setup a.phase a.halted e ≡ o → KeepsBook setup a (entered_by setup a m time e u o)
     choose true h o f = idle_keeps setup a g
     choose false h (Some letter) f = reject_keeps setup a m time e.token letter g
     choose false h None f =
         accept_keeps setup a time e (entered_order setup (length a.tokens) (next_reference a.numbers m (is_shown e.display e.time_in_force)) m time e) h refl
-        (accepted_minimum setup a.hours a.halted e f) (accepted_stock setup a.hours a.halted e f) g
+        (accepted_minimum setup a.phase a.halted e f) (accepted_stock setup a.phase a.halted e f) g
 
 replace_keeps : (setup : Setup) (a : Market) (m time : ℕ) (r : Change) → Coherent a → IsBooked a → KeepsBook setup a (replace setup a m time r)
 replace_keeps setup a m time r s g =
     choose (find (is_called m r.existing_token) a.live) refl (is_used a.tokens m r.replacement_token) refl
-    (is_order_halted a.halted (find (is_called m r.existing_token) a.live)) (replace_fails a.hours (executed_of a m r.existing_token) r) refl
+    (is_order_halted a.halted (find (is_called m r.existing_token) a.live)) (replace_fails a.phase (executed_of a m r.existing_token) r) refl
   where
     choose : (o : Option Order) → find (is_called m r.existing_token) a.live ≡ o → (u : Bool) → is_used a.tokens m r.replacement_token ≡ u
-        → (d f : Bool) → replace_fails a.hours (executed_of a m r.existing_token) r ≡ f → KeepsBook setup a (replaced_by setup a m time r o u d f)
+        → (d f : Bool) → replace_fails a.phase (executed_of a m r.existing_token) r ≡ f → KeepsBook setup a (replaced_by setup a m time r o u d f)
     choose None h u k d f l = idle_keeps setup a g
     choose (Some old) h true k d f l = idle_keeps setup a g
     choose (Some old) h false k true f l = idle_keeps setup a g
@@ -167,13 +168,13 @@ cancel_keeps setup a m time c g = choose _ (find (is_called m c.token) a.live) r
 hours_keeps : (setup : Setup) (a : Market) (time code : ℕ) → IsBooked a → KeepsBook setup a (next_hours setup a time code)
 hours_keeps setup a time code g = choose _
   where
-    turned : IsBooked (record a { hours = a.hours + 1 })
+    turned : IsBooked (record a { phase = a.phase + 1 })
     turned = record { apart = g.apart; old = g.old; some = g.some }
 
     choose : (b : Bool) → KeepsBook setup a (hours_by setup a time code b)
     choose false = idle_keeps setup a g
     choose true =
-        let k = end_keeps setup (ends_by_code code) time (record a { hours = a.hours + 1 }) (told_by_code setup time code) turned (code_book setup time code) in
+        let k = end_keeps setup (ends_by_code code) time (record a { phase = a.phase + 1 }) (output_by_code setup time code) turned (code_book setup time code) in
         record { book = k.book; good = k.good }
 
 -- the feed's message of a halt is no order's

@@ -1,4 +1,4 @@
--- What a readable message asks for, where it is accepted, fits its fields.
+-- What a readable message asks for, if it is accepted, fits its fields.
 use Rattle.std.proofs.Common.{◌≡◌, ℕ, zero, suc, ◌+◌, ◌-◌, ◌<◌, ◌≤◌, ◌^◌, Bool, false, ltb, ltb-false, refl, arith, ◌||◌, List, [], ◌∷◌, length, drop, length-drop, Some, None, Option, slice_get}
 use Rattle.std.specs.Prelude.{unwrap_or}
 use Rattle.std.specs.List.{AllByRecursion}
@@ -10,10 +10,10 @@ use Rattle.hx_units.specs.Fields.{text_at}
 use Rattle.hx_units.specs.declared.names.Symbol.{Symbol}
 use Rattle.hx_units.specs.declared.names.Firm.{Firm}
 use Rattle.hx_units.proofs.FieldLaws.{is_message-true}
-use Rattle.hx_levels.proofs.Lists.{find-all}
+use Rattle.hx_book.proofs.Lists.{find-all}
 use Rattle.hx_members.specs.Setups.{Setup, locate_from, locate_of, symbol_of, no_symbol, no_firm, firm_of, member_of}
-use Rattle.hx_members.specs.declared.stock.Stock.{Stock}
-use Rattle.hx_members.specs.declared.stock.Member.{Member}
+use Rattle.hx_members.specs.Stock.{Stock}
+use Rattle.hx_members.specs.Member.{Member}
 use Rattle.hx_ouch.specs.declared.inbound.Enter.{Enter}
 use Rattle.hx_ouch.specs.declared.inbound.Replace.{Replace}
 use Rattle.hx_ouch.specs.declared.inbound.Inbound.{Inbound}
@@ -39,14 +39,14 @@ pub or_zero : (o : Option ℕ) → IfSome o (λ k. k < 2 ^ 16) → unwrap_or o 0
 or_zero None h = omega arith
 or_zero (Some k) h = h
 
-stock_fits : (place : ℕ) (stocks : List Stock) → AllByRecursion FitsStock stocks → IfSome (slice_get stocks place) FitsStock
-stock_fits place [] all = tt
+stock_fits : (position : ℕ) (stocks : List Stock) → AllByRecursion FitsStock stocks → IfSome (slice_get stocks position) FitsStock
+stock_fits position [] all = tt
 stock_fits zero (s ∷ stocks) all = all.0
-stock_fits (suc place) (s ∷ stocks) all = stock_fits place stocks all.1
+stock_fits (suc position) (s ∷ stocks) all = stock_fits position stocks all.1
 
 pub symbol_fits : (setup : Setup) (locate : ℕ) → FitsSetup setup → length (symbol_of setup locate).0 ≡ 8
 symbol_fits setup zero fits = refl
-symbol_fits setup (suc place) fits = choose (slice_get setup.stocks place) (stock_fits place setup.stocks fits.stocks)
+symbol_fits setup (suc position) fits = choose (slice_get setup.stocks position) (stock_fits position setup.stocks fits.stocks)
   where
     choose : (o : Option Stock) → IfSome o FitsStock → length (option_map_or (λ stock. stock.symbol) o no_symbol).0 ≡ 8
     choose None h = refl
@@ -90,13 +90,13 @@ good_price n h =
     let le : n ≤ 1999999900 = ltb-false 1999999900 n (or_parts (ltb 1999999900 n) (is_between_cents n) (or_parts _ (ltb 1999999900 n || is_between_cents n) h).1).0 in
     omega arith
 
-pub accepted_fits : (setup : Setup) (hours : ℕ) (halted : List Bool) (e : Enter) → rejection setup hours halted e ≡ None → (e.shares ≤ 999999) × (e.price < 2 ^ 32)
-accepted_fits setup hours halted e h =
-    let none = no_reason (reasons setup hours halted e) h in
+pub accepted_fits : (setup : Setup) (phase : ℕ) (halted : List Bool) (e : Enter) → rejection setup phase halted e ≡ None → (e.shares ≤ 999999) × (e.price < 2 ^ 32)
+accepted_fits setup phase halted e h =
+    let none = no_reason (reasons setup phase halted e) h in
     (good_shares e.shares none.1.1.1.1.1.0, good_price e.price none.1.1.1.1.1.1.0)
 
-pub replaced_fits : (hours n : ℕ) (r : Replace) → replace_fails hours n r ≡ false → (r.shares - n ≤ 999999) × (r.price < 2 ^ 32)
-replaced_fits hours n r h =
+pub replaced_fits : (phase n : ℕ) (r : Replace) → replace_fails phase n r ≡ false → (r.shares - n ≤ 999999) × (r.price < 2 ^ 32)
+replaced_fits phase n r h =
     let first = or_parts (is_bad_shares r.shares) _ h in
     let second = or_parts (is_bad_price r.price) _ first.1 in
     let most = good_shares r.shares first.0 in

@@ -1,15 +1,15 @@
--- Each event tells what fits its fields, and leaves a market whose orders and numbers fit.
+-- The output of each event fits its fields, and leaves a market whose orders and numbers fit.
 use Rattle.std.proofs.Common.{◌≡◌, ℕ, zero, suc, ◌+◌, ◌*◌, ◌<◌, ◌≤◌, ◌^◌, Bool, true, false, eqb, refl, sym, subst, arith, not, List, [], ◌∷◌, length, Some, None, Option, slice_get}
 use Rattle.std.specs.Prelude.{slice_set}
 use Rattle.std.specs.List.{AllByRecursion, filter, find}
 use Rattle.std.specs.Option.{IfSome}
 use Rattle.std.proofs.lemmas.Bool.{cond_both, leb-true}
 use Rattle.hx_units.specs.declared.names.Symbol.{Symbol}
-use Rattle.hx_levels.proofs.Lists.{all_filtered}
+use Rattle.hx_book.proofs.Lists.{all_filtered}
 use Rattle.hx_match.specs.Matching.{Execution}
 use Rattle.hx_match.proofs.First.{all_append}
 use Rattle.hx_members.specs.Setups.{Setup, locate_of, symbol_of}
-use Rattle.hx_members.specs.declared.stock.Stock.{Stock}
+use Rattle.hx_members.specs.Stock.{Stock}
 use Rattle.hx_members.specs.Chains.{is_used}
 use Rattle.hx_refs.specs.Numbers.{Numbers}
 use Rattle.hx_ouch.specs.declared.inbound.Inbound.TheVariants.{Enter, Replace, Cancel}
@@ -23,12 +23,12 @@ use Rattle.hx_rules.specs.declared.event.Event.TheVariants.{Message, Tick, Hours
 use Rattle.hx_rules.specs.declared.matches.Match.{Match}
 use Rattle.hx_rules.specs.Orders.{Order, Token, is_called, is_shown, is_immediate}
 use Rattle.hx_rules.specs.Markets.{Market}
-use Rattle.hx_rules.specs.Outputs.{Told, Outcome, nothing, silent}
+use Rattle.hx_rules.specs.Outputs.{EventOutput, Outcome, nothing, silent}
 use Rattle.hx_rules.specs.Executions.{matches_of, arrive}
 use Rattle.hx_rules.specs.Enter.{consumed, drawn, after_draw, next_reference, rejection, reject, accept, entered_order, entered_by, enter}
 use Rattle.hx_rules.specs.Replace.{handed_over, executed_of, is_order_halted, replace_fails, fail_replace, replaced_by, succeed, replace}
 use Rattle.hx_rules.specs.Cancel.{take_off, cancelled_by, cancel}
-use Rattle.hx_rules.specs.Hours.{end_orders, all_deleted, is_over, ends_by_code, directory, told_by_code, hours_by, next_hours}
+use Rattle.hx_rules.specs.Hours.{end_orders, all_deleted, is_over, ends_by_code, directory, output_by_code, hours_by, next_hours}
 use Rattle.hx_rules.specs.Halts.{is_trading_state, halted_by, halt}
 use Rattle.hx_rules.specs.Breaks.{execution_of, with_execution, broken_if, broken_by, break_trade}
 use Rattle.hx_rules.specs.Steps.{receive, happens, time_of}
@@ -37,23 +37,24 @@ use Rattle.hx_laws.proofs.History.CoherentSteps.{found_of}
 use Rattle.hx_laws.proofs.History.EventMoves.{replacement_of}
 use Rattle.hx_laws.proofs.FeedBook.ShownArrivals.{drawn_public, drawn_below}
 use Rattle.hx_laws.proofs.Fits.Orders.{Sized, AreSized, IsFill, later, lessened_sized}
-use Rattle.hx_laws.proofs.Fits.Told.{AreFeed, both_feed, deleted_fits, all_deleted_fits, taken_off_fits, ArrivesFit, arrives_fit, replace_fits}
+use Rattle.hx_laws.proofs.Fits.EventOutput.{AreFeed, both_feed, deleted_fits, all_deleted_fits, taken_off_fits, ArrivesFit, arrives_fit, replace_fits}
 use Rattle.hx_laws.proofs.Fits.Entering.{locate_fits, or_zero, symbol_fits, firm_fits, IsNamed, is_named, accepted_fits, replaced_fits}
 
 -- an execution's stock has a number of 2 bytes
 abbrev IsPlaced : Match → Type 0
 IsPlaced e = e.locate < 2 ^ 16
 
--- what fits of a market after n events: each draws one public reference at most, and has at most as many executions as an order may have shares
+-- what fits of a market after n events: each draws one public reference at most, and has no more executions than an
+-- order may have shares
 pub record Good (n : ℕ) (a : Market) : Type 0 where
   pub orders : AreSized a.numbers.public a.live
   pub public : a.numbers.public ≤ n
   pub matches : a.numbers.matches ≤ 999999 * n
   pub executions : AllByRecursion IsPlaced a.executions
 
--- what an event tells fits, and so does what it leaves
+-- the output of an event fits, and so does what it leaves
 pub record Keeps (n : ℕ) (a : Market) (o : Outcome) : Type 0 where
-  pub feed : AreFeed o.told.feed
+  pub feed : AreFeed o.output.feed
   pub good : Good (n + 1) o.market
   pub recorded : ◌≡◌ {A = List ℕ} o.market.recorded a.recorded
 
@@ -118,12 +119,12 @@ module _ (setup : Setup) (n : ℕ) (fits : FitsSetup setup) (few : n < 175921860
         },
       )
 
-  accept_keeps : (a : Market) (m time : ℕ) (e : NewOrder) → Good n a → time < 2 ^ 48 → (length e.stock.0 ≡ 8) × (length e.firm.0 ≡ 4) → rejection setup a.hours a.halted e ≡ None → Keeps n a (accept setup a m time e)
+  accept_keeps : (a : Market) (m time : ℕ) (e : NewOrder) → Good n a → time < 2 ^ 48 → (length e.stock.0 ≡ 8) × (length e.firm.0 ≡ 4) → rejection setup a.phase a.halted e ≡ None → Keeps n a (accept setup a m time e)
   accept_keeps a m time e g t named none =
       let shown = is_shown e.display e.time_in_force in
       let x = entered_order setup (length a.tokens) (next_reference a.numbers m shown) m time e in
       let b = drawn (consumed a m e.token) m shown in
-      let asked = accepted_fits setup a.hours a.halted e none in
+      let asked = accepted_fits setup a.phase a.halted e none in
       let shares = asked.0 in
       let below : a.numbers.public ≤ b.numbers.public = leb-true _ _ (drawn_public a.numbers m shown) in
       let above : b.numbers.public ≤ a.numbers.public + 1 = drawn_most a.numbers m shown in
@@ -149,9 +150,9 @@ module _ (setup : Setup) (n : ℕ) (fits : FitsSetup setup) (few : n < 175921860
   consumed_keeps a m time t letter g = let k = more n a g in record { feed = tt; good = record { orders = k.orders; public = k.public; matches = k.matches; executions = k.executions }; recorded = refl }
 
   enter_keeps : (a : Market) (m time : ℕ) (e : NewOrder) → Good n a → time < 2 ^ 48 → (length e.stock.0 ≡ 8) × (length e.firm.0 ≡ 4) → Keeps n a (enter setup a m time e)
-  enter_keeps a m time e g t named = choose (is_used a.tokens m e.token) (rejection setup a.hours a.halted e) refl
+  enter_keeps a m time e g t named = choose (is_used a.tokens m e.token) (rejection setup a.phase a.halted e) refl
     where
-      choose : (u : Bool) (o : Option ℕ) → rejection setup a.hours a.halted e ≡ o → Keeps n a (entered_by setup a m time e u o)
+      choose : (u : Bool) (o : Option ℕ) → rejection setup a.phase a.halted e ≡ o → Keeps n a (entered_by setup a m time e u o)
       choose true o h = idle n a g
       choose false (Some letter) h = consumed_keeps a m time e.token letter g
       choose false None h = accept_keeps a m time e g t named h
@@ -168,13 +169,13 @@ module _ (setup : Setup) (n : ℕ) (fits : FitsSetup setup) (few : n < 175921860
         recorded = refl;
       }
 
-  succeed_keeps : (a : Market) (m time : ℕ) (r : Change) (old : Order) → Good n a → time < 2 ^ 48 → Sized a.numbers.public old → replace_fails a.hours (executed_of a m r.existing_token) r ≡ false
+  succeed_keeps : (a : Market) (m time : ℕ) (r : Change) (old : Order) → Good n a → time < 2 ^ 48 → Sized a.numbers.public old → replace_fails a.phase (executed_of a m r.existing_token) r ≡ false
       → Keeps n a (succeed setup a m time r old)
   succeed_keeps a m time r old g t h none =
       let shown = is_shown r.display r.time_in_force in
       let x = replacement_of a m time r old in
       let b = drawn (handed_over a m r.existing_token r.replacement_token) m shown in
-      let asked = replaced_fits a.hours (executed_of a m r.existing_token) r none in
+      let asked = replaced_fits a.phase (executed_of a m r.existing_token) r none in
       let shares = asked.0 in
       let below : a.numbers.public ≤ b.numbers.public = leb-true _ _ (drawn_public a.numbers m shown) in
       let above : b.numbers.public ≤ a.numbers.public + 1 = drawn_most a.numbers m shown in
@@ -206,9 +207,9 @@ module _ (setup : Setup) (n : ℕ) (fits : FitsSetup setup) (few : n < 175921860
   replace_keeps : (a : Market) (m time : ℕ) (r : Change) → Good n a → time < 2 ^ 48 → Keeps n a (replace setup a m time r)
   replace_keeps a m time r g t =
       choose (find (is_called m r.existing_token) a.live) refl (is_used a.tokens m r.replacement_token)
-      (is_order_halted a.halted (find (is_called m r.existing_token) a.live)) (replace_fails a.hours (executed_of a m r.existing_token) r) refl
+      (is_order_halted a.halted (find (is_called m r.existing_token) a.live)) (replace_fails a.phase (executed_of a m r.existing_token) r) refl
     where
-      choose : (o : Option Order) → find (is_called m r.existing_token) a.live ≡ o → (used halted f : Bool) → replace_fails a.hours (executed_of a m r.existing_token) r ≡ f → Keeps n a (replaced_by setup a m time r o used halted f)
+      choose : (o : Option Order) → find (is_called m r.existing_token) a.live ≡ o → (used halted f : Bool) → replace_fails a.phase (executed_of a m r.existing_token) r ≡ f → Keeps n a (replaced_by setup a m time r o used halted f)
       choose None h used halted f e = idle n a g
       choose (Some old) h true halted f e = idle n a g
       choose (Some old) h false true f e = idle n a g
@@ -241,7 +242,7 @@ module _ (setup : Setup) (n : ℕ) (fits : FitsSetup setup) (few : n < 175921860
 
   -- ---- the operator's events
 
-  end_keeps : (due : Order → Bool) (time : ℕ) (a : Market) (first : Told) → Good n a → time < 2 ^ 48 → AreFeed first.feed → Keeps n a (end_orders due time a first)
+  end_keeps : (due : Order → Bool) (time : ℕ) (a : Market) (first : EventOutput) → Good n a → time < 2 ^ 48 → AreFeed first.feed → Keeps n a (end_orders due time a first)
   end_keeps due time a first g t h =
       let k = more n a g in
       let p = g.public in
@@ -255,7 +256,7 @@ module _ (setup : Setup) (n : ℕ) (fits : FitsSetup setup) (few : n < 175921860
   directory_fits time i [] t le all = tt
   directory_fits time i (s ∷ stocks) t le all = (record { locate = omega arith; time = t; stock = all.0.symbol; tail = all.0.tail }, directory_fits time (i + 1) stocks t (omega arith) all.1)
 
-  code_fits : (time code : ℕ) → time < 2 ^ 48 → AreFeed (told_by_code setup time code).feed
+  code_fits : (time code : ℕ) → time < 2 ^ 48 → AreFeed (output_by_code setup time code).feed
   code_fits time code t =
       let f = fits.few in (
         record { locate = omega arith; time = t },
@@ -268,8 +269,8 @@ module _ (setup : Setup) (n : ℕ) (fits : FitsSetup setup) (few : n < 175921860
       choose : (b : Bool) → Keeps n a (hours_by setup a time code b)
       choose false = idle n a g
       choose true =
-          let turned : Good n (record a { hours = a.hours + 1 }) = record { orders = g.orders; public = g.public; matches = g.matches; executions = g.executions } in
-          let k = end_keeps (ends_by_code code) time (record a { hours = a.hours + 1 }) (told_by_code setup time code) turned t (code_fits time code t) in
+          let turned : Good n (record a { phase = a.phase + 1 }) = record { orders = g.orders; public = g.public; matches = g.matches; executions = g.executions } in
+          let k = end_keeps (ends_by_code code) time (record a { phase = a.phase + 1 }) (output_by_code setup time code) turned t (code_fits time code t) in
           record { feed = k.feed; good = k.good; recorded = refl }
 
   halt_keeps : (a : Market) (time : ℕ) (stock : Symbol) (state : ℕ) (reason : List ℕ) → Good n a → time < 2 ^ 48 → (length stock.0 ≡ 8) × (length reason ≡ 4) → Keeps n a (halt setup a time stock state reason)

@@ -1,15 +1,16 @@
 -- Orders whose fields fit, and what an incoming order executes of them.
 use Rattle.std.proofs.Common.{◌≡◌, ℕ, zero, suc, ◌-◌, ◌<◌, ◌≤◌, ◌^◌, min, Bool, true, false, cond, ltb, arith, List, [], ◌∷◌, ◌++◌, length, Some, None, Option}
 use Rattle.std.specs.List.{AllByRecursion}
-use Rattle.hx_levels.proofs.Lists.{all_weaker}
+use Rattle.hx_book.proofs.Lists.{all_weaker}
 use Rattle.hx_match.specs.declared.fills.Incoming.{Incoming}
-use Rattle.hx_match.specs.Matching.{itself, with_shares, Place, Execution, Matched, first_by_rank, matched_by, matched_entries, matched}
+use Rattle.hx_match.specs.Matching.{itself, with_shares, Position, Execution, Matched, first_by_rank, matched_by, matched_entries, matched}
 use Rattle.hx_match.proofs.First.{all_append}
+use Rattle.hx_match.proofs.AnyShares.{IsOf, first_is_of}
 use Rattle.hx_rules.specs.Orders.{Order, Token, is_called}
 use Rattle.hx_rules.specs.Removal.{less, lessened}
-use Rattle.hx_laws.proofs.History.CoherentMarkets.{IsOf, first_is_of}
 
--- its numbers fit into their bytes, its firm has 4 letters, and if it is shown, its reference is one of the first so many
+-- its numbers fit into their bytes, its firm has 4 letters, and if it is shown, its reference is one of the first
+-- `public`
 pub record Sized (public : ℕ) (x : Order) : Type 0 where
   pub locate : x.locate < 2 ^ 16
   pub price : x.price < 2 ^ 32
@@ -43,7 +44,7 @@ lessened_sized public m t by (x ∷ xs) all = choose (is_called m t x) (lessened
     choose true ih = all_append (Sized public) (less x by) xs (less_sized public x by all.0) all.1
     choose false ih = (all.0, ih)
 
--- an execution of such an order, for this many shares at most
+-- an execution of such an order, for `r` shares at most
 abbrev pub IsFill : (public r : ℕ) → Execution → Type 0
 IsFill public r e = Sized public e.order × (e.shares ≤ r)
 
@@ -59,7 +60,7 @@ unfolding matched_entries
 within public zero inc r xs all = record { fills = tt; rest = all; few = omega arith; left = omega arith }
 within public (suc n) inc r xs all = choose (first_by_rank inc r xs) (λ k ys. within public n inc k ys) (first_is_of (Sized public) inc r xs all)
   where
-    choose : (o : Option Place) → ((k : ℕ) (ys : List Order) → AreSized public ys → Fills public n k (matched_entries itself with_shares n inc k ys))
+    choose : (o : Option Position) → ((k : ℕ) (ys : List Order) → AreSized public ys → Fills public n k (matched_entries itself with_shares n inc k ys))
         → IsOf (Sized public) inc r o → Fills public (suc n) r (matched_by itself with_shares (matched_entries itself with_shares n inc) r xs o)
     choose None ih h = record { fills = tt; rest = all; few = omega arith; left = omega arith }
     choose (Some p) ih h =

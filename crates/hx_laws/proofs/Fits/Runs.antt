@@ -5,19 +5,19 @@ use Rattle.std.specs.List.{AllByRecursion}
 use Rattle.std.specs.Option.{IfSome, option_map_or}
 use Rattle.std.proofs.lemmas.Bool.{and_parts, leb-true}
 use Rattle.std.proofs.lemmas.Bool.Decides.{nat_tests}
-use Rattle.hx_levels.proofs.Lists.{find-all}
+use Rattle.hx_book.proofs.Lists.{find-all}
 use Rattle.hx_members.specs.Setups.{Setup, member_of}
-use Rattle.hx_members.specs.declared.stock.Member.{Member}
+use Rattle.hx_members.specs.Member.{Member}
 use Rattle.hx_refs.specs.Numbers.{raised}
 use Rattle.hx_rules.specs.declared.event.Event.{Event}
 use Rattle.hx_rules.specs.declared.event.Event.TheVariants.{Message, Tick, Hours, Halt, Break}
 use Rattle.hx_rules.specs.declared.fault.PrepareError.{PrepareError}
 use Rattle.hx_rules.specs.Markets.{Market, opening}
 use Rattle.hx_rules.specs.Refusals.{known_member, is_from_stranger, limit_of}
-use Rattle.hx_rules.specs.Steps.{sender, time_of, with_record, happens, step, told_from, told, feed, feed_of}
+use Rattle.hx_rules.specs.Steps.{sender, time_of, with_record, happens, step, outputs_from, output, feed, feed_of}
 use Rattle.hx_laws.specs.Recorded.{AreAccepted}
 use Rattle.hx_laws.specs.FeedFits.{FitsMember, FitsSetup, FitsEvent, FeedFits}
-use Rattle.hx_laws.proofs.Fits.Told.{AreFeed, both_feed}
+use Rattle.hx_laws.proofs.Fits.EventOutput.{AreFeed, both_feed}
 use Rattle.hx_laws.proofs.Fits.Events.{Good, happens_keeps}
 
 -- ---- counts
@@ -114,8 +114,8 @@ sender_fits setup (Break time number) fits h = (omega arith, omega arith)
 -- ---- the run
 
 fits_from : (setup : Setup) (n : ℕ) (a : Market) (events : List Event) → FitsSetup setup → Good n a → Counted n a.recorded → AllByRecursion FitsEvent events → AreAccepted setup a events
-    → AreFeed (feed_of (told_from setup a events))
-unfolding told_from step
+    → AreFeed (feed_of (outputs_from setup a events))
+unfolding outputs_from step
 fits_from setup n a [] fits g c all accepted = tt
 fits_from setup n a (event ∷ events) fits g c all accepted =
     let p = passes (time_of event) (is_from_stranger setup event) (limit_of setup event) (slice_index a.recorded (sender event)) _ _ _ accepted.0 in
@@ -126,11 +126,11 @@ fits_from setup n a (event ∷ events) fits g c all accepted =
     let early = p.early in
     let b : Market = with_record event a in
     let k = happens_keeps setup n fits (few_of n (raised a.recorded (sender event)) counted) b event (record { orders = g.orders; public = g.public; matches = g.matches; executions = g.executions }) (omega arith) all.0 in
-    both_feed (happens setup b event).told.feed _ k.feed
+    both_feed (happens setup b event).output.feed _ k.feed
     (fits_from setup (n + 1) (happens setup b event).market events fits k.good (subst (Counted (n + 1)) (sym k.recorded) counted) all.1 accepted.1)
 
 pub feed_fits : FeedFits
-unfolding feed told opening
+unfolding feed output opening
 feed_fits setup events fits all recorded =
     fits_from setup 0 (opening setup) events fits (record { orders = tt; public = omega arith; matches = omega arith; executions = tt })
     (record { numbered = refl; limited = zeros 4096; total_is = no_total 4096 }) all recorded

@@ -55,7 +55,7 @@ Grows_chain ts cs c =
       loud = λ m e h. any_more (λ d. is_chain m e d && (d.displayed || d.traded)) cs (c ∷ []) h;
     }
 
--- a note keeps the names of the chains, and what was noted
+-- a note changes neither the names of the chains, nor what was noted
 is_chain-noted : (b : Bool) (m : ℕ) (e : Token) (n : ℕ) (d : Bool) (c : Chain) → is_chain m e (cond b (noted n d c) c) ≡ is_chain m e c
 is_chain-noted true m e n d c = refl
 is_chain-noted false m e n d c = refl

@@ -1,25 +1,27 @@
--- Each step keeps the tokens and what is known of chains, and leaves a coherent market.
+-- Each step preserves the tokens and what is known of chains, and leaves a coherent market.
 use Rattle.std.proofs.Common.{◌≡◌, ℕ, Bool, true, false, cond, refl, ◌∙◌, arith, ltb, ◌&&◌, not, List, [], ◌∷◌, ◌++◌, Some}
 use Rattle.std.specs.Prelude.{if◌then◌else◌}
 use Rattle.std.specs.List.{find, AllByRecursion}
 use Rattle.std.proofs.lemmas.Bool.{or_cases, or_right}
-use Rattle.hx_levels.proofs.Lists.{all_weaker, all_filtered}
+use Rattle.hx_book.proofs.Lists.{all_weaker, all_filtered}
 use Rattle.hx_match.specs.Matching.{with_shares, matched}
 use Rattle.hx_match.proofs.First.{all_append}
+use Rattle.hx_match.proofs.AnyShares.{matched_of}
 use Rattle.hx_members.specs.Chains.{Used, Chain, is_used, is_use, entered_of, has_chain, note, entered_used, entered_chain, replacing_used}
 use Rattle.hx_members.proofs.ChainLaws.{is_used-pushed, entered_of-new, has_chain-pushed, is_same-parts, is_same-itself}
 use Rattle.hx_rules.specs.declared.event.Event.{Event}
 use Rattle.hx_rules.specs.Orders.{Order, Token, is_called}
 use Rattle.hx_rules.specs.Markets.{Market}
-use Rattle.hx_rules.specs.Outputs.{Told}
+use Rattle.hx_rules.specs.Outputs.{EventOutput}
 use Rattle.hx_rules.specs.Executions.{incoming_of, resting_of, displays, chains_after, arrive}
 use Rattle.hx_rules.specs.Enter.{consumed, drawn}
-use Rattle.hx_rules.specs.Removal.{less, lessened}
+use Rattle.hx_rules.specs.Removal.{lessened}
 use Rattle.hx_rules.specs.Replace.{handed_over}
 use Rattle.hx_rules.specs.Hours.{end_orders}
 use Rattle.hx_rules.specs.Steps.{with_record}
+use Rattle.hx_rules.proofs.Lessened.{all_lessened}
 use Rattle.hx_laws.proofs.History.ChainsGrow.{Grows, Grows_refl, Grows_trans, Grows_token, Grows_chain, Grows_note, Grows_executions, note_makes_loud}
-use Rattle.hx_laws.proofs.History.CoherentMarkets.{IsKnown, IsCoherent, IsOfAnyShares, known_grows, known_shares, all_less, matched_of}
+use Rattle.hx_laws.proofs.History.CoherentMarkets.{IsKnown, IsCoherent, known_grows, known_shares}
 
 abbrev pub Coherent : Market → Type 0
 Coherent a = IsCoherent a.tokens a.chains a.live
@@ -113,16 +115,8 @@ drawn_moves a m b = record { grows = Grows_refl _ _; coherent = λ s. s }
 pub record_moves : (a : Market) (e : Event) → Moves a (with_record e a)
 record_moves a e = record { grows = Grows_refl _ _; coherent = λ s. s }
 
-pub end_moves : (due : Order → Bool) (time : ℕ) (a : Market) (first : Told) → Moves a (end_orders due time a first).market
+pub end_moves : (due : Order → Bool) (time : ℕ) (a : Market) (first : EventOutput) → Moves a (end_orders due time a first).market
 end_moves due time a first = record { grows = Grows_refl _ _; coherent = λ s. with_live a.tokens a.chains _ _ s (all_filtered _ _ a.live s.known) }
-
-pub all_lessened : (P : Order → Type 0) → IsOfAnyShares P → (m : ℕ) (t : Token) (by : ℕ) (xs : List Order) → AllByRecursion P xs → AllByRecursion P (lessened m t by xs)
-all_lessened P closed m t by [] a = tt
-all_lessened P closed m t by (x ∷ xs) a = choose (is_called m t x) (all_lessened P closed m t by xs a.1)
-  where
-    choose : (b : Bool) → AllByRecursion P (lessened m t by xs) → AllByRecursion P (cond b (less x by ++ xs) (x ∷ lessened m t by xs))
-    choose true ih = all_append P (less x by) xs (all_less P closed x by a.0) a.1
-    choose false ih = (a.0, ih)
 
 pub lessened_moves : (a : Market) (m : ℕ) (t : Token) (by : ℕ) → Moves a (record a { live = lessened m t by a.live })
 lessened_moves a m t by =
@@ -130,7 +124,7 @@ lessened_moves a m t by =
 
 -- An order arrives with a used token.
 
--- what rests of it is known, if its chain is displayed where it is shown
+-- what rests of it is known, provided that its chain is displayed if it is shown
 rests_known : (ts : List Used) (cs : List Chain) (x : Order) (immediate : Bool) (left : ℕ) → is_used ts x.member x.token ≡ true → has_chain cs x.member (entered_of ts x.member x.token) ≡ true
     → AllByRecursion (IsKnown ts (if displays (resting_of x immediate left) then note x.member (entered_of ts x.member x.token) 0 true cs else cs)) (resting_of x immediate left)
 rests_known ts cs x immediate left u h = choose (ltb 0 left && not immediate) x.shown refl

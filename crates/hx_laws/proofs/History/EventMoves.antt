@@ -1,4 +1,4 @@
--- Each event keeps the tokens and what is known of chains, and so does a whole history.
+-- Each event preserves the tokens and what is known of chains, and so does a whole history.
 use Rattle.std.proofs.Common.{◌≡◌, ℕ, ◌+◌, Bool, true, false, refl, arith, List, [], ◌∷◌, Some, None, Option}
 use Rattle.std.specs.List.{find}
 use Rattle.hx_units.specs.declared.names.Symbol.{Symbol}
@@ -19,7 +19,7 @@ use Rattle.hx_rules.specs.Enter.{consumed, drawn, rejection, accept_order, next_
 use Rattle.hx_rules.specs.Replace.{handed_over, executed_of, is_order_halted, replace_fails, replacing_order, replace_order, replaced_by, replace}
 use Rattle.hx_rules.specs.Cancel.{cancelled_by, cancel}
 use Rattle.hx_rules.specs.Outputs.{silent}
-use Rattle.hx_rules.specs.Hours.{is_over, ends_by_code, told_by_code, hours_by, next_hours}
+use Rattle.hx_rules.specs.Hours.{is_over, ends_by_code, output_by_code, hours_by, next_hours}
 use Rattle.hx_rules.specs.Halts.{is_trading_state, halted_by, halt}
 use Rattle.hx_rules.specs.Breaks.{execution_of, broken_if, broken_by, break_trade}
 use Rattle.hx_rules.specs.Steps.{receive, happens, with_record, step, market_after, run}
@@ -35,7 +35,7 @@ after_consumed a time e x =
     (arrive_moves time (is_immediate e.time_in_force) x (drawn b x.member x.shown) (used_last a.tokens (entered_used x.member x.token)))
 
 enter_moves : (setup : Setup) (a : Market) (m time : ℕ) (e : NewOrder) → Moves a (enter setup a m time e).market
-enter_moves setup a m time e = choose (is_used a.tokens m e.token) refl (rejection setup a.hours a.halted e)
+enter_moves setup a m time e = choose (is_used a.tokens m e.token) refl (rejection setup a.phase a.halted e)
   where
     choose : (b : Bool) → is_used a.tokens m e.token ≡ b → (o : Option ℕ) → Moves a (entered_by setup a m time e b o).market
     choose true h o = Moves_refl a
@@ -64,7 +64,7 @@ after_joined a m time stock r old x own name =
 pub replace_moves : (setup : Setup) (a : Market) (m time : ℕ) (r : Change) → Coherent a → Moves a (replace setup a m time r).market
 replace_moves setup a m time r s =
     choose (find (is_called m r.existing_token) a.live) refl (is_used a.tokens m r.replacement_token)
-    (is_order_halted a.halted (find (is_called m r.existing_token) a.live)) (replace_fails a.hours (executed_of a m r.existing_token) r)
+    (is_order_halted a.halted (find (is_called m r.existing_token) a.live)) (replace_fails a.phase (executed_of a m r.existing_token) r)
   where
     choose : (o : Option Order) → find (is_called m r.existing_token) a.live ≡ o → (used halted fails : Bool) → Moves a (replaced_by setup a m time r o used halted fails).market
     choose None h used halted fails = Moves_refl a
@@ -86,12 +86,12 @@ cancel_moves a m time c = choose _ (find (is_called m c.token) a.live)
 hours_moves : (setup : Setup) (a : Market) (time code : ℕ) → Moves a (next_hours setup a time code).market
 hours_moves setup a time code = choose _
   where
-    turned : Moves a (record a { hours = a.hours + 1 })
+    turned : Moves a (record a { phase = a.phase + 1 })
     turned = record { grows = Grows_refl _ _; coherent = λ s. s }
 
     choose : (b : Bool) → Moves a (hours_by setup a time code b).market
     choose false = Moves_refl a
-    choose true = Moves_trans _ _ _ turned (end_moves (ends_by_code code) time (record a { hours = a.hours + 1 }) (told_by_code setup time code))
+    choose true = Moves_trans _ _ _ turned (end_moves (ends_by_code code) time (record a { phase = a.phase + 1 }) (output_by_code setup time code))
 
 -- a halt changes neither orders nor chains
 halt_moves : (setup : Setup) (a : Market) (time : ℕ) (stock : Symbol) (state : ℕ) (reason : List ℕ) → Moves a (halt setup a time stock state reason).market

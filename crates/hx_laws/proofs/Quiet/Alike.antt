@@ -1,4 +1,4 @@
--- Two markets that are alike but for the chosen chains, and how each part of a step keeps them so.
+-- Two markets that are alike except for the chosen chains, and how each part of a step preserves that.
 use Rattle.std.proofs.Common.{◌≡◌, ℕ, zero, suc, ◌+◌, Bool, true, false, refl, ap, sym, ◌∙◌, arith, not, List, [], ◌∷◌, length, get_or, get_or-set_other, length-set}
 use Rattle.std.specs.Prelude.{slice_index}
 use Rattle.std.specs.List.{filter}
@@ -12,20 +12,20 @@ use Rattle.hx_rules.specs.Removal.{lessened}
 use Rattle.hx_rules.specs.Replace.{handed_over, executed_of}
 use Rattle.hx_laws.specs.QuietChains.{Choice}
 use Rattle.hx_laws.proofs.Quiet.QuietBefore.{not_both}
-use Rattle.hx_laws.proofs.Quiet.KeptViews.{none, blank, kept, kept_tokens, kept_chains, Spares}
-use Rattle.hx_laws.proofs.Quiet.KeptWords.{kept_tokens-append, kept_chains-append, used_kept, entered_kept, executed_kept, filter_kept, others_chosen, lessened_chosen, lessened_kept}
+use Rattle.hx_laws.proofs.Quiet.RetainedViews.{none, blank, retained, retained_tokens, retained_chains, Spares}
+use Rattle.hx_laws.proofs.Quiet.RetainedWords.{retained_tokens-append, retained_chains-append, used_retained, entered_retained, executed_retained, filter_retained, others_chosen, lessened_chosen, lessened_retained}
 
 -- a market without its orders, tokens, chains and private numbers, and without the counts of recorded events
 abbrev pub rest_of : Market → Market
 rest_of a = record a { live = []; tokens = []; chains = []; numbers = record a.numbers { private = [] }; recorded = [] }
 
--- b is a without the chosen chains, but for the places of chains and the private references
+-- b is a without the chosen chains, except for the indices of chains and the private references
 pub record IsAlike (s : Choice) (a b : Market) : Type 0 where
-  pub live : kept true s a.live ≡ kept true none b.live
-  pub tokens : kept_tokens s a.tokens ≡ b.tokens
-  pub chains : kept_chains s a.chains ≡ b.chains
+  pub live : retained true s a.live ≡ retained true none b.live
+  pub tokens : retained_tokens s a.tokens ≡ b.tokens
+  pub chains : retained_chains s a.chains ≡ b.chains
   pub counts : length a.numbers.private ≡ length b.numbers.private
-  -- who is spared draws the same private references
+  -- a member that is spared draws the same private references
   pub private : (p : ℕ) → Spares s p → slice_index a.numbers.private p ≡ slice_index b.numbers.private p
   -- and all else is equal
   pub rest : rest_of a ≡ rest_of b
@@ -36,8 +36,8 @@ alike_public s a b r = ap (λ (z : Market). z.numbers.public) r.rest
 pub alike_matches : (s : Choice) (a b : Market) → IsAlike s a b → a.numbers.matches ≡ b.numbers.matches
 alike_matches s a b r = ap (λ (z : Market). z.numbers.matches) r.rest
 
-pub alike_hours : (s : Choice) (a b : Market) → IsAlike s a b → a.hours ≡ b.hours
-alike_hours s a b r = ap (λ (z : Market). z.hours) r.rest
+pub alike_hours : (s : Choice) (a b : Market) → IsAlike s a b → a.phase ≡ b.phase
+alike_hours s a b r = ap (λ (z : Market). z.phase) r.rest
 
 pub alike_halted : (s : Choice) (a b : Market) → IsAlike s a b → a.halted ≡ b.halted
 alike_halted s a b r = ap (λ (z : Market). z.halted) r.rest
@@ -45,16 +45,16 @@ alike_halted s a b r = ap (λ (z : Market). z.halted) r.rest
 pub alike_executions : (s : Choice) (a b : Market) → IsAlike s a b → a.executions ≡ b.executions
 alike_executions s a b r = ap (λ (z : Market). z.executions) r.rest
 
--- What is told of tokens that are not chosen.
+-- The state of tokens that are not chosen.
 
 pub alike_used : (s : Choice) (a b : Market) → IsAlike s a b → (m : ℕ) (t : Token) → s m t ≡ false → is_used a.tokens m t ≡ is_used b.tokens m t
-alike_used s a b r m t e = sym (used_kept s m t e a.tokens) ∙ ap (λ z. is_used z m t) r.tokens
+alike_used s a b r m t e = sym (used_retained s m t e a.tokens) ∙ ap (λ z. is_used z m t) r.tokens
 
 pub alike_entered : (s : Choice) (a b : Market) → IsAlike s a b → (m : ℕ) (t : Token) → s m t ≡ false → entered_of a.tokens m t ≡ entered_of b.tokens m t
-alike_entered s a b r m t e = sym (entered_kept s m t e a.tokens) ∙ ap (λ z. entered_of z m t) r.tokens
+alike_entered s a b r m t e = sym (entered_retained s m t e a.tokens) ∙ ap (λ z. entered_of z m t) r.tokens
 
 pub alike_executed : (s : Choice) (a b : Market) → IsAlike s a b → (m : ℕ) (t : Token) → s m t ≡ false → s m (entered_of a.tokens m t) ≡ false → executed_of a m t ≡ executed_of b m t
-alike_executed s a b r m t e f = rw (← alike_entered s a b r m t e, ← r.chains) (sym (executed_kept s m _ f a.chains))
+alike_executed s a b r m t e f = rw (← alike_entered s a b r m t e, ← r.chains) (sym (executed_retained s m _ f a.chains))
 
 -- A token is used, that is chosen or not.
 
@@ -62,8 +62,8 @@ pub alike_consumed : (s : Choice) (a b : Market) → IsAlike s a b → (m : ℕ)
 alike_consumed s a b r m t e =
     record {
       live = r.live;
-      tokens = rw (kept_tokens-append s a.tokens _, r.tokens, e) refl;
-      chains = rw (kept_chains-append s a.chains _, r.chains, e) refl;
+      tokens = rw (retained_tokens-append s a.tokens _, r.tokens, e) refl;
+      chains = rw (retained_chains-append s a.chains _, r.chains, e) refl;
       counts = r.counts;
       private = r.private;
       rest = r.rest;
@@ -73,8 +73,8 @@ pub struck_consumed : (s : Choice) (a b : Market) → IsAlike s a b → (m : ℕ
 struck_consumed s a b r m t e =
     record {
       live = r.live;
-      tokens = rw (kept_tokens-append s a.tokens _, r.tokens, e) (append-nil b.tokens);
-      chains = rw (kept_chains-append s a.chains _, r.chains, e) (append-nil b.chains);
+      tokens = rw (retained_tokens-append s a.tokens _, r.tokens, e) (append-nil b.tokens);
+      chains = rw (retained_chains-append s a.chains _, r.chains, e) (append-nil b.chains);
       counts = r.counts;
       private = r.private;
       rest = r.rest;
@@ -86,9 +86,9 @@ pub alike_handed_over : (s : Choice) (a b : Market) → IsAlike s a b → (m : �
 alike_handed_over s a b r m e t g h =
     record {
       live =
-          filter_kept s (λ x. not (is_called m e x)) (λ x. refl) a.live
-          ∙ ap (filter (λ x. not (is_called m e x))) r.live ∙ sym (filter_kept none (λ x. not (is_called m e x)) (λ x. refl) b.live);
-      tokens = rw (kept_tokens-append s a.tokens _, r.tokens, h, alike_entered s a b r m e g) refl;
+          filter_retained s (λ x. not (is_called m e x)) (λ x. refl) a.live
+          ∙ ap (filter (λ x. not (is_called m e x))) r.live ∙ sym (filter_retained none (λ x. not (is_called m e x)) (λ x. refl) b.live);
+      tokens = rw (retained_tokens-append s a.tokens _, r.tokens, h, alike_entered s a b r m e g) refl;
       chains = r.chains;
       counts = r.counts;
       private = r.private;
@@ -99,7 +99,7 @@ pub struck_handed_over : (s : Choice) (a b : Market) → IsAlike s a b → (m : 
 struck_handed_over s a b r m e t g h =
     record {
       live = others_chosen s m e g a.live ∙ r.live;
-      tokens = rw (kept_tokens-append s a.tokens _, r.tokens, h) (append-nil b.tokens);
+      tokens = rw (retained_tokens-append s a.tokens _, r.tokens, h) (append-nil b.tokens);
       chains = r.chains;
       counts = r.counts;
       private = r.private;
@@ -161,7 +161,7 @@ pub alike_filtered : (s : Choice) (a b : Market) → IsAlike s a b → (p : Orde
     → IsAlike s (record a { live = filter p a.live }) (record b { live = filter p b.live })
 alike_filtered s a b r p same =
     record {
-      live = filter_kept s p same a.live ∙ ap (filter p) r.live ∙ sym (filter_kept none p same b.live);
+      live = filter_retained s p same a.live ∙ ap (filter p) r.live ∙ sym (filter_retained none p same b.live);
       tokens = r.tokens;
       chains = r.chains;
       counts = r.counts;
@@ -173,7 +173,7 @@ pub alike_lessened : (s : Choice) (a b : Market) → IsAlike s a b → (m : ℕ)
     → IsAlike s (record a { live = lessened m t by a.live }) (record b { live = lessened m t by b.live })
 alike_lessened s a b r m t by e =
     record {
-      live = lessened_kept s m t by e a.live ∙ ap (lessened m t by) r.live ∙ sym (lessened_kept none m t by refl b.live);
+      live = lessened_retained s m t by e a.live ∙ ap (lessened m t by) r.live ∙ sym (lessened_retained none m t by refl b.live);
       tokens = r.tokens;
       chains = r.chains;
       counts = r.counts;

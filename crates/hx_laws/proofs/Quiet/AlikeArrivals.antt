@@ -10,9 +10,9 @@ use Rattle.hx_rules.specs.Markets.{Market}
 use Rattle.hx_rules.specs.Executions.{incoming_of, matches_of, chains_after, replies_of_executions, canceled_of, resting_of, displays, Arrival, settled, arrive}
 use Rattle.hx_laws.specs.QuietChains.{Choice}
 use Rattle.hx_laws.specs.Laws.{AreSpared}
-use Rattle.hx_laws.proofs.Quiet.KeptViews.{none, blank, kept, kept_chains, kept_matched, blank_executions}
-use Rattle.hx_laws.proofs.Quiet.KeptChoices.{kept-append, matched-kept}
-use Rattle.hx_laws.proofs.Quiet.KeptWords.{note_kept, chains_kept, replies_of_executions-blank}
+use Rattle.hx_laws.proofs.Quiet.RetainedViews.{none, blank, retained, retained_chains, retained_matched, blank_executions}
+use Rattle.hx_laws.proofs.Quiet.RetainedChoices.{retained-append, matched-retained}
+use Rattle.hx_laws.proofs.Quiet.RetainedWords.{note_retained, chains_retained, replies_of_executions-blank}
 use Rattle.hx_laws.proofs.Quiet.Alike.{IsAlike, rest_of, alike_entered, alike_matches}
 
 -- What a blank leaves as it is.
@@ -33,10 +33,10 @@ chains-blank : (ts : List Used) (m : ℕ) (e : Token) (es : List Execution) (cs 
 chains-blank ts m e [] cs = refl
 chains-blank ts m e (f ∷ es) cs = rw (chains-blank ts m e es _) refl
 
-resting_kept : (s : Choice) (x : Order) (immediate : Bool) (left : ℕ) → s x.member x.token ≡ false → kept true s (resting_of x immediate left) ≡ resting_of (blank true x) immediate left
-resting_kept s x immediate left e = choose (ltb 0 left && not immediate)
+resting_retained : (s : Choice) (x : Order) (immediate : Bool) (left : ℕ) → s x.member x.token ≡ false → retained true s (resting_of x immediate left) ≡ resting_of (blank true x) immediate left
+resting_retained s x immediate left e = choose (ltb 0 left && not immediate)
   where
-    choose : (b : Bool) → kept true s (cond b (with_shares x left ∷ []) []) ≡ cond b (with_shares (blank true x) left ∷ []) []
+    choose : (b : Bool) → retained true s (cond b (with_shares x left ∷ []) []) ≡ cond b (with_shares (blank true x) left ∷ []) []
     choose true = rw e refl
     choose false = refl
 
@@ -47,35 +47,35 @@ displays_blank x immediate left = choose (ltb 0 left && not immediate)
     choose true = refl
     choose false = refl
 
-displayed_kept : (s : Choice) (b : Bool) (m : ℕ) (e : Token) (cs : List Chain)
-    → kept_chains s (if b then note m e 0 true cs else cs) ≡ (if b then note m e 0 true (kept_chains s cs) else kept_chains s cs)
-displayed_kept s true m e cs = note_kept s m e 0 true cs
-displayed_kept s false m e cs = refl
+displayed_retained : (s : Choice) (b : Bool) (m : ℕ) (e : Token) (cs : List Chain)
+    → retained_chains s (if b then note m e 0 true cs else cs) ≡ (if b then note m e 0 true (retained_chains s cs) else retained_chains s cs)
+displayed_retained s true m e cs = note_retained s m e 0 true cs
+displayed_retained s false m e cs = refl
 
 -- arrivals that differ in nothing that is not blanked
 pub record ArriveAlike (s : Choice) (a b : Arrival) : Type 0 where
   pub market : IsAlike s a.market b.market
   pub executions : blank_executions true a.executions ≡ blank_executions true b.executions
-  pub resting : kept true none a.resting ≡ kept true none b.resting
+  pub resting : retained true none a.resting ≡ retained true none b.resting
   pub replies : a.replies ≡ b.replies
 
--- the executions are the same where none of a chosen order is among them
+-- the executions are the same if none of a chosen order is among them
 same_matched : (s : Choice) (a b : Market) → IsAlike s a b → (inc : Incoming) (n : ℕ) → AreSpared s (matched inc n a.live).fills
-    → kept_matched true s (matched inc n a.live) ≡ kept_matched true none (matched inc n b.live)
-same_matched s a b r inc n h = sym (matched-kept true s inc n a.live h) ∙ ap (matched inc n) r.live ∙ matched-kept true none inc n b.live (none_chosen _)
+    → retained_matched true s (matched inc n a.live) ≡ retained_matched true none (matched inc n b.live)
+same_matched s a b r inc n h = sym (matched-retained true s inc n a.live h) ∙ ap (matched inc n) r.live ∙ matched-retained true none inc n b.live (none_chosen _)
 
--- what the executions leave and tell is alike
+-- what the executions leave, and their output, is alike
 settled_alike : (s : Choice) (a b : Market) → IsAlike s a b → (time : ℕ) (immediate : Bool) (x y : Order) → blank true x ≡ blank true y → s x.member x.token ≡ false
-    → (ma mb : Matched) → kept_matched true s ma ≡ kept_matched true none mb → AreSpared s ma.fills → ArriveAlike s (settled time immediate x a ma) (settled time immediate y b mb)
+    → (ma mb : Matched) → retained_matched true s ma ≡ retained_matched true none mb → AreSpared s ma.fills → ArriveAlike s (settled time immediate x a ma) (settled time immediate y b mb)
 settled_alike s a b r time immediate x y p e ma mb q h =
     record {
       market = record {
         live =
-            kept-append true s ma.rest (resting_of x immediate ma.left) ∙ ap (λ z. z ++ kept true s (resting_of x immediate ma.left)) rest
-            ∙ ap (λ z. kept true none mb.rest ++ z) (resting_kept s x immediate ma.left e ∙ rests ∙ sym (resting_kept none y immediate mb.left refl))
-            ∙ sym (kept-append true none mb.rest (resting_of y immediate mb.left));
+            retained-append true s ma.rest (resting_of x immediate ma.left) ∙ ap (λ z. z ++ retained true s (resting_of x immediate ma.left)) rest
+            ∙ ap (λ z. retained true none mb.rest ++ z) (resting_retained s x immediate ma.left e ∙ rests ∙ sym (resting_retained none y immediate mb.left refl))
+            ∙ sym (retained-append true none mb.rest (resting_of y immediate mb.left));
         tokens = r.tokens;
-        chains = displayed_kept s (displays (resting_of x immediate ma.left)) x.member ea (chains_after a.tokens x.member ea ma.fills a.chains) ∙ (rw (shows, chains, entered, member) refl);
+        chains = displayed_retained s (displays (resting_of x immediate ma.left)) x.member ea (chains_after a.tokens x.member ea ma.fills a.chains) ∙ (rw (shows, chains, entered, member) refl);
         counts = r.counts;
         private = r.private;
         rest = ap (λ (z : Market). record z {
@@ -92,7 +92,7 @@ settled_alike s a b r time immediate x y p e ma mb q h =
             }) done;
       };
       executions = fills;
-      resting = resting_kept none x immediate ma.left refl ∙ rests ∙ sym (resting_kept none y immediate mb.left refl);
+      resting = resting_retained none x immediate ma.left refl ∙ rests ∙ sym (resting_retained none y immediate mb.left refl);
       replies =
           let f : replies_of_executions time x.member x.token a.numbers.matches ma.fills ≡ replies_of_executions time y.member y.token b.numbers.matches mb.fills
           = replies_of_executions-blank time x.member x.token a.numbers.matches ma.fills ∙ (rw (alike_matches s a b r, member, token, fills) (sym (replies_of_executions-blank time y.member y.token b.numbers.matches mb.fills))) in
@@ -109,7 +109,7 @@ settled_alike s a b r time immediate x y p e ma mb q h =
     left : ma.left ≡ mb.left
     left = ap (λ (z : Matched). z.left) q
 
-    rest : kept true s ma.rest ≡ kept true none mb.rest
+    rest : retained true s ma.rest ≡ retained true none mb.rest
     rest = ap (λ (z : Matched). z.rest) q
 
     fills : blank_executions true ma.fills ≡ blank_executions true mb.fills
@@ -130,8 +130,8 @@ settled_alike s a b r time immediate x y p e ma mb q h =
     entered : ea ≡ eb
     entered = alike_entered s a b r x.member x.token e ∙ (rw (member, token) refl)
 
-    chains : kept_chains s (chains_after a.tokens x.member ea ma.fills a.chains) ≡ chains_after b.tokens y.member eb mb.fills b.chains
-    chains = chains_kept s a.tokens x.member ea ma.fills a.chains h ∙ (rw (r.tokens, r.chains, fills, entered, member) (chains-blank b.tokens y.member eb mb.fills b.chains))
+    chains : retained_chains s (chains_after a.tokens x.member ea ma.fills a.chains) ≡ chains_after b.tokens y.member eb mb.fills b.chains
+    chains = chains_retained s a.tokens x.member ea ma.fills a.chains h ∙ (rw (r.tokens, r.chains, fills, entered, member) (chains-blank b.tokens y.member eb mb.fills b.chains))
 
     shows : displays (resting_of x immediate ma.left) ≡ displays (resting_of y immediate mb.left)
     shows =
@@ -148,4 +148,4 @@ arrive_alike s a b r time immediate x y p e h =
     let inc : incoming_of x ≡ incoming_of y = ap (λ (z : Order). incoming_of z) p in
     let n : x.shares ≡ y.shares = ap (λ (z : Order). z.shares) p in
     settled_alike s a b r time immediate x y p e (matched (incoming_of x) x.shares a.live) (matched (incoming_of y) y.shares b.live)
-    (same_matched s a b r (incoming_of x) x.shares h ∙ ap (λ i. kept_matched true none (matched i x.shares b.live)) inc ∙ ap (λ k. kept_matched true none (matched (incoming_of y) k b.live)) n) h
+    (same_matched s a b r (incoming_of x) x.shares h ∙ ap (λ i. retained_matched true none (matched i x.shares b.live)) inc ∙ ap (λ k. retained_matched true none (matched (incoming_of y) k b.live)) n) h

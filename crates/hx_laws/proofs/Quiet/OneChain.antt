@@ -66,7 +66,7 @@ of_both a m q o c = record { root = λ _. (entered_of o.market.tokens m q.existi
 
 act_of : (setup : Setup) (a : Market) → Coherent a → (m time : ℕ) (x : Option Inbound) → IsOfOne a m x (receive setup a m time x)
 act_of setup a coherent m time None = idle a m None
-act_of setup a coherent m time (Some (Enter e)) = choose (is_used a.tokens m e.token) (rejection setup a.hours a.halted e)
+act_of setup a coherent m time (Some (Enter e)) = choose (is_used a.tokens m e.token) (rejection setup a.phase a.halted e)
   where
     used : (o : Outcome) → Moves (consumed a m e.token) o.market → is_used o.market.tokens m e.token ≡ true
     used o moves = moves.grows.used m e.token (used_last a.tokens (entered_used m e.token))
@@ -77,7 +77,7 @@ act_of setup a coherent m time (Some (Enter e)) = choose (is_used a.tokens m e.t
     choose false None = of_token a m _ (accept setup a m time e) e.token (used (accept setup a m time e) (after_consumed a time e _)) (λ t b. only_same m t e.token b)
 act_of setup a coherent m time (Some (Replace q)) =
     choose (find (is_called m q.existing_token) a.live) refl (is_used a.tokens m q.replacement_token) refl
-    (is_order_halted a.halted (find (is_called m q.existing_token) a.live)) (replace_fails a.hours (executed_of a m q.existing_token) q)
+    (is_order_halted a.halted (find (is_called m q.existing_token) a.live)) (replace_fails a.phase (executed_of a m q.existing_token) q)
   where
     joined : (x : Order) → find (is_called m q.existing_token) a.live ≡ Some x → is_used a.tokens m q.replacement_token ≡ false
         → (o : Outcome) → Moves (handed_over a m q.existing_token q.replacement_token) o.market → IsOfOne a m (Some (Replace q)) o
@@ -100,7 +100,7 @@ act_of setup a coherent m time (Some (Cancel c)) = choose _ (find (is_called m c
     choose false (Some x) e g =
         of_token a m (Some (Cancel c)) (cancelled_by a m time c false (Some x)) c.token (g.grows.used m c.token (called_used a m c.token x coherent e)) (λ t b. only_same m t c.token b)
 
--- the token is that of the member who sent the message
+-- the token is that of the member that sent the message
 own_token : (m p : ℕ) (t : Token) (x : Option Inbound) → message_bears (only p t) m x ≡ true → m ≡ p
 own_token m p t None h = absurd (let z : false ≡ true = h in cc)
 own_token m p t (Some (Enter e)) h = eqb-true m p (and_parts (m == p) (is_token e.token t) h).0

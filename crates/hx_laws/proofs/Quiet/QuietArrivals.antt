@@ -5,6 +5,7 @@ use Rattle.std.specs.List.{AllByRecursion}
 use Rattle.std.proofs.lemmas.List.{append-nil}
 use Rattle.std.proofs.Math.Nat.{add-zero}
 use Rattle.hx_match.specs.Matching.{Execution, Matched, matched, with_shares}
+use Rattle.hx_match.proofs.AnyShares.{IsExecution, matched_of}
 use Rattle.hx_members.specs.Chains.{Used, Chain, is_used, entered_of, note, has_chain, is_loud}
 use Rattle.hx_members.proofs.ChainLaws.{has_chain-note}
 use Rattle.hx_rules.specs.Orders.{Order, Token}
@@ -16,10 +17,10 @@ use Rattle.hx_laws.specs.Laws.{AreSpared, AreQuietChains}
 use Rattle.hx_laws.proofs.Quiet.QuietBefore.{not_both}
 use Rattle.hx_laws.proofs.History.NoExecutions.{nothing_matched}
 use Rattle.hx_laws.proofs.History.ChainsGrow.{Grows, Grows_note, Grows_executions, note_makes_loud}
-use Rattle.hx_laws.proofs.History.CoherentMarkets.{IsKnown, IsExecution, known_shares, matched_of}
+use Rattle.hx_laws.proofs.History.CoherentMarkets.{IsKnown, known_shares}
 use Rattle.hx_laws.proofs.History.CoherentSteps.{Coherent, GrowsTo, Grows_displayed}
-use Rattle.hx_laws.proofs.Quiet.KeptViews.{kept}
-use Rattle.hx_laws.proofs.Quiet.KeptChoices.{kept-append}
+use Rattle.hx_laws.proofs.Quiet.RetainedViews.{retained}
+use Rattle.hx_laws.proofs.Quiet.RetainedChoices.{retained-append}
 use Rattle.hx_laws.proofs.Quiet.Alike.{IsAlike, rest_of}
 
 -- chains that are quiet later were quiet before
@@ -64,7 +65,7 @@ executions_spared s ts c same q known cs m e (f ∷ es) k h g =
     next : HaveChains ts (note m e f.shares false (note p r f.shares false cs))
     next k v u = has_chain-note m e f.shares false (note p r f.shares false cs) k (entered_of ts k v) ∙ has_chain-note p r f.shares false cs k (entered_of ts k v) ∙ h k v u
 
--- where chains are quiet after an arrival, none of their orders was executed
+-- if chains are quiet after an arrival, none of their orders was executed
 pub arrive_spared : (s : Choice) (time : ℕ) (immediate : Bool) (x : Order) (a : Market) → Coherent a → AreQuietChains s (arrive time immediate x a).market
     → AreSpared s (matched (incoming_of x) x.shares a.live).fills
 arrive_spared s time immediate x a coherent q =
@@ -125,11 +126,11 @@ arrives_quietly s time immediate x a coherent u h late some q = record { executi
     choose true f =
         not_both _ (note_makes_loud cs x.member e 0 true refl ((Grows_executions m.fills a.tokens a.chains x.member e).has x.member e has)) (rw (shows f) at quiet)
 
--- what rests of it is not kept, and is not displayed
-resting_chosen : (s : Choice) (x : Order) (immediate : Bool) (left : ℕ) → s x.member x.token ≡ true → kept true s (resting_of x immediate left) ≡ []
+-- what rests of it is not retained, and is not displayed
+resting_chosen : (s : Choice) (x : Order) (immediate : Bool) (left : ℕ) → s x.member x.token ≡ true → retained true s (resting_of x immediate left) ≡ []
 resting_chosen s x immediate left e = choose (ltb 0 left && not immediate)
   where
-    choose : (b : Bool) → kept true s (cond b (with_shares x left ∷ []) []) ≡ []
+    choose : (b : Bool) → retained true s (cond b (with_shares x left ∷ []) []) ≡ []
     choose true = rw e refl
     choose false = refl
 
@@ -140,13 +141,13 @@ hidden_rests x immediate left e = choose (ltb 0 left && not immediate)
     choose true = e
     choose false = refl
 
--- such an arrival leaves what is kept
+-- such an arrival leaves what is retained
 pub struck_arrive : (s : Choice) (a b : Market) → IsAlike s a b → (time : ℕ) (immediate : Bool) (x : Order) → s x.member x.token ≡ true → ArrivesQuietly x a → IsAlike s (arrive time immediate x a).market b
 struck_arrive s a b r time immediate x e q =
     let m = matched (incoming_of x) x.shares a.live in
     let n = nothing_matched (incoming_of x) x.shares a.live q.executions in
     record {
-      live = rw (kept-append true s m.rest (resting_of x immediate m.left), resting_chosen s x immediate m.left e, n.rest) (append-nil _ ∙ r.live);
+      live = rw (retained-append true s m.rest (resting_of x immediate m.left), resting_chosen s x immediate m.left e, n.rest) (append-nil _ ∙ r.live);
       tokens = r.tokens;
       chains = rw (hidden_rests x immediate m.left q.hidden, q.executions) r.chains;
       counts = r.counts;

@@ -9,7 +9,7 @@ use Rattle.hx_ouch.specs.declared.inbound.Replace.{Replace as Change}
 use Rattle.hx_ouch.specs.declared.outbound.Outbound.{Outbound}
 use Rattle.hx_rules.specs.Orders.{Order, is_shown, is_immediate}
 use Rattle.hx_rules.specs.Markets.{Market}
-use Rattle.hx_rules.specs.Outputs.{Told, Outcome}
+use Rattle.hx_rules.specs.Outputs.{EventOutput, Outcome}
 use Rattle.hx_rules.specs.Executions.{Arrival, arrive, arrival_feed}
 use Rattle.hx_rules.specs.Enter.{consumed, next_reference, drawn, entered_order, accepted_of, accept}
 use Rattle.hx_rules.specs.Replace.{handed_over, executed_of, replacing_order, replaced_of, replace_feed, succeed}
@@ -17,7 +17,7 @@ use Rattle.hx_laws.specs.QuietChains.{Choice, reply_lines, lines_of}
 use Rattle.hx_laws.specs.Laws.{AreQuietChains, IsUnknownTo}
 use Rattle.hx_laws.proofs.History.CoherentSteps.{Coherent, Moves, Moves_trans, consumed_moves, handed_over_moves, drawn_moves}
 use Rattle.hx_laws.proofs.History.EventMoves.{replacement_of}
-use Rattle.hx_laws.proofs.Quiet.KeptViews.{blank, Spares}
+use Rattle.hx_laws.proofs.Quiet.RetainedViews.{blank, Spares}
 use Rattle.hx_laws.proofs.Quiet.Alike.{IsAlike, alike_public, alike_matches, alike_consumed, alike_handed_over, alike_drawn}
 use Rattle.hx_laws.proofs.Quiet.AlikeArrivals.{ArriveAlike, arrive_alike}
 use Rattle.hx_laws.proofs.Quiet.QuietArrivals.{arrive_spared}
@@ -26,10 +26,10 @@ use Rattle.hx_laws.proofs.Quiet.SeenLines.{same_first, arrival_feed_same, replac
 -- outcomes that leave markets alike, and look the same
 pub record IsSame (s : Choice) (see : ℕ → Bool) (a b : Outcome) : Type 0 where
   pub market : IsAlike s a.market b.market
-  pub seen : lines_of see a.told ≡ lines_of see b.told
+  pub seen : lines_of see a.output ≡ lines_of see b.output
 
-pub same_told : (see : ℕ → Bool) (o p : Told) → o.feed ≡ p.feed → reply_lines see o.replies ≡ reply_lines see p.replies → lines_of see o ≡ lines_of see p
-same_told see o p e h = rw (e, h) refl
+pub same_output : (see : ℕ → Bool) (o p : EventOutput) → o.feed ≡ p.feed → reply_lines see o.replies ≡ reply_lines see p.replies → lines_of see o ≡ lines_of see p
+same_output see o p e h = rw (e, h) refl
 
 -- Numbers drawn.
 
@@ -55,7 +55,7 @@ pub same_accept : (s : Choice) (see : ℕ → Bool) → IsUnknownTo see s → (s
 same_accept s see blind setup a b coherent r m time e unused keep q =
     record {
       market = k.market;
-      seen = same_told see (accept setup a m time e).told (accept setup b m time e).told feeds (same_first see m _ _ _ _ terms (ap (reply_lines see) k.replies));
+      seen = same_output see (accept setup a m time e).output (accept setup b m time e).output feeds (same_first see m _ _ _ _ terms (ap (reply_lines see) k.replies));
     }
   where
     d : Bool
@@ -104,7 +104,7 @@ replacing_same : (n r k time : ℕ) (q : Change) (old past : Order) → blank tr
     → blank true (replacing_order n r time q old) ≡ blank true (replacing_order n k time q past)
 replacing_same n r k time q old past p h = ap (λ (z : Order). blank true (replacing_order n r time q z)) p ∙ replacing_numbers n r k time q past h
 
--- what is told to the order's member, with this reference
+-- the reply to the order's member, with this reference
 abbrev replaced_with : ℕ → Change → Symbol → Order → ℕ → Outbound
 replaced_with time q stock x reference = (replaced_of 0 time stock q (record x { reference = reference })).1
 
@@ -120,7 +120,7 @@ pub same_succeed : (s : Choice) (see : ℕ → Bool) → IsUnknownTo see s → (
 same_succeed s see blind setup a b coherent r m time q g h old past p own used done quiet =
     record {
       market = k.market;
-      seen = same_told see (succeed setup a m time q old).told (succeed setup b m time q past).told feeds (same_first see m _ _ _ _ terms (ap (reply_lines see) k.replies));
+      seen = same_output see (succeed setup a m time q old).output (succeed setup b m time q past).output feeds (same_first see m _ _ _ _ terms (ap (reply_lines see) k.replies));
     }
   where
     d : Bool

@@ -1,4 +1,4 @@
--- An event that bears no chosen token does and tells the same in two markets that are alike.
+-- An event that bears no chosen token has the same effect and output in two markets that are alike.
 use Rattle.std.proofs.Common.{◌≡◌, ℕ, ◌+◌, Bool, true, false, refl, ap, sym, ◌∙◌, ltb, ◌&&◌, not, List, [], ◌∷◌, ◌++◌, Some, None, Option, map}
 use Rattle.std.specs.Prelude.{◌==◌, slice_index, slice_set}
 use Rattle.std.specs.Option.{option_map}
@@ -18,12 +18,12 @@ use Rattle.hx_rules.specs.declared.event.Event.TheVariants.{Message, Tick, Hours
 use Rattle.hx_rules.specs.Orders.{Order, Token, is_called}
 use Rattle.hx_rules.specs.declared.matches.Match.{Match}
 use Rattle.hx_rules.specs.Markets.{Market, is_halted}
-use Rattle.hx_rules.specs.Outputs.{Told, silent}
+use Rattle.hx_rules.specs.Outputs.{EventOutput, silent}
 use Rattle.hx_rules.specs.Enter.{rejection, entered_by, enter}
 use Rattle.hx_rules.specs.Removal.{deleted, canceled, taken_off}
 use Rattle.hx_rules.specs.Replace.{executed_of, is_order_halted, replace_fails, fail_replace, replaced_by, replace}
 use Rattle.hx_rules.specs.Cancel.{cancelled_shares, take_off, is_idle, cancelled_by, cancel}
-use Rattle.hx_rules.specs.Hours.{end_orders, is_over, all_deleted, hours_codes, ends_by_code, told_by_code, hours_by, next_hours}
+use Rattle.hx_rules.specs.Hours.{end_orders, is_over, all_deleted, hours_codes, ends_by_code, output_by_code, hours_by, next_hours}
 use Rattle.hx_rules.specs.Halts.{is_trading_state, halted_by, halt}
 use Rattle.hx_rules.specs.Breaks.{execution_of, with_execution, broken_if, broken_by, break_trade}
 use Rattle.hx_rules.specs.Steps.{receive, happens}
@@ -33,19 +33,19 @@ use Rattle.hx_laws.proofs.Quiet.QuietBefore.{not_both}
 use Rattle.hx_laws.proofs.History.CoherentMarkets.{IsKnown}
 use Rattle.hx_laws.proofs.History.CoherentSteps.{Coherent, found_of}
 use Rattle.hx_laws.proofs.History.EventMoves.{called_used, replace_moves, cancel_moves}
-use Rattle.hx_laws.proofs.Quiet.KeptViews.{none, blank}
-use Rattle.hx_laws.proofs.Quiet.KeptWords.{find_kept}
+use Rattle.hx_laws.proofs.Quiet.RetainedViews.{none, blank}
+use Rattle.hx_laws.proofs.Quiet.RetainedWords.{find_retained}
 use Rattle.hx_laws.proofs.Quiet.Alike.{IsAlike, alike_hours, alike_halted, alike_executions, alike_used, alike_executed, alike_consumed, alike_handed_over, alike_filtered, alike_lessened}
 use Rattle.hx_laws.proofs.Quiet.QuietArrivals.{quiet_earlier}
-use Rattle.hx_laws.proofs.Quiet.SeenLines.{IsHidden, LooksPast, reply_lines-append, deleted-blank, taken_off-blank, deleted_kept, ended, ended_kept}
-use Rattle.hx_laws.proofs.Quiet.SameArrivals.{IsSame, same_told, same_accept, same_succeed}
+use Rattle.hx_laws.proofs.Quiet.SeenLines.{IsHidden, LooksPast, reply_lines-append, deleted-blank, taken_off-blank, deleted_retained, ended, ended_retained}
+use Rattle.hx_laws.proofs.Quiet.SameArrivals.{IsSame, same_output, same_accept, same_succeed}
 
 -- A message of a token that is not chosen.
 
 same_enter : (s : Choice) (see : ℕ → Bool) → IsUnknownTo see s → (setup : Setup) (a b : Market) → Coherent a → IsAlike s a b → (m time : ℕ) (e : NewOrder) → s m e.token ≡ false
     → AreQuietChains s (enter setup a m time e).market → IsSame s see (enter setup a m time e) (enter setup b m time e)
 same_enter s see blind setup a b coherent r m time e keep =
-    rw (← alike_used s a b r m e.token keep, ap (λ (n : ℕ). rejection setup n b.halted e) (sym (alike_hours s a b r)), ap (λ (hs : List Bool). rejection setup a.hours hs e) (sym (alike_halted s a b r))) (choose (is_used a.tokens m e.token) refl (rejection setup a.hours a.halted e))
+    rw (← alike_used s a b r m e.token keep, ap (λ (n : ℕ). rejection setup n b.halted e) (sym (alike_hours s a b r)), ap (λ (hs : List Bool). rejection setup a.phase hs e) (sym (alike_halted s a b r))) (choose (is_used a.tokens m e.token) refl (rejection setup a.phase a.halted e))
   where
     choose : (u : Bool) → is_used a.tokens m e.token ≡ u → (o : Option ℕ) → AreQuietChains s (entered_by setup a m time e u o).market
         → IsSame s see (entered_by setup a m time e u o) (entered_by setup b m time e u o)
@@ -56,14 +56,14 @@ same_enter s see blind setup a b coherent r m time e keep =
 -- the same live order is found
 same_found : (s : Choice) (a b : Market) → IsAlike s a b → (m : ℕ) (t : Token) → s m t ≡ false
     → option_map (blank true) (find (is_called m t) a.live) ≡ option_map (blank true) (find (is_called m t) b.live)
-same_found s a b r m t g = sym (find_kept s m t g a.live) ∙ ap (find (is_called m t)) r.live ∙ find_kept none m t refl b.live
+same_found s a b r m t g = sym (find_retained s m t g a.live) ∙ ap (find (is_called m t)) r.live ∙ find_retained none m t refl b.live
 
 same_fail : (s : Choice) (see : ℕ → Bool) (a b : Market) → IsAlike s a b → (m time : ℕ) (e t : Token) → s m e ≡ false → s m t ≡ false → (x y : Order) → blank true x ≡ blank true y
     → IsSame s see (fail_replace a m time e t x) (fail_replace b m time e t y)
 same_fail s see a b r m time e t g h x y p =
     record {
       market = alike_handed_over s a b r m e t g h;
-      seen = same_told see (fail_replace a m time e t x).told (fail_replace b m time e t y).told (sym (deleted-blank time x) ∙ ap (deleted time) p ∙ deleted-blank time y)
+      seen = same_output see (fail_replace a m time e t x).output (fail_replace b m time e t y).output (sym (deleted-blank time x) ∙ ap (deleted time) p ∙ deleted-blank time y)
           (ap (λ (z : Order). reply_lines see (canceled time m e z.shares 85 ∷ [])) p);
     }
 
@@ -86,16 +86,16 @@ same_replace s see blind setup a b coherent r m time q g h quiet = choose (find 
         same_succeed s see blind setup a b coherent r m time q g h x y p (found_of (IsKnown a.tokens a.chains) m q.existing_token a.live x coherent.known e).1.0
         (called_used a m q.existing_token x coherent e) (done x e) c
 
-    fails : executed_of a m q.existing_token ≡ executed_of b m q.existing_token → replace_fails b.hours (executed_of b m q.existing_token) q ≡ replace_fails a.hours (executed_of a m q.existing_token) q
-    fails e = ap (λ (n : ℕ). replace_fails n (executed_of b m q.existing_token) q) (sym (alike_hours s a b r)) ∙ ap (λ (n : ℕ). replace_fails a.hours n q) (sym e)
+    fails : executed_of a m q.existing_token ≡ executed_of b m q.existing_token → replace_fails b.phase (executed_of b m q.existing_token) q ≡ replace_fails a.phase (executed_of a m q.existing_token) q
+    fails e = ap (λ (n : ℕ). replace_fails n (executed_of b m q.existing_token) q) (sym (alike_hours s a b r)) ∙ ap (λ (n : ℕ). replace_fails a.phase n q) (sym e)
 
     stopped : (x y : Order) → blank true x ≡ blank true y → is_halted b.halted y.locate ≡ is_halted a.halted x.locate
     stopped x y p = ap (λ (hs : List Bool). is_halted hs y.locate) (sym (alike_halted s a b r)) ∙ ap (λ (z : Order). is_halted a.halted z.locate) (sym p)
 
     choose : (o p : Option Order) → find (is_called m q.existing_token) a.live ≡ o → option_map (blank true) o ≡ option_map (blank true) p
-        → AreQuietChains s (replaced_by setup a m time q o (is_used a.tokens m q.replacement_token) (is_order_halted a.halted o) (replace_fails a.hours (executed_of a m q.existing_token) q)).market
-        → IsSame s see (replaced_by setup a m time q o (is_used a.tokens m q.replacement_token) (is_order_halted a.halted o) (replace_fails a.hours (executed_of a m q.existing_token) q))
-        (replaced_by setup b m time q p (is_used b.tokens m q.replacement_token) (is_order_halted b.halted p) (replace_fails b.hours (executed_of b m q.existing_token) q))
+        → AreQuietChains s (replaced_by setup a m time q o (is_used a.tokens m q.replacement_token) (is_order_halted a.halted o) (replace_fails a.phase (executed_of a m q.existing_token) q)).market
+        → IsSame s see (replaced_by setup a m time q o (is_used a.tokens m q.replacement_token) (is_order_halted a.halted o) (replace_fails a.phase (executed_of a m q.existing_token) q))
+        (replaced_by setup b m time q p (is_used b.tokens m q.replacement_token) (is_order_halted b.halted p) (replace_fails b.phase (executed_of b m q.existing_token) q))
     choose None None e p c = record { market = r; seen = refl }
     choose None (Some y) e p c = absurd (cc p)
     choose (Some x) None e p c = absurd (cc p)
@@ -108,7 +108,7 @@ same_take_off : (s : Choice) (see : ℕ → Bool) (a b : Market) → IsAlike s a
 same_take_off s see a b r m time t by g x y p =
     record {
       market = alike_lessened s a b r m t by g;
-      seen = same_told see (take_off a m time t by x).told (take_off b m time t by y).told (sym (taken_off-blank time by x) ∙ ap (taken_off time by) p ∙ taken_off-blank time by y) refl;
+      seen = same_output see (take_off a m time t by x).output (take_off b m time t by y).output (sym (taken_off-blank time by x) ∙ ap (taken_off time by) p ∙ taken_off-blank time by y) refl;
     }
 
 same_cancel : (s : Choice) (see : ℕ → Bool) (a b : Market) → Coherent a → IsAlike s a b → (m time : ℕ) (c : Less) → s m c.token ≡ false
@@ -154,25 +154,25 @@ none_hidden [] = tt
 none_hidden (x ∷ xs) = ((λ h. absurd (let z : false ≡ true = h in cc)), none_hidden xs)
 
 same_end : (s : Choice) (see : ℕ → Bool) → IsUnknownTo see s → (a b : Market) → Coherent a → IsAlike s a b → AreQuietChains s a → (due : Order → Bool) → LooksPast due
-    → (time : ℕ) (o : Told) → IsSame s see (end_orders due time a o) (end_orders due time b o)
+    → (time : ℕ) (o : EventOutput) → IsSame s see (end_orders due time a o) (end_orders due time b o)
 same_end s see blind a b coherent r quiet due same time o =
-    record { market = alike_filtered s a b r (λ x. not (due x)) (λ x. ap not (same x)); seen = same_told see (end_orders due time a o).told (end_orders due time b o).told deletes replies }
+    record { market = alike_filtered s a b r (λ x. not (due x)) (λ x. ap not (same x)); seen = same_output see (end_orders due time a o).output (end_orders due time b o).output deletes replies }
   where
     deletes : o.feed ++ all_deleted time (filter due a.live) ≡ o.feed ++ all_deleted time (filter due b.live)
     deletes =
-        ap (λ z. o.feed ++ z) (deleted_kept s due same time a.live (all_hidden s a quiet a.live coherent.known)
-        ∙ ap (λ z. all_deleted time (filter due z)) r.live ∙ sym (deleted_kept none due same time b.live (none_hidden b.live)))
+        ap (λ z. o.feed ++ z) (deleted_retained s due same time a.live (all_hidden s a quiet a.live coherent.known)
+        ∙ ap (λ z. all_deleted time (filter due z)) r.live ∙ sym (deleted_retained none due same time b.live (none_hidden b.live)))
 
     replies : reply_lines see (o.replies ++ map (ended time) (filter due a.live)) ≡ reply_lines see (o.replies ++ map (ended time) (filter due b.live))
     replies =
         reply_lines-append see o.replies _
-        ∙ ap (λ z. reply_lines see o.replies ++ z) (ended_kept see s blind due same time a.live ∙ ap (λ z. reply_lines see (map (ended time) (filter due z))) r.live
-        ∙ sym (ended_kept see none (λ p h t. refl) due same time b.live))
+        ∙ ap (λ z. reply_lines see o.replies ++ z) (ended_retained see s blind due same time a.live ∙ ap (λ z. reply_lines see (map (ended time) (filter due z))) r.live
+        ∙ sym (ended_retained see none (λ p h t. refl) due same time b.live))
         ∙ sym (reply_lines-append see o.replies _)
 
-turn_alike : (s : Choice) (a b : Market) → IsAlike s a b → IsAlike s (record a { hours = a.hours + 1 }) (record b { hours = b.hours + 1 })
+turn_alike : (s : Choice) (a b : Market) → IsAlike s a b → IsAlike s (record a { phase = a.phase + 1 }) (record b { phase = b.phase + 1 })
 turn_alike s a b r =
-    record { live = r.live; tokens = r.tokens; chains = r.chains; counts = r.counts; private = r.private; rest = ap (λ (z : Market). record z { hours = z.hours + 1 }) r.rest }
+    record { live = r.live; tokens = r.tokens; chains = r.chains; counts = r.counts; private = r.private; rest = ap (λ (z : Market). record z { phase = z.phase + 1 }) r.rest }
 
 same_hours : (s : Choice) (see : ℕ → Bool) → IsUnknownTo see s → (setup : Setup) (a b : Market) → Coherent a → IsAlike s a b → AreQuietChains s a → (time code : ℕ)
     → IsSame s see (next_hours setup a time code) (next_hours setup b time code)
@@ -182,8 +182,8 @@ same_hours s see blind setup a b coherent r quiet time code =
     choose : (d : Bool) → IsSame s see (hours_by setup a time code d) (hours_by setup b time code d)
     choose false = record { market = r; seen = refl }
     choose true =
-        same_end s see blind (record a { hours = a.hours + 1 }) (record b { hours = b.hours + 1 }) coherent (turn_alike s a b r) (record { whole = quiet.whole; quiet = quiet.quiet })
-        (ends_by_code code) (λ x. refl) time (told_by_code setup time code)
+        same_end s see blind (record a { phase = a.phase + 1 }) (record b { phase = b.phase + 1 }) coherent (turn_alike s a b r) (record { whole = quiet.whole; quiet = quiet.quiet })
+        (ends_by_code code) (λ x. refl) time (output_by_code setup time code)
 
 -- A stock is halted, or an execution is broken.
 

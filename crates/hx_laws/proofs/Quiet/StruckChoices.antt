@@ -77,7 +77,7 @@ from_any p P Q f (x ∷ xs) h a = choose (p x) refl h (λ k. from_any p P Q f xs
     choose true e h next = f x e a.0
     choose false e h next = next h
 
--- the tokens of the list, where it has whole chains
+-- the tokens of the list, if it has whole chains
 listed_quiet : (a : Market) → Coherent a → (m : ℕ) (tokens : List Token) → AreWholeQuietChains m tokens a → IsOfQuietChains m (λ t. list_any (is_token t) tokens) a
 listed_quiet a coherent m tokens q = record { whole = whole; quiet = quiet }
   where

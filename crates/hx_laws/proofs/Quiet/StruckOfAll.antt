@@ -1,11 +1,11 @@
--- The quiet chains of all members at once: the feed; and those of all but one: his replies.
+-- The quiet chains of all members at once: the feed; and those of all but one: its replies.
 use Rattle.std.proofs.Common.{◌≡◌, ℕ, Bool, true, false, cond, refl, ap, sym, ◌∙◌, eqb-true, eq-eqb, ◌&&◌, not, List, [], ◌∷◌, ◌++◌, map}
 use Rattle.std.specs.Prelude.{◌==◌}
 use Rattle.std.proofs.lemmas.List.{append_assoc}
 use Rattle.hx_itch.specs.declared.message.Feed.{Feed}
 use Rattle.hx_ouch.specs.declared.outbound.Outbound.{Outbound}
-use Rattle.hx_rules.specs.Outputs.{Reply, Told}
-use Rattle.hx_rules.specs.Steps.{run, told, feed_of, replies_among, replies_of, feed, replies}
+use Rattle.hx_rules.specs.Outputs.{Reply, EventOutput}
+use Rattle.hx_rules.specs.Steps.{run, output, feed_of, replies_among, replies_of, feed, replies}
 use Rattle.hx_laws.specs.QuietChains.{is_quiet, quiet_but_one, strike, strike_all, strike_but, Line, reply_lines, lines_of_all}
 use Rattle.hx_laws.specs.QuietChains.Line.{ToFeed, ToMember}
 use Rattle.hx_laws.specs.Laws.{FeedOfAnyChoice, RepliesOfAnyChoice, AllMembers, AllButOne}
@@ -38,7 +38,7 @@ feed_in-feed : (fs : List Feed) (ls : List Line) → feed_in (map ToFeed fs ++ l
 feed_in-feed [] ls = refl
 feed_in-feed (f ∷ fs) ls = ap (λ z. f ∷ z) (feed_in-feed fs ls)
 
-feed_in-lines : (see : ℕ → Bool) (ts : List Told) → feed_in (lines_of_all see ts) ≡ feed_of ts
+feed_in-lines : (see : ℕ → Bool) (ts : List EventOutput) → feed_in (lines_of_all see ts) ≡ feed_of ts
 feed_in-lines see [] = refl
 feed_in-lines see (t ∷ ts) =
     ap feed_in (append_assoc (map ToFeed t.feed) (reply_lines see t.replies) (lines_of_all see ts)) ∙ feed_in-feed t.feed _
@@ -59,7 +59,7 @@ replies_in-replies see p h (r ∷ rs) ls = choose (replies_in-replies see p h rs
     choose ih true e false f = not_both (see p) h (ap see (sym (eqb-true r.0 p e)) ∙ f)
     choose ih false e false f = ih
 
-replies_in-lines : (see : ℕ → Bool) (p : ℕ) → see p ≡ true → (ts : List Told) → replies_in p (lines_of_all see ts) ≡ replies_of p ts
+replies_in-lines : (see : ℕ → Bool) (p : ℕ) → see p ≡ true → (ts : List EventOutput) → replies_in p (lines_of_all see ts) ≡ replies_of p ts
 replies_in-lines see p h [] = refl
 replies_in-lines see p h (t ∷ ts) =
     ap (replies_in p) (append_assoc (map ToFeed t.feed) (reply_lines see t.replies) (lines_of_all see ts)) ∙ replies_in-feed p t.feed _
@@ -73,17 +73,17 @@ nobody p = false
 pub feed_alone : FeedOfAnyChoice
 unfolding feed nobody
 feed_alone setup events s q =
-    sym (feed_in-lines nobody (told setup events))
+    sym (feed_in-lines nobody (output setup events))
     ∙ ap feed_in (quiet_chains setup events s nobody q (λ p h. absurd (let z : false ≡ true = h in cc)))
-    ∙ feed_in-lines nobody (told setup (strike s events))
+    ∙ feed_in-lines nobody (output setup (strike s events))
 
 pub replies_alone : RepliesOfAnyChoice
 unfolding replies
 replies_alone setup events s p q spared =
     let himself : (p == p) ≡ true = eq-eqb p p refl in
-    sym (replies_in-lines (λ m. m == p) p himself (told setup events))
+    sym (replies_in-lines (λ m. m == p) p himself (output setup events))
     ∙ ap (replies_in p) (quiet_chains setup events s (λ m. m == p) q (λ m h t. ap (λ k. s k t) (eqb-true m p h) ∙ spared t))
-    ∙ replies_in-lines (λ m. m == p) p himself (told setup (strike s events))
+    ∙ replies_in-lines (λ m. m == p) p himself (output setup (strike s events))
 
 pub all_members : AllMembers
 unfolding strike_all

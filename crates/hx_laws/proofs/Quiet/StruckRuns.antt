@@ -3,7 +3,7 @@ use Rattle.std.proofs.Common.{◌≡◌, ℕ, Bool, true, false, refl, List, [],
 use Rattle.hx_members.specs.Setups.{Setup}
 use Rattle.hx_rules.specs.declared.event.Event.{Event}
 use Rattle.hx_rules.specs.Markets.{Market, opening}
-use Rattle.hx_rules.specs.Steps.{happens, with_record, step, market_after, told_from, run, told}
+use Rattle.hx_rules.specs.Steps.{happens, with_record, step, market_after, outputs_from, run, output}
 use Rattle.hx_laws.specs.QuietChains.{Choice, bears, strike, lines_of_all}
 use Rattle.hx_laws.specs.Laws.{AreQuietChains, IsUnknownTo, QuietChains}
 use Rattle.hx_laws.proofs.History.CoherentSteps.{Coherent, Moves, record_moves}
@@ -18,7 +18,7 @@ alike_opening : (s : Choice) (setup : Setup) → IsAlike s (opening setup) (open
 unfolding opening
 alike_opening s setup = record { live = refl; tokens = refl; chains = refl; counts = refl; private = λ p h. refl; rest = refl }
 
--- counting a recorded event keeps markets alike
+-- counting a recorded event leaves markets alike
 record_both : (s : Choice) (a b : Market) (e : Event) → IsAlike s a b → IsAlike s (with_record e a) (with_record e b)
 record_both s a b e r = record { live = r.live; tokens = r.tokens; chains = r.chains; counts = r.counts; private = r.private; rest = r.rest }
 
@@ -28,11 +28,11 @@ record_one s a b e r = record { live = r.live; tokens = r.tokens; chains = r.cha
 -- a run, and the run of the struck events beside it
 record RunTogether (s : Choice) (see : ℕ → Bool) (setup : Setup) (a b : Market) (events : List Event) : Type 0 where
   pub market : IsAlike s (market_after setup a events) (market_after setup b (strike s events))
-  pub seen : lines_of_all see (told_from setup a events) ≡ lines_of_all see (told_from setup b (strike s events))
+  pub seen : lines_of_all see (outputs_from setup a events) ≡ lines_of_all see (outputs_from setup b (strike s events))
 
 runs_together : (s : Choice) (see : ℕ → Bool) → IsUnknownTo see s → (setup : Setup) (events : List Event) (a b : Market) → Coherent a → IsAlike s a b → AreQuietChains s (market_after setup a events)
     → RunTogether s see setup a b events
-unfolding market_after told_from strike step
+unfolding market_after outputs_from strike step
 runs_together s see blind setup [] a b coherent r q = record { market = r; seen = refl }
 runs_together s see blind setup (event ∷ events) a b coherent r q = choose (bears s event) refl (λ c d. runs_together s see blind setup events c d)
   where
@@ -64,5 +64,5 @@ runs_together s see blind setup (event ∷ events) a b coherent r q = choose (be
         record { market = rw e n.market; seen = rw (e, u.seen, n.seen) refl }
 
 pub quiet_chains : QuietChains
-unfolding run told
+unfolding run output
 quiet_chains setup events s see q blind = (runs_together s see blind setup events (opening setup) (opening setup) (coherent_opening setup) (alike_opening s setup) q).seen

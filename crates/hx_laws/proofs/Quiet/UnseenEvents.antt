@@ -1,4 +1,4 @@
--- An event that bears a chosen token is not seen, and leaves what is kept.
+-- An event that bears a chosen token is not seen, and leaves what is retained.
 use Rattle.std.proofs.Common.{◌≡◌, ℕ, ◌-◌, Bool, true, false, cond, refl, ap, sym, ◌∙◌, ltb, ◌||◌, ◌&&◌, not, List, [], ◌∷◌, Some, None, Option, length, map}
 use Rattle.std.specs.List.{find}
 use Rattle.hx_units.specs.declared.names.Symbol.{Symbol}
@@ -17,7 +17,7 @@ use Rattle.hx_rules.specs.declared.event.Event.{Event}
 use Rattle.hx_rules.specs.declared.event.Event.TheVariants.{Message, Tick, Hours, Halt, Break}
 use Rattle.hx_rules.specs.Orders.{Order, Token, is_called, is_shown, is_immediate}
 use Rattle.hx_rules.specs.Markets.{Market}
-use Rattle.hx_rules.specs.Outputs.{Told, Outcome}
+use Rattle.hx_rules.specs.Outputs.{EventOutput, Outcome}
 use Rattle.hx_rules.specs.Executions.{incoming_of, published, shown_of, arrive, arrival_feed}
 use Rattle.hx_rules.specs.Enter.{consumed, next_reference, drawn, entered_order, accept, reject, rejection, entered_by, enter}
 use Rattle.hx_rules.specs.Removal.{taken_off}
@@ -36,10 +36,10 @@ use Rattle.hx_laws.proofs.Quiet.Alike.{IsAlike, struck_consumed, struck_handed_o
 use Rattle.hx_laws.proofs.Quiet.QuietArrivals.{quiet_earlier, ArrivesQuietly, arrives_quietly, struck_arrive}
 use Rattle.hx_laws.proofs.Quiet.SeenLines.{unseen_first}
 
--- an outcome of which nothing is seen, and that leaves what is kept
+-- an outcome of which nothing is seen, and that leaves what is retained
 pub record IsUnseen (s : Choice) (see : ℕ → Bool) (a : Outcome) (b : Market) : Type 0 where
   pub market : IsAlike s a.market b
-  pub seen : lines_of see a.told ≡ []
+  pub seen : lines_of see a.output ≡ []
 
 not_seen : (s : Choice) (see : ℕ → Bool) → IsUnknownTo see s → (m : ℕ) (t : Token) → s m t ≡ true → see m ≡ false
 not_seen s see blind m t h = choose (see m) refl
@@ -48,10 +48,10 @@ not_seen s see blind m t h = choose (see m) refl
     choose true e = not_both _ h (blind m e t)
     choose false e = e
 
-nothing_told : (see : ℕ → Bool) (o : Told) → o.feed ≡ [] → reply_lines see o.replies ≡ [] → lines_of see o ≡ []
-nothing_told see o e h = rw (e, h) refl
+nothing_output : (see : ℕ → Bool) (o : EventOutput) → o.feed ≡ [] → reply_lines see o.replies ≡ [] → lines_of see o ≡ []
+nothing_output see o e h = rw (e, h) refl
 
--- An order that arrives quietly tells nobody but its member.
+-- An order that arrives quietly has output for its member alone.
 
 quiet_feed : (time : ℕ) (stock : Symbol) (n : ℕ) (x : Order) (a : Market) (immediate : Bool) → ArrivesQuietly x a
     → arrival_feed time stock n (arrive time immediate x a).executions (arrive time immediate x a).resting ≡ []
@@ -85,7 +85,7 @@ unseen_accept : (s : Choice) (see : ℕ → Bool) → IsUnknownTo see s → (set
 unseen_accept s see blind setup a b coherent r m time e unused struck some q =
     record {
       market = struck_arrive s a_drawn b (hidden_drawn s (consumed a m e.token) b m e.token struck d quietly.hidden (struck_consumed s a b r m e.token struck)) time now x struck quietly;
-      seen = nothing_told see (accept setup a m time e).told (quiet_feed time e.stock a.numbers.matches x a_drawn now quietly)
+      seen = nothing_output see (accept setup a m time e).output (quiet_feed time e.stock a.numbers.matches x a_drawn now quietly)
           (unseen_first see m _ _ unseen (quiet_replies see time x a_drawn now quietly unseen));
     }
   where
@@ -112,17 +112,17 @@ unseen_accept s see blind setup a b coherent r m time e unused struck some q =
 
 unseen_enter : (s : Choice) (see : ℕ → Bool) → IsUnknownTo see s → (setup : Setup) (a b : Market) → Coherent a → IsAlike s a b → (m time : ℕ) (e : NewOrder) → s m e.token ≡ true
     → AreQuietChains s (enter setup a m time e).market → IsUnseen s see (enter setup a m time e) b
-unseen_enter s see blind setup a b coherent r m time e struck = choose (is_used a.tokens m e.token) refl (rejection setup a.hours a.halted e) refl
+unseen_enter s see blind setup a b coherent r m time e struck = choose (is_used a.tokens m e.token) refl (rejection setup a.phase a.halted e) refl
   where
-    choose : (u : Bool) → is_used a.tokens m e.token ≡ u → (o : Option ℕ) → rejection setup a.hours a.halted e ≡ o → AreQuietChains s (entered_by setup a m time e u o).market
+    choose : (u : Bool) → is_used a.tokens m e.token ≡ u → (o : Option ℕ) → rejection setup a.phase a.halted e ≡ o → AreQuietChains s (entered_by setup a m time e u o).market
         → IsUnseen s see (entered_by setup a m time e u o) b
     choose true h o f q = record { market = r; seen = refl }
     choose false h (Some letter) f q =
         record {
           market = struck_consumed s a b r m e.token struck;
-          seen = nothing_told see (reject a m time e.token letter).told refl (unseen_first see m _ [] (not_seen s see blind m e.token struck) refl);
+          seen = nothing_output see (reject a m time e.token letter).output refl (unseen_first see m _ [] (not_seen s see blind m e.token struck) refl);
         }
-    choose false h None f q = unseen_accept s see blind setup a b coherent r m time e h struck (accepted_shares setup a.hours a.halted e f) q
+    choose false h None f q = unseen_accept s see blind setup a b coherent r m time e h struck (accepted_shares setup a.phase a.halted e f) q
 
 -- a hidden order loses shares unseen
 nothing_off : (time by : ℕ) (x : Order) → x.shown ≡ false → taken_off time by x ≡ []
@@ -163,7 +163,7 @@ unseen_fail : (s : Choice) (see : ℕ → Bool) → IsUnknownTo see s → (a b :
 unseen_fail s see blind a b r m time e t x g h hidden =
     record {
       market = struck_handed_over s a b r m e t g h;
-      seen = nothing_told see (fail_replace a m time e t x).told (rw hidden refl) (unseen_first see m _ [] (not_seen s see blind m e g) refl);
+      seen = nothing_output see (fail_replace a m time e t x).output (rw hidden refl) (unseen_first see m _ [] (not_seen s see blind m e g) refl);
     }
 
 unseen_succeed : (s : Choice) (see : ℕ → Bool) → IsUnknownTo see s → (setup : Setup) (a b : Market) → Coherent a → IsAlike s a b → (m time : ℕ) (q : Change) (old : Order)
@@ -172,7 +172,7 @@ unseen_succeed : (s : Choice) (see : ℕ → Bool) → IsUnknownTo see s → (se
 unseen_succeed s see blind setup a b coherent r m time q old g h hidden own used some quiet =
     record {
       market = struck_arrive s a_drawn b (hidden_drawn s over b m q.existing_token g d quietly.hidden (struck_handed_over s a b r m q.existing_token q.replacement_token g h)) time now x struck quietly;
-      seen = nothing_told see (succeed setup a m time q old).told (rw hidden (quiet_feed time (symbol_of setup old.locate) a.numbers.matches x a_drawn now quietly))
+      seen = nothing_output see (succeed setup a m time q old).output (rw hidden (quiet_feed time (symbol_of setup old.locate) a.numbers.matches x a_drawn now quietly))
           (unseen_first see m _ _ unseen (quiet_replies see time x a_drawn now quietly (rw own unseen)));
     }
   where
@@ -209,7 +209,7 @@ unseen_replace : (s : Choice) (see : ℕ → Bool) → IsUnknownTo see s → (se
     → (s m q.existing_token || s m q.replacement_token) ≡ true → AreQuietChains s (replace setup a m time q).market → IsUnseen s see (replace setup a m time q) b
 unseen_replace s see blind setup a b coherent r m time q struck quiet =
     choose (find (is_called m q.existing_token) a.live) refl (is_used a.tokens m q.replacement_token) refl
-    (is_order_halted a.halted (find (is_called m q.existing_token) a.live)) (replace_fails a.hours (executed_of a m q.existing_token) q) refl quiet
+    (is_order_halted a.halted (find (is_called m q.existing_token) a.live)) (replace_fails a.phase (executed_of a m q.existing_token) q) refl quiet
   where
     at : AreQuietChains s a
     at = quiet_earlier s a _ (replace_moves setup a m time q coherent).grows quiet
@@ -220,7 +220,7 @@ unseen_replace s see blind setup a b coherent r m time q struck quiet =
         both_struck _ _ (both_alike s c m _ _ (joined_one a c m q.existing_token q.replacement_token (called_used a m q.existing_token x coherent e) h moves) k) struck
 
     choose : (o : Option Order) → find (is_called m q.existing_token) a.live ≡ o → (u : Bool) → is_used a.tokens m q.replacement_token ≡ u
-        → (d f : Bool) → replace_fails a.hours (executed_of a m q.existing_token) q ≡ f → AreQuietChains s (replaced_by setup a m time q o u d f).market → IsUnseen s see (replaced_by setup a m time q o u d f) b
+        → (d f : Bool) → replace_fails a.phase (executed_of a m q.existing_token) q ≡ f → AreQuietChains s (replaced_by setup a m time q o u d f).market → IsUnseen s see (replaced_by setup a m time q o u d f) b
     choose None e u h d f g c = record { market = r; seen = refl }
     choose (Some x) e true h d f g c = record { market = r; seen = refl }
     choose (Some x) e false h true f g c = record { market = r; seen = refl }
@@ -231,7 +231,7 @@ unseen_replace s see blind setup a b coherent r m time q struck quiet =
         let own = (found_of (IsKnown a.tokens a.chains) m q.existing_token a.live x coherent.known e).1.0 in
         let k = both x e h (succeed setup a m time q x).market (after_joined a m time (symbol_of setup x.locate) q x (replacement_of a m time q x) own refl) c in
         unseen_succeed s see blind setup a b coherent r m time q x k.0 k.1 (hidden_found s a coherent at m q.existing_token x e k.0) own (called_used a m q.existing_token x coherent e)
-        (replaced_shares a.hours (executed_of a m q.existing_token) q g) c
+        (replaced_shares a.phase (executed_of a m q.existing_token) q g) c
 
 unseen_cancel : (s : Choice) (see : ℕ → Bool) → IsUnknownTo see s → (a b : Market) → Coherent a → IsAlike s a b → (m time : ℕ) (c : Less) → s m c.token ≡ true
     → AreQuietChains s (cancel a m time c).market → IsUnseen s see (cancel a m time c) b
@@ -244,7 +244,7 @@ unseen_cancel s see blind a b coherent r m time c struck quiet = choose _ (find 
     by x e n =
         record {
           market = struck_lessened s a b r m c.token n struck;
-          seen = nothing_told see (take_off a m time c.token n x).told (nothing_off time n x e) (unseen_first see m _ [] (not_seen s see blind m c.token struck) refl);
+          seen = nothing_output see (take_off a m time c.token n x).output (nothing_off time n x e) (unseen_first see m _ [] (not_seen s see blind m c.token struck) refl);
         }
 
     choose : (idle : Bool) (o : Option Order) → find (is_called m c.token) a.live ≡ o → IsUnseen s see (cancelled_by a m time c idle o) b

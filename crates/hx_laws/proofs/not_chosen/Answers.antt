@@ -1,4 +1,4 @@
-use Rattle.hx_laws.proofs.Quiet.KeptChoices as choices
+use Rattle.hx_laws.proofs.Quiet.RetainedChoices as choices
 use Rattle.hx_laws.proofs.not_chosen.Goals as goal
 
 pub returns : goal.returns

@@ -1,6 +1,6 @@
 //! How near to the best price the levels of each stock and side begin.
 ghost use Rattle.std.specs.Prelude.{◌≡◌, ◌≤◌, ◌<◌, ◌↔◌, ℕ, List, [], length, slice_set, OnOk, OnErr, IsTrue};
-ghost use Rattle.hx_levels.specs.Rung.{LevelKey, side_number};
+ghost use Rattle.hx_levels.specs.LevelKeys.{LevelKey, side_number};
 ghost use Rattle.hx_levels.specs.Bests.{bound_of};
 
 use crate::level_book::level_key::LevelKey;
@@ -35,7 +35,7 @@ impl BestBounds {
         }
     }
 
-    /// The distance that no level of the rung's stock and side is better than.
+    /// The distance that no level of the level key's stock and side is better than.
     pub fn bound(&self, at: LevelKey) -> u32
         ensures { result ≡ bound_of self.now at }
     {
@@ -45,7 +45,7 @@ impl BestBounds {
         }
     }
 
-    /// Takes note of a level that is to be at the rung.
+    /// Takes note of a level that is to be at the level key.
     pub fn include(&mut self, at: LevelKey) -> Result<(), NoMemory>
         ensures ok { OnOk result (bound_of self.new at ≤ at.distance) }
         ensures lower { (q : LevelKey) → bound_of self.new q ≤ bound_of self.old q }
@@ -61,7 +61,7 @@ impl BestBounds {
         Ok(())
     }
 
-    /// Whether the rung stands at the distance that is kept for its stock and side.
+    /// Whether the level key is at the distance that is stored for its stock and side.
     pub fn is_at_bound(&self, at: LevelKey) -> bool
         ensures { IsTrue result ↔ ((side_number at < length self.now)
             × (bound_of self.now at ≡ at.distance)) }
@@ -72,7 +72,7 @@ impl BestBounds {
         }
     }
 
-    /// Keeps another distance for the rung's stock and side, which have one.
+    /// Stores another distance for the level key's stock and side, which have one.
     pub fn renew(&mut self, at: LevelKey, distance: u32)
         requires { side_number at < length self.old }
         ensures { self.new ≡ slice_set self.old (side_number at) distance }

@@ -1,10 +1,10 @@
-//! Where a level of a book stands.
+//! The level key: the position of a level in a book.
 ghost use Rattle.std.specs.Prelude.{◌≡◌, ◌<◌, ◌↔◌, IsTrue};
 ghost use Rattle.std.proofs.Common.{rules};
 ghost use Rattle.std.specs.Ordering.{as_partial_cmp, eq_by_cmp};
 ghost use Rattle.std.specs.Cmp.{partial_equiv_from_equiv, partial_order_from_own_ties};
 ghost use Rattle.std.specs.Cmp.Rules.{comparing};
-ghost use Rattle.hx_levels.specs.Rung.{LevelKey, rung_cmp, rung_number, rung_of_number, side_number};
+ghost use Rattle.hx_levels.specs.LevelKeys.{LevelKey, level_key_cmp, level_key_number, level_key_of_number, side_number};
 
 use std::cmp::Ordering;
 use std::marker::Model;
@@ -25,17 +25,17 @@ pub struct LevelKey {
 }
 
 impl Model for LevelKey {
-    ghost use Rattle.hx_levels.specs.Rung.{LevelKey, rung_number, rung_of_number};
+    ghost use Rattle.hx_levels.specs.LevelKeys.{LevelKey, level_key_number, level_key_of_number};
 
     ghost Value = { LevelKey };
 
-    ghost view = { λ r. rung_of_number r.number };
+    ghost view = { λ r. level_key_of_number r.number };
 
-    ghost inverse = { λ at. record { number = rung_number at } };
+    ghost inverse = { λ at. record { number = level_key_number at } };
 }
 
 impl LevelKey {
-    /// The rung of a stock, a side and a distance.
+    /// The level key of a stock, a side and a distance.
     pub fn of(locate: u16, buy: bool, distance: u32) -> LevelKey
         ensures { result ≡ record { locate = locate; buy = buy; distance = distance } }
     {
@@ -60,10 +60,10 @@ impl LevelKey {
         (self.number / DISTANCES) as usize
     }
 
-    /// The rung as one number: of a stock and side the better price has the smaller one.
+    /// The level key as one number: of a stock and side the better price has the smaller one.
     pub fn number(self) -> u64
-        ensures number { result ≡ rung_number self }
-        ensures rung { rung_of_number result ≡ self }
+        ensures number { result ≡ level_key_number self }
+        ensures level_key { level_key_of_number result ≡ self }
     {
         self.number
     }
@@ -75,14 +75,14 @@ impl LevelKey {
         (self.number % DISTANCES) as u32
     }
 
-    /// The number of its hint, of 4,096: rungs near to each other have different ones.
+    /// The number of its hint, of 4,096: level keys near to each other have different ones.
     pub fn hint(self) -> usize
         ensures { result < 4096 }
     {
         (self.number.wrapping_mul(SPREAD) >> 52) as usize
     }
 
-    /// The rung of the same stock and side at another distance.
+    /// The level key of the same stock and side at another distance.
     pub fn at(self, distance: u32) -> LevelKey
         ensures { result ≡ record self { distance = distance } }
     {
@@ -93,7 +93,7 @@ impl LevelKey {
 }
 
 impl PartialEq for LevelKey {
-    ghost eq = { eq_by_cmp rung_cmp };
+    ghost eq = { eq_by_cmp level_key_cmp };
 
     ghost laws = { partial_equiv_from_equiv (Prim.search (comparing, rules)) };
 
@@ -107,7 +107,7 @@ impl Eq for LevelKey {
 }
 
 impl Ord for LevelKey {
-    ghost cmp = { rung_cmp };
+    ghost cmp = { level_key_cmp };
 
     ghost total = { Prim.search (comparing, rules) };
 
@@ -128,7 +128,7 @@ impl Ord for LevelKey {
 }
 
 impl PartialOrd for LevelKey {
-    ghost partial_cmp = { as_partial_cmp rung_cmp };
+    ghost partial_cmp = { as_partial_cmp level_key_cmp };
 
     ghost laws = { partial_order_from_own_ties (Prim.search (comparing, rules))
         (Prim.search (comparing, rules)) };

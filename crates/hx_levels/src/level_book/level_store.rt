@@ -1,4 +1,4 @@
-//! The levels of a book, each found by where it stands.
+//! The levels of a book, each found by its level key.
 ghost use Rattle.std.specs.Prelude.{◌≡◌, ◌+◌, ◌==◌, ◌<◌, ◌^◌, ◌⊎◌, ℕ, Option, Some, None, IsSome, OnOk, OnErr, IfOk, IfSome, IfNone, Bool, false};
 ghost use Rattle.std.specs.Option.{option_map, option_copied, unwrap_or};
 ghost use Rattle.std.specs.BTreeMap.{get as map_get, Updates};
@@ -6,8 +6,8 @@ ghost use Rattle.std.specs.BTreeMap.Range.{IsInRange, IsLeBy};
 ghost use Rattle.std.specs.declared.ops.Bound.TheVariants.{Unbounded};
 ghost use Rattle.std.specs.Vec.{vec_len};
 ghost use Rattle.slab.specs.Slab.{get, ContainsKey};
-ghost use Rattle.hx_levels.specs.Nodes.{ends_with, ends_without};
-ghost use Rattle.hx_levels.specs.Rung.{LevelKey, rung_cmp};
+ghost use Rattle.hx_levels.specs.OrderLinks.{ends_with, ends_without};
+ghost use Rattle.hx_levels.specs.LevelKeys.{LevelKey, level_key_cmp};
 ghost use Rattle.hx_levels.specs.Levels.{slot_of, level_in, level_at, on_level, with_ends, joined, with_most, or_empty, ends_in};
 
 use crate::level_book::level_key::LevelKey;
@@ -24,7 +24,7 @@ use std::ops::Bound;
 // How many hints there are.
 const HINTS: usize = 4096;
 
-/// A level, and where it stands.
+/// A level, and its level key.
 #[derive(Clone, Copy)]
 pub struct Tier {
     pub at: LevelKey,
@@ -36,19 +36,19 @@ pub struct Tier {
 pub struct LevelStore {
     slots: BTreeMap<LevelKey, usize>,
     slab: Slab<Tier>,
-    // For each of 4,096 parts of the rungs the slot of one that was looked for. What is there says where it stands, so a
-    // hint may be of another rung, or lead to nothing: it is then not followed.
+    // For each of 4,096 parts of the level keys the slot of one that was looked for. The level in that slot has its
+    // level key, so a hint may be of another level key, or lead to nothing: it is then not followed.
     hints: Vec<usize>,
 }
 
 impl Model for LevelStore {
-    ghost use Rattle.hx_levels.specs.Levels.{LevelStore, AreInPlace};
+    ghost use Rattle.hx_levels.specs.Levels.{LevelStore, AreInSlots};
 
     ghost Value = { LevelStore };
 
     ghost view = { λ t. record { slots = t.slots.entries; slab = t.slab } };
 
-    ghost invariant = { λ t. AreInPlace (record { slots = t.slots.entries; slab = t.slab }) };
+    ghost invariant = { λ t. AreInSlots (record { slots = t.slots.entries; slab = t.slab }) };
 }
 
 impl LevelStore {
@@ -63,7 +63,7 @@ impl LevelStore {
         }
     }
 
-    // The slot that a hint leads to, where the level of the rung is there.
+    // The slot that a hint leads to, if the level with the key is there.
     fn hinted(&self, at: LevelKey) -> Option<usize>
         ensures { IfSome result (λ slot. slot_of self.now at ≡ Some slot) }
     {
@@ -76,7 +76,7 @@ impl LevelStore {
         }
     }
 
-    // The slot of a rung's level, where there is one.
+    // The slot of the level with a key, if there is one.
     fn find(&self, at: LevelKey) -> Option<usize>
         ensures { result ≡ slot_of self.now at }
     {
@@ -103,7 +103,7 @@ impl LevelStore {
         Some(slot)
     }
 
-    /// The level of a rung, where there is one.
+    /// The level with a key, if there is one.
     pub fn level(&self, at: LevelKey) -> Option<&Level>
         ensures { option_copied result ≡ level_at self.now at }
     {
@@ -116,8 +116,8 @@ impl LevelStore {
         }
     }
 
-    /// Puts the key of an order with as many shares last in a queue of a level that is there. It gives the key that was
-    /// last, and the most shares of the level before.
+    /// Puts the key of an order with `shares` shares last in a queue of a level that is there. It gives the key that
+    /// was last, and the most shares of the level before.
     #[inline(always)]
     pub fn join_queue(&mut self, at: LevelKey, shown: bool, key: usize, shares: u32) -> (Link, u32)
         requires level { IsSome (level_at self.old at) }
@@ -147,7 +147,7 @@ impl LevelStore {
         leave_in(&mut self.slab, slot, shown, links)
     }
 
-    /// Gives the level of a rung, if there is one, another bound on the shares of its orders.
+    /// Gives the level with a key, if there is one, another bound on the shares of its orders.
     pub fn lower(&mut self, at: LevelKey, most: u32)
         ensures changed { level_at self.new at
             ≡ option_map (with_most most) (level_at self.old at) }
@@ -159,7 +159,7 @@ impl LevelStore {
         lower_in(&mut self.slab, slot, most);
     }
 
-    /// Makes an empty level, where there is none.
+    /// Makes an empty level, if there is none.
     pub fn make_level(&mut self, at: LevelKey) -> Result<(), NoMemory>
         ensures there { OnOk result (IsSome (level_at self.new at)) }
         ensures made { OnOk result (level_at self.new at ≡ or_empty (level_at self.old at)) }
@@ -186,7 +186,7 @@ impl LevelStore {
         Ok(())
     }
 
-    /// Takes the level of a rung out, where there is one.
+    /// Takes the level with a key out, if there is one.
     pub fn remove(&mut self, at: LevelKey)
         ensures gone { level_at self.new at ≡ None }
         ensures others { (q : LevelKey) → (q ≡ at → ⊥) → level_at self.new q ≡ level_at self.old q }
@@ -198,34 +198,34 @@ impl LevelStore {
 
     /// The first level from a bound on, over all stocks and sides.
     pub fn first_level(&self, from: Bound<LevelKey>) -> Option<(LevelKey, Level)>
-        ensures found { IfSome result (λ e. (IsInRange rung_cmp from Unbounded e.0)
+        ensures found { IfSome result (λ e. (IsInRange level_key_cmp from Unbounded e.0)
             × (level_at self.now e.0 ≡ Some e.1)) }
-        ensures least { IfSome result (λ e. (q : LevelKey) → IsInRange rung_cmp from Unbounded q
-            → IsSome (level_at self.now q) → IsLeBy rung_cmp e.0 q) }
-        ensures none { IfNone result ((q : LevelKey) → IsInRange rung_cmp from Unbounded q
+        ensures least { IfSome result (λ e. (q : LevelKey) → IsInRange level_key_cmp from Unbounded q
+            → IsSome (level_at self.now q) → IsLeBy level_key_cmp e.0 q) }
+        ensures none { IfNone result ((q : LevelKey) → IsInRange level_key_cmp from Unbounded q
             → level_at self.now q ≡ None) }
     {
         match self.slots.range((from, Bound::Unbounded)).next() {
-            Some((rung, slot)) => Some((*rung, self.slab[*slot].level)),
+            Some((level_key, slot)) => Some((*level_key, self.slab[*slot].level)),
             None => None,
         }
     }
 }
 
-// The slot of a rung's level, and where there is none this slot, which is then the rung's. One search does for both.
+// The slot of the level with a key; if there is none this slot, which the level then has. One search does for both.
 fn slot_or(
     slots: &mut BTreeMap<LevelKey, usize>,
     at: LevelKey,
     slot: usize,
 ) -> Result<usize, NoMemory>
-    ensures slot { IfOk result (λ s. s ≡ unwrap_or (map_get rung_cmp slots.old at) slot) }
-    ensures updates { IfOk result (λ s. Updates rung_cmp slots.old slots.new at (Some s)) }
+    ensures slot { IfOk result (λ s. s ≡ unwrap_or (map_get level_key_cmp slots.old at) slot) }
+    ensures updates { IfOk result (λ s. Updates level_key_cmp slots.old slots.new at (Some s)) }
     ensures err { OnErr result (slots.new.entries ≡ slots.old.entries) }
 {
     Ok(*slots.entry(at)?.or_insert(slot))
 }
 
-// Makes the hints, where there are none.
+// Makes the hints, if there are none.
 fn make_hints(hints: &mut Vec<usize>) -> Result<(), NoMemory>
     ensures made { OnOk result (vec_len hints.old ≡ 0 → vec_len hints.new ≡ 4096) }
     ensures stay { vec_len hints.old ≡ 0 ⊎ (hints.new.items ≡ hints.old.items) }
@@ -236,15 +236,15 @@ fn make_hints(hints: &mut Vec<usize>) -> Result<(), NoMemory>
     Ok(())
 }
 
-// Writes the hint for a rung.
+// Writes the hint for a level key.
 fn note(hints: &mut Vec<usize>, at: LevelKey, slot: usize) {
     if let Some(hint) = hints.get_mut(at.hint()) {
         *hint = slot;
     }
 }
 
-// Puts the key of an order with as many shares last in a queue of the level in a slot. It gives the key that was last, and
-// the most shares of the level before.
+// Puts the key of an order with `shares` shares last in a queue of the level in a slot. It gives the key that was last,
+// and the most shares of the level before.
 fn join_in(slab: &mut Slab<Tier>, slot: usize, shown: bool, key: usize, shares: u32) -> (Link, u32)
     requires level { ContainsKey slab.old slot }
     requires small { key + 1 < 2 ^ 64 }

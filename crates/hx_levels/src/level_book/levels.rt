@@ -5,8 +5,8 @@ ghost use Rattle.std.specs.BTreeMap.{get, Updates};
 ghost use Rattle.std.specs.BTreeMap.Range.{IsInRange, IsLeBy};
 ghost use Rattle.std.specs.declared.ops.Bound.TheVariants.{Unbounded};
 ghost use Rattle.hx_levels.specs.declared.level_book.levels.Level.{Level};
-ghost use Rattle.hx_levels.specs.Nodes.{no_ends};
-ghost use Rattle.hx_levels.specs.Rung.{LevelKey, rung_cmp};
+ghost use Rattle.hx_levels.specs.OrderLinks.{no_ends};
+ghost use Rattle.hx_levels.specs.LevelKeys.{LevelKey, level_key_cmp};
 ghost use Rattle.hx_levels.specs.Levels.{level_at, with_ends, empty_level, ends_of, ends_in, first_at, IsFirstFrom, IsFirstLevel, IsEmptyAt, IsEmptyLevel};
 
 use crate::level_book::level_key::LevelKey;
@@ -23,7 +23,7 @@ pub struct Level {
     pub most: u32,
 }
 
-// The ends of a queue, none where there is no level.
+// The ends of a queue, none if there is no level.
 pub fn ends_at(levels: &LevelStore, at: LevelKey, shown: bool) -> Ends
     ensures { result ≡ ends_in shown (level_at levels.now at) }
 {
@@ -46,7 +46,7 @@ impl Level {
         }
     }
 
-    // The first order of the level, where there is one.
+    // The first order of the level, if there is one.
     fn first(self) -> Option<usize>
         ensures { MatchOption self.shown.first (result ≡ self.hidden.first)
             (λ key. result ≡ Some key) }
@@ -60,7 +60,7 @@ impl Level {
 }
 
 impl Level {
-    // The first order of the level, if an order of it may have as many shares.
+    // The first order of the level, if an order of it may have at least `least` shares.
     pub fn first_if(self, least: u32) -> Option<usize>
         ensures { IfSome result (λ key. MatchOption self.shown.first
             (self.hidden.first ≡ Some key) (λ first. first ≡ key)) }
@@ -72,7 +72,7 @@ impl Level {
     }
 }
 
-// The first level of a stock and side from a rung up to a distance.
+// The first level of a stock and side from a level key up to a distance.
 #[inline(always)]
 pub fn first_within(levels: &LevelStore, from: LevelKey, limit: u32) -> Option<(u32, Level)>
     ensures found { IfSome result (IsFirstLevel levels.now from limit) }
@@ -80,14 +80,14 @@ pub fn first_within(levels: &LevelStore, from: LevelKey, limit: u32) -> Option<(
         → level_at levels.now (record from { distance = d }) ≡ None) }
 {
     match levels.first_level(Bound::Included(from)) {
-        Some((rung, level)) if rung.is_beside(from) && rung.distance() <= limit => {
-            Some((rung.distance(), level))
+        Some((level_key, level)) if level_key.is_beside(from) && level_key.distance() <= limit => {
+            Some((level_key.distance(), level))
         }
         _ => None,
     }
 }
 
-// The first order of the first level that is not empty, from a rung up to a distance.
+// The first order of the first level that is not empty, from a level key up to a distance.
 pub fn first_from(levels: &LevelStore, from: LevelKey, limit: u32) -> Option<usize>
     requires single { (a b : LevelKey) → IsEmptyAt levels.now a → IsEmptyAt levels.now b → a ≡ b }
     requires limit { limit < 4294967295 }
@@ -109,7 +109,7 @@ pub fn first_from(levels: &LevelStore, from: LevelKey, limit: u32) -> Option<usi
     }
 }
 
-// The first order of the level at a rung, where there is one.
+// The first order of the level with a key, if there is one.
 pub fn first_of_level(levels: &LevelStore, at: LevelKey) -> Option<usize>
     ensures { IfSome result
         (IsFirstFrom levels.now at.locate at.buy at.distance at.distance) }
@@ -120,17 +120,17 @@ pub fn first_of_level(levels: &LevelStore, at: LevelKey) -> Option<usize>
     }
 }
 
-// Whether the rung is the one to keep.
-pub fn is_kept(at: LevelKey, kept: Option<LevelKey>) -> bool
-    ensures { IsTrue result ↔ (kept ≡ Some at) }
+// Whether the level key is the one to retain.
+pub fn is_retained(at: LevelKey, retained: Option<LevelKey>) -> bool
+    ensures { IsTrue result ↔ (retained ≡ Some at) }
 {
-    match kept {
-        Some(rung) => rung == at,
+    match retained {
+        Some(level_key) => level_key == at,
         None => false,
     }
 }
 
-// The most shares of the level at a rung, where there is one.
+// The most shares of the level with a key, if there is one.
 pub fn most_at(levels: &LevelStore, at: LevelKey) -> u32
     ensures { IfSome (level_at levels.now at) (λ level. result ≡ level.most) }
 {

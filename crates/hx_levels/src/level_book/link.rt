@@ -1,10 +1,10 @@
-//! A link from a node to another.
+//! A link from a linked order to another.
 ghost use Rattle.std.specs.Prelude.{◌≡◌, ◌+◌, ◌<◌, ◌^◌, Some, None};
 ghost use Rattle.std.specs.Option.{is_some};
 
 use std::marker::Model;
 
-/// The key of a node, or none, in one word: the number 0 is none, and any other is one more than its key.
+/// The key of a linked order, or none, in one word: the number 0 is none, and any other is one more than its key.
 #[derive(Clone, Copy)]
 pub struct Link {
     number: usize,
@@ -37,7 +37,7 @@ impl Link {
         Link { number: key + 1 }
     }
 
-    /// The key that it leads to, where there is one.
+    /// The key that it leads to, if there is one.
     pub fn get(self) -> Option<usize>
         ensures { result ≡ self }
     {

@@ -3,11 +3,11 @@ ghost use Rattle.std.specs.Prelude.{◌≡◌, ◌+◌, ◌<◌, ◌≤◌, ◌=
 ghost use Rattle.std.specs.Option.{option_copied, option_map, is_some};
 ghost use Rattle.slab.specs.Slab.{get, ContainsKey, slab_len, HasRoomFor};
 ghost use Rattle.hx_levels.specs.Chain.{links_to};
-ghost use Rattle.hx_levels.specs.Nodes.{after_at, before_at, on_time, on_queue, no_ends, no_links, not_linked, linked_last, with_links, with_next, unlinked, time_links, queue_links, number_at, ends_with, ends_without, less_at};
+ghost use Rattle.hx_levels.specs.OrderLinks.{after_at, before_at, on_time, on_queue, no_ends, no_links, not_linked, linked_last, with_links, with_next, unlinked, time_links, queue_links, number_at, ends_with, ends_without, less_at};
 
 use crate::level_book::link::Link;
-use crate::order::Order;
-use hx_units::{NoMemory, places_ahead};
+use hx_book::Order;
+use hx_units::{NoMemory, indices_ahead};
 use slab::Slab;
 use std::alloc::Global;
 use std::marker::Model;
@@ -28,7 +28,7 @@ pub struct Ends {
 
 /// A live order, its neighbours in time and in its queue, and its number: that of an order that came later is greater.
 #[derive(Clone, Copy)]
-pub struct Node {
+pub struct LinkedOrder {
     pub order: Order,
     pub time: Links,
     pub queue: Links,
@@ -54,12 +54,12 @@ pub struct LinkedOrders {
 impl Model for LinkedOrders {
     ghost use Rattle.std.specs.Prelude.{vec_capacity};
     ghost use Rattle.slab.specs.Slab.{Slab as Slots};
-    ghost use Rattle.hx_levels.specs.declared.level_book.linked_orders.Node.{Node};
-    ghost use Rattle.hx_levels.specs.Nodes.{nodes_of, HaveLinks};
+    ghost use Rattle.hx_levels.specs.declared.level_book.linked_orders.LinkedOrder.{LinkedOrder};
+    ghost use Rattle.hx_levels.specs.OrderLinks.{linked_orders_of, HaveLinks};
 
-    ghost Value = { Slots Node };
+    ghost Value = { Slots LinkedOrder };
 
-    ghost view = { λ n. nodes_of n.orders n.links.items (vec_capacity n.links) };
+    ghost view = { λ n. linked_orders_of n.orders n.links.items (vec_capacity n.links) };
 
     ghost invariant = { λ n. HaveLinks n.orders n.links.items };
 }
@@ -83,7 +83,7 @@ impl LinkedOrders {
         ensures succeeds { HasRoomFor self.old 1 → IsOk result }
         ensures had_room { HasRoomFor self.old 1 → self.new ≡ self.old }
 
-        // Where the orders got memory and their links did not, there is no room until both have it.
+        // If the orders got memory and their links did not, there is no room until both have it.
         ensures capacity { OnOk result (self.old.capacity ≤ self.new.capacity) }
         ensures rest_kept { self.new ≡ record self.old { capacity = self.new.capacity } }
     {
@@ -91,10 +91,10 @@ impl LinkedOrders {
         reserve_links(&mut self.links, self.orders.capacity())
     }
 
-    /// The order at a key, where there is one.
+    /// The order at a key, if there is one.
     #[inline(always)]
     pub fn order(&self, key: usize) -> Option<&Order>
-        ensures { option_copied result ≡ option_map (λ node. node.order) (get self.now key) }
+        ensures { option_copied result ≡ option_map (λ linked_order. linked_order.order) (get self.now key) }
     {
         self.orders.get(key)
     }
@@ -111,7 +111,7 @@ impl LinkedOrders {
     }
 }
 
-// Makes room for an order more; where there is none, for those ahead, too, where that is to be had.
+// Makes room for an order more; if there is none, for later ones too, if there is memory for them.
 #[inline(always)]
 fn reserve_order(orders: &mut Slab<Order>) -> Result<(), NoMemory>
     ensures room { OnOk result (HasRoomFor orders.new 1) }
@@ -122,31 +122,31 @@ fn reserve_order(orders: &mut Slab<Order>) -> Result<(), NoMemory>
 {
     let len = orders.len();
     if len == orders.capacity() {
-        let _refused = orders.reserve(places_ahead(len));
+        let _refused = orders.reserve(indices_ahead(len));
     }
     orders.reserve(1)?;
     Ok(())
 }
 
-// Makes room for the links of this many orders in all.
+// Makes room for the links of `count` orders in all.
 #[inline(always)]
-fn reserve_links(links: &mut Vec<Both>, places: usize) -> Result<(), NoMemory>
+fn reserve_links(links: &mut Vec<Both>, indices: usize) -> Result<(), NoMemory>
     ensures items { links.new.items ≡ links.old.items }
-    ensures room { OnOk result (places ≤ vec_capacity links.new) }
-    ensures succeeds { places ≤ vec_capacity links.old → IsOk result }
-    ensures had_room { places ≤ vec_capacity links.old
+    ensures room { OnOk result (indices ≤ vec_capacity links.new) }
+    ensures succeeds { indices ≤ vec_capacity links.old → IsOk result }
+    ensures had_room { indices ≤ vec_capacity links.old
         → vec_capacity links.new ≡ vec_capacity links.old }
     ensures capacity { vec_capacity links.old ≤ vec_capacity links.new }
 {
-    if links.capacity() < places {
-        links.reserve(places.saturating_sub(links.len()))?;
+    if links.capacity() < indices {
+        links.reserve(indices.saturating_sub(links.len()))?;
     }
     Ok(())
 }
 
 impl Links {
-    // The links of the last of a list, behind this one.
-    pub fn behind(before: Link) -> Links
+    // The links of the last of a list, after this one.
+    pub fn later(before: Link) -> Links
         ensures { result ≡ links_to before None }
     {
         Links {
@@ -169,8 +169,8 @@ impl Both {
         ensures { result ≡ no_links }
     {
         Both {
-            time: Links::behind(Link::none()),
-            queue: Links::behind(Link::none()),
+            time: Links::later(Link::none()),
+            queue: Links::later(Link::none()),
             number: 0,
         }
     }
@@ -219,61 +219,61 @@ impl Ends {
     }
 }
 
-// Writes the key behind the node `at` in time, where there is one.
+// Writes the key after the linked order `at` in time, if there is one.
 #[inline(always)]
-fn set_time_after(nodes: &mut LinkedOrders, at: Link, to: Link)
-    ensures changed { (k : ℕ) → get nodes.new k ≡ option_map (on_time (after_at at to k))
-        (get nodes.old k) }
-    ensures capacity { nodes.new.capacity ≡ nodes.old.capacity }
-    ensures len { slab_len nodes.new ≡ slab_len nodes.old }
+fn set_time_after(linked_orders: &mut LinkedOrders, at: Link, to: Link)
+    ensures changed { (k : ℕ) → get linked_orders.new k ≡ option_map (on_time (after_at at to k))
+        (get linked_orders.old k) }
+    ensures capacity { linked_orders.new.capacity ≡ linked_orders.old.capacity }
+    ensures len { slab_len linked_orders.new ≡ slab_len linked_orders.old }
 {
     if let Some(key) = at.get() {
-        if let Some(links) = nodes.links.get_mut(key) {
+        if let Some(links) = linked_orders.links.get_mut(key) {
             links.time.after = to;
         }
     }
 }
 
-// Writes the key before the node `at` in time, where there is one.
+// Writes the key before the linked order `at` in time, if there is one.
 #[inline(always)]
-fn set_time_before(nodes: &mut LinkedOrders, at: Link, to: Link)
-    ensures changed { (k : ℕ) → get nodes.new k ≡ option_map (on_time (before_at at to k))
-        (get nodes.old k) }
-    ensures capacity { nodes.new.capacity ≡ nodes.old.capacity }
-    ensures len { slab_len nodes.new ≡ slab_len nodes.old }
+fn set_time_before(linked_orders: &mut LinkedOrders, at: Link, to: Link)
+    ensures changed { (k : ℕ) → get linked_orders.new k ≡ option_map (on_time (before_at at to k))
+        (get linked_orders.old k) }
+    ensures capacity { linked_orders.new.capacity ≡ linked_orders.old.capacity }
+    ensures len { slab_len linked_orders.new ≡ slab_len linked_orders.old }
 {
     if let Some(key) = at.get() {
-        if let Some(links) = nodes.links.get_mut(key) {
+        if let Some(links) = linked_orders.links.get_mut(key) {
             links.time.before = to;
         }
     }
 }
 
-// Writes the key behind the node `at` in its queue, where there is one.
+// Writes the key after the linked order `at` in its queue, if there is one.
 #[inline(always)]
-fn set_queue_after(nodes: &mut LinkedOrders, at: Link, to: Link)
-    ensures changed { (k : ℕ) → get nodes.new k ≡ option_map (on_queue (after_at at to k))
-        (get nodes.old k) }
-    ensures capacity { nodes.new.capacity ≡ nodes.old.capacity }
-    ensures len { slab_len nodes.new ≡ slab_len nodes.old }
+fn set_queue_after(linked_orders: &mut LinkedOrders, at: Link, to: Link)
+    ensures changed { (k : ℕ) → get linked_orders.new k ≡ option_map (on_queue (after_at at to k))
+        (get linked_orders.old k) }
+    ensures capacity { linked_orders.new.capacity ≡ linked_orders.old.capacity }
+    ensures len { slab_len linked_orders.new ≡ slab_len linked_orders.old }
 {
     if let Some(key) = at.get() {
-        if let Some(links) = nodes.links.get_mut(key) {
+        if let Some(links) = linked_orders.links.get_mut(key) {
             links.queue.after = to;
         }
     }
 }
 
-// Writes the key before the node `at` in its queue, where there is one.
+// Writes the key before the linked order `at` in its queue, if there is one.
 #[inline(always)]
-fn set_queue_before(nodes: &mut LinkedOrders, at: Link, to: Link)
-    ensures changed { (k : ℕ) → get nodes.new k ≡ option_map (on_queue (before_at at to k))
-        (get nodes.old k) }
-    ensures capacity { nodes.new.capacity ≡ nodes.old.capacity }
-    ensures len { slab_len nodes.new ≡ slab_len nodes.old }
+fn set_queue_before(linked_orders: &mut LinkedOrders, at: Link, to: Link)
+    ensures changed { (k : ℕ) → get linked_orders.new k ≡ option_map (on_queue (before_at at to k))
+        (get linked_orders.old k) }
+    ensures capacity { linked_orders.new.capacity ≡ linked_orders.old.capacity }
+    ensures len { slab_len linked_orders.new ≡ slab_len linked_orders.old }
 {
     if let Some(key) = at.get() {
-        if let Some(links) = nodes.links.get_mut(key) {
+        if let Some(links) = linked_orders.links.get_mut(key) {
             links.queue.before = to;
         }
     }
@@ -295,36 +295,36 @@ fn clear_links(links: &mut Vec<Both>, key: usize)
     links[key] = Both::none();
 }
 
-// Writes the links of the order at a key, where there is one.
+// Writes the links of the order at a key, if there is one.
 #[inline(always)]
-fn set_links(nodes: &mut LinkedOrders, key: usize, both: Both)
-    ensures own { get nodes.new key ≡ option_map (with_links both) (get nodes.old key) }
-    ensures others { (k : ℕ) → (k == key) ≡ false → get nodes.new k ≡ get nodes.old k }
-    ensures capacity { nodes.new.capacity ≡ nodes.old.capacity }
-    ensures len { slab_len nodes.new ≡ slab_len nodes.old }
+fn set_links(linked_orders: &mut LinkedOrders, key: usize, both: Both)
+    ensures own { get linked_orders.new key ≡ option_map (with_links both) (get linked_orders.old key) }
+    ensures others { (k : ℕ) → (k == key) ≡ false → get linked_orders.new k ≡ get linked_orders.old k }
+    ensures capacity { linked_orders.new.capacity ≡ linked_orders.old.capacity }
+    ensures len { slab_len linked_orders.new ≡ slab_len linked_orders.old }
 {
-    if let Some(links) = nodes.links.get_mut(key) {
+    if let Some(links) = linked_orders.links.get_mut(key) {
         *links = both;
     }
 }
 
 // Takes an order out, with its links. Those of its neighbours still lead to it.
 #[inline(always)]
-fn take_out(nodes: &mut LinkedOrders, key: usize) -> Node
-    requires { ContainsKey nodes.old key }
-    ensures was { get nodes.old key ≡ Some result }
-    ensures own { get nodes.new key ≡ None }
-    ensures others { (k : ℕ) → (k == key) ≡ false → get nodes.new k ≡ get nodes.old k }
-    ensures capacity { nodes.new.capacity ≡ nodes.old.capacity }
-    ensures len { slab_len nodes.new + 1 ≡ slab_len nodes.old }
+fn take_out(linked_orders: &mut LinkedOrders, key: usize) -> LinkedOrder
+    requires { ContainsKey linked_orders.old key }
+    ensures was { get linked_orders.old key ≡ Some result }
+    ensures own { get linked_orders.new key ≡ None }
+    ensures others { (k : ℕ) → (k == key) ≡ false → get linked_orders.new k ≡ get linked_orders.old k }
+    ensures capacity { linked_orders.new.capacity ≡ linked_orders.old.capacity }
+    ensures len { slab_len linked_orders.new + 1 ≡ slab_len linked_orders.old }
 {
     let Both {
         time,
         queue,
         number,
-    } = nodes.links[key];
-    let order = nodes.orders.remove(key);
-    Node {
+    } = linked_orders.links[key];
+    let order = linked_orders.orders.remove(key);
+    LinkedOrder {
         order,
         time,
         queue,
@@ -334,97 +334,97 @@ fn take_out(nodes: &mut LinkedOrders, key: usize) -> Node
 
 // Stores an order that is not linked yet.
 #[inline(always)]
-pub fn store(nodes: &mut LinkedOrders, order: Order) -> usize
-    requires { HasRoomFor nodes.old 1 }
+pub fn store(linked_orders: &mut LinkedOrders, order: Order) -> usize
+    requires { HasRoomFor linked_orders.old 1 }
     ensures small { result + 1 < 2 ^ 64 }
-    ensures fresh { get nodes.old result ≡ None }
-    ensures own { get nodes.new result ≡ Some (not_linked order) }
-    ensures others { (k : ℕ) → (k == result) ≡ false → get nodes.new k ≡ get nodes.old k }
-    ensures capacity { nodes.new.capacity ≡ nodes.old.capacity }
-    ensures len { slab_len nodes.new ≡ slab_len nodes.old + 1 }
+    ensures fresh { get linked_orders.old result ≡ None }
+    ensures own { get linked_orders.new result ≡ Some (not_linked order) }
+    ensures others { (k : ℕ) → (k == result) ≡ false → get linked_orders.new k ≡ get linked_orders.old k }
+    ensures capacity { linked_orders.new.capacity ≡ linked_orders.old.capacity }
+    ensures len { slab_len linked_orders.new ≡ slab_len linked_orders.old + 1 }
 {
-    let key = nodes.orders.insert_reserved(order);
+    let key = linked_orders.orders.insert_reserved(order);
     // The key is below the capacity, which is a number of the machine.
-    let _capacity = nodes.orders.capacity();
-    clear_links(&mut nodes.links, key);
+    let _capacity = linked_orders.orders.capacity();
+    clear_links(&mut linked_orders.links, key);
     key
 }
 
 // Links a stored order, as the last of its queue and the last in time, and gives it its number.
 #[inline(always)]
 pub fn link_last(
-    nodes: &mut LinkedOrders,
+    linked_orders: &mut LinkedOrders,
     key: usize,
     queue_last: Link,
     time_last: Link,
     number: u64,
 )
     requires { key + 1 < 2 ^ 64 }
-    ensures own { get nodes.new key
-        ≡ option_map (linked_last queue_last time_last number) (get nodes.old key) }
-    ensures others { (k : ℕ) → (k == key) ≡ false → get nodes.new k
-        ≡ option_map (with_next queue_last time_last key k) (get nodes.old k) }
-    ensures capacity { nodes.new.capacity ≡ nodes.old.capacity }
-    ensures len { slab_len nodes.new ≡ slab_len nodes.old }
+    ensures own { get linked_orders.new key
+        ≡ option_map (linked_last queue_last time_last number) (get linked_orders.old key) }
+    ensures others { (k : ℕ) → (k == key) ≡ false → get linked_orders.new k
+        ≡ option_map (with_next queue_last time_last key k) (get linked_orders.old k) }
+    ensures capacity { linked_orders.new.capacity ≡ linked_orders.old.capacity }
+    ensures len { slab_len linked_orders.new ≡ slab_len linked_orders.old }
 {
     let link = Link::to(key);
-    set_queue_after(nodes, queue_last, link);
-    set_time_after(nodes, time_last, link);
+    set_queue_after(linked_orders, queue_last, link);
+    set_time_after(linked_orders, time_last, link);
     let both = Both {
-        time: Links::behind(time_last),
-        queue: Links::behind(queue_last),
+        time: Links::later(time_last),
+        queue: Links::later(queue_last),
         number,
     };
-    set_links(nodes, key, both);
+    set_links(linked_orders, key, both);
 }
 
 // Takes an order out, and links its neighbours to each other.
 #[inline(always)]
-pub fn unlink(nodes: &mut LinkedOrders, key: usize) -> Node
-    requires { ContainsKey nodes.old key }
-    ensures was { get nodes.old key ≡ Some result }
-    ensures own { get nodes.new key ≡ None }
-    ensures others { (k : ℕ) → (k == key) ≡ false → get nodes.new k
-        ≡ option_map (unlinked result k) (get nodes.old k) }
-    ensures capacity { nodes.new.capacity ≡ nodes.old.capacity }
-    ensures len { slab_len nodes.new + 1 ≡ slab_len nodes.old }
+pub fn unlink(linked_orders: &mut LinkedOrders, key: usize) -> LinkedOrder
+    requires { ContainsKey linked_orders.old key }
+    ensures was { get linked_orders.old key ≡ Some result }
+    ensures own { get linked_orders.new key ≡ None }
+    ensures others { (k : ℕ) → (k == key) ≡ false → get linked_orders.new k
+        ≡ option_map (unlinked result k) (get linked_orders.old k) }
+    ensures capacity { linked_orders.new.capacity ≡ linked_orders.old.capacity }
+    ensures len { slab_len linked_orders.new + 1 ≡ slab_len linked_orders.old }
 {
-    let node = take_out(nodes, key);
-    let queue = node.queue;
-    set_queue_after(nodes, queue.before, queue.after);
-    set_queue_before(nodes, queue.after, queue.before);
-    let time = node.time;
-    set_time_after(nodes, time.before, time.after);
-    set_time_before(nodes, time.after, time.before);
-    node
+    let linked_order = take_out(linked_orders, key);
+    let queue = linked_order.queue;
+    set_queue_after(linked_orders, queue.before, queue.after);
+    set_queue_before(linked_orders, queue.after, queue.before);
+    let time = linked_order.time;
+    set_time_after(linked_orders, time.before, time.after);
+    set_time_before(linked_orders, time.after, time.before);
+    linked_order
 }
 
 // Takes an order out that is in no queue, and links its neighbours in time to each other.
-pub fn unlink_in_time(nodes: &mut LinkedOrders, key: usize) -> Node
-    requires { ContainsKey nodes.old key }
-    ensures was { get nodes.old key ≡ Some result }
-    ensures own { get nodes.new key ≡ None }
-    ensures others { (k : ℕ) → (k == key) ≡ false → get nodes.new k
+pub fn unlink_in_time(linked_orders: &mut LinkedOrders, key: usize) -> LinkedOrder
+    requires { ContainsKey linked_orders.old key }
+    ensures was { get linked_orders.old key ≡ Some result }
+    ensures own { get linked_orders.new key ≡ None }
+    ensures others { (k : ℕ) → (k == key) ≡ false → get linked_orders.new k
         ≡ option_map (unlinked (record result { queue = links_to None None }) k)
-        (get nodes.old k) }
-    ensures capacity { nodes.new.capacity ≡ nodes.old.capacity }
-    ensures len { slab_len nodes.new + 1 ≡ slab_len nodes.old }
+        (get linked_orders.old k) }
+    ensures capacity { linked_orders.new.capacity ≡ linked_orders.old.capacity }
+    ensures len { slab_len linked_orders.new + 1 ≡ slab_len linked_orders.old }
 {
-    let node = take_out(nodes, key);
-    let time = node.time;
-    set_time_after(nodes, time.before, time.after);
-    set_time_before(nodes, time.after, time.before);
-    node
+    let linked_order = take_out(linked_orders, key);
+    let time = linked_order.time;
+    set_time_after(linked_orders, time.before, time.after);
+    set_time_before(linked_orders, time.after, time.before);
+    linked_order
 }
 
 // Takes shares off an order.
-pub fn take_shares(nodes: &mut LinkedOrders, key: usize, by: u32)
-    requires { IfSome (get nodes.old key) (λ node. by ≤ node.order.shares) }
-    ensures changed { (k : ℕ) → get nodes.new k ≡ option_map (less_at key by k) (get nodes.old k) }
-    ensures capacity { nodes.new.capacity ≡ nodes.old.capacity }
-    ensures len { slab_len nodes.new ≡ slab_len nodes.old }
+pub fn take_shares(linked_orders: &mut LinkedOrders, key: usize, by: u32)
+    requires { IfSome (get linked_orders.old key) (λ linked_order. by ≤ linked_order.order.shares) }
+    ensures changed { (k : ℕ) → get linked_orders.new k ≡ option_map (less_at key by k) (get linked_orders.old k) }
+    ensures capacity { linked_orders.new.capacity ≡ linked_orders.old.capacity }
+    ensures len { slab_len linked_orders.new ≡ slab_len linked_orders.old }
 {
-    if let Some(order) = nodes.orders.get_mut(key) {
+    if let Some(order) = linked_orders.orders.get_mut(key) {
         order.shares -= by;
     }
 }

@@ -1,8 +1,8 @@
 //! The levels of a book, and beside them how near to the best price those of each stock and side begin.
 ghost use Rattle.std.specs.Prelude.{◌≡◌, ◌+◌, ◌≤◌, ◌<◌, ◌%◌, ◌^◌, ℕ, Option, Some, None, IsSome, OnOk, OnErr, IfSome, IfNone, Bool, true, false};
 ghost use Rattle.std.specs.Option.{option_map};
-ghost use Rattle.hx_levels.specs.Nodes.{ends_with};
-ghost use Rattle.hx_levels.specs.Rung.{LevelKey, rung_number, rung_of_number};
+ghost use Rattle.hx_levels.specs.OrderLinks.{ends_with};
+ghost use Rattle.hx_levels.specs.LevelKeys.{LevelKey, level_key_number, level_key_of_number};
 ghost use Rattle.hx_levels.specs.Levels.{level_at, with_ends, joined, with_most, or_empty, ends_in, first_at, IsFirstFrom, FindsLarge, IsEmptyAt, DropsEmpty, LeavesLevel};
 ghost use Rattle.hx_levels.specs.Bests.{NoneBetter};
 ghost use Rattle.hx_levels.specs.Sizes.{AreSizes};
@@ -12,7 +12,7 @@ use crate::level_book::best_bounds::{BestBounds, NO_DISTANCE};
 use crate::level_book::level_key::LevelKey;
 use crate::level_book::level_store::LevelStore;
 use crate::level_book::levels::{
-    ends_at, first_from, first_of_level, first_within, is_empty_at, is_kept, most_at,
+    ends_at, first_from, first_of_level, first_within, is_empty_at, is_retained, most_at,
 };
 use crate::level_book::link::Link;
 use crate::level_book::linked_orders::{Ends, Links};
@@ -23,32 +23,32 @@ use std::alloc::Global;
 // How many distances there are on a side of a stock.
 const DISTANCES: u128 = 1 << 32;
 
-/// The levels of all stocks and sides. Where no level of a side is near enough, that is known without a look for one. The
-/// most shares of each level's orders stand in ranked blocks too, so a walk passes levels of small orders by the block.
+/// The levels of all stocks and sides. If no level of a side is near enough, that is known without a search. The most
+/// shares of each level's orders are in ranked blocks too, so a walk passes levels of small orders by the block.
 #[derive(Drop)]
 pub struct Sides {
     levels: LevelStore,
     bests: BestBounds,
-    // For each level that has had an order an entry under the number of its rung, with the most shares of its orders.
+    // For each level that has had an order an entry under the number of its key, with the most shares of its orders.
     sizes: RankedBlocks,
     ghost near: { NoneBetter levels bests },
     ghost sized: { AreSizes levels sizes.entries },
 }
 
-// The rank of a rung's level among the sizes.
+// The rank of the level with a key among the sizes.
 fn size_rank(at: LevelKey) -> u128
-    ensures number { result ≡ rung_number at }
-    ensures rung { rung_of_number result ≡ at }
+    ensures number { result ≡ level_key_number at }
+    ensures level_key { level_key_of_number result ≡ at }
 {
     u128::from(at.number())
 }
 
-// Takes the size of a rung's level out, unless the level has had no shares, and so has no size.
+// Takes the size of the level with a key out, unless the level has had no shares, and so has no size.
 fn drop_size(sizes: &mut RankedBlocks, at: LevelKey, most: u32)
-    requires { most ≡ 0 → (r : ℕ) → rung_of_number r ≡ at → IsFree r sizes.old.entries }
-    ensures entries { sizes.new.entries ≡ without (rung_number at) sizes.old.entries }
+    requires { most ≡ 0 → (r : ℕ) → level_key_of_number r ≡ at → IsFree r sizes.old.entries }
+    ensures entries { sizes.new.entries ≡ without (level_key_number at) sizes.old.entries }
     ensures room { sizes.old.has_room ≡ true → sizes.new.has_room ≡ true }
-    ensures rung { rung_of_number (rung_number at) ≡ at }
+    ensures level_key { level_key_of_number (level_key_number at) ≡ at }
 {
     let rank = size_rank(at);
     if most > 0 {
@@ -75,14 +75,14 @@ impl Sides {
         }
     }
 
-    /// The ends of a queue, none where there is no level.
+    /// The ends of a queue, none if there is no level.
     pub fn ends_at(&self, at: LevelKey, shown: bool) -> Ends
         ensures { result ≡ ends_in shown (level_at self.now.levels at) }
     {
         ends_at(&self.levels, at, shown)
     }
 
-    /// The first order of the first level that is not empty, from a rung up to a distance.
+    /// The first order of the first level that is not empty, from a level key up to a distance.
     #[inline(always)]
     pub fn first_from(&self, from: LevelKey, limit: u32) -> Option<usize>
         requires single { (a b : LevelKey) → IsEmptyAt self.now.levels a
@@ -106,8 +106,8 @@ impl Sides {
         first_from(&self.levels, from, limit)
     }
 
-    /// The first order of the first level that is not empty, from a rung up to a distance. Levels none of whose orders has
-    /// as many shares are passed over, by the block.
+    /// The first order of the first level that is not empty, from a level key up to a distance. Levels none of whose
+    /// orders has at least `least` shares are passed over, by the block.
     #[inline(always)]
     pub fn first_large(&self, from: LevelKey, limit: u32, least: u32) -> Option<usize>
         requires single { (a b : LevelKey) → IsEmptyAt self.now.levels a
@@ -147,7 +147,8 @@ impl Sides {
         self.first_from(from.at(distance_in(entry.rank)), limit)
     }
 
-    /// Where the next level stands, from a rung up to a distance, whose bound allows an order of as many shares.
+    /// The key of the next level, from a level key up to a distance, whose bound allows an order of at least `least`
+    /// shares.
     pub fn next_claim(&self, from: LevelKey, limit: u32, least: u32) -> Option<LevelKey>
         ensures { IfSome result (λ at. (at.locate ≡ from.locate) × (at.buy ≡ from.buy)) }
     {
@@ -158,7 +159,7 @@ impl Sides {
         Some(from.at(distance_in(entry.rank)))
     }
 
-    /// Gives the level of a rung another bound on the shares of its orders, if it has one.
+    /// Gives the level with a key another bound on the shares of its orders, if it has one.
     pub fn lower(&mut self, at: LevelKey, most: u32)
         requires { 0 < most }
         ensures room { self.new.sizes.has_room ≡ self.old.sizes.has_room }
@@ -186,15 +187,16 @@ impl Sides {
         ensures room { OnOk result (self.new.sizes.has_room ≡ true) }
         ensures had_room { self.old.sizes.has_room ≡ true → self.new.sizes.has_room ≡ true }
     {
-        // Noted before it is made: where it is then refused, what is kept is nearer than it need be.
+        // The bound is noted before the level is made: if the level is then refused, the stored distance is nearer than
+        // it need be.
         self.bests.include(at)?;
         self.sizes.reserve()?;
         self.levels.make_level(at)?;
         Ok(())
     }
 
-    /// Puts the key of an order with as many shares last in a queue of a level that is there, and gives the key that was
-    /// last.
+    /// Puts the key of an order with `shares` shares last in a queue of a level that is there, and gives the key that
+    /// was last.
     #[inline(always)]
     pub fn join_queue(&mut self, at: LevelKey, shown: bool, key: usize, shares: u32) -> Link
         requires level { IsSome (level_at self.old.levels at) }
@@ -226,7 +228,7 @@ impl Sides {
         last
     }
 
-    // Looks for the best level of the rung's stock and side, where the rung was the best before its level went out.
+    // Looks for the best level of the key's stock and side, if the level with this key was the best before it went out.
     #[inline(always)]
     fn find_best(&mut self, at: LevelKey)
         ensures levels { self.new.levels ≡ self.old.levels }
@@ -241,13 +243,13 @@ impl Sides {
         }
     }
 
-    /// Takes the level out where it is empty, unless it is the one to keep.
+    /// Takes the level out if it is empty, unless it is the one to retain.
     #[inline(always)]
-    pub fn drop_empty(&mut self, at: LevelKey, kept: Option<LevelKey>)
-        ensures dropped { DropsEmpty self.old.levels self.new.levels at kept }
+    pub fn drop_empty(&mut self, at: LevelKey, retained: Option<LevelKey>)
+        ensures dropped { DropsEmpty self.old.levels self.new.levels at retained }
         ensures room { self.old.sizes.has_room ≡ true → self.new.sizes.has_room ≡ true }
     {
-        if is_kept(at, kept) {
+        if is_retained(at, retained) {
             return;
         }
         if is_empty_at(&self.levels, at) {
@@ -258,31 +260,37 @@ impl Sides {
         }
     }
 
-    // Takes the level out where it is empty, unless it is the one to keep. A queue of it has these ends: where there is
-    // an order in the queue the level is not looked for.
-    fn drop_if_empty(&mut self, at: LevelKey, kept: Option<LevelKey>, shown: bool, ends: Ends)
+    // Takes the level out if it is empty, unless it is the one to retain. A queue of it has these ends: if there is an
+    // order in the queue the level is not looked for.
+    fn drop_if_empty(&mut self, at: LevelKey, retained: Option<LevelKey>, shown: bool, ends: Ends)
         requires { ends ≡ ends_in shown (level_at self.old.levels at) }
-        ensures dropped { DropsEmpty self.old.levels self.new.levels at kept }
+        ensures dropped { DropsEmpty self.old.levels self.new.levels at retained }
         ensures room { self.old.sizes.has_room ≡ true → self.new.sizes.has_room ≡ true }
     {
         if ends.first.is_some() {
             return;
         }
-        self.drop_empty(at, kept);
+        self.drop_empty(at, retained);
     }
 
-    /// Takes the order of these links out of its queue, and its level out where that leaves it empty, unless it is the
-    /// one to keep. An order between two others is no end of its queue, and its level is not looked for.
+    /// Takes the order of these links out of its queue, and its level out if that leaves it empty, unless it is the one
+    /// to retain. An order between two others is no end of its queue, and its level is not looked for.
     #[inline(always)]
-    pub fn leave_level(&mut self, at: LevelKey, shown: bool, links: Links, kept: Option<LevelKey>)
+    pub fn leave_level(
+        &mut self,
+        at: LevelKey,
+        shown: bool,
+        links: Links,
+        retained: Option<LevelKey>,
+    )
         requires { IsSome (ends_in shown (level_at self.old.levels at)).first }
-        ensures left { LeavesLevel self.old.levels self.new.levels at shown links kept }
+        ensures left { LeavesLevel self.old.levels self.new.levels at shown links retained }
         ensures room { self.old.sizes.has_room ≡ true → self.new.sizes.has_room ≡ true }
     {
         if links.is_inside() {
             return;
         }
         let left = self.levels.leave_queue(at, shown, links);
-        self.drop_if_empty(at, kept, shown, left);
+        self.drop_if_empty(at, retained, shown, left);
     }
 }

@@ -5,13 +5,13 @@
 ghost use Rattle.std.specs.Prelude.{◌≡◌, ◌+◌, ◌<◌, nat_lt, ◌≤◌, ◌^◌, ◌&&◌, Option, Some, None, IfSome, IfNone, true, false, max};
 ghost use Rattle.std.specs.List.{find};
 ghost use Rattle.std.specs.Option.{option_map, option_copied, is_some};
-ghost use Rattle.hx_levels.specs.Book.{has_key, order_of, is_under, is_conditional, unconditional, KeysDiffer, IsRanked, IsWalk, ranked, rest_after, next_by_rank, next_ready, next_qualifying};
-ghost use Rattle.hx_levels.specs.LevelBook.{above_prices, contra, limit_of, number_in, rank_at, rank_of, least_of, entry_of, first_rank, last_rank, to_key};
+ghost use Rattle.hx_book.specs.Book.{has_key, order_of, is_under, is_conditional, KeysDiffer, IsRanked, IsWalk, ranked, rest_after, next_by_rank, next_ready, next_qualifying};
+ghost use Rattle.hx_levels.specs.LevelBook.{above_prices, contra, limit_of, number_in, rank_at, rank_of, least_of, entry_of, first_rank, last_rank, to_key, unconditional};
 ghost use Rattle.hx_levels.specs.Walks.{rank_after, rank_until, is_from, is_waiting_until, IsNextLarge};
 
 use crate::level_book::level_key::LevelKey;
-use crate::level_book::{ABOVE_PRICES, LAST_NUMBER, LevelBook, rung_of};
-use crate::order::{Key, Order, Terms, Walk};
+use crate::level_book::{ABOVE_PRICES, LAST_NUMBER, LevelBook, level_key_of};
+use hx_book::{Key, Order, Terms, Walk};
 use hx_ranked::Entry;
 
 // The upper half of a rank is the number of the level, the lower half says whether the order is shown, and its number.
@@ -19,7 +19,7 @@ const LEVEL: u128 = 1 << 64;
 
 const HIDDEN: u64 = 1 << 63;
 
-// What it costs to reach another level behind one that was passed over, in orders passed over.
+// The cost of reaching another level after one that was passed over, in orders passed over.
 const REACHED: u64 = 8;
 
 /// The rank of an order at a level, shown or not, with its number.
@@ -39,16 +39,16 @@ pub fn least_of(order: &Order) -> u32
     1.max(order.minimum.min(order.shares))
 }
 
-// The contra side of the terms: its rungs begin at this one, and go up to the distance.
+// The contra side of the terms: its level keys begin at this one, and go up to the distance.
 pub fn contra_of(terms: &Terms) -> (LevelKey, u32)
-    ensures rung { result.0 ≡ contra terms.now 0 }
+    ensures level_key { result.0 ≡ contra terms.now 0 }
     ensures limit { result.1 ≡ limit_of terms.now }
     ensures small { result.1 ≤ above_prices }
 {
     let buy = terms.side.is_buy();
     let price = terms.price.get();
-    let rung = LevelKey::of(terms.locate, !buy, 0);
-    (rung, if buy { price } else { ABOVE_PRICES - price })
+    let level_key = LevelKey::of(terms.locate, !buy, 0);
+    (level_key, if buy { price } else { ABOVE_PRICES - price })
 }
 
 // The number of a key as the key.
@@ -67,16 +67,16 @@ fn last_rank(terms: &Terms) -> u128
     ensures rank { result ≡ last_rank terms.now }
     ensures small { limit_of terms.now < 2 ^ 32 }
 {
-    let (rung, limit) = contra_of(terms);
-    rank_at(rung.at(limit), false, LAST_NUMBER)
+    let (level_key, limit) = contra_of(terms);
+    rank_at(level_key.at(limit), false, LAST_NUMBER)
 }
 
 // The least rank that an order may have that crosses the terms.
 fn first_rank(terms: &Terms) -> u128
     ensures { result ≡ first_rank terms.now }
 {
-    let (rung, _) = contra_of(terms);
-    rank_at(rung, true, 0)
+    let (level_key, _) = contra_of(terms);
+    rank_at(level_key, true, 0)
 }
 
 impl LevelBook {
@@ -86,8 +86,8 @@ impl LevelBook {
             (ranked terms.now (unconditional self.now.orders)) result }
         ensures keys { KeysDiffer self.now.orders }
     {
-        let (rung, limit) = contra_of(terms);
-        as_key(self.ladders.first_large(rung, limit, least))
+        let (level_key, limit) = contra_of(terms);
+        as_key(self.sides.first_large(level_key, limit, least))
     }
 
     fn queued_after(&self, terms: &Terms, key: Key, least: u32) -> Option<Key>
@@ -96,19 +96,19 @@ impl LevelBook {
             (ranked terms.now (unconditional self.now.orders)) result }
         ensures keys { KeysDiffer self.now.orders }
     {
-        let order = self.nodes.order(key.0).unwrap();
-        if let Some(next) = self.nodes.links(key.0).queue.after.get() {
+        let order = self.linked_orders.order(key.0).unwrap();
+        if let Some(next) = self.linked_orders.links(key.0).queue.after.get() {
             return Some(Key(next));
         }
-        let rung = rung_of(order);
-        let hidden = self.ladders.ends_at(rung, false).first.get();
+        let level_key = level_key_of(order);
+        let hidden = self.sides.ends_at(level_key, false).first.get();
         match hidden {
             Some(next) if order.shown => Some(Key(next)),
             _ => {
                 self.note_reached(least);
                 let (_, limit) = contra_of(terms);
-                let from = rung.at(rung.distance() + 1);
-                as_key(self.ladders.first_large(from, limit, least))
+                let from = level_key.at(level_key.distance() + 1);
+                as_key(self.sides.first_large(from, limit, least))
             }
         }
     }
@@ -138,7 +138,7 @@ impl LevelBook {
         ensures { IfSome (order_of key.0 self.now.orders) (λ order.
             result ≡ is_conditional order) }
     {
-        self.nodes.order(key.0).unwrap().is_conditional()
+        self.linked_orders.order(key.0).unwrap().is_conditional()
     }
 
     // The rank of a live order.
@@ -146,17 +146,21 @@ impl LevelBook {
     fn rank(&self, key: Key) -> u128
         requires { has_key key.0 self.now.orders ≡ true }
         ensures exact { IfSome (find (is_under key.0) self.now.orders) (λ live.
-            result ≡ rank_of (number_in self.now.nodes) live) }
+            result ≡ rank_of (number_in self.now.linked_orders) live) }
         ensures small { result + 1 < 2 ^ 128 }
     {
-        let order = self.nodes.order(key.0).unwrap();
-        rank_at(rung_of(order), order.shown, self.nodes.links(key.0).number)
+        let order = self.linked_orders.order(key.0).unwrap();
+        rank_at(
+            level_key_of(order),
+            order.shown,
+            self.linked_orders.links(key.0).number,
+        )
     }
 
     // The least rank of the orders after the one with the key, or of all that cross the terms.
     fn rank_after(&self, terms: &Terms, after: Option<Key>) -> u128
         requires { IfSome after (λ key. has_key key.0 self.now.orders ≡ true) }
-        ensures { result ≡ rank_after (number_in self.now.nodes) terms.now after self.now.orders }
+        ensures { result ≡ rank_after (number_in self.now.linked_orders) terms.now after self.now.orders }
     {
         match after {
             None => first_rank(terms),
@@ -169,9 +173,9 @@ impl LevelBook {
     fn is_from(&self, key: Key, from: u128, least: u32) -> bool
         requires { has_key key.0 self.now.orders ≡ true }
         ensures { IfSome (find (is_under key.0) self.now.orders) (λ live.
-            result ≡ is_from (number_in self.now.nodes) from least live) }
+            result ≡ is_from (number_in self.now.linked_orders) from least live) }
     {
-        let order = self.nodes.order(key.0).unwrap();
+        let order = self.linked_orders.order(key.0).unwrap();
         if order.shares < least {
             return false;
         }
@@ -188,7 +192,7 @@ impl LevelBook {
         requires { IfSome start (λ key.
             IsRanked terms.now key.0 (unconditional self.now.orders)) }
         ensures { result ≡ option_map (λ live. live.key)
-            (find (is_from (number_in self.now.nodes) from least)
+            (find (is_from (number_in self.now.linked_orders) from least)
             (rest_after start (ranked terms.now (unconditional self.now.orders)))) }
     {
         let mut last = start;
@@ -222,7 +226,7 @@ impl LevelBook {
         requires { IfSome after (λ key. IsRanked terms.now key.0 self.now.orders) }
         ensures { result ≡ next_ready terms.now after least self.now.orders }
     {
-        let _ = &self.nodes;
+        let _ = &self.linked_orders;
         let Some(key) = after else {
             return self.ready_from(terms, None, 0, least);
         };
@@ -237,7 +241,7 @@ impl LevelBook {
     fn rank_until(&self, terms: &Terms, key: Option<Key>) -> u128
         requires { IfSome key (λ key. has_key key.0 self.now.orders ≡ true) }
         ensures rank { result
-            ≡ rank_until (number_in self.now.nodes) terms.now key self.now.orders }
+            ≡ rank_until (number_in self.now.linked_orders) terms.now key self.now.orders }
         ensures small { limit_of terms.now < 2 ^ 32 }
     {
         let last = last_rank(terms);
@@ -260,9 +264,9 @@ impl LevelBook {
     ) -> Option<Entry>
         requires after { IfSome after (λ key. IsRanked terms.now key.0 self.now.orders) }
         requires ready { IfSome ready (λ key. IsRanked terms.now key.0 self.now.orders) }
-        ensures { result ≡ option_map (entry_of (number_in self.now.nodes))
-            (find (is_waiting_until (number_in self.now.nodes)
-            (rank_until (number_in self.now.nodes) terms.now ready self.now.orders) left least)
+        ensures { result ≡ option_map (entry_of (number_in self.now.linked_orders))
+            (find (is_waiting_until (number_in self.now.linked_orders)
+            (rank_until (number_in self.now.linked_orders) terms.now ready self.now.orders) left least)
             (rest_after after (ranked terms.now self.now.orders))) }
     {
         if self.conditional.len() == 0 {
@@ -276,11 +280,11 @@ impl LevelBook {
     // The entry of the next conditional order.
     fn next_conditional(&self, terms: &Terms, after: Option<Key>) -> Option<Entry>
         requires { IfSome after (λ key. IsRanked terms.now key.0 self.now.orders) }
-        ensures { result ≡ option_map (entry_of (number_in self.now.nodes))
+        ensures { result ≡ option_map (entry_of (number_in self.now.linked_orders))
             (find (λ live. is_conditional live.order)
             (rest_after after (ranked terms.now self.now.orders))) }
     {
-        let _ = &self.nodes;
+        let _ = &self.linked_orders;
         let from = self.rank_after(terms, after);
         let last = last_rank(terms);
         match self.conditional.first_from(from) {
@@ -295,7 +299,7 @@ impl LevelBook {
         requires { IfSome key (λ key. has_key key.0 self.now.orders ≡ true) }
         ensures none { key ≡ None → result ≡ true }
         ensures some { IfSome key (λ key. IfSome (find (is_under key.0) self.now.orders)
-            (λ live. result ≡ nat_lt rank (rank_of (number_in self.now.nodes) live))) }
+            (λ live. result ≡ nat_lt rank (rank_of (number_in self.now.linked_orders) live))) }
     {
         match key {
             Some(key) => rank < self.rank(key),
@@ -309,7 +313,7 @@ impl LevelBook {
         ensures exact { result ≡ next_by_rank terms.now after self.now.orders }
         ensures keys { KeysDiffer self.now.orders }
     {
-        let _ = &self.nodes;
+        let _ = &self.linked_orders;
         let ready = self.next_ready(terms, after, 0);
         let Some(entry) = self.next_conditional(terms, after) else {
             return ready;
@@ -330,7 +334,7 @@ impl LevelBook {
         ensures walk { IsWalk terms.now minimum self.now.orders walk.new }
         ensures keys { KeysDiffer self.now.orders }
     {
-        let _ = &self.nodes;
+        let _ = &self.linked_orders;
         let least = at_least_one(minimum);
         if left < least {
             return None;
@@ -347,7 +351,7 @@ impl LevelBook {
         met
     }
 
-    // The next order that is not conditional and has `least` open shares, by what the walk knows or by a look for it.
+    // The next order that is not conditional and has `least` open shares, from what the walk knows or by a search.
     #[inline(always)]
     fn known_ready(&self, terms: &Terms, walk: &Walk, least: u32) -> Option<Key>
         requires ranked { IfSome walk.now.after (λ key.

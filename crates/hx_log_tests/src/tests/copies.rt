@@ -2,8 +2,9 @@
 
 use crate::tests::equal;
 use hx_day_log::{DayLogError, News, copy_on};
-use hx_log::{Log, LogError, MemoryLog};
-use hx_terms::{LogRecord, RecordsError, TextError, read_record, read_records};
+use hx_fenced_log::{
+    Log, LogError, LogRecord, MemoryLog, RecordsError, TextError, read_record, read_records,
+};
 use std::alloc::Global;
 use std::io;
 use std::io::Write;
@@ -21,7 +22,7 @@ const TEXTS: &[(&[u8], usize, usize)] = &[
     (b"#1 1 7 1\none\n#2 1 7 2\n#3 1 7 2\nthr", 2, 22),
     // A mark within a line begins no record.
     (b"#1 1 7 1\no#e\n#2 1 7 2\n", 1, 13),
-    // What stands in front of no mark is not looked at.
+    // What stands in front of no mark is not read.
     (b"one\ntwo\n", 0, 0),
 ];
 
@@ -41,7 +42,7 @@ fn whole_records_are_taken(rt: HostRuntime) {
     }
 }
 
-// A text; behind how many records it is damaged, and how.
+// A text, the number of records after which it is damaged, and how.
 const DAMAGED: &[(&[u8], u64, TextError)] = &[
     (b"one\n#2 1 7 1\n", 0, TextError::Head),
     (b"#1 1 7 1\n#2 0 7 1\n#3 1 7 1\n", 1, TextError::Head),

@@ -3,14 +3,13 @@
 use crate::tests::{equal, holds};
 use hx_day_log::*;
 use hx_engine::{Journal, Recovered};
-use hx_log::MemoryLog;
-use hx_log_journal::LogJournal;
+use hx_fenced_log::{LogJournal, MemoryLog};
 use hx_market::Event;
 use hx_recovery::Unwatched;
 use std::alloc::Global;
 use std::process::Abort;
 
-mod played;
+mod applied;
 mod rivals;
 mod standby;
 
@@ -26,7 +25,7 @@ fn opened<R: Abort>(
     open_log(alloc, log, writer, &Unwatched).expect(rt, "a log")
 }
 
-// The log, with a day of two lines kept by one sync more: the code Q of the hours at the first nanosecond, and a message of
+// The log, after one more sync of two lines of a day: the code Q of the hours at the first nanosecond, and a message of
 // member 1.
 fn keep_day<R: Abort>(rt: &R, mut journal: LogJournal<MemoryLog>) -> MemoryLog {
     journal.append(b"1 0 51").expect(rt, "room");
@@ -35,7 +34,7 @@ fn keep_day<R: Abort>(rt: &R, mut journal: LogJournal<MemoryLog>) -> MemoryLog {
     journal.into_follower().into_log()
 }
 
-// The log, with a line kept of a member whom no setup has.
+// The log, after the sync of a line of a member whom no setup has.
 fn keep_stranger<R: Abort>(rt: &R, mut journal: LogJournal<MemoryLog>) -> MemoryLog {
     journal.append(b"1 0 51").expect(rt, "room");
     journal.append(b"2 4095 4f48").expect(rt, "room");
@@ -43,7 +42,7 @@ fn keep_stranger<R: Abort>(rt: &R, mut journal: LogJournal<MemoryLog>) -> Memory
     journal.into_follower().into_log()
 }
 
-// The log, with a line kept that is no event.
+// The log, after the sync of a line that is no event.
 fn keep_word<R: Abort>(rt: &R, mut journal: LogJournal<MemoryLog>) -> MemoryLog {
     journal.append(b"1 0 51").expect(rt, "room");
     journal.append(b"buy").expect(rt, "room");
@@ -92,7 +91,7 @@ fn a_day_goes_on_from_its_log(rt: HostRuntime) {
 }
 
 #[test]
-fn a_record_that_is_no_event_is_told_by_its_number(rt: HostRuntime) {
+fn a_record_that_is_no_event_is_reported_by_its_number(rt: HostRuntime) {
     let alloc = rt.alloc();
     let first = opened(&rt, alloc, MemoryLog::new(alloc), 1);
     let log = keep_word(&rt, first.journal);
@@ -105,7 +104,7 @@ fn who_loses_a_takeover_reads_on_and_tries_again(rt: HostRuntime) {
     let alloc = rt.alloc();
     let log = RivalLog::new(alloc, 3);
     let day = open_log(alloc, log, 1, &Unwatched).expect(&rt, "a log");
-    // Each rival has kept a line before he was deposed.
+    // Each rival has synced a line before it was deposed.
     equal(&rt, day.events.len(), 3);
 }
 

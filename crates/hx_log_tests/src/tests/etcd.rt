@@ -2,8 +2,8 @@
 
 mod appends;
 mod calls;
+mod heartbeats;
 mod ranges;
-mod signs;
 mod texts;
 mod trims;
 

@@ -7,7 +7,7 @@ mod sockets;
 
 use hx_etcd::Answer;
 use hx_etcd_log::{AskError, EtcdLog, Nodes};
-use hx_terms::{Head, LogRecord};
+use hx_fenced_log::{Head, LogRecord};
 use std::alloc::Global;
 use std::process::Abort;
 use std::sync::atomic::{AtomicU64, Ordering};
@@ -49,7 +49,7 @@ impl Asked {
     }
 }
 
-// Three nodes whose turns are these. Behind them all nodes are gone.
+// Three nodes whose turns are these. After them all nodes are gone.
 #[derive(Drop)]
 struct Script<'a> {
     alloc: Global,
@@ -104,7 +104,7 @@ fn record(rt: &impl Abort, alloc: Global, number: u64, writer: u64) -> LogRecord
         number,
         term: 1,
         writer,
-        place: 1,
+        index: 1,
     };
     LogRecord::new(head, Vec::new(alloc)).expect(rt, "a record")
 }

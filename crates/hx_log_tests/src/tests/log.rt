@@ -1,36 +1,35 @@
 //! Two writers of one log.
 
 use crate::tests::{equal, holds};
-use hx_log::*;
-use hx_terms::{Head, LogRecord, RecordError};
+use hx_fenced_log::*;
 use std::alloc::Global;
 use std::process::Abort;
 
 mod losses;
 mod orders;
 
-// A writer, and what it has told.
+// A writer, and what it has reported.
 #[derive(Drop)]
 struct Side {
     writer: LogWriter,
-    told: Vec<u8>,
+    reported: Vec<u8>,
 }
 
 fn new_side(alloc: Global, writer: u64) -> Side {
     Side {
         writer: LogWriter::new(writer),
-        told: Vec::new(alloc),
+        reported: Vec::new(alloc),
     }
 }
 
-// Reads on, and tells what counts.
+// Reads on, and reports what counts.
 fn follow<L: Log>(rt: &impl Abort, alloc: Global, log: &mut L, side: &mut Side) {
     if let Ok(text) = side.writer.follow(alloc, log) {
-        side.told.extend_from_slice(&text).expect(rt, "memory");
+        side.reported.extend_from_slice(&text).expect(rt, "memory");
     }
 }
 
-// Keeps a line, and tells it once it is kept.
+// Appends a line, and reports it once it is durable.
 fn keep<L: Log>(
     rt: &impl Abort,
     alloc: Global,
@@ -38,13 +37,13 @@ fn keep<L: Log>(
     side: &mut Side,
     line: &[u8],
 ) -> Result<(), KeepError> {
-    let kept = side
+    let durable = side
         .writer
         .keep(log, Vec::from_slice(alloc, line).expect(rt, "memory"));
-    if kept.is_ok() {
-        side.told.extend_from_slice(line).expect(rt, "memory");
+    if durable.is_ok() {
+        side.reported.extend_from_slice(line).expect(rt, "memory");
     }
-    kept
+    durable
 }
 
 // What stands in a log, as a text.
@@ -75,10 +74,10 @@ fn a_takeover_comes_before_a_record(rt: HostRuntime) {
     equal(
         &rt,
         keep(&rt, alloc, &mut log, &mut one, b"buy\n"),
-        Err(KeepError::NotInOffice),
+        Err(KeepError::NotActive),
     );
     equal(&rt, one.writer.take_over(alloc, &mut log), Ok(()));
-    holds(&rt, one.writer.is_in_office());
+    holds(&rt, one.writer.is_active());
     equal(&rt, keep(&rt, alloc, &mut log, &mut one, b"buy\n"), Ok(()));
 
     // The other reads that, and takes over before the next record comes.
@@ -86,35 +85,35 @@ fn a_takeover_comes_before_a_record(rt: HostRuntime) {
     equal(&rt, other.writer.take_over(alloc, &mut log), Ok(()));
     let taken = Err(KeepError::Log(LogError::Taken));
     equal(&rt, keep(&rt, alloc, &mut log, &mut one, b"sell\n"), taken);
-    holds(&rt, one.writer.is_in_office());
+    holds(&rt, one.writer.is_active());
     follow(&rt, alloc, &mut log, &mut one);
-    holds(&rt, !one.writer.is_in_office());
+    holds(&rt, !one.writer.is_active());
     equal(
         &rt,
         keep(&rt, alloc, &mut log, &mut one, b"sell\n"),
-        Err(KeepError::NotInOffice),
+        Err(KeepError::NotActive),
     );
 
-    // Both tell what the other keeps.
+    // Both report what the other appends.
     equal(
         &rt,
         keep(&rt, alloc, &mut log, &mut other, b"cancel\n"),
         Ok(()),
     );
     follow(&rt, alloc, &mut log, &mut one);
-    equal(&rt, one.told.as_slice(), b"buy\ncancel\n".as_slice());
-    equal(&rt, other.told.as_slice(), b"buy\ncancel\n".as_slice());
+    equal(&rt, one.reported.as_slice(), b"buy\ncancel\n".as_slice());
+    equal(&rt, other.reported.as_slice(), b"buy\ncancel\n".as_slice());
     equal(&rt, log.len(), 4);
     equal(&rt, text_of(&rt, alloc, &mut log).as_slice(), TAKEN_OVER);
 }
 
 // A record of writer 1 in term 1 that it sent before it knew of any other.
-fn sent(rt: &impl Abort, alloc: Global, number: u64, place: u64) -> LogRecord {
+fn sent(rt: &impl Abort, alloc: Global, number: u64, index: u64) -> LogRecord {
     let head = Head {
         number,
         term: 1,
         writer: 1,
-        place,
+        index,
     };
     let lines = Vec::from_slice(alloc, b"sent\n").expect(rt, "memory");
     LogRecord::new(head, lines).expect(rt, "a record")
@@ -141,21 +140,21 @@ fn records_that_come_late_are_passed_over(rt: HostRuntime) {
     equal(&rt, log.append(&sent(&rt, alloc, 4, 3)), Ok(()));
     equal(&rt, log.append(&sent(&rt, alloc, 5, 2)), Ok(()));
 
-    // It stands there, and nobody tells it.
+    // It stands there, and no reader reports it.
     let taken = Err(KeepError::Log(LogError::Taken));
-    let kept = keep(&rt, alloc, &mut log, &mut other, b"next\n");
-    equal(&rt, kept, taken);
+    let durable = keep(&rt, alloc, &mut log, &mut other, b"next\n");
+    equal(&rt, durable, taken);
     follow(&rt, alloc, &mut log, &mut other);
-    let kept = keep(&rt, alloc, &mut log, &mut other, b"next\n");
-    equal(&rt, kept, Ok(()));
+    let durable = keep(&rt, alloc, &mut log, &mut other, b"next\n");
+    equal(&rt, durable, Ok(()));
     follow(&rt, alloc, &mut log, &mut one);
-    equal(&rt, one.told.as_slice(), b"sent\nnext\n".as_slice());
-    equal(&rt, other.told.as_slice(), b"sent\nnext\n".as_slice());
+    equal(&rt, one.reported.as_slice(), b"sent\nnext\n".as_slice());
+    equal(&rt, other.reported.as_slice(), b"sent\nnext\n".as_slice());
     equal(&rt, log.len(), 6);
 }
 
 #[test]
-fn what_is_no_record_is_not_kept(rt: HostRuntime) {
+fn what_is_no_record_is_not_durable(rt: HostRuntime) {
     let alloc = rt.alloc();
     let mut log = MemoryLog::new(alloc);
     let mut nobody = new_side(alloc, 0);
@@ -175,6 +174,6 @@ fn what_is_no_record_is_not_kept(rt: HostRuntime) {
     equal(&rt, keep(&rt, alloc, &mut log, &mut one, b"buy"), unended);
     let mark = Err(KeepError::Lines(RecordError::Line { number: 2 }));
     equal(&rt, keep(&rt, alloc, &mut log, &mut one, b"buy\n#\n"), mark);
-    equal(&rt, one.told.len(), 0);
+    equal(&rt, one.reported.len(), 0);
     equal(&rt, log.len(), 1);
 }

@@ -1,9 +1,8 @@
-//! A journal over a log, and who comes after it.
+//! A journal over a log, and its successor.
 
 use crate::tests::{equal, holds};
+use hx_fenced_log::*;
 use hx_journal::{Journal, JournalError};
-use hx_log::{KeepError, Log, LogError, MemoryLog};
-use hx_log_journal::*;
 use std::alloc::Global;
 use std::process::Abort;
 
@@ -58,7 +57,7 @@ fn the_next_in_office_reads_what_is_synced(rt: HostRuntime) {
     equal(&rt, next.fault(), None);
 }
 
-// What closes a journal whose last record meets this fate, and what the next in office reads.
+// What closes a journal whose last record meets this fate, and what the next active writer reads.
 const FATES: &[(Fate, LogError, &[u8])] = &[
     (Fate::Gone, LogError::Unknown, b"buy\n"),
     (Fate::Stands, LogError::Unknown, b"buy\nsell\ncancel\n"),

@@ -1,13 +1,11 @@
-//! A journal over a log, and a file beside it that keeps the same.
+//! A journal over a log, and a file beside it with the same records.
 
 use crate::tests::{equal, holds};
-use hx_day_log::{DayLogError, MirroredDay, open_and_play};
+use hx_day_log::{DayLogError, MirroredDay, open_and_apply};
 use hx_engine::Journal;
+use hx_fenced_log::{LogJournal, MemoryLog, MirroredJournal};
 use hx_journal::{FileJournal, Head, JournalError, MemoryFile, Noted};
-use hx_log::MemoryLog;
-use hx_log_journal::LogJournal;
 use hx_market::Event;
-use hx_mirror::MirroredJournal;
 use hx_recovery::{Unwatched, recover};
 use std::alloc::Global;
 use std::process::Abort;
@@ -22,7 +20,7 @@ const FIRST_LINE: usize = 30;
 // Calls of a file that never fails.
 const MANY: u64 = 1_000_000;
 
-// A day over a log, with a mirror in a file of these bytes whose calls fail after this many.
+// A day over a log, with a mirror in a file of these bytes whose calls fail after `calls` calls.
 fn begun<R: Abort>(
     rt: &R,
     alloc: Global,
@@ -34,7 +32,7 @@ fn begun<R: Abort>(
     let file = MemoryFile::new(alloc, bytes, calls).expect(rt, "a file");
     let beside = recover(alloc, file, bytes, &head, &Unwatched)?;
     let day = MirroredDay::new(Vec::<Event>::new(alloc), beside);
-    let (day, journal) = open_and_play(alloc, log, 1, day, &Unwatched)?;
+    let (day, journal) = open_and_apply(alloc, log, 1, day, &Unwatched)?;
     let (_, mirror) = day.into_both()?;
     Ok(MirroredJournal::new(alloc, journal, mirror))
 }
@@ -49,13 +47,13 @@ fn day<R: Abort>(rt: &R, alloc: Global) -> Both {
 }
 
 // Its log, and the file beside it.
-fn day_kept<R: Abort>(rt: &R, alloc: Global) -> (MemoryLog, Vec<u8>) {
+fn day_durable<R: Abort>(rt: &R, alloc: Global) -> (MemoryLog, Vec<u8>) {
     let (journal, mirror) = day(rt, alloc).into_both();
     let bytes = Vec::from_slice(alloc, mirror.device().file().bytes()).expect(rt, "room");
     (journal.into_follower().into_log(), bytes)
 }
 
-// Whether the file of a mirror has this text behind its first line, and this many lines in all.
+// Whether the file of a mirror has this text after its first line, and `count` lines in all.
 fn has_lines(both: Both, text: &[u8], count: usize) -> bool {
     let (_, mirror) = both.into_both();
     let bytes = mirror.device().file().bytes();
@@ -77,10 +75,10 @@ fn the_mirror_keeps_what_the_log_keeps(rt: HostRuntime) {
 #[test]
 fn a_mirror_is_brought_up_to_its_log(rt: HostRuntime) {
     let alloc = rt.alloc();
-    let (log, bytes) = day_kept(&rt, alloc);
+    let (log, bytes) = day_durable(&rt, alloc);
     let both = begun(&rt, alloc, log, b"", MANY).expect(&rt, "a day");
     holds(&rt, has_lines(both, b"1 0 51\n2 1 4f48\n#", 4));
-    let (log, _) = day_kept(&rt, alloc);
+    let (log, _) = day_durable(&rt, alloc);
     let both = begun(&rt, alloc, log, &bytes, MANY).expect(&rt, "a day");
     holds(&rt, has_lines(both, b"1 0 51\n2 1 4f48\n#", 4));
 }
@@ -88,7 +86,7 @@ fn a_mirror_is_brought_up_to_its_log(rt: HostRuntime) {
 #[test]
 fn another_journal_is_no_mirror(rt: HostRuntime) {
     let alloc = rt.alloc();
-    let (_, bytes) = day_kept(&rt, alloc);
+    let (_, bytes) = day_durable(&rt, alloc);
     let found = begun(&rt, alloc, MemoryLog::new(alloc), &bytes, MANY);
     holds(
         &rt,
@@ -99,7 +97,7 @@ fn another_journal_is_no_mirror(rt: HostRuntime) {
 #[test]
 fn a_journal_of_another_day_is_no_mirror(rt: HostRuntime) {
     let alloc = rt.alloc();
-    let (_, bytes) = day_kept(&rt, alloc);
+    let (_, bytes) = day_durable(&rt, alloc);
     let mut other = begun(&rt, alloc, MemoryLog::new(alloc), b"", MANY).expect(&rt, "a day");
     other.append(b"1 0 51").expect(&rt, "room");
     other.append(b"2 0 4d").expect(&rt, "room");

@@ -1,7 +1,7 @@
 //! Records of a log: the rule of which count, and their text.
 
 use crate::tests::equal;
-use hx_terms::*;
+use hx_fenced_log::*;
 use std::alloc::Global;
 use std::process::Abort;
 
@@ -17,7 +17,7 @@ const LOG: &[(&[u8], Verdict)] = &[
     (b"#4 1 7 3\nlate\n", Verdict::EarlierTerm),
     (b"#5 1 7 4\nlater\n", Verdict::EarlierTerm),
     (b"#6 2 9 3\nof a third\n", Verdict::OtherWriter),
-    (b"#7 2 8 4\nof another place\n", Verdict::OtherPlace),
+    (b"#7 2 8 4\nof another place\n", Verdict::OtherIndex),
     (b"#8 2 8 3\nthree\n", Verdict::Counts),
 ];
 
@@ -53,14 +53,14 @@ fn a_takeover_passes_over_what_is_late(rt: HostRuntime) {
         number: 9,
         term: 2,
         writer: 8,
-        place: 4,
+        index: 4,
     };
     equal(&rt, reading.next(), Some(next));
     let takeover = Head {
         number: 9,
         term: 3,
         writer: 7,
-        place: 4,
+        index: 4,
     };
     equal(&rt, reading.takeover(7), Some(takeover));
 }
@@ -74,7 +74,7 @@ fn nobody_stands_at_the_start(rt: HostRuntime) {
         number: 1,
         term: 1,
         writer: 7,
-        place: 1,
+        index: 1,
     };
     equal(&rt, start.takeover(7), Some(first));
 }

@@ -2,17 +2,18 @@
 
 use super::orders::{order, price, rest};
 use super::{equal, holds};
-use hx_levels::{Book, Key, LevelBook, ListBook, Order, Terms, Walk};
+use hx_book::{Book, Key, ListBook, Order, Terms, Walk};
+use hx_levels::LevelBook;
 use hx_units::{Price, Side};
 use std::alloc::Global;
 use std::process::Abort;
 
-// The open shares under a key, and 0 where no order has it.
+// The open shares under a key, and 0 if no order has it.
 fn shares<B: Book>(book: &B, key: Key) -> u32 {
     book.get(key).map_or(0, |order| order.shares)
 }
 
-// Takes some of an order's shares off. True where the order has more.
+// Takes some of an order's shares off. True if the order has more.
 fn less<B: Book>(book: &mut B, key: Key, by: u32) -> bool {
     let Some(order) = book.get(key) else {
         return false;
@@ -47,7 +48,7 @@ fn each_call<B: Book>(rt: &impl Abort, book: &mut B) {
     holds(rt, book.next_contra(1, Side::Sell, limit, third).is_none());
     holds(rt, book.next_contra(2, Side::Sell, limit, None).is_none());
     holds(rt, book.next_contra(1, Side::Buy, limit, None).is_none());
-    // A reduced order keeps its place in time.
+    // A reduced order retains its time priority.
     holds(rt, less(book, hidden, 40));
     equal(rt, shares(book, hidden), 60);
     let oldest = book.next_in_time(None);
@@ -235,7 +236,7 @@ fn agree<A: Book, B: Book>(rt: &impl Abort, one: &A, two: &B) -> bool {
     agree_in_time(one, two)
 }
 
-// The same of the orders that qualify for this many shares and this minimum, once both are made ready for the walks.
+// The same of the orders that qualify for `left` shares and this minimum, once both are made ready for the walks.
 fn agree_for<A: Book, B: Book>(
     rt: &impl Abort,
     one: &mut A,

@@ -2,7 +2,8 @@
 ghost use Rattle.std.specs.Prelude.{◌≡◌, []};
 
 use super::{count, equal, holds};
-use hx_levels::{Book, LevelBook, ListBook};
+use hx_book::{Book, ListBook};
+use hx_levels::LevelBook;
 use hx_market::{Event, Market, Output, PrepareError};
 use hx_members::Setup;
 use hx_testing::Day;
@@ -23,38 +24,42 @@ fn opened<B: Book + Drop>(rt: &impl Abort, alloc: Global, book: B) -> Market<B>
 
 /// How many messages of the feed, and how many replies.
 #[derive(Clone, Copy, Debug, PartialEq, Eq)]
-struct Told {
+struct EventOutput {
     feed: u64,
     replies: usize,
 }
 
 // What an event was said to give, and what it gave.
-fn played<B: Book + Drop>(rt: &impl Abort, market: &mut Market<B>, event: &Event) -> (Told, Told) {
+fn applied<B: Book + Drop>(
+    rt: &impl Abort,
+    market: &mut Market<B>,
+    event: &Event,
+) -> (EventOutput, EventOutput) {
     let prepared = market
         .prepare(event)
         .expect(rt, "an event that is accepted");
-    let said = Told {
+    let said = EventOutput {
         feed: prepared.feed_count(),
         replies: prepared.reply_members().len(),
     };
     let output = market.commit(prepared);
-    let gave = Told {
+    let gave = EventOutput {
         feed: output.feed.len() as u64,
         replies: output.replies.len(),
     };
     (said, gave)
 }
 
-fn expect_told<R: AllocGlobal + Abort, B: Book + Drop>(
+fn expect_output<R: AllocGlobal + Abort, B: Book + Drop>(
     rt: &R,
     market: &mut Market<B>,
     text: &[u8],
-    told: Told,
+    outputs: EventOutput,
 ) -> Result<(), Fail> {
     let event = event_of(rt.alloc(), text)?;
-    let (said, gave) = played(rt, market, &event);
-    equal(rt, said, told);
-    equal(rt, gave, told);
+    let (said, gave) = applied(rt, market, &event);
+    equal(rt, said, outputs);
+    equal(rt, gave, outputs);
     Ok(())
 }
 
@@ -81,14 +86,14 @@ fn expect_chains<R: Abort, B: Book + Drop>(rt: &R, market: &Market<B>) {
     );
 }
 
-// Plays the lines of the day, each with what it tells.
-fn play_day<R: AllocGlobal + Abort, B: Book + Drop>(
+// Applies the lines of the day, each with its output.
+fn apply_day<R: AllocGlobal + Abort, B: Book + Drop>(
     rt: &R,
     market: &mut Market<B>,
 ) -> Result<(), Fail> {
     let day = Day::of(rt.alloc(), REPLACES_THAT_TRADE)?;
     let mut tape = day.tape.as_slice();
-    let told = [
+    let outputs = [
         (1, 1),
         (1, 3),
         (1, 1),
@@ -98,10 +103,10 @@ fn play_day<R: AllocGlobal + Abort, B: Book + Drop>(
         (0, 0),
         (0, 0),
     ];
-    for (feed, replies) in told {
+    for (feed, replies) in outputs {
         let (text, others) = split_line(tape).expect(rt, "a line");
         tape = others;
-        expect_told(rt, market, text, Told { feed, replies })?;
+        expect_output(rt, market, text, EventOutput { feed, replies })?;
     }
     Ok(())
 }
@@ -111,7 +116,7 @@ fn expect_one_order<R: AllocGlobal + Abort, B: Book + Drop>(rt: &R, book: B) -> 
     requires { B.orders book ≡ [] }
 {
     let mut market = opened(rt, rt.alloc(), book);
-    play_day(rt, &mut market)?;
+    apply_day(rt, &mut market)?;
     expect_live(rt, &market);
     expect_chains(rt, &market);
     Ok(())
@@ -131,17 +136,17 @@ fn no_output(alloc: Global) -> Output {
     }
 }
 
-// Has one market play an event, and the other prepare and commit it; what each tells goes behind what it told before.
-fn play_both(
+// Has one market apply an event, and the other prepare and commit it; the output of each goes after its earlier output.
+fn apply_both(
     rt: &impl Abort,
     player: &mut Market<ListBook>,
     other: &mut Market<ListBook>,
     event: &Event,
-    told: &mut Output,
+    outputs: &mut Output,
     committed: &mut Output,
 ) {
     player
-        .play(event, told)
+        .apply(event, outputs)
         .expect(rt, "an event that is accepted");
     let prepared = other.prepare(event).expect(rt, "an event that is accepted");
     let output = other.commit(prepared);
@@ -156,29 +161,29 @@ fn play_both(
 }
 
 #[test]
-fn events_played_at_once_tell_the_same(rt: HostRuntime) -> Result<(), Fail> {
+fn events_applied_at_once_tell_the_same(rt: HostRuntime) -> Result<(), Fail> {
     let alloc = rt.alloc();
     let mut player = opened(&rt, alloc, ListBook::new(alloc));
     let mut other = opened(&rt, alloc, ListBook::new(alloc));
-    let (mut told, mut committed) = (no_output(alloc), no_output(alloc));
+    let (mut outputs, mut committed) = (no_output(alloc), no_output(alloc));
     let day = Day::of(alloc, REPLACES_THAT_TRADE)?;
     let mut tape = day.tape.as_slice();
     for _ in 0..8 {
         let (text, others) = split_line(tape).expect(&rt, "a line");
         tape = others;
-        play_both(
+        apply_both(
             &rt,
             &mut player,
             &mut other,
             &event_of(alloc, text)?,
-            &mut told,
+            &mut outputs,
             &mut committed,
         );
     }
-    equal(&rt, told.feed.len(), 6);
-    equal(&rt, told.replies.len(), 9);
-    equal(&rt, &told.feed, &committed.feed);
-    equal(&rt, &told.replies, &committed.replies);
+    equal(&rt, outputs.feed.len(), 6);
+    equal(&rt, outputs.replies.len(), 9);
+    equal(&rt, &outputs.feed, &committed.feed);
+    equal(&rt, &outputs.replies, &committed.replies);
     expect_live(&rt, &player);
     Ok(())
 }
@@ -186,15 +191,15 @@ fn events_played_at_once_tell_the_same(rt: HostRuntime) -> Result<(), Fail> {
 #[test]
 fn an_event_that_is_refused_tells_nothing(rt: HostRuntime) {
     let mut market = opened(&rt, rt.alloc(), ListBook::new(rt.alloc()));
-    let mut told = no_output(rt.alloc());
+    let mut outputs = no_output(rt.alloc());
     market
-        .play(&Event::Tick { time: 0 }, &mut told)
+        .apply(&Event::Tick { time: 0 }, &mut outputs)
         .expect(&rt, "an event that is accepted");
     let late = Event::Tick {
         time: 86_400_000_000_000,
     };
-    let refused = market.play(&late, &mut told);
+    let refused = market.apply(&late, &mut outputs);
     equal(&rt, refused, Err(PrepareError::BadTime));
-    holds(&rt, told.feed.is_empty());
-    holds(&rt, told.replies.is_empty());
+    holds(&rt, outputs.feed.is_empty());
+    holds(&rt, outputs.replies.is_empty());
 }

@@ -1,10 +1,10 @@
 //! Orders of the first member, for a book.
 
-use hx_levels::{Book, Key, Life, Order};
+use hx_book::{Book, Key, Life, Order};
 use hx_units::{Firm, MemberNo, Price, Side, Token};
 use std::process::Abort;
 
-/// A price of this many units.
+/// A price of `units` units.
 pub fn price(rt: &impl Abort, units: u32) -> Price {
     Price::of(units).expect(rt, "a price")
 }

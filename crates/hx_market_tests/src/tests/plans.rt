@@ -2,7 +2,8 @@
 
 use super::equal;
 use super::orders::{order, price, rest};
-use hx_levels::{Book, Key, LevelBook, ListBook};
+use hx_book::{Book, Key, ListBook};
+use hx_levels::LevelBook;
 use hx_match::{Fill, Incoming, plan};
 use hx_units::{NoMemory, Side};
 use std::process::Abort;
@@ -25,7 +26,7 @@ fn fill(rt: &impl Abort, key: Key, shares: u32, units: u32) -> Fill {
     }
 }
 
-// An incoming order has these fills, and this many shares left.
+// An incoming order has these fills, and `left` shares left.
 fn expect_plan<B: Book, R: AllocGlobal + Abort>(
     rt: &R,
     book: &B,

@@ -9,8 +9,8 @@ use std::alloc::{AllocError, Global};
 use std::process::Abort;
 use std::test::Fail;
 
-// Each function is proved for itself, over any setup and any tokens. What made them is not told, so that proofs do not
-// compute with it.
+// Each function is proved for itself, over any setup and any tokens. No contract says what made them, so that proofs do
+// not compute with it.
 
 fn number<R: Abort>(rt: &R, number: u16) -> MemberNo {
     let Some(number) = MemberNo::of(number) else {
@@ -101,31 +101,31 @@ fn entered(alloc: Global, member: MemberNo, first: &Token) -> Result<Tokens, Fai
 
 // A token joins the chain of another.
 fn join(tokens: &mut Tokens, member: MemberNo, first: &Token, second: &Token) -> Result<(), Fail> {
-    let Some(told) = tokens.state(member, first) else {
+    let Some(outputs) = tokens.state(member, first) else {
         return Err(Fail::new("unused"));
     };
     if tokens.state(member, second).is_some() {
         return Err(Fail::new("used"));
     }
     tokens.reserve(member, second)?;
-    tokens.join_chain(member, second, told.chain);
+    tokens.join_chain(member, second, outputs.chain);
     Ok(())
 }
 
-fn told_of(rt: &impl Abort, tokens: &Tokens, member: MemberNo, token: &Token) -> TokenState {
+fn output_of(rt: &impl Abort, tokens: &Tokens, member: MemberNo, token: &Token) -> TokenState {
     tokens
         .state(member, token)
         .expect(rt, "a token that is used")
 }
 
-fn expect_facts<R: Abort>(rt: &R, told: TokenState, key: Option<usize>) {
+fn expect_facts<R: Abort>(rt: &R, outputs: TokenState, key: Option<usize>) {
     let facts = ChainFacts {
         executed: 100,
         displayed: true,
         traded: true,
     };
     let chain = 0;
-    equal(rt, told, TokenState { chain, facts, key });
+    equal(rt, outputs, TokenState { chain, facts, key });
 }
 
 #[test]
@@ -147,7 +147,7 @@ fn a_chain_of_two_tokens(rt: HostRuntime) -> Result<(), Fail> {
     let mut tokens = entered(rt.alloc(), member, &first)?;
     join(&mut tokens, member, &first, &second)?;
     equal(&rt, tokens.count(), 2);
-    expect_facts(&rt, told_of(&rt, &tokens, member, &first), Some(7));
-    expect_facts(&rt, told_of(&rt, &tokens, member, &second), None);
+    expect_facts(&rt, output_of(&rt, &tokens, member, &first), Some(7));
+    expect_facts(&rt, output_of(&rt, &tokens, member, &second), None);
     Ok(())
 }

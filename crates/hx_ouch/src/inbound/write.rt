@@ -6,7 +6,7 @@ use super::{Cancel, Enter, Inbound, Replace, kinds};
 use arrayvec::ArrayVec;
 use hx_units::fields::{put, u32_bytes};
 
-// The bytes of a message, whose fields fit into their places.
+// The bytes of a message, whose fields fit into their slots.
 pub fn write(message: &Inbound) -> ArrayVec<u8, 49>
     ensures bytes { result.items ≡ inbound_bytes message.now }
     ensures fits { IsInbound message.now }

@@ -8,7 +8,7 @@ use super::{
 use arrayvec::ArrayVec;
 use hx_units::fields::{put, u32_bytes, u64_bytes};
 
-// The bytes of a message, whose fields fit into their places.
+// The bytes of a message, whose fields fit into their slots.
 pub fn write(message: &Outbound) -> ArrayVec<u8, 80>
     ensures bytes { result.items ≡ outbound_bytes message.now }
     ensures fits { IsOutbound message.now }

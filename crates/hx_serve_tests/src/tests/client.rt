@@ -1,4 +1,4 @@
-//! A member's client (SoupBinTCP 3.00), and what he sends (OUCH 4.2), spelled out.
+//! A member's client (SoupBinTCP 3.00), and what it sends (OUCH 4.2), spelled out.
 
 use super::{equal, holds};
 use std::alloc::Global;
@@ -12,7 +12,7 @@ use std::time::{Clock, Duration};
 pub const BUY: &[u8; 49] =
     b"OT1            B\0\0\0\x64ABCD    \0\x01\x86\xa0\0\x01\x86\x9f    YON\0\0\0\0NR";
 
-/// What is told the first member of it behind the time: an Accepted message with reference 1.
+/// The first member's reply to it, after the time: an Accepted message with reference 1.
 pub const BOUGHT: &[u8; 57] = b"T1            B\0\0\0\x64ABCD    \
      \0\x01\x86\xa0\0\x01\x86\x9fFMA1Y\0\0\0\0\0\0\0\x01ON\0\0\0\0NL ";
 
@@ -20,11 +20,11 @@ pub const BOUGHT: &[u8; 57] = b"T1            B\0\0\0\x64ABCD    \
 pub const HIDDEN: &[u8; 49] =
     b"OH1            B\0\0\0\x64ABCD    \0\x01\x86\xa0\0\x01\x86\x9f    NON\0\0\0\0NR";
 
-/// What is told the second member of it behind the time: an Accepted message with his first private reference.
+/// The second member's reply to it, after the time: an Accepted message with that member's first private reference.
 pub const HID: &[u8; 57] = b"H1            B\0\0\0\x64ABCD    \
      \0\x01\x86\xa0\0\x01\x86\x9fFMB2N\x80\0\x02\0\0\0\0\x01ON\0\0\0\0NL ";
 
-/// The login of ALPHA, member 1, from his first reply on: a Login Request Packet's payload.
+/// The login of ALPHA, member 1, from the first reply on: a Login Request Packet's payload.
 pub const ALPHA: &[u8; 46] = b"ALPHA PWALPHA                               1 ";
 
 /// The login of BRAVO, member 2, in small letters.
@@ -83,7 +83,7 @@ impl Client {
             .expect(rt, "a line that is open");
     }
 
-    /// The next packet; none where the server has closed the line.
+    /// The next packet; none if the server has closed the line.
     pub fn receive<R: Abort>(&mut self, rt: &R, alloc: Global) -> Option<Packet> {
         let mut head = [0; 3];
         if self.stream.read(&mut head[..1]).expect(rt, "a packet") == 0 {

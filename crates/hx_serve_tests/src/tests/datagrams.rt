@@ -1,14 +1,14 @@
 //! Datagrams of strangers: those that keep coming, those that cannot be answered, and more than are answered.
 
-use super::boards::{Counting, told};
 use super::client::{Client, free_ports};
 use super::days::{args_of, standard};
+use super::notice_sinks::{Counting, outputs};
 use super::{equal, holds};
-use hx_bells::Bell;
 use hx_members::Seed;
 use hx_serve::{
-    Datagrams, Day, Doors, Hosting, Meter, ServeArgs, Silent, Tally, Times, serve_day, today,
+    Acceptors, Counters, Datagrams, Day, Hosting, ServeArgs, Silent, Tally, Times, serve_day, today,
 };
+use hx_wake::Waker;
 use log::Log;
 use std::alloc::Global;
 use std::io::ErrorKind;
@@ -60,7 +60,7 @@ impl<'a> Datagrams for Flood<'a> {
         Ok((count, self.source))
     }
 
-    fn wait(&self, _bell: &Bell, _limit: Duration) -> bool {
+    fn wait(&self, _waker: &Waker, _limit: Duration) -> bool {
         true
     }
 }
@@ -68,7 +68,7 @@ impl<'a> Datagrams for Flood<'a> {
 // Whether a packet goes out soon: in ten seconds.
 fn comes(rt: &impl Clock, packets: &AtomicU64) -> bool {
     for _ in 0..1_000 {
-        if told(packets) > 0 {
+        if outputs(packets) > 0 {
             return true;
         }
         thread::sleep(rt, Duration::from_millis(10));
@@ -86,7 +86,13 @@ fn serve_flood<
         + Log
         + Abort
         + Sync,
->(rt: &R, alloc: Global, args: &ServeArgs, board: &Counting, flood: Flood<'_>) -> (Day, Vec<u8>) {
+>(
+    rt: &R,
+    alloc: Global,
+    args: &ServeArgs,
+    notice_sink: &Counting,
+    flood: Flood<'_>,
+) -> (Day, Vec<u8>) {
     let setup = standard(rt, alloc);
     let last = AtomicU64::new(0);
     let times = Times::of_day(today(rt), &last);
@@ -97,21 +103,29 @@ fn serve_flood<
         args,
         addresses: &addresses,
         gate: &Silent,
-        board,
+        notice_sink,
         open: None,
         times,
         tally: &Tally::new(),
-        meter: &Meter::new(),
+        counters: &Counters::new(),
         copies: &[],
     };
     let at = (Ipv4Addr::new(127, 0, 0, 1), args.port);
-    let doors = Doors {
+    let acceptors = Acceptors {
         listener: TcpListener::bind(rt, at).expect(rt, "a listener"),
         socket: flood,
     };
     let mut output = Vec::new(alloc);
     let line = &b"1 0 51\n"[..];
-    let served = serve_day(rt, alloc, &hosting, doors, Seed::Fixed, line, &mut output);
+    let served = serve_day(
+        rt,
+        alloc,
+        &hosting,
+        acceptors,
+        Seed::Fixed,
+        line,
+        &mut output,
+    );
     (served.expect(rt, "a day"), output)
 }
 
@@ -137,7 +151,7 @@ fn serve_beside<
         + Log
         + Abort
         + Sync,
->(rt: &R, answerable: bool, board: &Counting, sent: &Sent) {
+>(rt: &R, answerable: bool, notice_sink: &Counting, sent: &Sent) {
     let ports = free_ports(rt);
     let args = args_of(rt, ports, FEED, 1, 100).with_answers(2);
     let args = args.expect(rt, "answers");
@@ -148,14 +162,14 @@ fn serve_beside<
     };
     let (served, _) = join(
         rt,
-        || serve_flood(rt, rt.alloc(), &args, board, flood),
+        || serve_flood(rt, rt.alloc(), &args, notice_sink, flood),
         || hang_up(rt, ports.0, sent),
     );
     let (day, output) = served;
     holds(rt, day.fault.is_none());
     equal(rt, output.as_slice(), b"events 1 feed 1\n".as_slice());
     // The message and the end of the session, and on a slow machine heartbeats between them.
-    holds(rt, told(&sent.packets) >= 2);
+    holds(rt, outputs(&sent.packets) >= 2);
 }
 
 fn nothing() -> Sent {
@@ -168,20 +182,20 @@ fn nothing() -> Sent {
 // The day ends though requests come all the time. Of them two are answered a second, and it takes less than ten.
 #[test]
 fn requests_that_keep_coming_hold_nothing(rt: HostRuntime) {
-    let (board, sent) = (Counting::new(), nothing());
-    serve_beside(&rt, true, &board, &sent);
-    let answers = told(&sent.answers);
+    let (notice_sink, sent) = (Counting::new(), nothing());
+    serve_beside(&rt, true, &notice_sink, &sent);
+    let answers = outputs(&sent.answers);
     holds(&rt, 1 <= answers && answers <= 20);
-    holds(&rt, told(&board.crowds) > 0);
-    equal(&rt, told(&board.unanswered), 0);
+    holds(&rt, outputs(&notice_sink.crowds) > 0);
+    equal(&rt, outputs(&notice_sink.unanswered), 0);
 }
 
-// An answer that cannot be sent is told of, and the day has no fault.
+// An answer that cannot be sent is reported, and the day has no fault.
 #[test]
 fn an_answer_that_cannot_be_sent(rt: HostRuntime) {
-    let (board, sent) = (Counting::new(), nothing());
-    serve_beside(&rt, false, &board, &sent);
-    let unanswered = told(&board.unanswered);
+    let (notice_sink, sent) = (Counting::new(), nothing());
+    serve_beside(&rt, false, &notice_sink, &sent);
+    let unanswered = outputs(&notice_sink.unanswered);
     holds(&rt, 1 <= unanswered && unanswered <= 20);
-    equal(&rt, told(&sent.answers), 0);
+    equal(&rt, outputs(&sent.answers), 0);
 }

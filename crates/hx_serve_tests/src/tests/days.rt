@@ -14,7 +14,7 @@ use std::sync::Wait;
 use std::thread::{Threads, join};
 use std::time::Clock;
 
-/// The arguments of a day with this many sessions.
+/// The arguments of a day with `sessions` sessions.
 pub fn args_of<R: Abort>(
     rt: &R,
     ports: (u16, u16),
@@ -32,23 +32,23 @@ pub fn standard<R: Abort>(rt: &R, alloc: Global) -> Setup {
 
 /// A day's vendor, its ports for sessions and for requests, and its arguments.
 #[derive(Drop)]
-pub struct Place {
+pub struct Fixture {
     pub vendor: Vendor,
     pub ports: (u16, u16),
     pub args: ServeArgs,
 }
 
-impl Place {
-    /// A day with this many sessions on free ports.
+impl Fixture {
+    /// A day with `sessions` sessions on free ports.
     pub fn new<R: Net<Listener = TcpListener, Stream = TcpStream> + Abort>(
         rt: &R,
         sessions: u16,
         capacity: u64,
-    ) -> Place {
+    ) -> Fixture {
         let vendor = Vendor::listen(rt);
         let ports = free_ports(rt);
         let args = args_of(rt, ports, vendor.port(rt), sessions, capacity);
-        Place {
+        Fixture {
             vendor,
             ports,
             args,
@@ -86,12 +86,12 @@ pub fn log_in_both<R: Net<Listener = TcpListener, Stream = TcpStream> + Clock + 
     (first, second)
 }
 
-// Whether a payload is this reply behind its time.
+// Whether a payload is this reply, whatever its time.
 fn is_reply(payload: &[u8], reply: &[u8; 57]) -> bool {
     payload.len() == 66 && payload[0] == b'A' && payload[9..] == reply[..]
 }
 
-/// Sends an order, and gets this reply, of which the time is not looked at.
+/// Sends an order, and gets this reply, whatever its time.
 pub fn send_order<R: Abort>(
     rt: &R,
     alloc: Global,
@@ -142,52 +142,52 @@ fn serve_well<
 fn one_member<R: Net<Listener = TcpListener, Stream = TcpStream> + Clock + Abort>(
     rt: &R,
     alloc: Global,
-    place: &Place,
+    fixture: &Fixture,
 ) {
-    let mut client = log_in(rt, alloc, place.ports.0, ALPHA);
+    let mut client = log_in(rt, alloc, fixture.ports.0, ALPHA);
     send_order(rt, alloc, &mut client, BUY, BOUGHT);
-    expect_added(rt, alloc, &place.vendor);
+    expect_added(rt, alloc, &fixture.vendor);
     client.send(rt, b'O', b"");
     client.expect_no_reply(rt, alloc);
-    expect_end(rt, alloc, &place.vendor, 2);
+    expect_end(rt, alloc, &fixture.vendor, 2);
 }
 
 #[test]
 fn one_session(rt: HostRuntime) {
     let alloc = rt.alloc();
-    let place = Place::new(&rt, 1, 100);
+    let fixture = Fixture::new(&rt, 1, 100);
     let last = b"events 1 feed 1\n";
     join(
         &rt,
-        || serve_well(&rt, alloc, &place.args, Seed::Fixed, b"", last),
-        || one_member(&rt, alloc, &place),
+        || serve_well(&rt, alloc, &fixture.args, Seed::Fixed, b"", last),
+        || one_member(&rt, alloc, &fixture),
     );
-    // The end of the feed is told once.
-    holds(&rt, place.vendor.hears_no_more(&rt));
+    // The end of the feed is published once.
+    holds(&rt, fixture.vendor.hears_no_more(&rt));
 }
 
-// A connection that never logs in keeps no day of which code `C` is past: it is closed, and the day ends.
+// A connection that never logs in holds up no day of which code `C` is past: it is closed, and the day ends.
 #[test]
 fn a_silent_connection_keeps_no_day(rt: HostRuntime) {
     let alloc = rt.alloc();
-    let place = Place::new(&rt, 1, 100);
+    let fixture = Fixture::new(&rt, 1, 100);
     let (lines, last) = (b"1 0 51\n2 0 4d\n3 0 45\n4 0 43\n", b"events 4 feed 4\n");
     join(
         &rt,
-        || serve_well(&rt, alloc, &place.args, Seed::Fixed, lines, last),
-        || Client::connect(&rt, place.ports.0).expect_no_packet(&rt, alloc),
+        || serve_well(&rt, alloc, &fixture.args, Seed::Fixed, lines, last),
+        || Client::connect(&rt, fixture.ports.0).expect_no_packet(&rt, alloc),
     );
-    equal(&rt, place.vendor.hear_all(&rt, alloc), 4);
+    equal(&rt, fixture.vendor.hear_all(&rt, alloc), 4);
 }
 
 // One member logs out, the other hangs up; both see heartbeats, as the vendor does.
 fn two_members<R: Net<Listener = TcpListener, Stream = TcpStream> + Clock + Abort>(
     rt: &R,
     alloc: Global,
-    place: &Place,
+    fixture: &Fixture,
 ) {
-    let vendor = &place.vendor;
-    let (mut first, mut second) = log_in_both(rt, alloc, place.ports.0);
+    let vendor = &fixture.vendor;
+    let (mut first, mut second) = log_in_both(rt, alloc, fixture.ports.0);
     send_order(rt, alloc, &mut second, HIDDEN, HID);
     send_order(rt, alloc, &mut first, BUY, BOUGHT);
     expect_added(rt, alloc, vendor);
@@ -204,12 +204,12 @@ fn two_members<R: Net<Listener = TcpListener, Stream = TcpStream> + Clock + Abor
 #[test]
 fn two_sessions_with_both_endings(rt: HostRuntime) {
     let alloc = rt.alloc();
-    let place = Place::new(&rt, 2, 100);
+    let fixture = Fixture::new(&rt, 2, 100);
     let seed = Seed::Drawn(RandomState::new(&rt).expect(&rt, "a seed"));
     let (lines, last) = (b"5 0 4b\n", b"events 3 feed 1\n");
     join(
         &rt,
-        || serve_well(&rt, alloc, &place.args, seed, lines, last),
-        || two_members(&rt, alloc, &place),
+        || serve_well(&rt, alloc, &fixture.args, seed, lines, last),
+        || two_members(&rt, alloc, &fixture),
     );
 }

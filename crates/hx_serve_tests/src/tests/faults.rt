@@ -1,7 +1,7 @@
 //! Faults: of the operator's lines, of a full feed, of a port in use, of a member who breaks the protocol.
 
 use super::client::{ALPHA, BOUGHT, BUY, free_ports};
-use super::days::{Place, args_of, expect_added, expect_end, log_in, send_order, standard};
+use super::days::{Fixture, args_of, expect_added, expect_end, log_in, send_order, standard};
 use super::equal;
 use hx_members::{Seed, Setup};
 use hx_serve::{ServeArgs, ServeError, serve};
@@ -23,14 +23,14 @@ fn bad(line: u64, kind: Kind) -> Result<(), ServeError> {
 fn trades<R: Net<Listener = TcpListener, Stream = TcpStream> + Clock + Abort>(
     rt: &R,
     alloc: Global,
-    place: &Place,
+    fixture: &Fixture,
 ) {
-    let mut client = log_in(rt, alloc, place.ports.0, ALPHA);
+    let mut client = log_in(rt, alloc, fixture.ports.0, ALPHA);
     send_order(rt, alloc, &mut client, BUY, BOUGHT);
-    expect_added(rt, alloc, &place.vendor);
+    expect_added(rt, alloc, &fixture.vendor);
     client.send(rt, b'O', b"");
     client.expect_no_reply(rt, alloc);
-    expect_end(rt, alloc, &place.vendor, 2);
+    expect_end(rt, alloc, &fixture.vendor, 2);
 }
 
 // Serves a day of this setup, which ends so and writes this last.
@@ -57,8 +57,7 @@ fn ends_so<
     equal(rt, output.as_slice(), last);
 }
 
-// A member is served whatever the operator's lines are, whose answer comes in the end, behind the
-// last line.
+// A member is served whatever the operator's lines are; the answer to them comes in the end, after the last line.
 fn answers<
     R: Net<Listener = TcpListener, Stream = TcpStream>
         + Threads
@@ -68,12 +67,12 @@ fn answers<
         + Abort
         + Sync,
 >(rt: &R, alloc: Global, lines: &[u8], wanted: Result<(), ServeError>, last: &[u8]) {
-    let place = Place::new(rt, 1, 100);
+    let fixture = Fixture::new(rt, 1, 100);
     let setup = standard(rt, alloc);
     join(
         rt,
-        || ends_so(rt, alloc, &setup, &place.args, lines, wanted, last),
-        || trades(rt, alloc, &place),
+        || ends_so(rt, alloc, &setup, &fixture.args, lines, wanted, last),
+        || trades(rt, alloc, &fixture),
     );
 }
 
@@ -119,7 +118,7 @@ fn breaks_off<R: Net<Listener = TcpListener, Stream = TcpStream> + Clock + Abort
     client.expect_no_reply(rt, alloc);
 }
 
-// A day with a log of so many messages ends so beside a member who breaks the protocol.
+// A day with a log of this number of messages ends in this way beside a member who breaks the protocol.
 fn starts_with_room<
     R: Net<Listener = TcpListener, Stream = TcpStream>
         + Threads
@@ -129,13 +128,13 @@ fn starts_with_room<
         + Abort
         + Sync,
 >(rt: &R, alloc: Global, capacity: u64, wanted: Result<(), ServeError>, last: &[u8]) {
-    let place = Place::new(rt, 1, capacity);
+    let fixture = Fixture::new(rt, 1, capacity);
     let setup = Setup::read(alloc, CLOSED).expect(rt, "a setup");
     let line = b"10 0 4f\n";
     join(
         rt,
-        || ends_so(rt, alloc, &setup, &place.args, line, wanted, last),
-        || breaks_off(rt, alloc, place.ports.0),
+        || ends_so(rt, alloc, &setup, &fixture.args, line, wanted, last),
+        || breaks_off(rt, alloc, fixture.ports.0),
     );
 }
 

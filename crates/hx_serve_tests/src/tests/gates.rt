@@ -1,13 +1,15 @@
 //! A submit that is held holds nobody else: meanwhile the feed goes out and requests are answered. The history is a
 //! tape, whose replay gives the feed and the replies.
 
-use super::boards::Counting;
 use super::client::{BOUGHT, BUY, HIDDEN};
-use super::days::{Place, expect_added, expect_end, log_in_both, send_order, standard};
+use super::days::{Fixture, expect_added, expect_end, log_in_both, send_order, standard};
+use super::notice_sinks::Counting;
 use super::{equal, holds};
 use hx_members::Seed;
 use hx_replay::replay;
-use hx_serve::{Day, Doors, Hosting, Meter, ServeArgs, Tally, Times, serve_day, write_history};
+use hx_serve::{
+    Acceptors, Counters, Day, Hosting, ServeArgs, Tally, Times, serve_day, write_history,
+};
 use hx_sessions::Gate;
 use hx_units::MemberNo;
 use log::Log;
@@ -20,7 +22,7 @@ use std::thread;
 use std::thread::{Threads, join};
 use std::time::{Clock, Duration};
 
-// Holds the second submit of the first member until it is told to let it go.
+// Holds the second submit of the first member until the test releases it.
 #[derive(Drop)]
 struct Holding {
     held: AtomicBool,
@@ -44,7 +46,7 @@ impl Gate for Holding {
     fn after(&self, _member: MemberNo, _number: u64) {}
 }
 
-// What is told the second member of his displayed order: an Accepted message with reference 2.
+// The second member's reply to a displayed order: an Accepted message with reference 2.
 const BRAVO_BOUGHT: &[u8; 57] = b"T1            B\0\0\0\x64ABCD    \
      \0\x01\x86\xa0\0\x01\x86\x9fFMB2Y\0\0\0\0\0\0\0\x02ON\0\0\0\0NL ";
 
@@ -62,16 +64,16 @@ fn wait_until_held<R: Clock + Abort>(rt: &R, gate: &Holding) {
 fn while_held<R: Net<Listener = TcpListener, Stream = TcpStream> + Clock + Abort>(
     rt: &R,
     alloc: Global,
-    place: &Place,
+    fixture: &Fixture,
     gate: &Holding,
 ) {
-    let vendor = &place.vendor;
-    let (mut first, mut second) = log_in_both(rt, alloc, place.ports.0);
+    let vendor = &fixture.vendor;
+    let (mut first, mut second) = log_in_both(rt, alloc, fixture.ports.0);
     send_order(rt, alloc, &mut first, BUY, BOUGHT);
     expect_added(rt, alloc, vendor);
     first.send(rt, b'U', HIDDEN);
     wait_until_held(rt, gate);
-    vendor.ask(rt, place.ports.1, 1);
+    vendor.ask(rt, fixture.ports.1, 1);
     expect_added(rt, alloc, vendor);
     send_order(rt, alloc, &mut second, BUY, BRAVO_BOUGHT);
     vendor.expect_packet(rt, alloc, 2, 1);
@@ -93,7 +95,7 @@ fn serve_held<
         + Sync,
 >(rt: &R, alloc: Global, args: &ServeArgs, gate: &Holding) -> (Day, Vec<u8>) {
     let setup = standard(rt, alloc);
-    let board = Counting::new();
+    let notice_sink = Counting::new();
     let times = Times::of_machine();
     let addresses = args.addresses(alloc).expect(rt, "memory");
     let hosting = Hosting {
@@ -102,20 +104,28 @@ fn serve_held<
         args,
         addresses: &addresses,
         gate,
-        board: &board,
+        notice_sink: &notice_sink,
         open: None,
         times,
         tally: &Tally::new(),
-        meter: &Meter::new(),
+        counters: &Counters::new(),
         copies: &[],
     };
-    let doors = Doors::open(rt, &addresses).expect(rt, "doors");
+    let acceptors = Acceptors::open(rt, &addresses).expect(rt, "doors");
     let (input, mut output) = (&b""[..], Vec::new(alloc));
-    let served = serve_day(rt, alloc, &hosting, doors, Seed::Fixed, input, &mut output);
+    let served = serve_day(
+        rt,
+        alloc,
+        &hosting,
+        acceptors,
+        Seed::Fixed,
+        input,
+        &mut output,
+    );
     (served.expect(rt, "a day"), output)
 }
 
-// Replayed, a history has so many events, messages of the feed and replies.
+// A replayed history has these numbers of events, messages of the feed and replies.
 fn replays<R: Abort>(rt: &R, alloc: Global, day: &Day, wanted: (u64, u64, u64)) {
     let setup = standard(rt, alloc);
     let mut tape = Vec::new(alloc);
@@ -128,15 +138,15 @@ fn replays<R: Abort>(rt: &R, alloc: Global, day: &Day, wanted: (u64, u64, u64)) 
 #[test]
 fn a_held_submit_holds_nobody_else(rt: HostRuntime) {
     let alloc = rt.alloc();
-    let place = Place::new(&rt, 2, 100);
+    let fixture = Fixture::new(&rt, 2, 100);
     let gate = Holding {
         held: AtomicBool::new(false),
         let_go: AtomicBool::new(false),
     };
     let (served, _) = join(
         &rt,
-        || serve_held(&rt, alloc, &place.args, &gate),
-        || while_held(&rt, alloc, &place, &gate),
+        || serve_held(&rt, alloc, &fixture.args, &gate),
+        || while_held(&rt, alloc, &fixture, &gate),
     );
     let (day, output) = served;
     holds(&rt, day.fault.is_none());

@@ -1,13 +1,13 @@
 //! Histories that go to files: each is new and its owner's alone, and is written a line at a time.
 
-use super::boards::Counting;
-use super::days::{Place, standard};
+use super::days::{Fixture, standard};
+use super::notice_sinks::Counting;
 use super::{equal, holds};
 use hx_journal::Unkept;
 use hx_members::Seed;
 use hx_serve::{
-    Day, Doors, Fittings, Hosting, Meter, OpenArgs, PlayedBeginning, PlayedDay, ServeArgs,
-    ServeError, Silent, Tally, Times, serve_day, serve_played, today, write_history,
+    Acceptors, AppliedBeginning, AppliedDay, Counters, Day, Fittings, Hosting, OpenArgs, ServeArgs,
+    ServeError, Silent, Tally, Times, serve_applied, serve_day, today, write_history,
 };
 use log::Log;
 use std::alloc::Global;
@@ -27,7 +27,7 @@ const HOURS: &[u8] = b"1 0 51\n2 0 4d\n3 0 45\n4 0 43\n";
 // What its server writes last.
 const LAST_LINE: &[u8] = b"events 4 feed 4\n";
 
-// What is asked of its open day.
+// The arguments of its open day.
 const OPEN: OpenArgs = OpenArgs {
     login_limit: 15,
     end: 0,
@@ -57,7 +57,7 @@ fn serve_hours<
     output: &mut Vec<u8>,
 ) -> Result<(), ServeError> {
     let setup = standard(rt, alloc);
-    let board = Counting::new();
+    let notice_sink = Counting::new();
     let last = AtomicU64::new(0);
     let times = Times::of_day(today(rt), &last);
     let addresses = args.addresses(alloc).expect(rt, "memory");
@@ -67,21 +67,21 @@ fn serve_hours<
         args,
         addresses: &addresses,
         gate: &Silent,
-        board: &board,
+        notice_sink: &notice_sink,
         open: Some(OPEN),
         times,
         tally: &Tally::new(),
-        meter: &Meter::new(),
+        counters: &Counters::new(),
         copies: &[],
     };
     let path = Some(path);
-    let beginning = PlayedBeginning {
-        day: PlayedDay::new(alloc, &setup, args, Seed::Fixed)?,
+    let beginning = AppliedBeginning {
+        day: AppliedDay::new(alloc, &setup, args, Seed::Fixed)?,
         journal: Unkept::new(),
         ahead: u64::MAX,
         fittings: Fittings::none(),
     };
-    serve_played(rt, alloc, &hosting, beginning, HOURS, output, path)
+    serve_applied(rt, alloc, &hosting, beginning, HOURS, output, path)
 }
 
 // What is in a file, which is there no more then.
@@ -94,10 +94,10 @@ fn take<R: AllocGlobal + Files + Abort>(rt: &R, path: &str) -> Vec<u8> {
 #[test]
 fn a_new_history_is_its_owners_alone(rt: HostRuntime) {
     let alloc = rt.alloc();
-    let place = Place::new(&rt, 1, 100);
-    let path = file_of(&rt, alloc, place.ports.0);
+    let fixture = Fixture::new(&rt, 1, 100);
+    let path = file_of(&rt, alloc, fixture.ports.0);
     let mut output = Vec::new(alloc);
-    let served = serve_hours(&rt, alloc, &place.args, path.as_str(), &mut output);
+    let served = serve_hours(&rt, alloc, &fixture.args, path.as_str(), &mut output);
     let about = fs::metadata(&rt, path.as_str()).expect(&rt, "a file");
     let text = take(&rt, path.as_str());
     equal(&rt, served, Ok(()));
@@ -109,11 +109,11 @@ fn a_new_history_is_its_owners_alone(rt: HostRuntime) {
 #[test]
 fn a_file_that_is_there_is_not_touched(rt: HostRuntime) {
     let alloc = rt.alloc();
-    let place = Place::new(&rt, 1, 100);
-    let path = file_of(&rt, alloc, place.ports.0);
+    let fixture = Fixture::new(&rt, 1, 100);
+    let path = file_of(&rt, alloc, fixture.ports.0);
     fs::write(&rt, path.as_str(), "yesterday").expect(&rt, "a file that is written");
     let mut output = Vec::new(alloc);
-    let served = serve_hours(&rt, alloc, &place.args, path.as_str(), &mut output);
+    let served = serve_hours(&rt, alloc, &fixture.args, path.as_str(), &mut output);
     let text = take(&rt, path.as_str());
     equal(&rt, served, Err(ServeError::HistoryIsThere));
     equal(&rt, text.as_slice(), b"yesterday".as_slice());
@@ -123,19 +123,19 @@ fn a_file_that_is_there_is_not_touched(rt: HostRuntime) {
 #[test]
 fn a_day_without_its_port_makes_no_file(rt: HostRuntime) {
     let alloc = rt.alloc();
-    let place = Place::new(&rt, 1, 100);
-    let path = file_of(&rt, alloc, place.ports.0);
-    let at = (Ipv4Addr::new(127, 0, 0, 1), place.ports.0);
+    let fixture = Fixture::new(&rt, 1, 100);
+    let path = file_of(&rt, alloc, fixture.ports.0);
+    let at = (Ipv4Addr::new(127, 0, 0, 1), fixture.ports.0);
     let taken = TcpListener::bind(&rt, at).expect(&rt, "a listener");
     let mut output = Vec::new(alloc);
-    let served = serve_hours(&rt, alloc, &place.args, path.as_str(), &mut output);
+    let served = serve_hours(&rt, alloc, &fixture.args, path.as_str(), &mut output);
     drop(taken);
     equal(&rt, served, Err(ServeError::Network));
     let is_there = fs::exists(&rt, path.as_str()).expect(&rt, "a folder");
     holds(&rt, !is_there);
 }
 
-// A file with room for this many bytes.
+// A file with room for a given number of bytes.
 #[derive(Drop)]
 struct Full {
     taken: Vec<u8>,
@@ -167,31 +167,40 @@ fn day_of_hours<
         + Abort
         + Sync,
 >(rt: &R, alloc: Global) -> Day {
-    let place = Place::new(rt, 1, 100);
-    let addresses = place.args.addresses(alloc).expect(rt, "memory");
+    let fixture = Fixture::new(rt, 1, 100);
+    let addresses = fixture.args.addresses(alloc).expect(rt, "memory");
     let setup = standard(rt, alloc);
-    let board = Counting::new();
+    let notice_sink = Counting::new();
     let last = AtomicU64::new(0);
     let times = Times::of_day(today(rt), &last);
     let hosting = Hosting {
         setup: &setup,
         is_standard: false,
-        args: &place.args,
+        args: &fixture.args,
         addresses: &addresses,
         gate: &Silent,
-        board: &board,
+        notice_sink: &notice_sink,
         open: Some(OPEN),
         times,
         tally: &Tally::new(),
-        meter: &Meter::new(),
+        counters: &Counters::new(),
         copies: &[],
     };
-    let doors = Doors::open(rt, &addresses).expect(rt, "doors");
+    let acceptors = Acceptors::open(rt, &addresses).expect(rt, "doors");
     let mut output = Vec::new(alloc);
-    serve_day(rt, alloc, &hosting, doors, Seed::Fixed, HOURS, &mut output).expect(rt, "a day")
+    serve_day(
+        rt,
+        alloc,
+        &hosting,
+        acceptors,
+        Seed::Fixed,
+        HOURS,
+        &mut output,
+    )
+    .expect(rt, "a day")
 }
 
-// Where the file is full, the lines before are there.
+// If the file is full, the lines before are there.
 #[test]
 fn a_full_file_keeps_a_beginning(rt: HostRuntime) {
     let alloc = rt.alloc();

@@ -3,7 +3,7 @@
 use super::{equal, holds};
 use hx_day_journal::{PatientFile, Syncs, date_of, day_of, digest_of};
 use hx_journal::{DeviceError, RawFile};
-use hx_serve::{Board, Notice};
+use hx_serve::{Notice, NoticeSink};
 use std::alloc::Global;
 use std::process::Abort;
 use std::sync::atomic::{AtomicU64, Ordering};
@@ -13,7 +13,7 @@ use std::sync::atomic::{AtomicU64, Ordering};
 struct SmallDisk {
     bytes: Vec<u8>,
     room: usize,
-    // This many writes find no room.
+    // The number of writes that find the file full.
     refused: u32,
     // How many bytes it had before it was last cut, and how many then.
     cut: (usize, usize),
@@ -57,7 +57,7 @@ impl RawFile for SmallDisk {
     }
 }
 
-// What it is told, counted.
+// The notices, counted.
 #[derive(Drop)]
 struct Heard {
     waits: AtomicU64,
@@ -73,7 +73,7 @@ impl Heard {
     }
 }
 
-impl Board for Heard {
+impl NoticeSink for Heard {
     fn post(&self, notice: Notice) {
         let count = match notice {
             Notice::JournalWaits => &self.waits,

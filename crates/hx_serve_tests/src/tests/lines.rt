@@ -5,7 +5,7 @@ use std::sync::atomic::{AtomicU64, Ordering};
 use std::time::{Clock, Duration};
 use std::{io, thread};
 
-/// Pieces of text, of which this many are there as were let go. A read waits a millisecond for the next one, and is then
+/// Pieces of text, of which the first `let_go` can be read. A read waits a millisecond for the next one, and is then
 /// interrupted: it is done again, and a day has a million reads.
 #[derive(Drop)]
 pub struct Lines<'a, R> {

@@ -10,10 +10,10 @@ use std::process::Abort;
 
 // A notice in words and as JSON.
 fn reads<R: Abort>(rt: &R, alloc: Global, notice: Notice, words: &str, json: &str) {
-    let told = format!(in alloc; "{}", notice).expect(rt, "memory");
-    equal(rt, told.as_str(), words);
-    let told = format!(in alloc; "{}", Json { notice }).expect(rt, "memory");
-    equal(rt, told.as_str(), json);
+    let outputs = format!(in alloc; "{}", notice).expect(rt, "memory");
+    equal(rt, outputs.as_str(), words);
+    let outputs = format!(in alloc; "{}", Json { notice }).expect(rt, "memory");
+    equal(rt, outputs.as_str(), json);
 }
 
 // Where a member comes from.
@@ -116,7 +116,7 @@ fn notices_of_a_standby_in_words_and_as_json(rt: HostRuntime) {
     reads(
         &rt,
         alloc,
-        Notice::InOffice { events: 7 },
+        Notice::Active { events: 7 },
         "in office with 7 events",
         "{\"notice\":\"in office\",\"events\":7}",
     );

@@ -1,15 +1,15 @@
 //! Open days: members come and go, strangers hold nothing, and the operator can always end the day.
 
-use super::boards::{Counting, told};
 use super::client::{ALPHA, BOUGHT, BRAVO, BUY, Client, HID, HIDDEN};
-use super::days::{Place, log_in, send_order, standard};
+use super::days::{Fixture, log_in, send_order, standard};
 use super::lines::Lines;
+use super::notice_sinks::{Counting, outputs};
 use super::vendor::{END, Vendor};
 use super::{equal, holds};
 use hx_members::Seed;
 use hx_serve::{
-    Addresses, Day, Doors, Hosting, Meter, OpenArgs, ServeArgs, Silent, Tally, Times, serve_day,
-    today,
+    Acceptors, Addresses, Counters, Day, Hosting, OpenArgs, ServeArgs, Silent, Tally, Times,
+    serve_day, today,
 };
 use log::Log;
 use std::alloc::Global;
@@ -21,10 +21,10 @@ use std::thread;
 use std::thread::{Threads, join};
 use std::time::{Clock, Duration};
 
-/// The codes of the hours that are left of a day that begins open, and what the feed tells of each: itself.
+/// The codes of the hours that are left of a day that begins open; the feed message of each is the code itself.
 pub const CLOSING: &[u8] = b"1 0 51\n2 0 4d\n3 0 45\n4 0 43\n";
 
-// A login of ALPHA, from his second reply on.
+// A login of ALPHA, from the second reply on.
 const ALPHA_AGAIN: &[u8; 46] = b"ALPHA PWALPHA                               2 ";
 
 /// How an open day differs from others: how many slots its log has, how many seconds a login and the
@@ -48,9 +48,9 @@ pub const USUAL: Terms = Terms {
     let_go: 0,
 };
 
-/// An open day of one place: its vendor, its ports for sessions and for requests, what is asked of it, where it
-/// listens and sends, how often each thing was told, what was counted at its door, and how many of the operator's
-/// pieces of input are there.
+/// An open day with one session slot: its vendor, its ports for sessions and for requests, its arguments, the addresses
+/// at which it listens and sends, the number of notices of each kind, the tally of its acceptor, and how many of the
+/// operator's pieces of input are there.
 #[derive(Drop)]
 pub struct Stage {
     pub vendor: Vendor,
@@ -58,9 +58,9 @@ pub struct Stage {
     pub args: ServeArgs,
     pub open: OpenArgs,
     pub addresses: Addresses,
-    pub board: Counting,
+    pub notice_sink: Counting,
     pub tally: Tally,
-    pub meter: Meter,
+    pub counters: Counters,
     pub let_go: AtomicU64,
 }
 
@@ -70,11 +70,11 @@ impl Stage {
         rt: &R,
         terms: Terms,
     ) -> Stage {
-        let Place {
+        let Fixture {
             vendor,
             ports,
             args,
-        } = Place::new(rt, 1, terms.capacity);
+        } = Fixture::new(rt, 1, terms.capacity);
         let open = OpenArgs {
             login_limit: terms.login_limit,
             end: terms.end,
@@ -86,9 +86,9 @@ impl Stage {
             args,
             open,
             addresses: args.addresses(rt.alloc()).expect(rt, "memory"),
-            board: Counting::new(),
+            notice_sink: Counting::new(),
             tally: Tally::new(),
-            meter: Meter::new(),
+            counters: Counters::new(),
             let_go: AtomicU64::new(terms.let_go),
         }
     }
@@ -115,24 +115,32 @@ pub fn serve_open<
         args: &stage.args,
         addresses: &stage.addresses,
         gate: &Silent,
-        board: &stage.board,
+        notice_sink: &stage.notice_sink,
         open: Some(stage.open),
         times,
         tally: &stage.tally,
-        meter: &stage.meter,
+        counters: &stage.counters,
         copies: &[],
     };
-    let doors = Doors::open(rt, &stage.addresses).expect(rt, "doors");
+    let acceptors = Acceptors::open(rt, &stage.addresses).expect(rt, "doors");
     let input = Lines::new(rt, pieces, &stage.let_go);
     let mut output = Vec::new(alloc);
-    let served = serve_day(rt, alloc, &hosting, doors, Seed::Fixed, input, &mut output);
+    let served = serve_day(
+        rt,
+        alloc,
+        &hosting,
+        acceptors,
+        Seed::Fixed,
+        input,
+        &mut output,
+    );
     (served.expect(rt, "a day"), output)
 }
 
-/// Waits until so much was told.
-pub fn await_told<R: Clock + Abort>(rt: &R, count: &AtomicU64, wanted: u64) {
+/// Waits until this number of notices was posted.
+pub fn await_output<R: Clock + Abort>(rt: &R, count: &AtomicU64, wanted: u64) {
     for _ in 0..10_000 {
-        if told(count) >= wanted {
+        if outputs(count) >= wanted {
             return;
         }
         thread::sleep(rt, Duration::from_millis(1));
@@ -154,19 +162,19 @@ pub fn come_and_go<R: Net<Listener = TcpListener, Stream = TcpStream> + Clock + 
     client.expect_no_reply(rt, alloc);
 }
 
-/// Whether the payload of a reply is this one in its first letters behind the time.
+/// Whether the payload of a reply begins with this one, whatever its time.
 pub fn begins_as(payload: &[u8], reply: &[u8]) -> bool {
     payload.len() == 66 && payload[9..].starts_with(reply)
 }
 
-/// A member sends an order that is not displayed, and is told that it was accepted.
+/// A member sends an order that is not displayed, and gets the reply that it was accepted.
 pub fn send_hidden<R: Abort>(rt: &R, alloc: Global, client: &mut Client) {
     client.send(rt, b'U', HIDDEN);
     let reply = client.reply(rt, alloc);
     holds(rt, begins_as(&reply.payload, &HID[..14]));
 }
 
-/// A member comes again, and is told that his next reply is the one that he expects.
+/// A member comes again, and the next reply is the one that the member expects.
 pub fn come_again<R: Net<Listener = TcpListener, Stream = TcpStream> + Clock + Abort>(
     rt: &R,
     alloc: Global,
@@ -182,7 +190,7 @@ pub fn come_again<R: Net<Listener = TcpListener, Stream = TcpStream> + Clock + A
     client
 }
 
-// A member hears how his two orders end, and the end of the session.
+// A member hears how both of the member's orders end, and the end of the session.
 fn hear_both_ends<R: Abort>(rt: &R, alloc: Global, client: &mut Client) {
     let mut ends = 0u64;
     for _ in 0..10 {
@@ -197,8 +205,8 @@ fn hear_both_ends<R: Abort>(rt: &R, alloc: Global, client: &mut Client) {
     equal(rt, ends, 2);
 }
 
-// ALPHA enters an order and leaves; BRAVO comes; ALPHA comes again, and asks for his second reply,
-// which is that of his second order.
+// ALPHA enters an order and leaves; BRAVO comes; ALPHA comes again, and asks for the second reply, which is that of the
+// second order.
 fn members<R: Net<Listener = TcpListener, Stream = TcpStream> + Clock + Abort>(
     rt: &R,
     alloc: Global,
@@ -215,7 +223,7 @@ fn members<R: Net<Listener = TcpListener, Stream = TcpStream> + Clock + Abort>(
     client
 }
 
-// One place: three who say nothing and one who says something else hold no member.
+// One session slot: three who say nothing and one who says something else hold no member up.
 fn members_and_strangers<R: Net<Listener = TcpListener, Stream = TcpStream> + Clock + Abort>(
     rt: &R,
     alloc: Global,
@@ -234,7 +242,7 @@ fn members_and_strangers<R: Net<Listener = TcpListener, Stream = TcpStream> + Cl
     for client in silent.iter_mut() {
         client.expect_no_packet(rt, alloc);
     }
-    await_told(rt, &stage.board.late, 3);
+    await_output(rt, &stage.notice_sink.late, 3);
     stage.let_go.store(1, Ordering::SeqCst);
     hear_both_ends(rt, alloc, &mut client);
 }
@@ -257,11 +265,15 @@ fn strangers_hold_nothing(rt: HostRuntime) {
     // Two orders and four codes; the feed has the displayed order, its end, and the codes.
     equal(&rt, (day.history.len(), day.feed), (6, 6));
     equal(&rt, output.as_slice(), b"events 6 feed 6\n".as_slice());
-    let board = &stage.board;
-    equal(&rt, told(&board.opened), 3);
-    equal(&rt, told(&board.late), 3);
-    equal(&rt, told(&board.strange), 1);
-    equal(&rt, (told(&board.ended), told(&board.faulted)), (3, 0));
+    let notice_sink = &stage.notice_sink;
+    equal(&rt, outputs(&notice_sink.opened), 3);
+    equal(&rt, outputs(&notice_sink.late), 3);
+    equal(&rt, outputs(&notice_sink.strange), 1);
+    equal(
+        &rt,
+        (outputs(&notice_sink.ended), outputs(&notice_sink.faulted)),
+        (3, 0),
+    );
 }
 
 // A connection that says nothing for a second is closed as soon as the day is over.
@@ -290,12 +302,16 @@ fn the_day_ends_beside_silent_connections(rt: HostRuntime) {
         || serve_open(&rt, alloc, &stage, &[CLOSING]),
         || say_nothing(&rt, alloc, &stage),
     );
-    let board = &stage.board;
-    equal(&rt, (told(&board.over), told(&board.late)), (1, 0));
+    let notice_sink = &stage.notice_sink;
+    equal(
+        &rt,
+        (outputs(&notice_sink.over), outputs(&notice_sink.late)),
+        (1, 0),
+    );
 }
 
-// A line that is none, one with a time of another day and one that is too long are told of, and the next ones are read.
-// Where the input ends before `C`, the hours are ended.
+// A line that is none, one with a time of another day and one that is too long are reported, and the next ones are
+// read. If the input ends before `C`, the remaining codes are sent.
 #[test]
 fn the_operator_can_always_end_the_day(rt: HostRuntime) {
     let terms = Terms { let_go: 9, ..USUAL };
@@ -308,11 +324,11 @@ fn the_operator_can_always_end_the_day(rt: HostRuntime) {
     ];
     let (day, _) = serve_open(&rt, rt.alloc(), &stage, &pieces);
     holds(&rt, day.fault.is_none());
-    let board = &stage.board;
-    equal(&rt, told(&board.bad), 2);
-    equal(&rt, told(&board.untimely), 1);
-    equal(&rt, told(&board.closings), 1);
-    // `Q`, `M`, and the codes at the end: `O`, `S`, `Q` and `M` are past, `E` and `C` are told.
+    let notice_sink = &stage.notice_sink;
+    equal(&rt, outputs(&notice_sink.bad), 2);
+    equal(&rt, outputs(&notice_sink.untimely), 1);
+    equal(&rt, outputs(&notice_sink.closings), 1);
+    // `Q`, `M`, and the codes at the end: `O`, `S`, `Q` and `M` are past, `E` and `C` are published.
     equal(&rt, (day.history.len(), day.feed), (8, 4));
 }
 
@@ -330,7 +346,8 @@ fn order_of(digit: u8) -> [u8; 49] {
     order
 }
 
-// A member fills the feed as far as he may; what is kept for the hours is enough for the end of all his orders.
+// A member fills the feed as far as a member may; what is reserved for the codes of the hours is enough for the end of
+// all the member's orders.
 fn fill<R: Net<Listener = TcpListener, Stream = TcpStream> + Clock + Abort>(
     rt: &R,
     alloc: Global,
@@ -346,7 +363,7 @@ fn fill<R: Net<Listener = TcpListener, Stream = TcpStream> + Clock + Abort>(
     stage.let_go.store(1, Ordering::SeqCst);
 }
 
-// Of 30 slots 25 are kept: half, eight, and one for each of two stocks.
+// Of 30 slots 25 are reserved: half, eight, and one for each of two stocks.
 #[test]
 fn the_hours_always_have_room(rt: HostRuntime) {
     let alloc = rt.alloc();
@@ -361,13 +378,17 @@ fn the_hours_always_have_room(rt: HostRuntime) {
         || fill(&rt, alloc, &stage),
     );
     let (day, _) = served;
-    let board = &stage.board;
-    equal(&rt, (told(&board.faulted), told(&board.bad)), (1, 0));
+    let notice_sink = &stage.notice_sink;
+    equal(
+        &rt,
+        (outputs(&notice_sink.faulted), outputs(&notice_sink.bad)),
+        (1, 0),
+    );
     // Five displayed orders and their ends, and four codes; besides, an order that is not displayed.
     equal(&rt, (day.history.len(), day.feed), (10, 14));
 }
 
-// The end of the feed is told again, and meanwhile a request is answered.
+// The end of the feed is sent again, and meanwhile a request is answered.
 fn hear_the_end<R: Abort>(rt: &R, alloc: Global, vendor: &Vendor, requests: u16) {
     equal(rt, vendor.hear_all(rt, alloc), 4);
     vendor.ask(rt, requests, 4);

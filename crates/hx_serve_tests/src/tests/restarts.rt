@@ -1,4 +1,5 @@
-//! A day whose journal fails, and that goes on from its file: its member and its vendor go on with the numbers they had.
+//! A day whose journal fails, and that goes on from its file: its member and its vendor go on with the numbers they
+//! had.
 ghost use Rattle.std.specs.Prelude.{◌≡◌, true};
 ghost use Rattle.hx_tape_lines.specs.Text.{record_of};
 ghost use Rattle.hx_desk.specs.Entries.{restored};
@@ -15,7 +16,9 @@ use hx_engine::Journal;
 use hx_journal::{DeviceError, Head, HostFile, RawFile};
 use hx_members::Seed;
 use hx_recovery::{Unwatched, recover};
-use hx_serve::{Beginning, Day, Doors, Fittings, Hosting, ServeError, Silent, Times, serve_from};
+use hx_serve::{
+    Acceptors, Beginning, Day, Fittings, Hosting, ServeError, Silent, Times, serve_from,
+};
 use log::Log;
 use std::alloc::Global;
 use std::fs;
@@ -36,10 +39,10 @@ const DAY: u64 = 20_645;
 // The calls of a file that make a new journal: a cut, a write and two syncs; then a write and a sync for each event.
 const OPENING: u64 = 4;
 
-// A login of ALPHA, from his third reply on.
+// A login of ALPHA, from the third reply on.
 const ALPHA_AGAIN: &[u8; 46] = b"ALPHA PWALPHA                               3 ";
 
-// A file of the system whose disk fails behind this number of calls.
+// A file of the system whose disk fails after this number of calls.
 #[derive(Drop)]
 struct FailingFile {
     file: HostFile,
@@ -101,7 +104,7 @@ fn serve_over<
 ) -> Result<Day, ServeError>
     requires journal { J.appended beginning.recovered.journal
         ≡ lines record_of (restored beginning.recovered.events.items) }
-    requires safe { (J.kept beginning.recovered.journal ≡ J.appended beginning.recovered.journal)
+    requires safe { (J.durable beginning.recovered.journal ≡ J.appended beginning.recovered.journal)
         × (J.is_open beginning.recovered.journal ≡ true) }
 {
     let alloc = rt.alloc();
@@ -114,17 +117,25 @@ fn serve_over<
         args: &stage.args,
         addresses: &stage.addresses,
         gate: &Silent,
-        board: &stage.board,
+        notice_sink: &stage.notice_sink,
         open: Some(stage.open),
         times,
         tally: &stage.tally,
-        meter: &stage.meter,
+        counters: &stage.counters,
         copies: &[],
     };
-    let doors = Doors::open(rt, &stage.addresses).expect(rt, "doors");
+    let acceptors = Acceptors::open(rt, &stage.addresses).expect(rt, "doors");
     let input = Lines::new(rt, pieces, &stage.let_go);
     let mut output = Vec::new(alloc);
-    serve_from(rt, alloc, &hosting, doors, beginning, input, &mut output)
+    serve_from(
+        rt,
+        alloc,
+        &hosting,
+        acceptors,
+        beginning,
+        input,
+        &mut output,
+    )
 }
 
 // The file of a journal that no other test has.
@@ -132,7 +143,7 @@ fn path_of<R: Abort>(rt: &R, alloc: Global, port: u16) -> String {
     format!(in alloc; "/tmp/hx_journal_of_port_{port}").expect(rt, "memory")
 }
 
-// The day over a file of a disk that fails behind this number of calls, from what the file has of it on.
+// The day over a file of a disk that fails after this number of calls, on from what the file has of the day.
 fn serve_file<
     R: AllocGlobal
         + Files<File = fs::File>
@@ -161,7 +172,8 @@ fn serve_file<
     serve_over(rt, stage, last, beginning, &[CLOSING])
 }
 
-// ALPHA's displayed and his hidden order are kept and told; of the third one nobody is told, and his line is closed.
+// ALPHA's displayed and hidden order are durable and published; the third one is published to nobody, and ALPHA's line
+// is closed.
 fn trade_until_the_disk_fails<
     R: AllocGlobal + Net<Listener = TcpListener, Stream = TcpStream> + Clock + Abort,
 >(rt: &R, port: u16) {
@@ -195,7 +207,7 @@ fn ask_for_the_first<R: Abort>(rt: &R, alloc: Global, stage: &Stage) {
     holds(rt, is_first(&packet.blocks));
 }
 
-// ALPHA comes again, with the number that he expects, and sends the third order again.
+// ALPHA comes again, with the number that it expects, and sends the third order again.
 fn go_on<R: AllocGlobal + Net<Listener = TcpListener, Stream = TcpStream> + Clock + Abort>(
     rt: &R,
     stage: &Stage,
@@ -239,7 +251,7 @@ fn a_day_goes_on_from_its_journal(rt: HostRuntime) {
     holds(&rt, day.fault.is_none());
     // Two orders before, one after, and the four codes.
     equal(&rt, day.history.len(), 7);
-    equal(&rt, stage.board.events.load(Ordering::SeqCst), 2);
-    equal(&rt, stage.board.feed.load(Ordering::SeqCst), 1);
+    equal(&rt, stage.notice_sink.events.load(Ordering::SeqCst), 2);
+    equal(&rt, stage.notice_sink.feed.load(Ordering::SeqCst), 1);
     let _ = fs::remove_file(&rt, path.as_str());
 }

@@ -1,4 +1,4 @@
-//! Two sessions at once over loopback, each with a pass and a reader of its own, and the readers behind them.
+//! Two sessions at once over loopback, each with a pass and a reader of its own, and the readers after them.
 ghost use Rattle.std.specs.Prelude.{◌≡◌, []};
 ghost use Rattle.hx_engine.specs.Opening.{IsNewLog};
 
@@ -44,29 +44,29 @@ struct Founding {
     blank: Blank,
 }
 
-// A member's pass and his reader, before his session and behind it.
+// A member's pass and reader, before the session and after it.
 #[derive(Drop)]
-struct Seat<V: Venue> {
+struct SessionSlot<V: Venue> {
     pass: Pass<V>,
     reader: Reader<Entry>,
     ghost belongs: { reader.log ≡ V.log },
 }
 
-// A seat for each of two passes: the reader splits in two.
-fn seat_both<V: Venue, R: Abort>(
+// A pass and a reader for each of two sessions: the reader splits in two.
+fn session_slot_both<V: Venue, R: Abort>(
     rt: &R,
     exchange: &Exchange<V, Unkept>,
     mut passes: Vec<Pass<V>>,
     mut reader: Reader<Entry>,
-) -> (Seat<V>, Seat<V>)
+) -> (SessionSlot<V>, SessionSlot<V>)
     requires { reader.log ≡ V.log }
 {
     let other = reader.split(exchange.feed_log());
-    let second = Seat {
+    let second = SessionSlot {
         pass: passes.pop().expect(rt, "a second pass"),
         reader: other,
     };
-    let first = Seat {
+    let first = SessionSlot {
         pass: passes.pop().expect(rt, "a first pass"),
         reader,
     };
@@ -85,9 +85,13 @@ fn connected<R: Abort>(rt: &R, listener: &TcpListener) -> (TcpStream, TcpStream)
 }
 
 // The part of the next connection.
-fn part_of<V: Venue, R: Abort>(rt: &R, listener: &TcpListener, seat: Seat<V>) -> OverTcp<V> {
+fn part_of<V: Venue, R: Abort>(
+    rt: &R,
+    listener: &TcpListener,
+    session_slot: SessionSlot<V>,
+) -> OverTcp<V> {
     let (input, output) = connected(rt, listener);
-    let Seat { pass, reader } = seat;
+    let SessionSlot { pass, reader } = session_slot;
     Part {
         input,
         output,
@@ -103,37 +107,37 @@ fn both_parts<V: Venue, R: Abort>(
     rt: &R,
     alloc: Global,
     listener: &TcpListener,
-    seats: (Seat<V>, Seat<V>),
+    session_slots: (SessionSlot<V>, SessionSlot<V>),
 ) -> Vec<OverTcp<V>> {
-    let (first, second) = seats;
+    let (first, second) = session_slots;
     let first = part_of(rt, listener, first);
     let second = part_of(rt, listener, second);
     vec![in alloc; first, second].expect(rt, "memory")
 }
 
-// The seat of the last of these, whose member has logged out.
-fn last_seat<V: Venue, R: Abort>(
+// The pass and the reader of the last of these, whose member has logged out.
+fn last_session_slot<V: Venue, R: Abort>(
     rt: &R,
     served: &mut Vec<(OverTcp<V>, Result<Ended, Fault>)>,
-) -> Seat<V> {
+) -> SessionSlot<V> {
     let (part, how) = served.pop().expect(rt, "a part");
     holds(rt, matches!(how, Ok(Ended::Logout)));
-    Seat {
+    SessionSlot {
         pass: part.pass,
         reader: part.reader,
     }
 }
 
-// Serves two connections at once, and gives the seats back.
+// Serves two connections at once, and gives their passes and readers back.
 fn serve_two<V: Venue + Send + Sync, R: Threads + Wait + Clock + Abort + Sync>(
     rt: &R,
     alloc: Global,
     exchange: &Exchange<V, Unkept>,
     listener: &TcpListener,
-    seats: (Seat<V>, Seat<V>),
-) -> (Seat<V>, Seat<V>) {
+    session_slots: (SessionSlot<V>, SessionSlot<V>),
+) -> (SessionSlot<V>, SessionSlot<V>) {
     let setup = standard(rt, alloc);
-    let parts = both_parts(rt, alloc, listener, seats);
+    let parts = both_parts(rt, alloc, listener, session_slots);
     let logins = Logins {
         setup: &setup,
         copies: &[],
@@ -141,12 +145,12 @@ fn serve_two<V: Venue + Send + Sync, R: Threads + Wait + Clock + Abort + Sync>(
     let Ok(mut served) = serve_all(rt, alloc, exchange, &logins, parts, &Silent, 1_000_000) else {
         panic!(rt; "not served");
     };
-    let second = last_seat(rt, &mut served);
-    let first = last_seat(rt, &mut served);
+    let second = last_session_slot(rt, &mut served);
+    let first = last_session_slot(rt, &mut served);
     (first, second)
 }
 
-// Both members log in, each enters an order, gets his one reply, and logs out.
+// Both members log in, each enters an order, gets the one reply, and logs out.
 fn trade_two<R: Net<Listener = TcpListener, Stream = TcpStream> + Clock + Abort>(
     rt: &R,
     alloc: Global,
@@ -162,22 +166,22 @@ fn trade_two<R: Net<Listener = TcpListener, Stream = TcpStream> + Clock + Abort>
 }
 
 // Both sides at once.
-fn play_two<
+fn apply_two<
     V: Venue + Send + Sync,
     R: Net<Listener = TcpListener, Stream = TcpStream> + Threads + Wait + Clock + Abort + Sync,
 >(
     rt: &R,
     alloc: Global,
     exchange: &Exchange<V, Unkept>,
-    seats: (Seat<V>, Seat<V>),
-) -> (Seat<V>, Seat<V>) {
+    session_slots: (SessionSlot<V>, SessionSlot<V>),
+) -> (SessionSlot<V>, SessionSlot<V>) {
     let any = (Ipv4Addr::new(127, 0, 0, 1), 0);
     let listener = TcpListener::bind(rt, any).expect(rt, "a listener");
     let port = listener.local_addr().expect(rt, "an address").port();
-    let door = &listener;
+    let acceptor = &listener;
     let (served, _) = join(
         rt,
-        move || serve_two(rt, alloc, exchange, door, seats),
+        move || serve_two(rt, alloc, exchange, acceptor, session_slots),
         move || trade_two(rt, alloc, port),
     );
     served
@@ -202,7 +206,7 @@ fn reads_added<R: Abort>(rt: &R, log: &Log<Entry>, reader: &mut Reader<Entry>) -
     true
 }
 
-impl<V: Venue> Seat<V> {
+impl<V: Venue> SessionSlot<V> {
     // Audited, the reader has a beginning of the feed; with both receipts it has the one message, and no more.
     fn reads_all<R: Wait + Abort>(
         &mut self,
@@ -225,13 +229,13 @@ impl<V: Venue> Seat<V> {
 }
 
 // The day of these two at an exchange of its own.
-fn play_day<
+fn apply_day<
     V: Venue + Send + Sync,
     R: Net<Listener = TcpListener, Stream = TcpStream> + Threads + Wait + Clock + Abort + Sync,
 >(rt: &R, alloc: Global, founding: Founding)
     requires feed { IsNewLog V.log founding.logs.feed }
     requires admitted { IsNewLog V.admitted founding.logs.admitted }
-    requires kept { IsNewLog V.kept founding.logs.kept }
+    requires durable { IsNewLog V.durable founding.logs.durable }
     requires of_setup { founding.own ≡ V.setup }
     requires before { V.before ≡ [] }
     requires reader { founding.reader.log ≡ V.log }
@@ -247,8 +251,8 @@ fn play_day<
     let journal = Unkept::new();
     let opened = Exchange::<V, Unkept>::new(alloc, own, logs, journal, blank, 2);
     let (exchange, passes) = opened.expect(rt, "an exchange");
-    let seats = seat_both(rt, &exchange, passes, reader);
-    let (mut first, mut second) = play_two(rt, alloc, &exchange, seats);
+    let session_slots = session_slot_both(rt, &exchange, passes, reader);
+    let (mut first, mut second) = apply_two(rt, alloc, &exchange, session_slots);
     first.reads_all(rt, &exchange, &mut second.pass);
     second.reads_all(rt, &exchange, &mut first.pass);
     let passes = vec![in alloc; first.pass, second.pass].expect(rt, "memory");
@@ -263,17 +267,17 @@ fn two_parts_at_once(rt: HostRuntime) -> Result<(), Fail> {
     let alloc = rt.alloc();
     let (log, pen, reader) = Log::<Entry>::new(alloc, 100)?;
     let (admitted, register, _) = Log::<Entry>::new(alloc, 1)?;
-    let (kept, keeper, _) = Log::<Entry>::new(alloc, 1)?;
+    let (durable, keeper, _) = Log::<Entry>::new(alloc, 1)?;
     let founding = Founding {
         own: Setup::standard(alloc)?,
         logs: Logs {
             feed: (log, pen),
             admitted: (admitted, register),
-            kept: (kept, keeper),
+            durable: (durable, keeper),
         },
         reader,
         blank: Blank::new(2),
     };
-    play_day::<Brand, HostRuntime>(&rt, alloc, founding);
+    apply_day::<Brand, HostRuntime>(&rt, alloc, founding);
     Ok(())
 }

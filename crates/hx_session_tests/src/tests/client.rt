@@ -1,6 +1,6 @@
-//! A client, and what must come of his session.
+//! A client, and what must come of its session.
 
-use super::stage::{Day, play};
+use super::stage::{Day, apply};
 use super::{equal, holds};
 use hx_sessions::{Ended, Fault};
 use hx_testing::memory::{Input, Output};
@@ -48,7 +48,7 @@ fn end_of(outcome: &Result<Ended, Fault>) -> End {
 pub struct Want<'a> {
     /// How it ends.
     pub end: End,
-    /// How many messages it submits at least, and at most.
+    /// The least and the greatest number of messages that it submits.
     pub sent: (usize, usize),
     /// What it writes at least.
     pub least: &'a [u8],
@@ -56,12 +56,12 @@ pub struct Want<'a> {
     pub whole: &'a [u8],
     /// Whether it may lack memory, and end so: it has submitted no more then, and written a beginning of this.
     pub may_lack: bool,
-    /// How often it writes at most.
+    /// The greatest number of its writes.
     pub writes: u64,
 }
 
 impl<'a> Want<'a> {
-    /// It submits this many messages, and writes all this.
+    /// It submits `sent` messages, and writes all this.
     pub fn new(end: End, sent: usize, whole: &'a [u8]) -> Self {
         Want {
             end,
@@ -98,16 +98,16 @@ impl<'a> Want<'a> {
 /// A client.
 #[derive(Drop)]
 pub struct Client<'a> {
-    /// What comes from him.
+    /// What comes from it.
     pub input: Input<'a>,
-    /// What goes to him.
+    /// What goes to it.
     pub output: Output<'a>,
-    /// What must come of his session.
+    /// What must come of its session.
     pub want: Want<'a>,
 }
 
 impl<'a> Client<'a> {
-    /// He sends these bytes and ends; his output tells in `count` how many it has taken.
+    /// The client sends these bytes and ends; its output stores in `count` how many bytes it has taken.
     pub fn of(alloc: Global, bytes: &'a [u8], count: &'a AtomicU64, want: Want<'a>) -> Self {
         Client {
             input: Input::new(bytes),
@@ -117,7 +117,7 @@ impl<'a> Client<'a> {
     }
 }
 
-/// He is the only one, at a new exchange of the standard setup.
+/// The client is the only one, at a new exchange of the standard setup.
 pub fn alone<R: Threads + Wait + Clock + Abort + Sync>(
     rt: &R,
     alloc: Global,
@@ -130,5 +130,5 @@ pub fn alone<R: Threads + Wait + Clock + Abort + Sync>(
         output: Output::new(alloc, &count),
         want,
     };
-    play(rt, alloc, Day::of_one(rt, alloc, client));
+    apply(rt, alloc, Day::of_one(rt, alloc, client));
 }

@@ -2,7 +2,7 @@
 
 use super::client::{Client, End, Want};
 use super::packets::{ACCEPTED, BRAVO, HIDDEN, LOGOUT, SHOWN, copy_of, one_order, one_reply, put};
-use super::stage::{Day, play};
+use super::stage::{Day, apply};
 use hx_sessions::DropCopy;
 use hx_units::MemberNo;
 use std::alloc::Global;
@@ -29,10 +29,10 @@ fn a_copy_gets_the_replies_to_another_member(rt: HostRuntime) {
     day.before.push(SHOWN).expect(&rt, "a place");
     day.copies = copy(&rt, alloc);
     day.left = Some((1, 1));
-    play(&rt, alloc, day);
+    apply(&rt, alloc, day);
 }
 
-// Its session ends, nothing is recorded, and nobody is told.
+// Its session ends, nothing is recorded, and nothing is published.
 #[test]
 fn a_message_of_a_copy_goes_nowhere(rt: HostRuntime) {
     let alloc = rt.alloc();
@@ -43,5 +43,5 @@ fn a_message_of_a_copy_goes_nowhere(rt: HostRuntime) {
     day.copies = copy(&rt, alloc);
     day.submits = Some(0);
     day.left = Some((0, 0));
-    play(&rt, alloc, day);
+    apply(&rt, alloc, day);
 }

@@ -6,7 +6,7 @@ use super::packets::{
     ACCEPTED, ALPHA, HIDDEN, LOGOUT, SHOWN, copy_of, first_private, one_reply, put, put_accepted,
     put_order,
 };
-use super::stage::{Day, play};
+use super::stage::{Day, apply};
 use hx_testing::memory::{Input, Output};
 use std::alloc::Global;
 use std::process::Abort;
@@ -44,7 +44,7 @@ fn a_stream_cut_at_each_byte(rt: HostRuntime) {
     }
 }
 
-// Behind the login all comes by one read: both orders are one submit, and one by one they are two.
+// After the login all comes by one read: both orders are one submit, and one by one they are two.
 #[test]
 fn messages_of_one_read_are_one_submit(rt: HostRuntime) {
     let alloc = rt.alloc();
@@ -64,12 +64,12 @@ fn messages_of_one_read_are_one_submit(rt: HostRuntime) {
             at_once: Some(at_once),
             ..Day::of_one(&rt, alloc, client)
         };
-        play(&rt, alloc, day);
+        apply(&rt, alloc, day);
     }
 }
 
-// Nobody else is at the lock, so 2,048 bytes come at once: 39 orders of 52 bytes each. The token of all but the first is
-// used.
+// No other thread is at the lock, so 2,048 bytes come at once: 39 orders of 52 bytes each. The token of all but the
+// first is used.
 #[test]
 fn a_session_alone_takes_little_at_once(rt: HostRuntime) {
     let alloc = rt.alloc();
@@ -86,7 +86,7 @@ fn a_session_alone_takes_little_at_once(rt: HostRuntime) {
         at_once: Some(39),
         ..Day::of_one(&rt, alloc, client)
     };
-    play(&rt, alloc, day);
+    apply(&rt, alloc, day);
 }
 
 #[test]
@@ -106,6 +106,6 @@ fn a_stream_byte_by_byte(rt: HostRuntime) {
             },
             want: Want::new(End::Logout, 2, &replies),
         };
-        play(&rt, alloc, Day::of_one(&rt, alloc, client));
+        apply(&rt, alloc, Day::of_one(&rt, alloc, client));
     }
 }

@@ -1,11 +1,12 @@
-//! The end of the day ends a session, once all replies have gone out; and who has not logged in then is sent away.
+//! The end of the day ends a session, once all replies have gone out; a client that has not logged in then is sent
+//! away.
 
 use super::client::{Client, End, Want};
 use super::packets::{
     ALPHA, END_OF_SESSION, SHOWN, one_reply, put, put_end_of_hours, put_timed_out,
 };
-use super::stage::{Day, play};
-use hx_testing::memory::{Behind, Input, Output};
+use super::stage::{Day, apply};
+use hx_testing::memory::{After, Input, Output};
 use std::io::ErrorKind;
 use std::process::Abort;
 use std::sync::Wait;
@@ -13,9 +14,9 @@ use std::sync::atomic::AtomicU64;
 use std::thread::Threads;
 use std::time::Clock;
 
-// The day ends behind an order that lives until then; the client says nothing behind his login.
+// The day ends after an order that lives until then; the client says nothing after its login.
 #[test]
-fn the_day_ends_behind_the_last_reply(rt: HostRuntime) {
+fn the_day_ends_after_the_last_reply(rt: HostRuntime) {
     let alloc = rt.alloc();
     let mut replies = one_reply(&rt, alloc, &SHOWN, *b"FMA1", 1);
     put_end_of_hours(&rt, &mut replies);
@@ -24,7 +25,7 @@ fn the_day_ends_behind_the_last_reply(rt: HostRuntime) {
     let count = AtomicU64::new(0);
     let client = Client {
         input: Input {
-            behind: Behind::Fails(ErrorKind::WouldBlock),
+            after: After::Fails(ErrorKind::WouldBlock),
             ..Input::new(ALPHA)
         },
         output: Output::new(alloc, &count),
@@ -36,13 +37,13 @@ fn the_day_ends_behind_the_last_reply(rt: HostRuntime) {
         turns: 1_000_000_000,
         ..Day::of_one(&rt, alloc, client)
     };
-    play(&rt, alloc, day);
+    apply(&rt, alloc, day);
 }
 
 // The beginning of a login.
 const HALF: &[u8] = b"\0\x2fLalpha pwalpha    ";
 
-// A client who sends this, and nothing more: how his session ends behind these hours codes.
+// A client that sends this, and nothing more: how its session ends after these hours codes.
 fn expect_silent<R: AllocGlobal + Threads + Wait + Clock + Abort + Sync>(
     rt: &R,
     codes: &'static [u8],
@@ -54,7 +55,7 @@ fn expect_silent<R: AllocGlobal + Threads + Wait + Clock + Abort + Sync>(
     let count = AtomicU64::new(0);
     let client = Client {
         input: Input {
-            behind: Behind::Fails(kind),
+            after: After::Fails(kind),
             ..Input::new(bytes)
         },
         output: Output::new(alloc, &count),
@@ -65,7 +66,7 @@ fn expect_silent<R: AllocGlobal + Threads + Wait + Clock + Abort + Sync>(
         turns: 1000,
         ..Day::of_one(rt, alloc, client)
     };
-    play(rt, alloc, day);
+    apply(rt, alloc, day);
 }
 
 #[test]

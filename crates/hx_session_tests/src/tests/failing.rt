@@ -4,7 +4,7 @@ use super::client::{Client, End, Want};
 use super::cutting::{two_orders, two_replies};
 use super::equal;
 use super::packets::ACCEPTED;
-use super::stage::{Day, play};
+use super::stage::{Day, apply};
 use hx_testing::memory::{Bad, Input, NONE_BAD, Output};
 use std::io::ErrorKind;
 use std::process::Abort;
@@ -48,7 +48,7 @@ fn expect<R: AllocGlobal + Threads + Wait + Clock + Abort + Sync>(
             writes: u64::MAX,
         },
     };
-    play(rt, alloc, Day::of_one(rt, alloc, client));
+    apply(rt, alloc, Day::of_one(rt, alloc, client));
 }
 
 // Each read of these numbers fails so, and this comes of it.
@@ -100,7 +100,7 @@ fn reads_that_may_be_tried_again(rt: HostRuntime) {
     }
 }
 
-// What a session has done before its reads of these numbers, where the last of them is never asked for.
+// What a session has done before its reads of these numbers, if the last of them is never asked for.
 fn before_reads(end: End) -> [Outcome; 6] {
     [
         (end, (0, 0), (0, 0)),

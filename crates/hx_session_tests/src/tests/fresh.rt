@@ -5,12 +5,12 @@ use super::packets::{
     ACCEPTED, BRAVO, CHARLI, HIDDEN, LOGOUT, SALE, SHOWN, copy_of, put_accepted, put_executed,
     put_order,
 };
-use super::stage::{Day, play};
-use hx_testing::memory::{Behind, Input, Output};
+use super::stage::{Day, apply};
+use hx_testing::memory::{After, Input, Output};
 use std::sync::atomic::AtomicU64;
 
 // The first member has a hidden order. The second one sends a displayed one at its price, and logs out only once both
-// his replies have gone out. The third member's order, which brings the second of these, comes once the first is out.
+// its replies have gone out. The third member's order, which brings the second of these, comes once the first is out.
 #[test]
 fn replies_before_the_logout(rt: HostRuntime) {
     let alloc = rt.alloc();
@@ -28,7 +28,7 @@ fn replies_before_the_logout(rt: HostRuntime) {
     let counts = [AtomicU64::new(0), AtomicU64::new(0)];
     let buyer = Client {
         input: Input {
-            behind: Behind::Waits {
+            after: After::Waits {
                 count: &counts[0],
                 wanted: replies.len() as u64,
                 last: LOGOUT,
@@ -40,7 +40,7 @@ fn replies_before_the_logout(rt: HostRuntime) {
     };
     let seller = Client {
         input: Input {
-            behind: Behind::Waits {
+            after: After::Waits {
                 count: &counts[0],
                 wanted: first,
                 last: &sale,
@@ -58,5 +58,5 @@ fn replies_before_the_logout(rt: HostRuntime) {
         left: Some((3, 2)),
         ..Day::of(alloc, vec![in alloc; buyer, seller].expect(&rt, "clients"))
     };
-    play(&rt, alloc, day);
+    apply(&rt, alloc, day);
 }

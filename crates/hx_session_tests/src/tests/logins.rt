@@ -6,10 +6,10 @@ use super::packets::{
     ACCEPTED, ALPHA, HIDDEN, LOGOUT, SHOWN, copy_of, first_private, put, put_accepted, put_order,
     put_packet,
 };
-use super::stage::{Day, play};
+use super::stage::{Day, apply};
 use arrayvec::ArrayVec;
 use hx_soup::SoupPacket;
-use hx_testing::memory::{Behind, Input, Output};
+use hx_testing::memory::{After, Input, Output};
 use std::sync::atomic::AtomicU64;
 
 #[test]
@@ -93,7 +93,7 @@ fn a_second_login(rt: HostRuntime) {
     );
 }
 
-// Where two replies are there: the number that is asked for, the one that is answered, and which of the replies come.
+// If there are two replies: the number that is asked for, the one that is answered, and which of the replies come.
 #[test]
 fn numbers_that_are_asked_for(rt: HostRuntime) {
     let alloc = rt.alloc();
@@ -152,7 +152,7 @@ fn numbers_that_are_asked_for(rt: HostRuntime) {
             before: vec![in alloc; SHOWN, HIDDEN].expect(&rt, "orders"),
             ..Day::of_one(&rt, alloc, client)
         };
-        play(&rt, alloc, day);
+        apply(&rt, alloc, day);
     }
 }
 
@@ -162,7 +162,7 @@ fn heartbeats_for_ever(rt: HostRuntime) {
     let count = AtomicU64::new(0);
     let client = Client {
         input: Input {
-            behind: Behind::Heartbeats,
+            after: After::Heartbeats,
             ..Input::new(ALPHA)
         },
         output: Output::new(alloc, &count),
@@ -172,7 +172,7 @@ fn heartbeats_for_ever(rt: HostRuntime) {
         turns: 1000,
         ..Day::of_one(&rt, alloc, client)
     };
-    play(&rt, alloc, day);
+    apply(&rt, alloc, day);
 }
 
 // What came whole before a framing fault is acted on; a logout among it ends the session.

@@ -2,7 +2,7 @@
 
 use super::client::{Client, End, Want};
 use super::packets::{ALPHA, BRAVO, HIDDEN, SHOWN, first_private, one_order, one_reply};
-use super::stage::{Day, play};
+use super::stage::{Day, apply};
 use hx_sessions::Gate;
 use hx_testing::memory::wait_for;
 use hx_units::MemberNo;
@@ -21,7 +21,8 @@ pub struct Meeting {
     // Whether it was called out of this order.
     astray: AtomicU64,
     submits: AtomicU64,
-    // How many messages it was called before, of the member whose first submit was over last, when that was over.
+    // The number of messages in the first submit that was over last: the number of its member's messages before which
+    // the gate was called by then.
     at_once: AtomicU64,
 }
 
@@ -31,16 +32,16 @@ impl Meeting {
         Meeting::with(0)
     }
 
-    /// Nobody waits.
+    /// No session waits.
     pub fn of_nobody() -> Self {
         Meeting::with(1)
     }
 
-    // So much is told of each of both from the first on.
-    fn with(told: u64) -> Self {
+    // For both members: 1 if the first submit counts as there from the start, else 0.
+    fn with(published_end: u64) -> Self {
         Meeting {
-            first: AtomicU64::new(told),
-            second: AtomicU64::new(told),
+            first: AtomicU64::new(published_end),
+            second: AtomicU64::new(published_end),
             in_vain: AtomicU64::new(0),
             begun: [AtomicU64::new(0), AtomicU64::new(0)],
             ended: [AtomicU64::new(0), AtomicU64::new(0)],
@@ -50,17 +51,18 @@ impl Meeting {
         }
     }
 
-    /// How many messages there were in the first submit that was over last.
+    /// The number of messages in the first submit that was over last.
     pub fn at_once(&self) -> u64 {
         self.at_once.load(Ordering::SeqCst)
     }
 
-    /// Whether nobody waited in vain.
+    /// Whether no session waited in vain.
     pub fn was_in_time(&self) -> bool {
         self.in_vain.load(Ordering::SeqCst) == 0
     }
 
-    /// How many messages were submitted, where it was called once before and once after each of them, with its number.
+    /// The number of messages that were submitted, if the gate was called once before and once after each of them, with
+    /// its number.
     pub fn submits(&self) -> Option<u64> {
         for i in 0..2 {
             if self.begun[i].load(Ordering::SeqCst) != self.ended[i].load(Ordering::SeqCst) {
@@ -139,5 +141,5 @@ fn sessions_overlap(rt: HostRuntime) {
         left: Some((2, 1)),
         ..Day::of(alloc, clients)
     };
-    play(&rt, alloc, day);
+    apply(&rt, alloc, day);
 }

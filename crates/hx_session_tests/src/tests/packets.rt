@@ -8,13 +8,13 @@ use hx_units::{Firm, Symbol, Token};
 use std::alloc::Global;
 use std::process::Abort;
 
-/// The login of the first member, for his replies from the first one on.
+/// The login of the first member, for its replies from the first one on.
 pub const ALPHA: &[u8] = b"\0\x2fLalpha pwalpha                                1";
 
-/// The login of the second member, for his replies from the first one on.
+/// The login of the second member, for its replies from the first one on.
 pub const BRAVO: &[u8] = b"\0\x2fLBRAVO PWBRAVO   HX00000001                   1";
 
-/// The login of the third member, for his replies from the first one on.
+/// The login of the third member, for its replies from the first one on.
 pub const CHARLI: &[u8] = b"\0\x2fLCharliPWCHARLI                               1";
 
 /// A logout.
@@ -31,12 +31,12 @@ pub fn copy_of<R: Abort>(rt: &R, alloc: Global, bytes: &[u8]) -> Vec<u8> {
     Vec::from_slice(alloc, bytes).expect(rt, "a copy")
 }
 
-/// Puts others behind the bytes.
+/// Puts others after the bytes.
 pub fn put<R: Abort>(rt: &R, bytes: &mut Vec<u8>, others: &[u8]) {
     bytes.extend_from_slice(others).expect(rt, "more bytes");
 }
 
-/// Puts a packet behind the bytes: its length in two bytes, which counts the type and the payload, then these.
+/// Puts a packet after the bytes: its length in two bytes, which counts the type and the payload, then these.
 pub fn put_packet<R: Abort>(rt: &R, bytes: &mut Vec<u8>, kind: u8, payload: &[u8]) {
     let length = u16::try_from(payload.len()).unwrap_or(0).saturating_add(1);
     put(rt, bytes, &length.to_be_bytes());
@@ -98,7 +98,7 @@ pub fn enter(order: &Order) -> ArrayVec<u8, 49> {
     }))
 }
 
-/// Puts the packet that enters the order behind the bytes.
+/// Puts the packet that enters the order after the bytes.
 pub fn put_order<R: Abort>(rt: &R, bytes: &mut Vec<u8>, order: &Order) {
     put_packet(rt, bytes, b'U', enter(order).as_slice());
 }
@@ -124,7 +124,7 @@ pub fn one_reply<R: Abort>(
     bytes
 }
 
-/// Puts the packet of the reply that the order was accepted behind the bytes, with this number of the order.
+/// Puts the packet of the reply that the order was accepted after the bytes, with this number of the order.
 pub fn put_accepted<R: Abort>(
     rt: &R,
     bytes: &mut Vec<u8>,
@@ -153,8 +153,8 @@ pub fn put_accepted<R: Abort>(
     put_packet(rt, bytes, b'S', reply.as_slice());
 }
 
-/// Puts the packet of the reply that the order was executed, all of it and as the first trade of the day, behind the
-/// bytes: with `A` where it was in the book, with `R` where it came to it.
+/// Puts the packet of the reply that the order was executed, all of it and as the first trade of the day, after the
+/// bytes: with `A` if it was in the book, with `R` if it came to it.
 pub fn put_executed<R: Abort>(rt: &R, bytes: &mut Vec<u8>, order: &Order, flag: u8) {
     let reply = encode_out(&Outbound::Executed(Executed {
         time: 1000,
@@ -167,7 +167,7 @@ pub fn put_executed<R: Abort>(rt: &R, bytes: &mut Vec<u8>, order: &Order, flag: 
     put_packet(rt, bytes, b'S', reply.as_slice());
 }
 
-/// Puts the packet of the reply that the order was cancelled at the end of its time behind the bytes.
+/// Puts the packet of the reply that the order was cancelled at the end of its time after the bytes.
 pub fn put_timed_out<R: Abort>(rt: &R, bytes: &mut Vec<u8>, order: &Order) {
     let reply = encode_out(&Outbound::Canceled(Canceled {
         time: 1000,
@@ -178,7 +178,7 @@ pub fn put_timed_out<R: Abort>(rt: &R, bytes: &mut Vec<u8>, order: &Order) {
     put_packet(rt, bytes, b'S', reply.as_slice());
 }
 
-/// Puts the packet of the reply that no order is accepted any more behind the bytes.
+/// Puts the packet of the reply that no order is accepted any more after the bytes.
 pub fn put_end_of_hours<R: Abort>(rt: &R, bytes: &mut Vec<u8>) {
     let reply = encode_out(&Outbound::SystemEvent(SystemEvent {
         time: 1000,
@@ -187,7 +187,7 @@ pub fn put_end_of_hours<R: Abort>(rt: &R, bytes: &mut Vec<u8>) {
     put_packet(rt, bytes, b'S', reply.as_slice());
 }
 
-/// The private reference of a member's first hidden order: 2^63, his number by 2^40, and 1.
+/// The private reference of a member's first hidden order: 2^63, the member's number by 2^40, and 1.
 pub fn first_private(member: u16) -> u64 {
     0x8000_0000_0000_0001 + u64::from(member) * 0x100_0000_0000
 }

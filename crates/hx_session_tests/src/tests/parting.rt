@@ -1,11 +1,11 @@
-//! Two members at once, one of whom fails; and the exchange behind them.
+//! Two members at once, one of which fails; and the exchange after them.
 
 use super::client::{Client, End, Want};
 use super::packets::{
     ACCEPTED, ALPHA, BRAVO, HIDDEN, SHOWN, copy_of, first_private, one_order, one_reply, put_order,
 };
-use super::stage::{Day, play};
-use hx_testing::memory::{Behind, Input, Output};
+use super::stage::{Day, apply};
+use hx_testing::memory::{After, Input, Output};
 use std::io::ErrorKind;
 use std::sync::atomic::AtomicU64;
 
@@ -21,7 +21,7 @@ fn a_session_that_fails(rt: HostRuntime) {
     let clients = vec![in alloc;
         Client {
             input: Input {
-                behind: Behind::Fails(ErrorKind::ConnectionReset),
+                after: After::Fails(ErrorKind::ConnectionReset),
                 ..Input::new(&first)
             },
             output: Output::new(alloc, &count),
@@ -42,7 +42,7 @@ fn a_session_that_fails(rt: HostRuntime) {
         left: Some((2, 1)),
         ..Day::of(alloc, clients)
     };
-    play(&rt, alloc, day);
+    apply(&rt, alloc, day);
 }
 
 #[test]
@@ -52,5 +52,5 @@ fn no_session_at_all(rt: HostRuntime) {
         left: Some((0, 0)),
         ..Day::of(alloc, Vec::new(alloc))
     };
-    play(&rt, alloc, day);
+    apply(&rt, alloc, day);
 }

@@ -1,4 +1,5 @@
-//! How many bytes a session reads at once: twice as many while somebody records, so that more messages are one submit.
+//! The number of bytes that a session reads at once: the double while another thread records, so that more messages
+//! are one submit.
 ghost use Rattle.std.specs.Prelude.{◌≡◌, []};
 ghost use Rattle.hx_engine.specs.Opening.{IsNewLog};
 
@@ -6,7 +7,6 @@ use super::overlap::Meeting;
 use super::packets::ALPHA;
 use super::stage::Still;
 use super::{equal, holds};
-use hx_bells::{Bell, Source};
 use hx_blog::Reader;
 use hx_engine::{Entry, Exchange, Pass, Venue};
 use hx_engine_testing::ground::{Ground, ground_of};
@@ -15,6 +15,7 @@ use hx_members::Setup;
 use hx_sessions::{Ended, Fault, Logins, Part, Session};
 use hx_testing::memory::{Input, Output, wait_for};
 use hx_testing::sending::{BUY, Order, enter};
+use hx_wake::{Source, Waker};
 use std::alloc::Global;
 use std::io::{self, Read};
 use std::marker::Brand;
@@ -32,7 +33,7 @@ struct Moments {
     waits: AtomicU64,
     // A record is about to be written, under the lock.
     writes: AtomicU64,
-    // For this many bytes the session asked then.
+    // The number of bytes for which the session asked then.
     asked: AtomicU64,
 }
 
@@ -54,7 +55,7 @@ impl Witness for &Moments {
     }
 }
 
-// The line of a client who logs in and ends. Where somebody is beside him, the end is read while that one records.
+// The connection of a client that logs in and ends. If there is another client, the end is read while that one records.
 #[derive(Drop)]
 struct Line<'a> {
     input: Input<'a>,
@@ -72,7 +73,7 @@ impl Read for Line<'_> {
 }
 
 impl Source for Line<'_> {
-    fn wait(&self, _bell: &Bell, _limit: Duration) -> bool {
+    fn wait(&self, _waker: &Waker, _limit: Duration) -> bool {
         self.moments.waits.store(1, Ordering::SeqCst);
         !self.is_beside || wait_for(&self.moments.writes, 1)
     }
@@ -85,11 +86,11 @@ fn attend<V: Venue, R: Wait>(
     exchange: &Exchange<V, Witnessed<&Moments>>,
     setup: &Setup,
     line: Line,
-    seat: (Pass<V>, Reader<Entry>),
+    session_slot: (Pass<V>, Reader<Entry>),
 ) -> Result<Ended, Fault>
-    requires { seat.1.log ≡ V.log }
+    requires { session_slot.1.log ≡ V.log }
 {
-    let (pass, reader) = seat;
+    let (pass, reader) = session_slot;
     let count = AtomicU64::new(0);
     let part = Part {
         input: line,
@@ -112,7 +113,7 @@ fn attend<V: Venue, R: Wait>(
     outcome
 }
 
-// One client at an exchange, and perhaps somebody beside him, who records an order.
+// One client at an exchange, and perhaps another one, which records an order.
 fn read_beside<V: Venue + Send + Sync, R: Threads + Wait + Abort + Sync>(
     rt: &R,
     alloc: Global,
@@ -122,7 +123,7 @@ fn read_beside<V: Venue + Send + Sync, R: Threads + Wait + Abort + Sync>(
 )
     requires feed { IsNewLog V.log ground.logs.feed }
     requires admitted { IsNewLog V.admitted ground.logs.admitted }
-    requires kept { IsNewLog V.kept ground.logs.kept }
+    requires durable { IsNewLog V.durable ground.logs.durable }
     requires of_setup { ground.setup ≡ V.setup }
     requires before { V.before ≡ [] }
     requires reader { ground.reader.log ≡ V.log }
@@ -140,7 +141,7 @@ fn read_beside<V: Venue + Send + Sync, R: Threads + Wait + Abort + Sync>(
         alloc, setup, logs, journal, blank, 2,
     ).expect(rt, "an exchange");
     let mut beside = passes.pop().expect(rt, "a pass");
-    let seat = (passes.pop().expect(rt, "a pass"), reader);
+    let session_slot = (passes.pop().expect(rt, "a pass"), reader);
     let line = Line {
         input: Input::new(ALPHA),
         is_beside: order.is_some(),
@@ -150,8 +151,8 @@ fn read_beside<V: Venue + Send + Sync, R: Threads + Wait + Abort + Sync>(
     let (outcome, is_recorded) = join(
         rt,
         move || -> Result<Ended, Fault>
-            requires { seat.1.log ≡ V.log }
-        { attend(rt, alloc, shared, &own, line, seat) },
+            requires { session_slot.1.log ≡ V.log }
+        { attend(rt, alloc, shared, &own, line, session_slot) },
         || match order {
             Some(order) => {
                 let event = enter(alloc, &order).expect(rt, "an order");
@@ -164,7 +165,7 @@ fn read_beside<V: Venue + Send + Sync, R: Threads + Wait + Abort + Sync>(
     holds(rt, is_recorded);
 }
 
-// For how many bytes a session asks, where this order is recorded meanwhile, or none is.
+// The number of bytes for which a session asks, if this order is recorded meanwhile, or none is.
 fn asked_beside<R: AllocGlobal + Threads + Wait + Abort + Sync>(
     rt: &R,
     order: Option<Order>,

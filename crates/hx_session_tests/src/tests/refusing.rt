@@ -3,7 +3,7 @@
 use super::client::{Client, End, Want};
 use super::cutting::{two_orders, two_replies};
 use super::packets::{ACCEPTED, ALPHA, SHOWN, one_order, one_reply};
-use super::stage::{Day, play, play_by};
+use super::stage::{Day, apply, apply_by};
 use hx_members::Setup;
 use hx_testing::memory::{Input, Output};
 use std::alloc::Global;
@@ -17,8 +17,8 @@ member 1 FMA1 ALPHA PWALPHA 1
 member 2 FMB2 BRAVO PWBRAVO 1000
 ";
 
-// The member may send one message: of his two orders the second one is refused, and ends his session. The gate is called
-// round both.
+// The member may send one message: of its two orders the second one is refused, and ends its session. The gate is
+// called around both.
 #[test]
 fn a_message_beyond_the_limit(rt: HostRuntime) {
     let alloc = rt.alloc();
@@ -39,10 +39,10 @@ fn a_message_beyond_the_limit(rt: HostRuntime) {
         ..Day::of_one(&rt, alloc, client)
     };
     let setup = Setup::read(alloc, ONE_MESSAGE).expect(&rt, "a setup");
-    play_by(&rt, alloc, setup, day);
+    apply_by(&rt, alloc, setup, day);
 }
 
-// The gate is called round each of two submits.
+// The gate is called around each of two submits.
 #[test]
 fn the_gate_is_called_round_each_submit(rt: HostRuntime) {
     let alloc = rt.alloc();
@@ -53,7 +53,7 @@ fn the_gate_is_called_round_each_submit(rt: HostRuntime) {
         submits: Some(2),
         ..Day::of_one(&rt, alloc, client)
     };
-    play(&rt, alloc, day);
+    apply(&rt, alloc, day);
 }
 
 // An output that has room for all that comes.
@@ -64,9 +64,9 @@ fn roomy<'a, R: Abort>(rt: &R, alloc: Global, count: &'a AtomicU64) -> Output<'a
     }
 }
 
-// A session that may lack memory, and one behind it with the same pass that sends the same order again: a token counts
-// once, so one reply is there in any case, and comes whole the second time. Here there is all the memory that both need;
-// where an allocation is refused the first one may end for want of it.
+// A session that may lack memory, and one after it with the same pass that sends the same order again: a token counts
+// once, so one reply is there in any case, and comes whole the second time. Here there is all the memory that both
+// need; if an allocation is refused, the first one may end for lack of it.
 #[test]
 fn a_session_that_lacks_memory(rt: HostRuntime) {
     let alloc = rt.alloc();
@@ -91,5 +91,5 @@ fn a_session_that_lacks_memory(rt: HostRuntime) {
     };
     let mut day = Day::of_one(&rt, alloc, first);
     day.later.push(second).expect(&rt, "a place");
-    play(&rt, alloc, day);
+    apply(&rt, alloc, day);
 }

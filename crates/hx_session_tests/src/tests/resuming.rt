@@ -1,13 +1,13 @@
-//! A member who comes again, who comes twice at once, and who comes to thousands of replies.
+//! A member that comes again, that comes twice at once, and that comes to thousands of replies.
 
 use super::client::{Client, End, Want};
 use super::packets::{
     ACCEPTED, ALPHA, LOGOUT, Order, SHOWN, copy_of, one_order, one_reply, put, put_accepted,
     put_order,
 };
-use super::stage::{Day, play, play_by};
+use super::stage::{Day, apply, apply_by};
 use hx_members::Setup;
-use hx_testing::memory::{Behind, Input, Output};
+use hx_testing::memory::{After, Input, Output};
 use std::alloc::Global;
 use std::process::Abort;
 use std::sync::atomic::AtomicU64;
@@ -32,7 +32,7 @@ fn a_later_session_gets_the_same_bytes(rt: HostRuntime) {
     let mut day = Day::of_one(&rt, alloc, first);
     day.later.push(second).expect(&rt, "a place");
     day.left = Some((1, 1));
-    play(&rt, alloc, day);
+    apply(&rt, alloc, day);
 }
 
 // Both log out once they have the reply to the order that one of them sends.
@@ -45,14 +45,14 @@ fn two_sessions_of_one_member(rt: HostRuntime) {
     let counts = [AtomicU64::new(0), AtomicU64::new(0)];
     let mut clients = Vec::new(alloc);
     for ((bytes, sent), count) in [(order.as_slice(), 1), (ALPHA, 0)].into_iter().zip(&counts) {
-        let behind = Behind::Waits {
+        let after = After::Waits {
             count,
             wanted: replies.len() as u64,
             last: LOGOUT,
         };
         let client = Client {
             input: Input {
-                behind,
+                after,
                 ..Input::new(bytes)
             },
             output: Output::new(alloc, count),
@@ -60,10 +60,10 @@ fn two_sessions_of_one_member(rt: HostRuntime) {
         };
         clients.push(client).expect(&rt, "a client");
     }
-    play(&rt, alloc, Day::of(alloc, clients));
+    apply(&rt, alloc, Day::of(alloc, clients));
 }
 
-// How many orders are there before the member comes.
+// The number of orders that are there before the member comes.
 const MANY: u64 = 3000;
 
 const MANY_MESSAGES: &[u8] = b"session HX00000001
@@ -95,8 +95,8 @@ fn many<R: Abort>(rt: &R, alloc: Global) -> (Vec<Order>, Vec<u8>) {
     (orders, replies)
 }
 
-// The session has a turn for each reply, and a few. They go out 64 by one write: the last ones behind the logout, and the
-// answer to the login before all.
+// The session has a turn for each reply, and a few. They go out 64 by one write: the last ones after the logout, and
+// the answer to the login before all.
 #[test]
 fn thousands_of_replies(rt: HostRuntime) {
     let alloc = rt.alloc();
@@ -117,5 +117,5 @@ fn thousands_of_replies(rt: HostRuntime) {
         ..Day::of_one(&rt, alloc, client)
     };
     let setup = Setup::read(alloc, MANY_MESSAGES).expect(&rt, "a setup");
-    play_by(&rt, alloc, setup, day);
+    apply_by(&rt, alloc, setup, day);
 }

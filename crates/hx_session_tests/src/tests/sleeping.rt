@@ -3,14 +3,14 @@
 use super::client::{Client, End, Want};
 use super::equal;
 use super::packets::{ACCEPTED, ALPHA, copy_of, put};
-use super::stage::{Day, play};
-use hx_testing::memory::{Behind, Input, Output, Rest};
+use super::stage::{Day, apply};
+use hx_testing::memory::{After, Input, Output, Rest};
 use std::sync::atomic::AtomicU64;
 
 // A heartbeat of the server (SoupBinTCP 3.00, Server Heartbeat Packet).
 const HEARTBEAT: &[u8] = b"\0\x01H";
 
-// When the input ends, in nanoseconds: behind nine heartbeats.
+// The time at which the input ends, in nanoseconds: after nine heartbeats.
 const END: u64 = 9_500_000_000;
 
 // It sleeps until its next heartbeat, each time: in nine seconds and a half it sends nine, and sleeps ten times.
@@ -25,12 +25,12 @@ fn an_idle_session_sleeps(rt: HostRuntime) {
     }
     let client = Client {
         input: Input {
-            behind: Behind::Rests(&rest),
+            after: After::Rests(&rest),
             ..Input::new(ALPHA)
         },
         output: Output::new(alloc, &count),
         want: Want::new(End::ReaderEnd, 0, &whole),
     };
-    play(&rt, alloc, Day::of_one(&rt, alloc, client));
+    apply(&rt, alloc, Day::of_one(&rt, alloc, client));
     equal(&rt, rest.sleeps(), 10);
 }

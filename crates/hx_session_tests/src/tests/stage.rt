@@ -6,14 +6,14 @@ use super::client::{Client, Want};
 use super::overlap::Meeting;
 use super::packets::{Order, enter};
 use super::{equal, holds};
-use hx_bells::{Bell, Source};
 use hx_blog::{Log, Reader};
 use hx_engine::{Entry, Exchange, FinishError, Logs, Pass, Venue};
 use hx_journal::Unkept;
 use hx_market::{Bytes, Event};
 use hx_members::Setup;
 use hx_sessions::{Clock, DropCopy, Logins, Part, serve_all};
-use hx_testing::memory::{Behind, Input, Output, Rest};
+use hx_testing::memory::{After, Input, Output, Rest};
+use hx_wake::{Source, Waker};
 use std::alloc::Global;
 use std::io::{self, Read};
 use std::marker::Brand;
@@ -27,14 +27,14 @@ use std::time::{Clock as Timer, Duration};
 // The time of day when sessions begin, in nanoseconds.
 const START: u64 = 1000;
 
-/// The time of day: always the same, but for what was slept.
+/// The time of day: always the same, plus what was slept.
 #[derive(Drop)]
 pub struct Still<'a> {
     rest: Option<&'a Rest>,
 }
 
 impl Still<'_> {
-    /// Nobody sleeps.
+    /// No thread sleeps.
     pub fn new() -> Self {
         Still { rest: None }
     }
@@ -52,25 +52,25 @@ impl Clock for Still<'_> {
 /// What happens at a new exchange.
 #[derive(Drop)]
 pub struct Day<'a> {
-    /// The orders of the first member that are recorded before anybody comes.
+    /// The orders of the first member that are recorded before any client comes.
     pub before: Vec<Order>,
     /// The hours codes that come then.
     pub codes: &'static [u8],
-    /// The clients who come at the same time.
+    /// The clients that come at the same time.
     pub clients: Vec<Client<'a>>,
-    /// Those who come behind them.
+    /// Those that come after them.
     pub later: Vec<Client<'a>>,
     /// The drop copies among them.
     pub copies: Vec<DropCopy>,
-    /// What is called round each submit.
+    /// The gate that is called around each submit.
     pub gate: Meeting,
-    /// How many submits the sessions make, where the test says so.
+    /// The number of submits that the sessions make, if the test says so.
     pub submits: Option<u64>,
-    /// How many messages the first submit has, where the test says so.
+    /// The number of messages that the first submit has, if the test says so.
     pub at_once: Option<u64>,
     /// The turns that each session has.
     pub turns: u64,
-    /// How many events and how many messages of the feed there are at the end, where the test says so.
+    /// The numbers of events and of feed messages at the end, if the test says so.
     pub left: Option<(usize, u64)>,
 }
 
@@ -97,7 +97,7 @@ impl<'a> Day<'a> {
     }
 }
 
-// An input in memory, where a session sleeps until its last bytes are let go.
+// An input in memory, at which a session sleeps until its last bytes are released.
 #[derive(Drop)]
 struct Line<'a> {
     input: Input<'a>,
@@ -110,12 +110,12 @@ impl<'a> Read for Line<'a> {
 }
 
 impl<'a> Source for Line<'a> {
-    fn wait(&self, bell: &Bell, limit: Duration) -> bool {
-        match self.input.behind {
-            Behind::Rests(rest) if self.input.bytes.is_empty() => rest.sleep(limit),
-            Behind::Waits { count, wanted, .. } if self.input.bytes.is_empty() => {
+    fn wait(&self, waker: &Waker, limit: Duration) -> bool {
+        match self.input.after {
+            After::Rests(rest) if self.input.bytes.is_empty() => rest.sleep(limit),
+            After::Waits { count, wanted, .. } if self.input.bytes.is_empty() => {
                 if count.load(Ordering::SeqCst) < wanted {
-                    bell.sleep(Duration::from_millis(1));
+                    waker.sleep(Duration::from_millis(1));
                 }
                 count.load(Ordering::SeqCst) >= wanted
             }
@@ -175,8 +175,8 @@ impl<V: Venue> Stage<V> {
     fn part<'a>(&mut self, input: Input<'a>, output: Output<'a>) -> Option<OwnPart<'a, V>> {
         let pass = self.passes.pop()?;
         let reader = self.reader.split(self.exchange.feed_log());
-        let rest = match input.behind {
-            Behind::Rests(rest) => Some(rest),
+        let rest = match input.after {
+            After::Rests(rest) => Some(rest),
             _ => None,
         };
         Some(Part {
@@ -274,7 +274,7 @@ struct Ends {
     blank: Blank,
 }
 
-fn play_at<V: Venue + Send + Sync, R: Threads + Wait + Timer + Abort + Sync>(
+fn apply_at<V: Venue + Send + Sync, R: Threads + Wait + Timer + Abort + Sync>(
     rt: &R,
     alloc: Global,
     setup: Setup,
@@ -283,7 +283,7 @@ fn play_at<V: Venue + Send + Sync, R: Threads + Wait + Timer + Abort + Sync>(
 )
     requires feed { IsNewLog V.log ends.logs.feed }
     requires admitted { IsNewLog V.admitted ends.logs.admitted }
-    requires kept { IsNewLog V.kept ends.logs.kept }
+    requires durable { IsNewLog V.durable ends.logs.durable }
     requires of_setup { setup ≡ V.setup }
     requires before { V.before ≡ [] }
     requires reader { ends.reader.log ≡ V.log }
@@ -327,8 +327,8 @@ fn play_at<V: Venue + Send + Sync, R: Threads + Wait + Timer + Abort + Sync>(
     }
 }
 
-// Nobody waited in vain, and the gate was called round each submit: so often, and round so many messages of the first,
-// where the test says so.
+// No thread waited in vain, and the gate was called around each submit: the number of submits, and of the messages in
+// the first one, is as the test says, if it does.
 fn expect_calls<R: Abort>(rt: &R, gate: &Meeting, submits: Option<u64>, at_once: Option<u64>) {
     holds(rt, gate.was_in_time());
     let made = gate.submits();
@@ -337,8 +337,8 @@ fn expect_calls<R: Abort>(rt: &R, gate: &Meeting, submits: Option<u64>, at_once:
     holds(rt, at_once.is_none() || at_once == Some(gate.at_once()));
 }
 
-/// Plays a day at a new exchange of this setup, with three passes.
-pub fn play_by<R: Threads + Wait + Timer + Abort + Sync>(
+/// Runs a day at a new exchange of this setup, with three passes.
+pub fn apply_by<R: Threads + Wait + Timer + Abort + Sync>(
     rt: &R,
     alloc: Global,
     setup: Setup,
@@ -346,21 +346,21 @@ pub fn play_by<R: Threads + Wait + Timer + Abort + Sync>(
 ) {
     let (log, writer, reader) = Log::<Entry>::new(alloc, 5000).expect(rt, "a log");
     let (admitted, register, _) = Log::<Entry>::new(alloc, 1).expect(rt, "a log");
-    let (kept, keeper, _) = Log::<Entry>::new(alloc, 1).expect(rt, "a log");
+    let (durable, keeper, _) = Log::<Entry>::new(alloc, 1).expect(rt, "a log");
     let ends = Ends {
         logs: Logs {
             feed: (log, writer),
             admitted: (admitted, register),
-            kept: (kept, keeper),
+            durable: (durable, keeper),
         },
         reader,
         blank: Blank::new(3),
     };
-    play_at::<Brand, R>(rt, alloc, setup, ends, day);
+    apply_at::<Brand, R>(rt, alloc, setup, ends, day);
 }
 
-/// Plays a day at a new exchange of the standard setup.
-pub fn play<R: Threads + Wait + Timer + Abort + Sync>(rt: &R, alloc: Global, day: Day) {
+/// Runs a day at a new exchange of the standard setup.
+pub fn apply<R: Threads + Wait + Timer + Abort + Sync>(rt: &R, alloc: Global, day: Day) {
     let setup = Setup::standard(alloc).expect(rt, "a setup");
-    play_by(rt, alloc, setup, day);
+    apply_by(rt, alloc, setup, day);
 }

@@ -34,7 +34,7 @@ fn third_line(text: &[u8]) -> &[u8] {
 }
 
 #[test]
-fn the_day_is_as_told(rt: HostRuntime) -> Result<(), Fail> {
+fn the_day_is_as_reported(rt: HostRuntime) -> Result<(), Fail> {
     let day = Day::of(rt.alloc(), TWO_QUIET_MEMBERS)?;
     expect_output(&rt, &day, replayed(rt.alloc(), &day.tape));
     Ok(())
@@ -86,8 +86,8 @@ fn left(rt: &impl Abort, alloc: Global, member: u16, tokens: &[Token]) -> Result
     let events = events_of(alloc, &day.tape)?;
     let setup = standard(alloc).expect(rt, "memory");
     let member = MemberNo::of(member).expect(rt, "a number of a member");
-    let kept = strike_chains(alloc, &setup, &events, member, tokens).expect(rt, "a strike");
-    Ok(times(rt, alloc, &kept))
+    let retained = strike_chains(alloc, &setup, &events, member, tokens).expect(rt, "a strike");
+    Ok(times(rt, alloc, &retained))
 }
 
 #[test]
@@ -95,10 +95,10 @@ fn all_quiet_chains_are_struck(rt: HostRuntime) -> Result<(), Fail> {
     let day = Day::of(rt.alloc(), TWO_QUIET_MEMBERS)?;
     let events = events_of(rt.alloc(), &day.tape)?;
     let setup = standard(rt.alloc()).expect(&rt, "memory");
-    let kept = strike_all(rt.alloc(), &setup, &events).expect(&rt, "a strike");
+    let retained = strike_all(rt.alloc(), &setup, &events).expect(&rt, "a strike");
     equal(
         &rt,
-        times(&rt, rt.alloc(), &kept).as_slice(),
+        times(&rt, rt.alloc(), &retained).as_slice(),
         [30].as_slice(),
     );
     Ok(())
@@ -134,7 +134,7 @@ fn a_token_that_is_not_quiet_is_named(rt: HostRuntime) -> Result<(), Fail> {
     let day = Day::of(rt.alloc(), TWO_QUIET_MEMBERS)?;
     let events = events_of(rt.alloc(), &day.tape)?;
     let (displayed, quiet) = (Token(*b"T1            "), Token(*b"H1            "));
-    // The displayed order's token; a quiet one of his first, which he never used; and a stranger's.
+    // The displayed order's token; a quiet one of its first, which it never used; and a stranger's.
     for (member, tokens, want) in [
         (3, [displayed, displayed], displayed),
         (1, [quiet, displayed], displayed),

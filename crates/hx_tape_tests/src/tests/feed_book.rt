@@ -14,7 +14,7 @@ use std::test::Fail;
 // An order of the reader's book: its reference, and its open shares.
 type Shown = (u64, u32);
 
-// The orders with this many shares less of one of them, or without it where none are left.
+// The orders with `by` shares less of one of them, or without it if none are left.
 fn less(rt: &impl Abort, alloc: Global, book: &[Shown], reference: u64, by: u32) -> Vec<Shown> {
     let mut left = Vec::new(alloc);
     for (named, open) in book {

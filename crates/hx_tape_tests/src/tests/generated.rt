@@ -111,7 +111,8 @@ fn operator_said(number: u64) -> &'static str {
     }
 }
 
-/// The day's tape. The lines of a number between 12 and 24 are of one member, so that most messages name his own tokens.
+/// The day's tape. The lines of a number between 12 and 24 are of one member, so that most messages name its own
+/// tokens.
 pub fn tape(rt: &impl Abort, alloc: Global) -> Vec<u8> {
     let mut text = Vec::new(alloc);
     let mut state = 88_172_645_463_325_252;

@@ -1,15 +1,15 @@
-//! Worked days of trading halts and broken trades, in words: each event, and below it what it tells, worked out by hand
+//! Worked days of trading halts and broken trades, in words: each event, and below it its output, worked out by hand
 //! from the rules of the market.
 
 use super::equal;
 use super::replaying::{expect_bad, expect_day, expect_output, replayed};
-use super::striking::{expect_kept, struck};
+use super::striking::{expect_retained, struck};
 use hx_replay::Kind;
 use hx_testing::Day;
 use hx_testing::halts::{BREAK_OF_BOTH_SIDES, HALTS_AND_BREAKS, HALTS_AT_THEIR_EDGES};
 use std::test::Fail;
 
-/// The same without what the second member enters in the halt: nothing else differs but the numbers of his replies.
+/// The same without what the second member enters in the halt: nothing else differs but the numbers of its replies.
 const HALTS_AND_BREAKS_STRUCK: &str = "\
 10 1 enter T1 buy 100 ABCD 10.0000 day shown
   F 1 add 1 buy 100 ABCD 10.0000
@@ -59,7 +59,7 @@ fn halts_and_breaks_over_both_books(rt: HostRuntime) -> Result<(), Fail> {
 fn an_order_rejected_in_a_halt_is_struck(rt: HostRuntime) -> Result<(), Fail> {
     let day = Day::of(rt.alloc(), HALTS_AND_BREAKS)?;
     let left = Day::of(rt.alloc(), HALTS_AND_BREAKS_STRUCK)?;
-    expect_kept(&rt, struck(rt.alloc(), &day.tape, 2), &left.tape, 12);
+    expect_retained(&rt, struck(rt.alloc(), &day.tape, 2), &left.tape, 12);
     expect_output(&rt, &left, replayed(rt.alloc(), &left.tape));
     Ok(())
 }

@@ -1,7 +1,7 @@
 //! Days as tapes, replayed over both books.
 
 use super::equal;
-use hx_levels::ListBook;
+use hx_book::ListBook;
 use hx_replay::{Counts, Kind, TapeError, replay, replay_on};
 use hx_testing::lines::count_lines;
 use hx_testing::setups::{CLOSED, TWO_MESSAGES, setup_of, standard};
@@ -12,7 +12,7 @@ use std::process::Abort;
 use std::test::Fail;
 
 // A replay over the standard setup, of which callers know nothing.
-fn play<R: Read, W: Write>(
+fn apply<R: Read, W: Write>(
     alloc: Global,
     reader: &mut R,
     writer: &mut W,
@@ -22,7 +22,7 @@ fn play<R: Read, W: Write>(
 }
 
 // The same over a plain list of orders.
-fn play_on_list<R: Read, W: Write>(
+fn apply_on_list<R: Read, W: Write>(
     alloc: Global,
     reader: &mut R,
     writer: &mut W,
@@ -37,14 +37,14 @@ pub type Replayed = (Vec<u8>, Result<Counts, TapeError>);
 pub fn replayed(alloc: Global, text: &[u8]) -> Replayed {
     let mut output = Vec::new(alloc);
     let mut reader = text;
-    let result = play(alloc, &mut reader, &mut output);
+    let result = apply(alloc, &mut reader, &mut output);
     (output, result)
 }
 
 fn replayed_on_list(alloc: Global, text: &[u8]) -> Replayed {
     let mut output = Vec::new(alloc);
     let mut reader = text;
-    let result = play_on_list(alloc, &mut reader, &mut output);
+    let result = apply_on_list(alloc, &mut reader, &mut output);
     (output, result)
 }
 
@@ -159,7 +159,7 @@ fn empty_tape(rt: HostRuntime) {
     equal(&rt, (counts.events, counts.feed, counts.replies), (0, 0, 0));
 }
 
-// A day, and its tape with more lines behind it.
+// A day, and its tape with more lines after it.
 fn with_lines<R: AllocGlobal + Abort>(
     rt: &R,
     day: &str,
@@ -187,7 +187,7 @@ fn an_event_without_output(rt: HostRuntime) -> Result<(), Fail> {
     Ok(())
 }
 
-// The second line is bad, behind the output of the day.
+// The second line is bad, after the output of the day.
 fn expect_bad_line<R: Abort>(rt: &R, day: &Day, replayed: Replayed, want: Kind) {
     let (output, result) = replayed;
     match result {
@@ -197,7 +197,7 @@ fn expect_bad_line<R: Abort>(rt: &R, day: &Day, replayed: Replayed, want: Kind) 
     equal(rt, output.as_slice(), day.output.as_slice());
 }
 
-// The line behind the tape of one displayed order is bad, over either book.
+// The line after the tape of one displayed order is bad, over either book.
 pub fn expect_bad<R: AllocGlobal + Abort>(rt: &R, text: &[u8], want: Kind) -> Result<(), Fail> {
     let (day, tape) = with_lines(rt, worked::ONE_DISPLAYED_ORDER, text)?;
     expect_bad_line(rt, &day, replayed(rt.alloc(), &tape), want);
@@ -240,8 +240,8 @@ fn member_at_limit(rt: HostRuntime) {
 }
 
 fn expect_text<R: AllocGlobal + Abort>(rt: &R, fault: TapeError, text: &str) {
-    let told = format!(in rt.alloc(); "{fault}").expect(rt, "memory");
-    equal(rt, told.as_str(), text);
+    let outputs = format!(in rt.alloc(); "{fault}").expect(rt, "memory");
+    equal(rt, outputs.as_str(), text);
 }
 
 #[test]

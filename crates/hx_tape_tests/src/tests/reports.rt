@@ -5,8 +5,9 @@ mod texts;
 
 use crate::tests::{equal, holds};
 use hx_replay::{Kind, TapeError};
-use hx_report::{Day, Progress, Report, Tally, audit};
-use hx_report_pages::{Document, write_html, write_json, write_plain};
+use hx_report::{
+    Day, Document, Progress, Report, Tally, audit, write_html, write_json, write_plain,
+};
 use hx_testing::setups::standard;
 use hx_testing::{Day as Worked, worked};
 use std::alloc::Global;
@@ -14,14 +15,14 @@ use std::process::Abort;
 use std::test::Fail;
 use std::thread::Threads;
 
-// Who counts how often he is told.
+// Counts the reports of progress.
 #[derive(Drop)]
-struct Told {
+struct EventOutput {
     times: u64,
     done: usize,
 }
 
-impl Progress for Told {
+impl Progress for EventOutput {
     fn tell(&mut self, done: usize, _of: usize) {
         self.times = self.times.saturating_add(1);
         self.done = done;
@@ -33,8 +34,8 @@ fn report_of<R: AllocGlobal + Threads + Sync + Abort>(rt: &R, words: &str) -> Re
     let alloc = rt.alloc();
     let Worked { tape, .. } = Worked::of(alloc, words)?;
     let day = Day::of(alloc, &standard(alloc).expect(rt, "memory"), tape).expect(rt, "a day");
-    let mut told = Told { times: 0, done: 0 };
-    Ok(audit(rt, alloc, &day, &mut told).expect(rt, "memory"))
+    let mut outputs = EventOutput { times: 0, done: 0 };
+    Ok(audit(rt, alloc, &day, &mut outputs).expect(rt, "memory"))
 }
 
 // A member's numbers: messages, chains, quiet ones, shares that rested hidden, trades.
@@ -239,7 +240,7 @@ fn pages(rt: HostRuntime) -> Result<(), Fail> {
     Ok(())
 }
 
-// There are this many, or the test ends.
+// There are `wanted`, or the test ends.
 fn count<R: Abort>(rt: &R, found: usize, wanted: usize)
     ensures { found ≡ wanted }
 {

@@ -34,10 +34,10 @@ pub fn struck(alloc: Global, text: &[u8], number: u16) -> Replayed {
     (output, result)
 }
 
-// This many lines stay of a text, and they are these.
-pub fn expect_kept<R: Abort>(rt: &R, struck: Replayed, kept: &[u8], events: u64) {
+// `events` lines stay of a text, and they are these.
+pub fn expect_retained<R: Abort>(rt: &R, struck: Replayed, retained: &[u8], events: u64) {
     let (output, result) = struck;
-    equal(rt, output.as_slice(), kept);
+    equal(rt, output.as_slice(), retained);
     let counts = result.expect(rt, "a strike");
     equal(
         rt,
@@ -48,7 +48,7 @@ pub fn expect_kept<R: Abort>(rt: &R, struck: Replayed, kept: &[u8], events: u64)
 
 // All lines stay.
 fn expect_whole<R: AllocGlobal + Abort>(rt: &R, text: &[u8], number: u16, events: u64) {
-    expect_kept(rt, struck(rt.alloc(), text, number), text, events);
+    expect_retained(rt, struck(rt.alloc(), text, number), text, events);
 }
 
 // The first line goes, and with it the first output line alone.
@@ -59,7 +59,7 @@ fn expect_first_struck<R: AllocGlobal + Abort>(
 ) -> Result<(), Fail> {
     let day = Day::of(rt.alloc(), words)?;
     let left = day.without_first(rt.alloc())?;
-    expect_kept(rt, struck(rt.alloc(), &day.tape, 1), &left.tape, events);
+    expect_retained(rt, struck(rt.alloc(), &day.tape, 1), &left.tape, events);
     expect_output(rt, &left, replayed(rt.alloc(), &left.tape));
     Ok(())
 }
@@ -85,7 +85,7 @@ fn chain_that_traded_stays(rt: HostRuntime) -> Result<(), Fail> {
 fn chain_before_it_traded_goes(rt: HostRuntime) -> Result<(), Fail> {
     let day = Day::of(rt.alloc(), worked::CHAIN_THAT_TRADED)?;
     let text = first_lines(&day.tape, 4);
-    expect_kept(&rt, struck(rt.alloc(), text, 1), b"", 0);
+    expect_retained(&rt, struck(rt.alloc(), text, 1), b"", 0);
     Ok(())
 }
 
@@ -110,7 +110,7 @@ fn other_members_keep_their_lines(rt: HostRuntime) -> Result<(), Fail> {
     Ok(())
 }
 
-// The line behind the tape of one displayed order is at fault, and nothing is written.
+// The line after the tape of one displayed order is at fault, and nothing is written.
 fn expect_fault<R: AllocGlobal + Abort>(rt: &R, text: &[u8], want: Kind) -> Result<(), Fail> {
     let day = Day::of(rt.alloc(), worked::ONE_DISPLAYED_ORDER)?;
     let mut output = Vec::new(rt.alloc());

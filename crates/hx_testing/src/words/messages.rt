@@ -5,9 +5,9 @@ use hx_ouch::{Cancel, Enter, Inbound, Replace};
 use hx_units::{Firm, Symbol, Token};
 use std::test::Fail;
 
-/// The message that these words begin with, and none where they begin with another word.
+/// The message that these words begin with, and none if they begin with another word.
 ///
-/// - `enter TOKEN SIDE SHARES STOCK PRICE LIFE DISPLAY`, and then where they are not the usual ones `minimum SHARES`,
+/// - `enter TOKEN SIDE SHARES STOCK PRICE LIFE DISPLAY`, and then if they are not the usual ones `minimum SHARES`,
 ///   `firm NAME`, `cross LETTER`
 /// - `replace OLD NEW SHARES PRICE LIFE DISPLAY`, and then `minimum SHARES`
 /// - `cancel TOKEN SHARES`

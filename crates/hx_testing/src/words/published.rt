@@ -10,10 +10,10 @@ use hx_itch::{
 use hx_units::{Firm, Nanos, Symbol};
 use std::test::Fail;
 
-// What the standard setup says of each of its stocks, as the feed tells it.
+// What the standard setup says of each of its stocks, as the feed reports it.
 const TAIL: [u8; 20] = *b"Q \x00\x00\x00dNCZ P  1N\x00\x00\x00\x00N";
 
-// The place of a stock in its setup: WXYZ is the second one, S1 to S1000 stand by their numbers.
+// The index of a stock in its setup: WXYZ is the second one, S1 to S1000 are at their numbers.
 fn locate_of(stock: Symbol) -> u16 {
     if stock == Symbol(*b"WXYZ    ") {
         return 2;
@@ -29,11 +29,11 @@ fn number_of(stock: &Symbol) -> Option<u16> {
 /// The message of the feed that these words are.
 ///
 /// - `system CODE`, `directory STOCK`
-/// - `add REFERENCE SIDE SHARES STOCK PRICE`, and then the firm where it is told
+/// - `add REFERENCE SIDE SHARES STOCK PRICE`, and then the firm if it is given
 /// - `executed REFERENCE SHARES match NUMBER`, `trade SHARES STOCK PRICE match NUMBER`
-/// - `cancel REFERENCE SHARES`, `delete REFERENCE`, `replace OLD NEW SHARES PRICE`; and then the stock, where it is
-///   not the first one
-/// - `halted STOCK REASON`, `trading STOCK REASON`; `broken NUMBER`, and then the stock, where it is not the first one
+/// - `cancel REFERENCE SHARES`, `delete REFERENCE`, `replace OLD NEW SHARES PRICE`; and then the stock, if it is not
+///   the first one
+/// - `halted STOCK REASON`, `trading STOCK REASON`; `broken NUMBER`, and then the stock, if it is not the first one
 pub fn published(words: &mut Words, time: Nanos) -> Result<Feed, Fail>
     ensures { IfOk result (λ message. feed_time message < 2 ^ 48) }
 {

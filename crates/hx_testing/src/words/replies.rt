@@ -14,15 +14,15 @@ pub struct Answered {
     pub member: u64,
     /// The event's time, in nanoseconds since midnight.
     pub time: u64,
-    /// Its message, where it is one.
+    /// Its message, if it is one.
     pub message: Option<Inbound>,
 }
 
 /// The reply that these words are.
 ///
 /// - `accepted REFERENCE`, with the fields of the Enter above it
-/// - `replaced SIDE SHARES REFERENCE`, with those of the Replace above it, and then `stock NAME`, `firm NAME`,
-///   `minimum SHARES` where they are not the usual ones
+/// - `replaced SIDE SHARES REFERENCE`, with those of the Replace above it, and then `stock NAME`, `firm NAME`, `minimum
+///   SHARES` if they are not the usual ones
 /// - `canceled TOKEN SHARES REASON`: `user`, `immediate`, `timeout`
 /// - `executed TOKEN SHARES PRICE FLAG match NUMBER`: `added`, `hidden`, `removed`
 /// - `rejected LETTER`, of the Enter above it; `system CODE`; `broken TOKEN match NUMBER`

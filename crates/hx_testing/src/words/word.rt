@@ -17,7 +17,7 @@ impl<'a> Words<'a> {
         Words { rest: line }
     }
 
-    /// The next word; none behind the last one.
+    /// The next word; none after the last one.
     pub fn next(&mut self) -> &'a str {
         let (word, others) = self.rest.split_once(' ').unwrap_or((self.rest, ""));
         self.rest = others;

@@ -5,7 +5,7 @@ use std::hash::RandomState;
 use std::process::Abort;
 use std::random::RandomSource;
 
-// The state, and all that is answered, where the input comes in pieces of `step` bytes.
+// The state, and all that is answered, if the input comes in pieces of `step` bytes.
 pub fn answered<R: AllocGlobal + RandomSource + Abort, S: Service>(
     rt: &R,
     service: &mut S,

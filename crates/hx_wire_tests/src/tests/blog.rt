@@ -1,4 +1,4 @@
-//! A log of messages: each call where memory is ample, and a writer's thread beside two readers' threads.
+//! A log of messages: each call if memory is ample, and a writer's thread beside two readers' threads.
 ghost use Rattle.std.specs.Prelude.{◌≡◌};
 
 use super::{equal, holds};
@@ -52,7 +52,7 @@ fn a_log_gets_full(rt: HostRuntime) {
     equal(&rt, writer.count(), 2);
 }
 
-// A log of two messages, the longest and an empty one, with no slot free, and a reader who has read none.
+// A log of two messages, the longest and an empty one, with no slot free, and a reader that has read none.
 fn full_log<R: AllocGlobal + Abort>(rt: &R) -> (Log<u64>, Writer<u64>, Reader<u64>)
     ensures writer { result.1.log ≡ result.0 }
     ensures reader { result.2.log ≡ result.0 }
@@ -109,7 +109,7 @@ fn write(log: &Log<u64>, mut writer: Writer<u64>) -> (Writer<u64>, bool)
     (writer, staged)
 }
 
-// Looks so often, and each time reads on to the count; whether it found the numbers from 0 on, in order.
+// Looks `looks` times, and each time reads on to the count; returns whether it found the numbers from 0 on, in order.
 fn follow(log: &Log<u64>, mut reader: Reader<u64>, looks: u64) -> (Reader<u64>, bool)
     requires { reader.log ≡ log.now }
     ensures { result.0.log ≡ log.now }

@@ -118,7 +118,7 @@ fn replace_and_cancel_order(rt: HostRuntime) {
     is_inbound(&rt, bytes, Inbound::Cancel(message));
 }
 
-// A displayed order is accepted; a hidden one takes its place, with the first number of its own.
+// A displayed order is accepted; a hidden one replaces it, with the first number of its own.
 #[test]
 fn accepted_and_replaced(rt: HostRuntime) {
     let bytes = b"A\x00\x00\x00\x00\x00\x00\x03\xe8T1            B\x00\x00\x00dABCD    \

@@ -19,7 +19,7 @@ pub fn numbered(alloc: Global, from: u8, to: u8) -> Result<Vec<ArrayVec<u8, 44>>
     Ok(messages)
 }
 
-/// A header, then each of the messages behind its length, 36.
+/// A header, then each of the messages after its length, 36.
 pub fn spelled(
     alloc: Global,
     header: &[u8],

@@ -2,7 +2,7 @@
 use super::{equal, holds};
 use arrayvec::ArrayVec;
 use hx_members::Setup;
-use hx_session_core::{Action, Delivery, Intake, Turn, start};
+use hx_sessions::{Action, Delivery, Intake, Turn, start};
 use hx_soup::{LoginRequest, SoupPacket, accepted};
 use hx_units::MemberNo;
 

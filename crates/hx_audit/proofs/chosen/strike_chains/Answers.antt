@@ -43,5 +43,5 @@ returns-clause-struck c =
 pub returns-clause-again : goal.returns-clause-again
 returns-clause-again c =
     let recorded = subst (λ (s : Setup). AreRecorded s c.args.events.now) c.in_ok-market.ensures.setup c.in_ok-take_all.ensures.recorded in
-    subst (λ (kept : List Event). AreRecorded c.args.setup.now kept) (sym c.in_ok-keep.ensures)
+    subst (λ (retained : List Event). AreRecorded c.args.setup.now retained) (sym c.in_ok-keep.ensures)
     (struck_recorded c.args.setup.now (in_chains c.args.member c.take_all.new.listing.uses.entries c.in_ok-chosen.chosen.entries) c.args.events.now recorded)

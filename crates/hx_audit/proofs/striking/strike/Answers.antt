@@ -34,7 +34,7 @@ returns-clause-struck c =
 pub returns-clause-again : goal.returns-clause-again
 returns-clause-again c =
     let a = c.in_ok-auditor.auditor in
-    subst (λ (kept : List Event). AreRecorded c.args.setup.now kept) (sym c.in_ok-keep.ensures)
+    subst (λ (retained : List Event). AreRecorded c.args.setup.now retained) (sym c.in_ok-keep.ensures)
     (struck_recorded c.args.setup.now (choice_of a.whose a.market) c.args.events.now (returns-clause-recorded c))
 
 pub returns-clause-stranger : goal.returns-clause-stranger

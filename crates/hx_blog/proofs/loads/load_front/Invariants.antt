@@ -3,7 +3,7 @@ use Rattle.hx_blog.specs.Packed.{packed}
 use Rattle.hx_blog.specs.Feed.{feed}
 use Rattle.hx_blog.proofs.loads.load_front.Given as goal
 
--- this many words of the message are loaded
+-- the first `k` words of the message are loaded
 abbrev pub invariant-loop-k : goal.invariant-loop-k
 invariant-loop-k g l =
     (l.seat.table_id ≡ l.initial.seat.table_id)

@@ -22,7 +22,7 @@ store-requires g c =
     let begun : length c.loop-k.seat.me.0.begun ≡ c.loop-k.k = ap (λ m. length m.0.begun) me ∙ length-take-le c.loop-k.k c.args.words.now within in (
       i.0 ∙ r.log,
       omega (arith, r.room.0, c.loop-k-test.true),
-      stores_word _ _ _ _ _ _ (ap (λ m. m.0.gone) me) (ap (λ m. m.0.writes) me) (omega (arith, r.behind, begun, ap (λ m. length (feed m.0.known)) me, ap (λ m. length m.0.staged) me))
+      stores_word _ _ _ _ _ _ (ap (λ m. m.0.gone) me) (ap (λ m. m.0.writes) me) (omega (arith, r.after, begun, ap (λ m. length (feed m.0.known)) me, ap (λ m. length m.0.staged) me))
           (omega (arith, r.room.0, r.sized, c.loop-k-test.true)),
     )
 
@@ -48,7 +48,7 @@ store-requires-2 g c =
     let long : length c.loop-k.seat.me.0.begun ≡ 5 = ap length begun ∙ first_five message in (
       i.0 ∙ r.log,
       r.room.0,
-      stores_last_word _ _ _ _ message _ _ (ap (λ m. m.0.gone) me) (ap (λ m. m.0.writes) me) (omega (arith, r.behind, long, ap (λ m. length (feed m.0.known)) me, ap (λ m. length m.0.staged) me))
+      stores_last_word _ _ _ _ message _ _ (ap (λ m. m.0.gone) me) (ap (λ m. m.0.writes) me) (omega (arith, r.after, long, ap (λ m. length (feed m.0.known)) me, ap (λ m. length m.0.staged) me))
           (omega (arith, r.room.0, r.sized))
           r.message
           ((λ q. begun q ++ get_or (r.words q) 5 0 ∷ []) ∙ all_of_six message),

@@ -2,7 +2,7 @@ use Rattle.std.proofs.Common.{◌≡◌, [], take}
 use Rattle.hx_blog.specs.Views.{writing}
 use Rattle.hx_blog.proofs.stores.store_message.Given as goal
 
--- this many words of the message are stored
+-- the first `k` words of the message are stored
 abbrev pub invariant-loop-k : goal.invariant-loop-k
 invariant-loop-k g l =
     let old = l.initial.seat in

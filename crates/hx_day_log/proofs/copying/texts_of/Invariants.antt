@@ -1,5 +1,5 @@
 use Rattle.std.proofs.Common.{◌≡◌, ◌++◌, drop}
-use Rattle.hx_terms.specs.Copies.{texts_of}
+use Rattle.hx_fenced_log.specs.Copies.{texts_of}
 use Rattle.hx_day_log.proofs.copying.texts_of.Given as goal
 
 -- the texts so far, and those of the rest, are all

@@ -7,25 +7,25 @@ use Rattle.hx_desk.proofs.desk.publish_up_to.Goals as goal
 pub overflow_sub-count : goal.overflow_sub-count
 overflow_sub-count g c =
     let r = c.requires in
-    omega (arith, flying_count c.args.market.now.setup c.args.history.now c.args.told c.args.sealed r.order r.told r.sealed)
+    omega (arith, flying_count c.args.market.now.setup c.args.history.now c.args.published_end c.args.sealed r.order r.published_end r.sealed)
 
 pub publish_first-requires-clause-count : goal.publish_first-requires-clause-count
 publish_first-requires-clause-count g c =
     let r = c.requires in
-    omega (arith, flying_count c.args.market.now.setup c.args.history.now c.args.told c.args.sealed r.order r.told r.sealed, ap (λ k. length (feed k)) r.entries)
+    omega (arith, flying_count c.args.market.now.setup c.args.history.now c.args.published_end c.args.sealed r.order r.published_end r.sealed, ap (λ k. length (feed k)) r.entries)
 
 pub publish_first-requires-clause-named : goal.publish_first-requires-clause-named
 publish_first-requires-clause-named g c =
     let r = c.requires in
     (λ i. feed (r.entries i) ++ r.left i)
-    ∙ flying_staged c.args.market.now.setup c.args.writer.now.published c.args.writer.now.staged c.args.history.now c.args.told c.args.sealed r.order r.published r.staged
+    ∙ flying_staged c.args.market.now.setup c.args.writer.now.published c.args.writer.now.staged c.args.history.now c.args.published_end c.args.sealed r.order r.published r.staged
 
 pub returns-clause-published : goal.returns-clause-published
 returns-clause-published g c =
     let r = c.requires in
     ap (λ w. w.published) c.publish_first.ensures
     ∙ ap (λ k. c.args.writer.now.published ++ k) r.entries
-    ∙ now_published c.args.market.now.setup c.args.writer.now.published c.args.history.now c.args.told c.args.sealed r.order r.published
+    ∙ now_published c.args.market.now.setup c.args.writer.now.published c.args.history.now c.args.published_end c.args.sealed r.order r.published
 
 pub returns-clause-staged : goal.returns-clause-staged
 returns-clause-staged g c =
@@ -33,5 +33,5 @@ returns-clause-staged g c =
     let whole = ledger c.args.market.now.setup c.args.history.now in
     ap (λ w. feed w.published ++ w.staged) c.publish_first.ensures
     ∙ ap (λ k. feed (c.args.writer.now.published ++ g.N.NamesEntries.entries) ++ k) r.left
-    ∙ ap (λ k. feed k ++ feed (drop c.args.sealed.entries whole)) (ap (λ k. c.args.writer.now.published ++ k) r.entries ∙ now_published c.args.market.now.setup c.args.writer.now.published c.args.history.now c.args.told c.args.sealed r.order r.published)
+    ∙ ap (λ k. feed k ++ feed (drop c.args.sealed.entries whole)) (ap (λ k. c.args.writer.now.published ++ k) r.entries ∙ now_published c.args.market.now.setup c.args.writer.now.published c.args.history.now c.args.published_end c.args.sealed r.order r.published)
     ∙ still_staged c.args.market.now.setup c.args.history.now c.args.sealed.entries

@@ -7,7 +7,7 @@ use Rattle.hx_desk.specs.Rows.{times, row_texts, row_spare}
 use Rattle.hx_desk.proofs.RowLaws.{same_set, room_set, next_time, times_at_most, raised, room_next}
 use Rattle.hx_desk.proofs.rows.make_room.Goals as goal
 
--- the count before the loop's step is how often the member was met
+-- the count before the loop's step is the number of times that the member was met
 counted : (counts members : List ℕ) (i place n : ℕ) → i < length members → place < length counts → place ≡ slice_index members i → n ≡ get_or counts place n
     → ((k : ℕ) → k < length members → slice_index counts (slice_index members k) ≡ times (slice_index members k) (take i members))
     → (n ≡ slice_index counts place) × (n ≡ times place (take i members))

@@ -2,7 +2,7 @@ use Rattle.std.proofs.Common.{◌≡◌, ◌+◌, ◌<◌, ℕ, List, Bool, cond
 use Rattle.std.proofs.lemmas.Grind.{get_or_default_zero}
 use lib.ListN.{length-set}
 use Rattle.hx_desk.specs.Rows.{times}
-use Rattle.hx_desk.proofs.RowLaws.{one_told, next_time, raised}
+use Rattle.hx_desk.proofs.RowLaws.{one_published, next_time, raised}
 use Rattle.hx_desk.proofs.rows.raise.Goals as goal
 
 pub prove-unreachable-requires : goal.prove-unreachable-requires
@@ -12,7 +12,7 @@ prove-unreachable-requires c =
     let place = c.get-place.result in
     let is : place ≡ slice_index members i = c.get-place.ensures.value ∙ c.member-item.is ∙ get_or_default_zero members i c.member-item.result (omega arith) in
     let small : place < 4096 = omega (arith, c.get-place.ensures.range, c.get-place.ensures.value) in
-    let one = one_told c.loop-member.counts.items c.args.counts.now.items members c.args.rows.now c.index-rows-place.result i place c.index-count.result.now (omega arith) (omega (arith, small)) (omega (arith, small)) is
+    let one = one_published c.loop-member.counts.items c.args.counts.now.items members c.args.rows.now c.index-rows-place.result i place c.index-count.result.now (omega arith) (omega (arith, small)) (omega (arith, small)) is
     c.index-count.ensures c.index-rows-place.is (c.loop-member.invariant.1 place small) (c.requires.untold place small) in
     omega (arith, one.1, c.if-prove.true, c.len-most.ensures, c.index-rows-place.result.ok)
 
@@ -25,7 +25,7 @@ loop-member-preserved c =
     let is : place ≡ slice_index members i = c.get-place.ensures.value ∙ c.member-item.is ∙ get_or_default_zero members i c.member-item.result (omega arith) in
     let small : place < 4096 = omega (arith, c.get-place.ensures.range, c.get-place.ensures.value) in
     let in_counts : place < length counts = omega (arith, small) in
-    let one = one_told counts c.args.counts.now.items members c.args.rows.now c.index-rows-place.result i place c.index-count.result.now (omega arith) in_counts (omega (arith, small)) is
+    let one = one_published counts c.args.counts.now.items members c.args.rows.now c.index-rows-place.result i place c.index-count.result.now (omega arith) in_counts (omega (arith, small)) is
     c.index-count.ensures c.index-rows-place.is (c.loop-member.invariant.1 place small) (c.requires.untold place small) in (
       length-set counts place (c.index-count.result.now + 1) ∙ c.loop-member.invariant.0,
       (λ m l.

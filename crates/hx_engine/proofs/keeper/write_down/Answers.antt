@@ -12,7 +12,7 @@ returns-in_err-append-clause-any_moment g c =
     let inv = c.loop-place.invariant in
     let one : g.J.Journal.appended c.loop-place.journal ++ c.get.result.now ∷ [] ≡ start ++ take (i + 1) records =
     (λ k. inv.appended k ++ c.get.ensures k ∷ []) ∙ one_record start records i (omega arith) in
-    leaves_then _ _ _ _ _ _ _ _ _ _ _ inv.leaves (c.append.ensures.any_moment inv.opened) inv.kept ([], append-nil _) (subst (λ l. IsPrefix l (start ++ records)) (sym one) (some_records start records (i + 1)))
+    leaves_then _ _ _ _ _ _ _ _ _ _ _ inv.leaves (c.append.ensures.any_moment inv.opened) inv.durable ([], append-nil _) (subst (λ l. IsPrefix l (start ++ records)) (sym one) (some_records start records (i + 1)))
 
 pub loop-place-preserved : goal.loop-place-preserved
 loop-place-preserved g c =
@@ -24,9 +24,9 @@ loop-place-preserved g c =
     (λ k. inv.appended k ++ c.get.ensures k ∷ []) ∙ one_record start records i (omega arith) in
     record {
       appended = c.in_ok-append.ensures.appended ∙ one;
-      kept = c.append.ensures.kept ∙ inv.kept;
+      durable = c.append.ensures.durable ∙ inv.durable;
       opened = c.append.ensures.still ∙ inv.opened;
-      leaves = leaves_then _ _ _ _ _ _ _ _ _ _ _ inv.leaves (c.append.ensures.any_moment inv.opened) inv.kept ([], append-nil _) (subst (λ l. IsPrefix l (start ++ records)) (sym one) (some_records start records (i + 1)));
+      leaves = leaves_then _ _ _ _ _ _ _ _ _ _ _ inv.leaves (c.append.ensures.any_moment inv.opened) inv.durable ([], append-nil _) (subst (λ l. IsPrefix l (start ++ records)) (sym one) (some_records start records (i + 1)));
     }
 
 pub append-requires : goal.append-requires

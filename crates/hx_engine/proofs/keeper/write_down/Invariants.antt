@@ -5,8 +5,8 @@ use Rattle.hx_engine.proofs.keeper.write_down.Given as goal
 abbrev pub invariant-loop-place : goal.invariant-loop-place
 invariant-loop-place g l = record {
   appended : g.J.Journal.appended l.journal ≡ g.J.Journal.appended l.fn.journal ++ take l.place l.records;
-  kept : g.J.Journal.kept l.journal ≡ g.J.Journal.kept l.fn.journal;
+  durable : g.J.Journal.durable l.journal ≡ g.J.Journal.durable l.fn.journal;
   opened : g.J.Journal.is_open l.journal ≡ true;
-  leaves : Leaves (g.J.Journal.moment l.fn.journal) (g.J.Journal.moment l.journal) (g.J.Journal.left_since l.fn.journal) (g.J.Journal.left_since l.journal) (g.J.Journal.kept l.fn.journal)
+  leaves : Leaves (g.J.Journal.moment l.fn.journal) (g.J.Journal.moment l.journal) (g.J.Journal.left_since l.fn.journal) (g.J.Journal.left_since l.journal) (g.J.Journal.durable l.fn.journal)
       (g.J.Journal.appended l.fn.journal ++ l.records);
 }

@@ -1,7 +1,7 @@
 use Rattle.std.proofs.Common.{◌+◌, List, map, take, rules, arith, sym, subst}
 use Rattle.json.specs.Value.{value_view}
-use Rattle.hx_terms.specs.Records.{Record}
-use Rattle.hx_etcd.specs.declared.told.AnswerError.TheVariants.{NoMemory}
+use Rattle.hx_fenced_log.specs.Records.{Record}
+use Rattle.hx_etcd.specs.declared.reported.AnswerError.TheVariants.{NoMemory}
 use Rattle.hx_etcd.specs.Answers.{AreRecords, IsListFault}
 use Rattle.hx_etcd.proofs.Holding.{one_in, bad_in}
 use Rattle.hx_etcd.proofs.range.read_pairs.Goals as goal

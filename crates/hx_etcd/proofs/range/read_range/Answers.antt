@@ -1,6 +1,6 @@
 use Rattle.std.proofs.Common.{◌≡◌, List, map, rules, sym, subst, inr}
 use Rattle.json.specs.Value.{value_view}
-use Rattle.hx_terms.specs.Records.{Record}
+use Rattle.hx_fenced_log.specs.Records.{Record}
 use Rattle.hx_etcd.specs.Answers.{HoldsRecords, HasBadPair, IsHoldingFault}
 use Rattle.hx_etcd.proofs.Holding.{no_pairs, with_pairs, with_bad_pair}
 use Rattle.hx_etcd.proofs.range.read_range.Goals as goal

@@ -1,5 +1,5 @@
 use Rattle.std.proofs.Common.{◌≡◌, ◌+◌, ap, arith}
-use Rattle.hx_terms.specs.declared.head.Head.{Head}
+use Rattle.hx_fenced_log.specs.declared.terms.head.Head.{Head}
 use Rattle.hx_etcd_log.proofs.Paging.{numbered_more, misnumbered}
 use Rattle.hx_etcd_log.proofs.copied.check_numbers.Goals as goal
 

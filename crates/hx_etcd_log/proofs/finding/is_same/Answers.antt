@@ -3,7 +3,7 @@ use Rattle.std.specs.Bool.{Decides}
 use Rattle.std.proofs.lemmas.Bool.Decides.{Decides-eqb}
 use Rattle.std.proofs.lemmas.Slice.Eq.{slice_eq-Decides}
 use Rattle.hx_journal.specs.Lines.{text_of}
-use Rattle.hx_terms.specs.Records.{Record}
+use Rattle.hx_fenced_log.specs.Records.{Record}
 use Rattle.hx_etcd_log.proofs.Known.{same_record}
 use Rattle.hx_etcd_log.proofs.finding.is_same.Goals as goal
 

@@ -14,8 +14,8 @@ repair-requires-clause-front g c =
     subst (λ f. take end f ≡ text_of (lines_of (take end f))) c.requires.read
     (whole_text (take end c.args.text.now) (before_damage c.args.text.now c.args.survey.now.damage) c.requires.front)
 
-pub returns-clause-kept : goal.returns-clause-kept
-returns-clause-kept g c =
+pub returns-clause-retained : goal.returns-clause-retained
+returns-clause-retained g c =
     let end = c.args.survey.now.end in
     on_ok_weaker c.repair.result
     (λ is. ap recovered (is ∙ ap (take end) (sym c.requires.read)) ∙ records_are (take end c.args.text.now) (before_damage c.args.text.now c.args.survey.now.damage) c.requires.front)

@@ -20,8 +20,8 @@ returns-clause-any_moment g c =
     let bytes = g.D.Device.seen c.args.disk.now in
     let torn = zeros_crash bytes c.args.zeros.now c.args.end _ _ q.at_rest q.zeros q.durable c.write_at.ensures.crash in
     let at_start = started g.D.Device.moment g.D.Device.left_since c.args.disk.now (HasThose bytes) (λ f left. ap lines_of (q.durable f (g.met.D.Device.only_now c.args.disk.now f left))) in
-    let behind = goes_on g.D.Device.moment g.D.Device.left_since c.args.disk.now c.args.disk.now c.write_at.new.self (HasThose bytes) _ at_start c.write_at.ensures.time torn in
-    goes_on g.D.Device.moment g.D.Device.left_since c.args.disk.now c.write_at.new.self c.sync.new.self (HasThose bytes) _ behind c.sync.ensures.time (λ f now. torn f (c.sync.ensures.crash f now))
+    let after = goes_on g.D.Device.moment g.D.Device.left_since c.args.disk.now c.args.disk.now c.write_at.new.self (HasThose bytes) _ at_start c.write_at.ensures.time torn in
+    goes_on g.D.Device.moment g.D.Device.left_since c.args.disk.now c.write_at.new.self c.sync.new.self (HasThose bytes) _ after c.sync.ensures.time (λ f now. torn f (c.sync.ensures.crash f now))
 
 pub returns-in_err-sync-clause-any_moment : goal.returns-in_err-sync-clause-any_moment
 returns-in_err-sync-clause-any_moment g c =
@@ -29,8 +29,8 @@ returns-in_err-sync-clause-any_moment g c =
     let bytes = g.D.Device.seen c.args.disk.now in
     let torn = zeros_crash bytes c.args.zeros.now c.args.end _ _ q.at_rest q.zeros q.durable c.write_at.ensures.crash in
     let at_start = started g.D.Device.moment g.D.Device.left_since c.args.disk.now (HasThose bytes) (λ f left. ap lines_of (q.durable f (g.met.D.Device.only_now c.args.disk.now f left))) in
-    let behind = goes_on g.D.Device.moment g.D.Device.left_since c.args.disk.now c.args.disk.now c.write_at.new.self (HasThose bytes) _ at_start c.write_at.ensures.time torn in
-    goes_on g.D.Device.moment g.D.Device.left_since c.args.disk.now c.write_at.new.self c.sync.new.self (HasThose bytes) _ behind c.sync.ensures.time (λ f now. torn f (c.sync.ensures.crash f now))
+    let after = goes_on g.D.Device.moment g.D.Device.left_since c.args.disk.now c.args.disk.now c.write_at.new.self (HasThose bytes) _ at_start c.write_at.ensures.time torn in
+    goes_on g.D.Device.moment g.D.Device.left_since c.args.disk.now c.write_at.new.self c.sync.new.self (HasThose bytes) _ after c.sync.ensures.time (λ f now. torn f (c.sync.ensures.crash f now))
 
 pub returns-clause-at_rest : goal.returns-clause-at_rest
 returns-clause-at_rest g c =

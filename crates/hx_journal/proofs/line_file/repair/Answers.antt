@@ -24,8 +24,8 @@ returns-in_err-sync-clause-any_moment g c =
     let torn = cut_crash bytes c.args.end _ _ q.inside q.front q.durable c.cut.ensures.crash in
     let before = before_cut bytes c.args.end _ q.inside q.front q.durable in
     let at_start = started g.D.Device.moment g.D.Device.left_since c.args.file.now P (λ f left. before f (g.met.D.Device.only_now c.args.file.now f left)) in
-    let behind = goes_on g.D.Device.moment g.D.Device.left_since c.args.file.now c.args.file.now c.cut.new.self P _ at_start c.cut.ensures.time torn in
-    goes_on g.D.Device.moment g.D.Device.left_since c.args.file.now c.cut.new.self c.sync.new.self P _ behind c.sync.ensures.time (λ f now. torn f (c.sync.ensures.crash f now))
+    let after = goes_on g.D.Device.moment g.D.Device.left_since c.args.file.now c.args.file.now c.cut.new.self P _ at_start c.cut.ensures.time torn in
+    goes_on g.D.Device.moment g.D.Device.left_since c.args.file.now c.cut.new.self c.sync.new.self P _ after c.sync.ensures.time (λ f now. torn f (c.sync.ensures.crash f now))
 
 pub returns-clause-any_moment : goal.returns-clause-any_moment
 returns-clause-any_moment g c =
@@ -35,8 +35,8 @@ returns-clause-any_moment g c =
     let torn = cut_crash bytes c.args.end _ _ q.inside q.front q.durable c.cut.ensures.crash in
     let before = before_cut bytes c.args.end _ q.inside q.front q.durable in
     let at_start = started g.D.Device.moment g.D.Device.left_since c.args.file.now P (λ f left. before f (g.met.D.Device.only_now c.args.file.now f left)) in
-    let behind = goes_on g.D.Device.moment g.D.Device.left_since c.args.file.now c.args.file.now c.cut.new.self P _ at_start c.cut.ensures.time torn in
-    goes_on g.D.Device.moment g.D.Device.left_since c.args.file.now c.cut.new.self c.sync.new.self P _ behind c.sync.ensures.time (λ f now. torn f (c.sync.ensures.crash f now))
+    let after = goes_on g.D.Device.moment g.D.Device.left_since c.args.file.now c.args.file.now c.cut.new.self P _ at_start c.cut.ensures.time torn in
+    goes_on g.D.Device.moment g.D.Device.left_since c.args.file.now c.cut.new.self c.sync.new.self P _ after c.sync.ensures.time (λ f now. torn f (c.sync.ensures.crash f now))
 
 pub returns-clause-at_rest : goal.returns-clause-at_rest
 returns-clause-at_rest g c =

@@ -24,8 +24,8 @@ returns-in_err-sync-clause-any_moment g c =
     let here = before_write file c.args.text.now _ q.durable in
     let torn = write_crash file c.args.text.now c.args.end _ _ q.at_rest q.lines q.durable c.write_at.ensures.crash in
     let at_start = started g.D.Device.moment g.D.Device.left_since c.args.device.now P (λ f left. here f (g.met.D.Device.only_now c.args.device.now f left)) in
-    let behind = goes_on g.D.Device.moment g.D.Device.left_since c.args.device.now c.args.device.now c.write_at.new.self P _ at_start c.write_at.ensures.time torn in
-    goes_on g.D.Device.moment g.D.Device.left_since c.args.device.now c.write_at.new.self c.sync.new.self P _ behind c.sync.ensures.time (λ f now. torn f (c.sync.ensures.crash f now))
+    let after = goes_on g.D.Device.moment g.D.Device.left_since c.args.device.now c.args.device.now c.write_at.new.self P _ at_start c.write_at.ensures.time torn in
+    goes_on g.D.Device.moment g.D.Device.left_since c.args.device.now c.write_at.new.self c.sync.new.self P _ after c.sync.ensures.time (λ f now. torn f (c.sync.ensures.crash f now))
 
 pub returns-clause-any_moment : goal.returns-clause-any_moment
 returns-clause-any_moment g c =
@@ -35,8 +35,8 @@ returns-clause-any_moment g c =
     let here = before_write file c.args.text.now _ q.durable in
     let torn = write_crash file c.args.text.now c.args.end _ _ q.at_rest q.lines q.durable c.write_at.ensures.crash in
     let at_start = started g.D.Device.moment g.D.Device.left_since c.args.device.now P (λ f left. here f (g.met.D.Device.only_now c.args.device.now f left)) in
-    let behind = goes_on g.D.Device.moment g.D.Device.left_since c.args.device.now c.args.device.now c.write_at.new.self P _ at_start c.write_at.ensures.time torn in
-    goes_on g.D.Device.moment g.D.Device.left_since c.args.device.now c.write_at.new.self c.sync.new.self P _ behind c.sync.ensures.time (λ f now. torn f (c.sync.ensures.crash f now))
+    let after = goes_on g.D.Device.moment g.D.Device.left_since c.args.device.now c.args.device.now c.write_at.new.self P _ at_start c.write_at.ensures.time torn in
+    goes_on g.D.Device.moment g.D.Device.left_since c.args.device.now c.write_at.new.self c.sync.new.self P _ after c.sync.ensures.time (λ f now. torn f (c.sync.ensures.crash f now))
 
 pub returns-clause-at_rest : goal.returns-clause-at_rest
 returns-clause-at_rest g c =

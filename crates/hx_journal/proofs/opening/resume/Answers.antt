@@ -33,7 +33,7 @@ returns-in-Ok-open-clause-opened g c =
     record {
       is_open = c.in-Ok-open.ensures.open;
       head_is = subst (λ l. IsPrefix (c.args.head.now ∷ []) l) (ap (λ f. sealed (lines_of f)) c.requires.read ∙ sym is) c.in-Ok.ensures.head;
-      kept = ap records_of is;
+      durable = ap records_of is;
       waiting = c.in-Ok-open.ensures.waiting;
       tape_is = c.in-Ok.ensures.tape ∙ ap (λ f. text_of (recovered f)) c.requires.read;
       records_are = tape_lines (g.D.Device.seen c.args.device) c.in-Ok.found.tape.items (c.in-Ok.ensures.tape ∙ ap (λ f. text_of (recovered f)) c.requires.read);

@@ -6,7 +6,7 @@ use Rattle.hx_journal.specs.Lines.{lines_of, text_of}
 use Rattle.hx_journal.specs.Records.{sealed, records_of}
 use Rattle.hx_journal.specs.Surveys.{before_damage}
 use Rattle.hx_journal.proofs.Copying.{few_of}
-use Rattle.hx_journal.proofs.Fronts.{blocks_are, whole_text, marks_and_records, behind_text}
+use Rattle.hx_journal.proofs.Fronts.{blocks_are, whole_text, marks_and_records, after_text}
 use Rattle.hx_journal.proofs.surveying.survey_of.Goals as goal
 
 pub tape_of-requires : goal.tape_of-requires
@@ -36,8 +36,8 @@ returns-clause-blocks c =
     let lines = blocks_are _ file c.extent-end.ensures.front in
     omega (arith, c.saturating_sub.ensures, c.in_ok-tape.ensures.count, ap (λ l. length (records_of l)) lines, marks_and_records (sealed (lines_of file)), c.extent-end.ensures.count)
 
-pub returns-clause-behind : goal.returns-clause-behind
-returns-clause-behind c = behind_text c.args.text.now c.extent-end.result.0 c.torn_bytes-torn.result c.extent-end.ensures.inside c.torn_bytes-torn.ensures.inside c.torn_bytes-torn.ensures.last c.torn_bytes-torn.ensures.rest
+pub returns-clause-after : goal.returns-clause-after
+returns-clause-after c = after_text c.args.text.now c.extent-end.result.0 c.torn_bytes-torn.result c.extent-end.ensures.inside c.torn_bytes-torn.ensures.inside c.torn_bytes-torn.ensures.last c.torn_bytes-torn.ensures.rest
 
 pub returns-clause-head : goal.returns-clause-head
 returns-clause-head c =

@@ -40,7 +40,7 @@ pub const DAYS: [Worked; 5] = [
         words: REPLACES_THAT_TRADE,
         quiet: &[],
     },
-    // Two orders are rejected: before the system hours, and behind the market hours.
+    // Two orders are rejected: before the system hours, and after the market hours.
     Worked {
         setup: CLOSED,
         words: HOURS_OF_A_DAY,
@@ -71,21 +71,21 @@ pub struct Case {
     pub whole: Vec<u8>,
 }
 
-// The lines of a tape but for these, counted from 1.
+// The lines of a tape except for these, counted from 1.
 fn without(alloc: Global, tape: &[u8], numbers: &[u64]) -> Result<Vec<u8>, NoMemory> {
-    let mut kept = Vec::new(alloc);
+    let mut retained = Vec::new(alloc);
     let mut rest = tape;
     for number in 1..u64::MAX {
         let Some((line, others)) = split_line(rest) else {
             break;
         };
         if !numbers.contains(&number) {
-            kept.extend_from_slice(line)?;
-            kept.push(b'\n')?;
+            retained.extend_from_slice(line)?;
+            retained.push(b'\n')?;
         }
         rest = others;
     }
-    Ok(kept)
+    Ok(retained)
 }
 
 impl Case {

@@ -1,4 +1,4 @@
-//! A desk is given an event again where it lacks memory for it: nothing of the first time is left.
+//! A desk is given an event again if it lacks memory for it: nothing of the first time is left.
 //!
 //! Here it has all the memory that it needs. `tests/refusals` refuses each growth of this test in turn.
 ghost use Rattle.std.specs.Prelude.{◌≡◌, length};
@@ -16,12 +16,12 @@ use std::alloc::Global;
 use std::process::Abort;
 use std::test::*;
 
-// The event is recorded, at the second time where there was no memory for it.
+// The event is recorded, at the second time if there was no memory for it.
 fn record_again(desk: &mut Desk, log: &Log<Entry>, event: &Event) -> Result<Done, DeskError>
     requires log { desk.old.log ≡ log.now }
-    requires still { desk.old.told ≡ length desk.old.history }
+    requires still { desk.old.published_end ≡ length desk.old.history }
     ensures log { desk.new.log ≡ desk.old.log }
-    ensures still { desk.new.told ≡ length desk.new.history }
+    ensures still { desk.new.published_end ≡ length desk.new.history }
 {
     match desk.submit(log, 1, event) {
         Err(DeskError::NoMemory) => desk.submit(log, 1, event),
@@ -29,10 +29,10 @@ fn record_again(desk: &mut Desk, log: &Log<Entry>, event: &Event) -> Result<Done
     }
 }
 
-// All events are recorded, each in its place.
+// All events are recorded, each at its index.
 fn submit_all<R: Abort>(rt: &R, desk: &mut Desk, log: &Log<Entry>, events: &[Event])
     requires log { desk.old.log ≡ log.now }
-    requires still { desk.old.told ≡ length desk.old.history }
+    requires still { desk.old.published_end ≡ length desk.old.history }
     ensures { desk.new.log ≡ desk.old.log }
 {
     for event in events {
@@ -41,7 +41,7 @@ fn submit_all<R: Abort>(rt: &R, desk: &mut Desk, log: &Log<Entry>, events: &[Eve
     equal(rt, desk.history_len(), events.len() as u64);
 }
 
-// Puts a message, spelled in digits, behind the lines.
+// Puts a message, spelled in digits, after the lines.
 fn put_line<R: Abort>(
     rt: &R,
     alloc: Global,
@@ -74,14 +74,14 @@ fn replies_of<R: Abort>(rt: &R, alloc: Global, desk: &Desk, number: u16) -> Vec<
     let beginning = format!(in alloc; "M {number}").expect(rt, "a beginning");
     let replies = desk.replies_from(member, 0).expect(rt, "replies");
     let mut lines = Vec::new(alloc);
-    for (place, reply) in replies.iter().enumerate() {
-        let number = place as u64 + 1;
+    for (index, reply) in replies.iter().enumerate() {
+        let number = index as u64 + 1;
         put_line(rt, alloc, &mut lines, &beginning, number, reply.as_slice());
     }
     lines
 }
 
-// Each member's replies are the lines to him.
+// Each member's replies are the lines to it.
 fn expect_replies<R: AllocGlobal + Abort>(rt: &R, desk: &Desk, day: &Day) {
     for (number, beginning) in [(1, b"M 1 "), (2, b"M 2 "), (3, b"M 3 ")] {
         let replies = replies_of(rt, rt.alloc(), desk, number);

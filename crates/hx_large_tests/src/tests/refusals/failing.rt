@@ -75,7 +75,7 @@ fn expect_beginning<R: Abort>(rt: &R, case: &Case, ended: &Ended) {
     );
 }
 
-// The tape ended behind these bytes: well behind a line; else the line behind the whole ones is bad.
+// The tape ended after these bytes: well after a line; else the line after the whole ones is bad.
 fn expect_cut<R: Abort>(rt: &R, case: &Case, front: &[u8], ended: &Ended) {
     if front.is_empty() || front.ends_with(b"\n") {
         holds(rt, ended.result.is_ok());
@@ -84,14 +84,14 @@ fn expect_cut<R: Abort>(rt: &R, case: &Case, front: &[u8], ended: &Ended) {
     expect_beginning(rt, case, ended);
     match &ended.result {
         Err(TapeError::Line { line, kind }) => {
-            let behind = count_lines(front, b"").saturating_add(1);
-            equal(rt, (*line, *kind), (behind, Kind::Bad));
+            let after = count_lines(front, b"").saturating_add(1);
+            equal(rt, (*line, *kind), (after, Kind::Bad));
         }
         _ => panic!(rt; "the last line has no line feed"),
     }
 }
 
-// What a read that goes wrong behind these bytes makes of a run.
+// What a read that goes wrong after these bytes makes of a run.
 fn expect_read<R: Abort>(rt: &R, case: &Case, way: Option<ErrorKind>, front: &[u8], ended: &Ended) {
     match way {
         Some(ErrorKind::Interrupted) => expect_whole(rt, case, ended),

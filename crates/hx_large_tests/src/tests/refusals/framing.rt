@@ -1,4 +1,4 @@
-//! A framer is fed a piece again where it lacks memory for it: nothing of the first time is left.
+//! A framer is fed a piece again if it lacks memory for it: nothing of the first time is left.
 //!
 //! Here it has all the memory that it needs. `tests/refusals` refuses each growth of this test in turn.
 
@@ -10,7 +10,7 @@ use std::alloc::Global;
 const STREAM: [u8; 64] =
     *b"\0\x2fLalpha pwalpha                                3\0\x03UO1\0\x01R\0\x01R\0\x02Ox";
 
-// The piece is fed, and again where there was no memory for its packets.
+// The piece is fed, and again if there was no memory for its packets.
 fn feed_again(
     alloc: Global,
     framer: &mut Framer,

@@ -1,4 +1,4 @@
-//! Commands that are run again where they lack memory: what they wrote is a beginning, and the second run is whole.
+//! Commands that are run again if they lack memory: what they wrote is a beginning, and the second run is whole.
 //!
 //! Here they have all the memory that they need. `tests/refusals` refuses each growth of these tests in turn.
 
@@ -25,7 +25,7 @@ fn expect_whole<R: Abort>(rt: &R, case: &Case, ended: &Ended) {
     holds(rt, ended.1.is_ok());
 }
 
-// A run, and another one where the first lacked memory.
+// A run, and another one if the first lacked memory.
 fn run_again<R: AllocGlobal + Abort>(rt: &R, case: &Case) -> Result<(), Fail> {
     let ended = run(rt.alloc(), case)?;
     if !matches!(ended.1, Err(TapeError::NoMemory)) {

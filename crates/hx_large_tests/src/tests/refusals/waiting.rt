@@ -1,9 +1,9 @@
-//! What a line tells goes out before the next one is waited for, also through a buffer.
+//! The output of a line goes out before the next one is waited for, also through a buffer.
 
 use crate::tests::equal;
 use hx_replay::replay;
 use hx_testing::Day;
-use hx_testing::memory::{Behind, Input, Output};
+use hx_testing::memory::{After, Input, Output};
 use hx_testing::setups::standard;
 use hx_testing::worked::ONE_DISPLAYED_ORDER;
 use std::io::BufWriter;
@@ -18,7 +18,7 @@ fn line_by_line(rt: HostRuntime) -> Result<(), Fail> {
     let setup = standard(alloc).expect(&rt, "a setup");
     let count = AtomicU64::new(0);
     let mut input = Input {
-        behind: Behind::Waits {
+        after: After::Waits {
             count: &count,
             wanted: day.output.len() as u64,
             last: b"2000 1 00\n",

@@ -2,15 +2,14 @@
 ghost use Rattle.std.specs.Prelude.{◌≡◌};
 ghost use mathlib.Core.List.{IsPrefix};
 
-use hx_log::{Log, LogError, LogWriter, MemoryLog};
-use hx_terms::LogRecord;
+use hx_fenced_log::{Log, LogError, LogRecord, LogWriter, MemoryLog};
 use std::alloc::Global;
 
 #[derive(Drop)]
 pub(super) struct RivalLog {
     alloc: Global,
     log: MemoryLog,
-    // This many rivals come yet, each before an append.
+    // The number of rivals that are still to come, each before an append.
     rivals: u64,
 }
 
@@ -23,7 +22,7 @@ impl RivalLog {
         }
     }
 
-    // A rival reads all, takes over and keeps a line.
+    // A rival reads all, takes over and syncs a line.
     fn take_over(&mut self, line: &[u8])
         ensures { IsPrefix self.old.log self.new.log }
     {
@@ -31,7 +30,7 @@ impl RivalLog {
         let _read = rival.follow(self.alloc, &mut self.log);
         let _taken = rival.take_over(self.alloc, &mut self.log);
         if let Ok(text) = Vec::from_slice(self.alloc, line) {
-            let _kept = rival.keep(&mut self.log, text);
+            let _durable = rival.keep(&mut self.log, text);
         }
     }
 }

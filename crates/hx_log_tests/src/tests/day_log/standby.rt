@@ -1,26 +1,24 @@
-//! Who stands by, and who follows.
+//! Standbys and followers.
 ghost use Rattle.std.specs.Prelude.{◌≡◌};
 
 use super::rivals::RivalLog;
 use super::{expect_day, keep_day, opened};
 use crate::tests::{equal, holds};
 use hx_day_log::*;
-use hx_log::{Log, LogError, MemoryLog};
-use hx_log_journal::Follower;
+use hx_fenced_log::{Follower, Log, LogError, LogRecord, MemoryLog};
 use hx_recovery::Unwatched;
-use hx_terms::LogRecord;
 use std::alloc::Global;
 use std::io;
 use std::io::Write;
 
-// A watch that has patience for this many looks without news, and counts what it was told.
+// A watch that has patience for `looks` looks without news, and counts its news.
 #[derive(Drop)]
 pub(super) struct Patient {
     looks: u64,
     left: u64,
     news: u64,
     unreachable: u64,
-    // Who was in office at the last look.
+    // The active writer at the last look.
     holder: u64,
 }
 

@@ -2,7 +2,7 @@ use super::texts::{APPEND_1, APPEND_2, APPEND_HEAD, RIVAL_1, STANDS_1, STANDS_2,
 use super::*;
 use crate::tests::equal;
 use hx_etcd::{AnswerError, Appended, Field, append_request, key};
-use hx_terms::read_record;
+use hx_fenced_log::read_record;
 
 // A record, and the text that appends it.
 const APPENDS: &[(&[u8], &str)] = &[
@@ -67,7 +67,7 @@ fn a_taken_key_tells_what_stands_there(rt: HostRuntime) {
     }
 }
 
-// An answer to the append of the first record, and why it tells nothing. `aHgvMDAwMDAwMDAwMDAx` is hx/000000000001.
+// An answer to the append of the first record, and why it reports nothing. `aHgvMDAwMDAwMDAwMDAx` is hx/000000000001.
 const FAULTS: &[(u16, &str, AnswerError)] = &[
     (503, STANDS_1, AnswerError::Status(503)),
     (200, "", AnswerError::NoJson),

@@ -6,13 +6,13 @@ use std::io;
 use std::io::Read;
 use std::process::Abort;
 
-// What etcd sends, answer by answer, and this many bytes a read at most. Behind the last one the line is closed.
+// What etcd sends, answer by answer, with at most `at_once` bytes a read. After the last one the line is closed.
 #[derive(Drop)]
 struct Inlet<'a> {
     answers: &'a [&'a str],
     // Which of them is read.
     next: usize,
-    // So much of it is read.
+    // How many bytes of it are read.
     at: usize,
     at_once: usize,
 }
@@ -90,7 +90,7 @@ fn calls_are_answered_one_by_one(rt: HostRuntime) {
     }
 }
 
-// What comes over a line, and what is wrong with it, as `Debug` tells it.
+// What comes over a line, and what is wrong with it, as `Debug` formats it.
 const FAULTS: &[(&str, &str)] = &[
     ("", "Ended"),
     ("HTTP/1.1 200 OK\r\nContent-Length: 9\r\n\r\n{}", "Ended"),
@@ -113,8 +113,8 @@ fn bad_calls_are_named_and_end_the_line(rt: HostRuntime) {
         match line.call(b"one") {
             Ok(_) => panic!(rt; "the call is bad"),
             Err(error) => {
-                let told = format!(in alloc; "{error:?}").expect(&rt, "memory");
-                equal(&rt, told.as_str(), *fault);
+                let reported = format!(in alloc; "{error:?}").expect(&rt, "memory");
+                equal(&rt, reported.as_str(), *fault);
             }
         }
         holds(&rt, line.is_over());

@@ -2,7 +2,7 @@ use super::answer;
 use super::texts::{BOTH, FIRST, NONE, ONE, RANGE_1, RANGE_3, RANGE_HEAD};
 use crate::tests::equal;
 use hx_etcd::{Answer, AnswerError, Field, range_request, read_range_answer};
-use hx_terms::{RecordError, TextError};
+use hx_fenced_log::{RecordError, TextError};
 use std::alloc::Global;
 use std::process::Abort;
 
@@ -30,11 +30,11 @@ const ANSWERS: &[(&str, u64, &[&[u8]])] = &[
 ];
 
 #[test]
-fn records_are_told(rt: HostRuntime) {
+fn records_are_reported(rt: HostRuntime) {
     let alloc = rt.alloc();
     for (body, from, texts) in ANSWERS {
-        let told = answer(&rt, alloc, 200, body);
-        let records = read_range_answer(alloc, *from, &told).expect(&rt, "records");
+        let reported = answer(&rt, alloc, 200, body);
+        let records = read_range_answer(alloc, *from, &reported).expect(&rt, "records");
         equal(&rt, records.len(), texts.len());
         for (record, text) in records.iter().zip(texts.iter()) {
             equal(
@@ -46,7 +46,7 @@ fn records_are_told(rt: HostRuntime) {
     }
 }
 
-// An answer to the question for records from the first on, and why it tells none. `aHgvMDAwMDAwMDAwMDAx` is
+// An answer to the question for records from the first on, and why it reports none. `aHgvMDAwMDAwMDAwMDAx` is
 // hx/000000000001, and `aHgvMDAwMDAwMDAwMDAy` hx/000000000002.
 const FAULTS: &[(u16, &str, AnswerError)] = &[
     (404, "Not Found\n", AnswerError::Status(404)),

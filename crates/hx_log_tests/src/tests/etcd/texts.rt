@@ -23,7 +23,7 @@ pub const RIVAL_1: &str = "\
     \"value\":\"IzEgMSA4IDEK\"}}],\"failure\":[{\"requestRange\":{\
     \"key\":\"aHgvMDAwMDAwMDAwMDAx\"}}]}";
 
-// So is `#2 1 7 1` with the lines `one` and `two`, where the first one stands.
+// So is `#2 1 7 1` with the lines `one` and `two`, if the first one stands.
 pub const APPEND_2: &str = "\
     {\"compare\":[{\"key\":\"aHgvMDAwMDAwMDAwMDAy\",\"target\":\"VERSION\",\"result\":\"EQUAL\",\
     \"version\":\"0\"},{\"key\":\"aHgvMDAwMDAwMDAwMDAx\",\"target\":\"VERSION\",\
@@ -55,7 +55,7 @@ pub const STANDS_2: &str = "\
     \"revision\":\"3\",\"raft_term\":\"2\"},\"succeeded\":true,\"responses\":[{\
     \"response_put\":{\"header\":{\"revision\":\"3\"}}}]}";
 
-// The records are told: two; the first of two; none.
+// The answers with records: two; the first of two; none.
 pub const BOTH: &str = "\
     {\"header\":{\"cluster_id\":\"6001611773266757492\",\"member_id\":\"13049071153751544597\",\
     \"revision\":\"3\",\"raft_term\":\"2\"},\"kvs\":[{\"key\":\"aHgvMDAwMDAwMDAwMDAx\",\
@@ -74,17 +74,18 @@ pub const NONE: &str = "\
     {\"header\":{\"cluster_id\":\"6001611773266757492\",\"member_id\":\"13049071153751544597\",\
     \"revision\":\"3\",\"raft_term\":\"2\"}}";
 
-// The writer 7 shows the sign `12` under the key hy/7, and it is asked for; so is that of the writer 8, who has shown none.
-pub const SIGN_HEAD: &str = "POST /v3/kv/put HTTP/1.1\r\nHost: etcd\r\n\
+// The writer 7 writes the heartbeat `12` under the key hy/7, and it is asked for; so is that of the writer 8, who has
+// written none.
+pub const HEARTBEAT_HEAD: &str = "POST /v3/kv/put HTTP/1.1\r\nHost: etcd\r\n\
     Content-Type: application/json\r\nContent-Length: ";
 
-pub const SIGN_7: &str = r#"{"key":"aHkvNw==","value":"MTI="}"#;
+pub const HEARTBEAT_7: &str = r#"{"key":"aHkvNw==","value":"MTI="}"#;
 
 pub const ASK_7: &str = r#"{"key":"aHkvNw=="}"#;
 
 pub const ASK_8: &str = r#"{"key":"aHkvOA=="}"#;
 
-// The sign is shown; it is told; none is.
+// The answers: the heartbeat is written; it is read; there is none.
 pub const SHOWN_7: &str = "\
     {\"header\":{\"cluster_id\":\"6001611773266757492\",\"member_id\":\"13049071153751544597\",\
     \"revision\":\"4\",\"raft_term\":\"2\"}}";
@@ -95,7 +96,7 @@ pub const SEEN_7: &str = "\
     \"create_revision\":\"4\",\"mod_revision\":\"4\",\"version\":\"1\",\"value\":\"MTI=\"}],\
     \"count\":\"1\"}";
 
-pub const NO_SIGN: &str = "\
+pub const NO_HEARTBEAT: &str = "\
     {\"header\":{\"cluster_id\":\"6001611773266757492\",\"member_id\":\"13049071153751544597\",\
     \"revision\":\"4\",\"raft_term\":\"2\"}}";
 
@@ -104,7 +105,7 @@ pub const COPY_5: &str = r#"{"key":"aGMvNQ==","value":"Mg=="}"#;
 
 pub const ASK_COPY_5: &str = r#"{"key":"aGMvNQ=="}"#;
 
-// It is shown, and told.
+// The answers: it is shown, and read.
 pub const COPY_SHOWN: &str = "\
     {\"header\":{\"cluster_id\":\"6001611773266757492\",\"member_id\":\"13049071153751544597\",\
     \"revision\":\"5\",\"raft_term\":\"2\"}}";
@@ -169,7 +170,7 @@ pub const ANSWER_HEAD: &str = "HTTP/1.1 200 OK\r\n\
     Grpc-Metadata-Content-Type: application/grpc\r\n\
     Date: Sat, 28 Nov 2026 10:46:16 GMT\r\nContent-Length: ";
 
-// A whole answer that comes in chunks, with a field behind them: nothing was asked for.
+// A whole answer that comes in chunks, with a field after them: nothing was asked for.
 pub const NO_KEY: &str = "HTTP/1.1 400 Bad Request\r\n\
     Access-Control-Allow-Headers: accept, content-type, authorization\r\n\
     Access-Control-Allow-Methods: POST, GET, OPTIONS, PUT, DELETE\r\n\

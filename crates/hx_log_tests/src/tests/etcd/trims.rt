@@ -1,12 +1,12 @@
 use super::answer;
 use super::texts::{
     APPEND_HEAD, ASK_COPY_5, COMPACT_6, COMPACT_HEAD, COMPACTED, COPY_5, COPY_SEEN, FROM_2, GONE_1,
-    NOT_TRIMMED, RANGE_HEAD, SIGN_HEAD, TRIM_2, TRIM_9, TRIMMED_2,
+    HEARTBEAT_HEAD, NOT_TRIMMED, RANGE_HEAD, TRIM_2, TRIM_9, TRIMMED_2,
 };
 use crate::tests::{equal, holds};
 use hx_etcd::{
     AnswerError, Appended, Field, Trimmed, compaction_request, copy_question, copy_request,
-    read_append_answer, read_compaction_answer, read_range_answer, read_sign_answer,
+    read_append_answer, read_compaction_answer, read_heartbeat_answer, read_range_answer,
     read_trim_answer, trim_request,
 };
 use std::alloc::Global;
@@ -29,13 +29,13 @@ fn trims_are_spelled(rt: HostRuntime) {
     let compaction = compaction_request(alloc, 6).expect(&rt, "memory");
     spelled(&rt, alloc, &compaction, COMPACT_HEAD, COMPACT_6);
     let shown = copy_request(alloc, 5, 2).expect(&rt, "memory");
-    spelled(&rt, alloc, &shown, SIGN_HEAD, COPY_5);
+    spelled(&rt, alloc, &shown, HEARTBEAT_HEAD, COPY_5);
     let question = copy_question(alloc, 5).expect(&rt, "memory");
     spelled(&rt, alloc, &question, RANGE_HEAD, ASK_COPY_5);
 }
 
 #[test]
-fn trims_are_told(rt: HostRuntime) {
+fn trims_are_reported(rt: HostRuntime) {
     let alloc = rt.alloc();
     let done = read_trim_answer(alloc, &answer(&rt, alloc, 200, TRIMMED_2));
     equal(&rt, done, Ok(Trimmed::Done { revision: 6 }));
@@ -43,7 +43,7 @@ fn trims_are_told(rt: HostRuntime) {
     equal(&rt, none, Ok(Trimmed::NotThere));
     let compacted = read_compaction_answer(alloc, &answer(&rt, alloc, 200, COMPACTED));
     equal(&rt, compacted, Ok(()));
-    let seen = read_sign_answer(alloc, &answer(&rt, alloc, 200, COPY_SEEN)).expect(
+    let seen = read_heartbeat_answer(alloc, &answer(&rt, alloc, 200, COPY_SEEN)).expect(
         &rt,
         "an answer",
     );
@@ -61,7 +61,7 @@ fn what_is_trimmed_is_not_appended_again(rt: HostRuntime) {
     }
 }
 
-// An answer to a trim, and why it tells nothing.
+// An answer to a trim, and why it reports nothing.
 const FAULTS: &[(u16, &str, AnswerError)] = &[
     (503, TRIMMED_2, AnswerError::Status(503)),
     (200, "", AnswerError::NoJson),
@@ -91,8 +91,8 @@ const FAULTS: &[(u16, &str, AnswerError)] = &[
 fn bad_answers_to_trims_are_named(rt: HostRuntime) {
     let alloc = rt.alloc();
     for (status, body, fault) in FAULTS {
-        let told = read_trim_answer(alloc, &answer(&rt, alloc, *status, body));
-        equal(&rt, told, Err(*fault));
+        let reported = read_trim_answer(alloc, &answer(&rt, alloc, *status, body));
+        equal(&rt, reported, Err(*fault));
     }
     let compacted = read_compaction_answer(alloc, &answer(&rt, alloc, 200, "{}"));
     equal(&rt, compacted, Err(AnswerError::NoField(Field::Header)));

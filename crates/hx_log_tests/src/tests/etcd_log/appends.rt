@@ -1,6 +1,6 @@
 use super::{Asked, MADE, Turn, new_log, record};
 use crate::tests::equal;
-use hx_log::{Log, LogError};
+use hx_fenced_log::{Log, LogError};
 
 // Under the key of the first record stands `#1 1 7 1`; or `#1 1 8 1`; or `#2 1 7 1`.
 const OURS: &str = r#"{"responses":[{"response_range":{"kvs":[
@@ -22,7 +22,7 @@ const APPENDS: &[(&[Turn], Result<(), LogError>, u64)] = &[
     (&[Turn::Loses, Turn::Says(OURS)], Ok(()), 12),
     (&[Turn::Loses, Turn::Says(MADE)], Ok(()), 12),
     (&[Turn::Loses, Turn::Says(THEIRS)], Err(LogError::Taken), 12),
-    // A node is gone; another one has no leader, and a third tells nothing.
+    // A node is gone; another one has no leader, and a third reports nothing.
     (&[Turn::Gone, Turn::Says(MADE)], Ok(()), 12),
     (
         &[

@@ -1,13 +1,13 @@
 use super::{Asked, MADE, Script, Turn, record};
 use crate::tests::equal;
-use hx_etcd_log::{CopiedLog, PageError, Pages, TextPages, trim_place};
-use hx_log::{Log, LogError};
+use hx_etcd_log::{CopiedLog, PageError, Pages, TextPages, trim_index};
+use hx_fenced_log::{Log, LogError};
 use std::alloc::Global;
 use std::io;
 use std::io::Read;
 use std::process::Abort;
 
-// The text of a copy, which comes in pieces of so many bytes; where it is cut now, no more comes for now.
+// The text of a copy, which comes in pieces of `at_once` bytes; while it is cut, no more comes for now.
 #[derive(Drop)]
 struct Cut {
     text: &'static [u8],
@@ -57,14 +57,14 @@ fn count_pages(rt: &impl Abort, alloc: Global, pages: &mut impl Pages, from: u64
 }
 
 #[test]
-fn whole_records_are_told_however_they_come(rt: HostRuntime) {
+fn whole_records_are_reported_however_they_come(rt: HostRuntime) {
     let alloc = rt.alloc();
     for at_once in [1, 2, 7, 100] {
         let mut pages = TextPages::new(alloc, Cut::of(COPY, at_once));
         equal(&rt, count_pages(&rt, alloc, &mut pages, 1), 2);
         equal(&rt, pages.len(), 22);
         equal(&rt, pages.rest(), b"#3 1 7 2\n".as_slice());
-        // Those that are known are passed over.
+        // Records that are known are passed over.
         let mut pages = TextPages::new(alloc, Cut::of(COPY, at_once));
         equal(&rt, count_pages(&rt, alloc, &mut pages, 2), 1);
     }
@@ -88,7 +88,7 @@ fn what_is_no_copy_is_refused(rt: HostRuntime) {
     equal(&rt, failed, Err(PageError::Failed));
 }
 
-// The third record is told; so are the second and the third.
+// The answers with the third record, and with the second and the third.
 const THIRD: &str = r#"{"header":{},"kvs":[
     {"key":"aHgvMDAwMDAwMDAwMDAz","value":"IzMgMSA3IDEK"}]}"#;
 
@@ -143,8 +143,8 @@ fn where_no_copy_is_named_nodes_are_asked(rt: HostRuntime) {
     equal(&rt, gone, Err(LogError::Trimmed { number: 1 }));
 }
 
-// What copies have shown; how many records stay; where the log is trimmed.
-const PLACES: &[(&[Option<u64>], u64, Option<u64>)] = &[
+// What copies have shown; how many records stay; the index at which the log is trimmed.
+const INDICES: &[(&[Option<u64>], u64, Option<u64>)] = &[
     (&[Some(7)], 1, Some(6)),
     (&[Some(7), Some(5), Some(9)], 1, Some(4)),
     (&[Some(7), Some(5), Some(9)], 3, Some(2)),
@@ -157,7 +157,7 @@ const PLACES: &[(&[Option<u64>], u64, Option<u64>)] = &[
 
 #[test]
 fn the_slowest_copy_says_where_a_log_is_trimmed(rt: HostRuntime) {
-    for (counts, stay, place) in PLACES {
-        equal(&rt, trim_place(counts, *stay), *place);
+    for (counts, stay, index) in INDICES {
+        equal(&rt, trim_index(counts, *stay), *index);
     }
 }

@@ -1,8 +1,9 @@
 use super::{Asked, MADE, Turn, new_log};
 use crate::tests::{equal, holds};
-use hx_log::{Log, LogError, LogWriter};
+use hx_fenced_log::{Log, LogError, LogWriter};
 
-// The records `#1 1 7 1` and `#2 1 7 1` are told; or the second one for the first; or none.
+// The answers with the records `#1 1 7 1` and `#2 1 7 1`; with the second one for the first; with
+// none.
 const BOTH: &str = r#"{"header":{},"kvs":[
     {"key":"aHgvMDAwMDAwMDAwMDAx","value":"IzEgMSA3IDEK"},
     {"key":"aHgvMDAwMDAwMDAwMDAy","value":"IzIgMSA3IDEK"}]}"#;
@@ -12,7 +13,7 @@ const SECOND: &str = r#"{"header":{},"kvs":[
 
 const NONE: &str = r#"{"header":{}}"#;
 
-// Under the first key stands the second record; behind the first record stands the fourth.
+// Under the first key stands the second record; after the first record stands the fourth.
 const OTHER: &str = r#"{"header":{},"kvs":[
     {"key":"aHgvMDAwMDAwMDAwMDAx","value":"IzIgMSA3IDEK"}]}"#;
 
@@ -81,7 +82,7 @@ fn what_is_known_does_not_change(rt: HostRuntime) {
     );
     equal(&rt, asked.nodes(), 1);
 
-    // The third is asked for, and the fourth told.
+    // The third is asked for, and the fourth is returned.
     let bad = log.read(alloc, 3).map(|found| found.len());
     equal(&rt, bad, Err(LogError::Trimmed { number: 3 }));
     equal(
@@ -97,7 +98,7 @@ fn what_is_known_does_not_change(rt: HostRuntime) {
 }
 
 #[test]
-fn a_writer_goes_on_behind_another(rt: HostRuntime) {
+fn a_writer_goes_on_after_another(rt: HostRuntime) {
     let alloc = rt.alloc();
     let turns = &[Turn::Loses, Turn::Says(THEIRS), Turn::Says(MADE)];
     let asked = Asked::new();
@@ -116,6 +117,6 @@ fn a_writer_goes_on_behind_another(rt: HostRuntime) {
     );
     equal(&rt, asked.nodes(), 12);
     holds(&rt, writer.take_over(alloc, &mut log).is_ok());
-    holds(&rt, writer.is_in_office());
+    holds(&rt, writer.is_active());
     equal(&rt, log.len(), 2);
 }

@@ -1,7 +1,7 @@
 use super::record;
 use crate::tests::equal;
 use hx_etcd_log::{EtcdLog, TcpNodes};
-use hx_log::Log;
+use hx_fenced_log::Log;
 use std::alloc::Global;
 use std::io;
 use std::io::{Read, Write};

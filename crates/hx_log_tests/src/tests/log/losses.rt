@@ -5,8 +5,7 @@ ghost use mathlib.Core.List.{IsPrefix};
 use super::orders::{new_pair, turns};
 use super::{follow, keep, new_side};
 use crate::tests::{equal, holds};
-use hx_log::{KeepError, Log, LogError, MemoryLog};
-use hx_terms::LogRecord;
+use hx_fenced_log::{KeepError, Log, LogError, LogRecord, MemoryLog};
 use std::alloc::Global;
 use std::process::Abort;
 
@@ -120,7 +119,7 @@ fn two_writers_tell_alike_whatever_is_lost(rt: HostRuntime) {
     }
 }
 
-// The answer that a writer gets, and what it has told once it has read on, and once it has kept another line.
+// The answer that a writer gets, and what it has reported once it has read on, and once it has appended another line.
 const ANSWERS: &[(Loss, LogError, &[u8], &[u8])] = &[
     (Loss::Gone, LogError::Unknown, b"", b"sell\n"),
     (Loss::Stands, LogError::Unknown, b"buy\n", b"buy\nsell\n"),
@@ -128,7 +127,7 @@ const ANSWERS: &[(Loss, LogError, &[u8], &[u8])] = &[
     (Loss::Twice, LogError::Taken, b"buy\n", b"buy\nsell\n"),
 ];
 
-// Keeps a line until it is kept, which it is the second time at the latest.
+// Appends a line until it is durable, which it is the second time at the latest.
 fn keep_at_last(
     rt: &impl Abort,
     alloc: Global,
@@ -148,7 +147,7 @@ fn is_answered(
     loss: Loss,
     error: LogError,
     read: &[u8],
-    told: &[u8],
+    reported: &[u8],
 ) {
     let mut log = lossy(alloc, loss, 1);
     let mut one = new_side(alloc, 1);
@@ -158,18 +157,18 @@ fn is_answered(
         keep(rt, alloc, &mut log, &mut one, b"buy\n"),
         Err(KeepError::Log(error)),
     );
-    equal(rt, one.told.len(), 0);
+    equal(rt, one.reported.len(), 0);
     follow(rt, alloc, &mut log, &mut one);
-    equal(rt, one.told.as_slice(), read);
-    holds(rt, one.writer.is_in_office());
+    equal(rt, one.reported.as_slice(), read);
+    holds(rt, one.writer.is_active());
     keep_at_last(rt, alloc, &mut log, &mut one, b"sell\n");
-    equal(rt, one.told.as_slice(), told);
+    equal(rt, one.reported.as_slice(), reported);
 }
 
 #[test]
 fn a_lost_answer_is_found_by_reading(rt: HostRuntime) {
     let alloc = rt.alloc();
-    for (loss, error, read, told) in ANSWERS {
-        is_answered(&rt, alloc, *loss, *error, read, told);
+    for (loss, error, read, reported) in ANSWERS {
+        is_answered(&rt, alloc, *loss, *error, read, reported);
     }
 }

@@ -1,8 +1,7 @@
 //! Two writers of one log, in each order of six turns.
 use super::{Side, follow, keep, new_side};
 use crate::tests::{equal, holds};
-use hx_log::{Log, MemoryLog};
-use hx_terms::{Head, LogRecord, Reading};
+use hx_fenced_log::{Head, Log, LogRecord, MemoryLog, Reading};
 use std::alloc::Global;
 use std::process::Abort;
 
@@ -22,7 +21,7 @@ pub(super) fn new_pair(alloc: Global) -> Pair {
     }
 }
 
-// Keeps a line and tells it; where it can't, it reads on and takes over.
+// Appends a line and reports it; if that fails, it reads on and takes over.
 fn act<L: Log>(rt: &impl Abort, alloc: Global, log: &mut L, side: &mut Side, line: &[u8]) {
     if keep(rt, alloc, log, side, line).is_err() {
         follow(rt, alloc, log, side);
@@ -30,15 +29,16 @@ fn act<L: Log>(rt: &impl Abort, alloc: Global, log: &mut L, side: &mut Side, lin
     }
 }
 
-// Of what the two have told, one is a beginning of the other, and both are of what a reader takes who comes last.
+// Of what the two have reported, one is a beginning of the other, and both are beginnings of what a reader takes that
+// comes last.
 fn agree<L: Log>(rt: &impl Abort, alloc: Global, log: &mut L, pair: &Pair) {
     let mut last = new_side(alloc, 9);
     follow(rt, alloc, log, &mut last);
-    let (one, other) = (&pair.one.told, &pair.other.told);
+    let (one, other) = (&pair.one.reported, &pair.other.reported);
     holds(rt, one.starts_with(other) || other.starts_with(one));
     holds(
         rt,
-        last.told.starts_with(one) && last.told.starts_with(other),
+        last.reported.starts_with(one) && last.reported.starts_with(other),
     );
 }
 
@@ -61,12 +61,16 @@ fn turn<L: Log>(
     }
 }
 
-// Both read to the end, and have told the same.
+// Both read to the end, and have reported the same.
 fn end<L: Log>(rt: &impl Abort, alloc: Global, log: &mut L, pair: &mut Pair) {
     follow(rt, alloc, log, &mut pair.one);
     follow(rt, alloc, log, &mut pair.other);
     agree(rt, alloc, log, pair);
-    equal(rt, pair.one.told.as_slice(), pair.other.told.as_slice());
+    equal(
+        rt,
+        pair.one.reported.as_slice(),
+        pair.other.reported.as_slice(),
+    );
 }
 
 // Six turns.
@@ -94,8 +98,8 @@ fn two_writers_tell_alike_in_all_orders(rt: HostRuntime) {
     }
 }
 
-// What the one and the other have told behind six turns: who acts first takes over, who acts next reads and takes
-// over, and who acts while in office keeps its line.
+// What the one and the other have reported after six turns: the first to act takes over, a writer that is not active
+// reads and takes over, and the active writer appends its line.
 const ORDERS: &[(u32, &[u8], &[u8])] = &[
     (0b111111, b"b\nc\nd\ne\nf\n", b""),
     (0b000111, b"b\nc\n", b"b\nc\ne\nf\n"),
@@ -104,41 +108,41 @@ const ORDERS: &[(u32, &[u8], &[u8])] = &[
     (0b110011, b"b\nd\nf\n", b"b\nd\n"),
 ];
 
-fn told(rt: &impl Abort, alloc: Global, order: u32, one: &[u8], other: &[u8]) {
+fn reported(rt: &impl Abort, alloc: Global, order: u32, one: &[u8], other: &[u8]) {
     let mut log = MemoryLog::new(alloc);
     let mut pair = new_pair(alloc);
     turns(rt, alloc, &mut log, &mut pair, order);
-    equal(rt, pair.one.told.as_slice(), one);
-    equal(rt, pair.other.told.as_slice(), other);
+    equal(rt, pair.one.reported.as_slice(), one);
+    equal(rt, pair.other.reported.as_slice(), other);
 }
 
 #[test]
 fn who_is_in_office_tells(rt: HostRuntime) {
     let alloc = rt.alloc();
     for (order, one, other) in ORDERS {
-        told(&rt, alloc, *order, one, other);
+        reported(&rt, alloc, *order, one, other);
     }
 }
 
-// A late record: of this term and this writer, at the next number and the next place.
+// A late record: of this term and this writer, at the next number and the next index.
 fn late(rt: &impl Abort, alloc: Global, at: Reading, term: u64, writer: u64) -> LogRecord {
     let head = Head {
         number: at.number,
         term,
         writer,
-        place: at.place,
+        index: at.index,
     };
     let lines = Vec::from_slice(alloc, b"late\n").expect(rt, "memory");
     LogRecord::new(head, lines).expect(rt, "a record")
 }
 
-// Late records come: of each term that is over, by each of the two, and of a rival in the term that stands. Nobody
-// tells them.
+// Late records come: of each term that is over, by each of the two, and of a rival in the term that stands. No reader
+// reports them.
 fn come_late(rt: &impl Abort, alloc: Global, log: &mut MemoryLog) {
     let mut last = new_side(alloc, 9);
     follow(rt, alloc, log, &mut last);
     let standing = last.writer.reading;
-    let told = last.told.len();
+    let reported = last.reported.len();
     for number in 0..standing.term.min(6) * 2 {
         let at = last.writer.reading;
         let term = number / 2 + 1;
@@ -151,18 +155,18 @@ fn come_late(rt: &impl Abort, alloc: Global, log: &mut MemoryLog) {
         follow(rt, alloc, log, &mut last);
         equal(rt, last.writer.reading.number, at.number.wrapping_add(1));
     }
-    equal(rt, last.told.len(), told);
+    equal(rt, last.reported.len(), reported);
     equal(rt, last.writer.reading.term, standing.term);
     equal(rt, last.writer.reading.writer, standing.writer);
 }
 
-// Six turns, and late records behind one of them.
-fn turns_and_late(rt: &impl Abort, alloc: Global, order: u32, behind: usize) {
+// Six turns, and late records after one of them.
+fn turns_and_late(rt: &impl Abort, alloc: Global, order: u32, later: usize) {
     let mut log = MemoryLog::new(alloc);
     let mut pair = new_pair(alloc);
     for number in 0..6usize {
         turn(rt, alloc, &mut log, &mut pair, order, number);
-        if number == behind {
+        if number == later {
             come_late(rt, alloc, &mut log);
         }
         agree(rt, alloc, &mut log, &pair);
@@ -170,7 +174,11 @@ fn turns_and_late(rt: &impl Abort, alloc: Global, order: u32, behind: usize) {
     end(rt, alloc, &mut log, &mut pair);
     holds(
         rt,
-        !pair.one.told.windows(5).any(|w| w == b"late\n".as_slice()),
+        !pair
+            .one
+            .reported
+            .windows(5)
+            .any(|w| w == b"late\n".as_slice()),
     );
 }
 

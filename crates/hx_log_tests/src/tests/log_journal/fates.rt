@@ -2,8 +2,7 @@
 ghost use Rattle.std.specs.Prelude.{◌≡◌};
 ghost use mathlib.Core.List.{IsPrefix};
 
-use hx_log::{Log, LogError, LogWriter, MemoryLog};
-use hx_terms::LogRecord;
+use hx_fenced_log::{Log, LogError, LogRecord, LogWriter, MemoryLog};
 use std::alloc::Global;
 
 // What becomes of a record.

@@ -1,10 +1,10 @@
 use Rattle.std.proofs.Common.{ℕ, append-nil, append_assoc, ◌≡◌, ◌+◌, ◌-◌, ◌<◌, ◌++◌, ◌∷◌, [], List, length, Option, Some, Result, Ok, Err, IfErr, sym, ap, ◌∙◌, subst, arith, Bor}
 use Rattle.std.specs.Option.{option_copied, IfSome}
-use Rattle.hx_levels.specs.declared.order.Key.{Key}
-use Rattle.hx_levels.specs.declared.order.Order.{Order}
-use Rattle.hx_levels.specs.declared.order.Live.{Live}
-use Rattle.hx_levels.specs.Book.{ranked, rest_after, lives, order_of, KeysDiffer}
-use Rattle.hx_levels.proofs.Qualifying.{met, is_qualifying, is_some_of}
+use Rattle.hx_book.specs.declared.order.Key.{Key}
+use Rattle.hx_book.specs.declared.order.Order.{Order}
+use Rattle.hx_book.specs.declared.order.Live.{Live}
+use Rattle.hx_book.specs.Book.{ranked, rest_after, lives, order_of, KeysDiffer}
+use Rattle.hx_book.proofs.Qualifying.{met, is_qualifying, is_some_of}
 use Rattle.std.proofs.lemmas.List.{length-append}
 use Rattle.hx_match.specs.declared.fills.Fill.{Fill}
 use Rattle.hx_match.specs.declared.fills.Incoming.{Incoming}
@@ -35,7 +35,7 @@ walk-smaller g c =
     let orders = g.B.Book.orders c.args.book.now in
     let step : StepAt inc orders c.walk.walk.after c.walk.left c.in-Some.key c.walk.fills.items c.execution-fill.result =
     executed inc c.walk.walk.after c.walk.left c.in-Some.key orders c.unwrap-order.result.now c.walk.fills.items (pass inc.minimum inc.shares (ranked (terms inc) orders)) c.execution-fill.result c.get.ensures.keys
-    (sym c.in-Some.is ∙ c.next_qualifying.ensures.exact) (found c.get.result c.unwrap-order.result (order_of c.in-Some.key.0 orders) c.unwrap-order.ensures c.get.ensures.exact) c.execution-fill.ensures c.walk.invariant.told in
+    (sym c.in-Some.is ∙ c.next_qualifying.ensures.exact) (found c.get.result c.unwrap-order.result (order_of c.in-Some.key.0 orders) c.unwrap-order.ensures c.get.ensures.exact) c.execution-fill.ensures c.walk.invariant.output in
     let met : c.next_qualifying.new.walk.after ≡ Some c.in-Some.key = subst (λ o. IfSome o (λ key. c.next_qualifying.new.walk.after ≡ Some key)) c.in-Some.is c.next_qualifying.ensures.met in
     subst (λ o. length (rest_after o (ranked (terms inc) orders)) < length (rest_after c.walk.walk.after (ranked (terms inc) orders))) (sym met) step.shorter
 
@@ -45,38 +45,38 @@ walk-preserved g c =
     let orders = g.B.Book.orders c.args.book.now in
     let step : StepAt inc orders c.walk.walk.after c.walk.left c.in-Some.key c.walk.fills.items c.execution-fill.result =
     executed inc c.walk.walk.after c.walk.left c.in-Some.key orders c.unwrap-order.result.now c.walk.fills.items (pass inc.minimum inc.shares (ranked (terms inc) orders)) c.execution-fill.result c.get.ensures.keys
-    (sym c.in-Some.is ∙ c.next_qualifying.ensures.exact) (found c.get.result c.unwrap-order.result (order_of c.in-Some.key.0 orders) c.unwrap-order.ensures c.get.ensures.exact) c.execution-fill.ensures c.walk.invariant.told in
+    (sym c.in-Some.is ∙ c.next_qualifying.ensures.exact) (found c.get.result c.unwrap-order.result (order_of c.in-Some.key.0 orders) c.unwrap-order.ensures c.get.ensures.exact) c.execution-fill.ensures c.walk.invariant.output in
     let met : c.next_qualifying.new.walk.after ≡ Some c.in-Some.key = subst (λ o. IfSome o (λ key. c.next_qualifying.new.walk.after ≡ Some key)) c.in-Some.is c.next_qualifying.ensures.met in
     record {
-      told = ap (λ o. c.push.new.self.items ++ pass inc.minimum (c.walk.left - c.execution-fill.result.shares) (rest_after o (ranked (terms inc) orders))) met
-          ∙ ap (λ (v : List Fill). v ++ pass inc.minimum (c.walk.left - c.execution-fill.result.shares) (rest_after (Some c.in-Some.key) (ranked (terms inc) orders))) c.in_ok-push.ensures.items ∙ step.told;
+      output = ap (λ o. c.push.new.self.items ++ pass inc.minimum (c.walk.left - c.execution-fill.result.shares) (rest_after o (ranked (terms inc) orders))) met
+          ∙ ap (λ (v : List Fill). v ++ pass inc.minimum (c.walk.left - c.execution-fill.result.shares) (rest_after (Some c.in-Some.key) (ranked (terms inc) orders))) c.in_ok-push.ensures.items ∙ step.output;
       total = ap (λ (v : List Fill). c.walk.left - c.execution-fill.result.shares + shares_of v) c.in_ok-push.ensures.items ∙ step.total ∙ c.walk.invariant.total;
       walk = c.next_qualifying.ensures.walk;
     }
 
 -- these are the executions, and `left` shares are left
-abbrev Told : Incoming → List Live → List Fill → ℕ → Type 0
-Told incoming orders front left = (front ≡ fills_of incoming orders) × (left ≡ (matched_live incoming orders).left)
+abbrev EventOutput : Incoming → List Live → List Fill → ℕ → Type 0
+EventOutput incoming orders front left = (front ≡ fills_of incoming orders) × (left ≡ (matched_live incoming orders).left)
 
-told_at_end : (incoming : Incoming) (orders : List Live) (left : ℕ) (front : List Fill) → KeysDiffer orders
+output_at_end : (incoming : Incoming) (orders : List Live) (left : ℕ) (front : List Fill) → KeysDiffer orders
     → front ≡ pass incoming.minimum incoming.shares (ranked (terms incoming) orders) → left + shares_of front ≡ incoming.shares
-    → Told incoming orders front left
-told_at_end incoming orders left front d e t =
+    → EventOutput incoming orders front left
+output_at_end incoming orders left front d e t =
     let f : front ≡ steps_of incoming orders = e ∙ sym (steps_of-pass incoming orders d) in
     let s : shares_of front ≡ shares_of (steps_of incoming orders) = ap shares_of f in
     let l : left ≡ incoming.shares - shares_of (steps_of incoming orders) = omega arith in
     (f ∙ steps_of-fills incoming orders d, l ∙ steps_of-left incoming orders d)
 
 -- no order is left that qualifies
-none : (g : _) (c : goal.In_default g) → Told c.args.incoming.now (g.B.Book.orders c.args.book.now) c.walk.fills.items c.walk.left
+none : (g : _) (c : goal.In_default g) → EventOutput c.args.incoming.now (g.B.Book.orders c.args.book.now) c.walk.fills.items c.walk.left
 none g c =
     let inc = c.args.incoming.now in
     let orders = g.B.Book.orders c.args.book.now in
     let line = ranked (terms inc) orders in
-    told_at_end inc orders c.walk.left c.walk.fills.items c.next_qualifying.ensures.keys
+    output_at_end inc orders c.walk.left c.walk.fills.items c.next_qualifying.ensures.keys
     (sym (append-nil c.walk.fills.items)
     ∙ ap (λ (l : List Fill). c.walk.fills.items ++ l) (sym (pass-over inc.minimum c.walk.left (rest_after c.walk.walk.after line) (sym c.in_default.is ∙ c.next_qualifying.ensures.exact)))
-    ∙ c.walk.invariant.told)
+    ∙ c.walk.invariant.output)
     c.walk.invariant.total
 
 pub returns-clause-fills : goal.returns-clause-fills
@@ -89,7 +89,7 @@ pub returns-clause-executions : goal.returns-clause-executions
 returns-clause-executions g c =
     let orders = g.B.Book.orders c.args.book.now in
     let inc = c.args.incoming.now in
-    let t : Told inc orders c.walk.fills.items c.walk.left = none g c in
+    let t : EventOutput inc orders c.walk.fills.items c.walk.left = none g c in
     let known : Carried inc orders = carried inc orders c.next_qualifying.ensures.keys in
     record {
       good = subst (λ l. AreGood l orders) (sym t.0) known.good;
@@ -105,7 +105,7 @@ if_err : {T E : Type 0} (P : Type 0) (r : Result T E) → P → IfErr r (λ _. P
 if_err P (Ok x) h = tt
 if_err P (Err e) h = h
 
--- the execution that found no room
+-- the execution for which there was no memory
 abbrev unkept : (g : _) (c : goal.After-from_residual g) → Fill
 unkept g c = c.execution-fill.result
 
@@ -116,21 +116,21 @@ later g c =
     (rest_after (Some c.in-Some.key) (ranked (terms c.args.incoming.now) (g.B.Book.orders c.args.book.now)))
 
 -- those in the list, it, and those after it are all
-all_told : (g : _) (c : goal.After-from_residual g) → c.walk.fills.items ++ unkept g c ∷ later g c ≡ fills_of c.args.incoming.now (g.B.Book.orders c.args.book.now)
-all_told g c =
+all_output : (g : _) (c : goal.After-from_residual g) → c.walk.fills.items ++ unkept g c ∷ later g c ≡ fills_of c.args.incoming.now (g.B.Book.orders c.args.book.now)
+all_output g c =
     let inc = c.args.incoming.now in
     let orders = g.B.Book.orders c.args.book.now in
     let step : StepAt inc orders c.walk.walk.after c.walk.left c.in-Some.key c.walk.fills.items c.execution-fill.result =
     executed inc c.walk.walk.after c.walk.left c.in-Some.key orders c.unwrap-order.result.now c.walk.fills.items (pass inc.minimum inc.shares (ranked (terms inc) orders)) c.execution-fill.result c.get.ensures.keys
-    (sym c.in-Some.is ∙ c.next_qualifying.ensures.exact) (found c.get.result c.unwrap-order.result (order_of c.in-Some.key.0 orders) c.unwrap-order.ensures c.get.ensures.exact) c.execution-fill.ensures c.walk.invariant.told in
-    sym (append_assoc c.walk.fills.items (unkept g c ∷ []) (later g c)) ∙ step.told ∙ sym (steps_of-pass inc orders c.get.ensures.keys) ∙ steps_of-fills inc orders c.get.ensures.keys
+    (sym c.in-Some.is ∙ c.next_qualifying.ensures.exact) (found c.get.result c.unwrap-order.result (order_of c.in-Some.key.0 orders) c.unwrap-order.ensures c.get.ensures.exact) c.execution-fill.ensures c.walk.invariant.output in
+    sym (append_assoc c.walk.fills.items (unkept g c ∷ []) (later g c)) ∙ step.output ∙ sym (steps_of-pass inc orders c.get.ensures.keys) ∙ steps_of-fills inc orders c.get.ensures.keys
 
--- where the list of fills cannot grow there is a fill
+-- if the list of fills cannot grow there is a fill
 pub returns-in_err-push-clause-memory : goal.returns-in_err-push-clause-memory
 returns-in_err-push-clause-memory g c =
     let all = fills_of c.args.incoming.now (g.B.Book.orders c.args.book.now) in
     if_err (0 < length all) c.from_residual.result
-    (some_among c.walk.fills.items (later g c) all (unkept g c) (all_told g c))
+    (some_among c.walk.fills.items (later g c) all (unkept g c) (all_output g c))
 
 -- and those in the list are the first ones
 pub returns-in_err-push-clause-front : goal.returns-in_err-push-clause-front
@@ -138,4 +138,4 @@ returns-in_err-push-clause-front g c =
     let all = fills_of c.args.incoming.now (g.B.Book.orders c.args.book.now) in
     let others = unkept g c ∷ later g c in
     if_err ((rest : List Fill) × (c.push.new.self.items ++ rest ≡ all)) c.from_residual.result
-    (others, ap (λ (v : List Fill). v ++ others) c.in_err-push.ensures.items ∙ all_told g c)
+    (others, ap (λ (v : List Fill). v ++ others) c.in_err-push.ensures.items ∙ all_output g c)

@@ -1,5 +1,5 @@
 use Rattle.std.proofs.Common.{◌≡◌, ◌+◌, ◌++◌, length}
-use Rattle.hx_levels.specs.Book.{ranked, rest_after, IsWalk}
+use Rattle.hx_book.specs.Book.{ranked, rest_after, IsWalk}
 use Rattle.hx_match.specs.Matching.{terms}
 use Rattle.hx_match.proofs.Steps.{shares_of}
 use Rattle.hx_match.proofs.OnePass.{pass}
@@ -11,7 +11,7 @@ invariant-walk g l =
     let orders = g.B.Book.orders l.book in
     let line = ranked (terms l.incoming) orders in
     record {
-      told : l.fills.items ++ pass l.incoming.minimum l.left (rest_after l.walk.after line) ≡ pass l.incoming.minimum l.incoming.shares line;
+      output : l.fills.items ++ pass l.incoming.minimum l.left (rest_after l.walk.after line) ≡ pass l.incoming.minimum l.incoming.shares line;
       total : l.left + shares_of l.fills.items ≡ l.incoming.shares;
       walk : IsWalk (terms l.incoming) l.incoming.minimum orders l.walk;
     }

@@ -9,6 +9,6 @@ returns-then-at-gt0-clause-dense c h =
     let at = c.locate-at.result in
     let mended = c.join_next.new.blocks.items in
     let front = subst IsDense (sym c.remove_and_prune-entry.ensures.front) (dense-take at c.args.blocks.now.items h) in
-    let kept = c.join_next.ensures.dense.keeps front (c.remove_and_prune-entry.ensures.rest h) in
+    let retained = c.join_next.ensures.dense.keeps front (c.remove_and_prune-entry.ensures.rest h) in
     let is : at ≡ at - 1 + 1 = omega arith in
-    c.join_next-then-at-gt0.ensures.dense.closes (subst (λ n. IsDense (take n mended)) is kept.0) (subst (λ n. IsDense (drop n mended)) is kept.1)
+    c.join_next-then-at-gt0.ensures.dense.closes (subst (λ n. IsDense (take n mended)) is retained.0) (subst (λ n. IsDense (drop n mended)) is retained.1)

@@ -17,7 +17,7 @@ pub returns-clause-blocks : goal.returns-clause-blocks
 returns-clause-blocks c =
     rw c.renew.ensures (are-renewed c.args.blocks.now.items c.requires c.locate-at.result c.index_mut-block.result.now (rw c.deref.ensures.value at c.locate-at.ensures.inside) c.index_mut-block.ensures.value c.args.rank (rw c.deref.ensures.value at c.locate-at.ensures.before) (rw c.deref.ensures.value at c.locate-at.ensures.after) c.args.least c.args.shares)
 
--- the block has as many entries
+-- the block has the same number of entries
 pub returns-clause-dense : goal.returns-clause-dense
 returns-clause-dense c h =
     let b = c.index_mut-block.result.now in

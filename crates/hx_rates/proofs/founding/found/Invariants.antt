@@ -4,7 +4,7 @@ abbrev pub ghosts-run-V-Venue : goal.ghosts-run-V-Venue
 ghosts-run-V-Venue g a = record {
   log = a.founding.logs.feed.0;
   admitted = a.founding.logs.admitted.0;
-  kept = a.founding.logs.kept.0;
+  durable = a.founding.logs.durable.0;
   setup = a.founding.setup;
   before = a.founding.recovered.events.items;
 }

@@ -14,7 +14,7 @@ pub take_out-requires-clause-there : goal.take_out-requires-clause-there
 take_out-requires-clause-there c =
     let t = c.args.table.now in
     let es = t.orders.entries in
-    let found = subst (IsFound es c.args.original) c.requires.place (c.requires.table.found c.args.original) in
+    let found = subst (IsFound es c.args.original) c.requires.slot (c.requires.table.found c.args.original) in
     ap (λ l. is_some (order_at c.args.number l)) c.in_ok-push.ensures.ok ∙ some_more c.args.number (t.next, c.args.order) es found.1
 
 pub returns-clause-table : goal.returns-clause-table
@@ -26,11 +26,11 @@ returns-clause-table c =
     let r = c.args.original in
     let left = remove_entry (is_number k) es in
     let lt : t.next < c.in-Some.next = omega (arith, c.in-Some.ensures) in
-    let place = subst (IsFound es r) c.requires.place (c.requires.table.found r) in
-    let entries = c.take_out.ensures.entries ∙ ap (remove_entry (is_number k)) c.in_ok-push.ensures.ok ∙ removed_more k (t.next, x) es place.1 in
+    let slot = subst (IsFound es r) c.requires.slot (c.requires.table.found r) in
+    let entries = c.take_out.ensures.entries ∙ ap (remove_entry (is_number k)) c.in_ok-push.ensures.ok ∙ removed_more k (t.next, x) es slot.1 in
     let gone = none_front k left ((t.next, x) ∷ []) (ap (order_at k) (sym entries) ∙ c.take_out.ensures.gone) in
-    let same : (q : ℕ) → get nat_eq c.reserve.new.self q ≡ get nat_eq t.places q = λ q. ap (lookup (nat_eq q)) c.reserve.ensures.entries in
-    let out = finds_less (λ q. get nat_eq t.places q) (λ q. get nat_eq c.swap_remove.new.self q) r k es c.requires.table.found c.requires.place gone
+    let same : (q : ℕ) → get nat_eq c.reserve.new.self q ≡ get nat_eq t.indices q = λ q. ap (lookup (nat_eq q)) c.reserve.ensures.entries in
+    let out = finds_less (λ q. get nat_eq t.indices q) (λ q. get nat_eq c.swap_remove.new.self q) r k es c.requires.table.found c.requires.slot gone
     c.swap_remove.ensures.updates.1 (λ q h. c.swap_remove.ensures.updates.2 q (not_same r q (λ e. h (sym e))) ∙ same q) in
     let free : get nat_eq c.swap_remove.new.self x.reference ≡ None = elim c.requires.free [
       | inl e ↦ ap (λ q. get nat_eq c.swap_remove.new.self q) e ∙ c.swap_remove.ensures.updates.1
@@ -50,6 +50,6 @@ returns-clause-ok c =
     let t = c.args.table.now in
     let es = t.orders.entries in
     let k = c.args.number in
-    let place = subst (IsFound es c.args.original) c.requires.place (c.requires.table.found c.args.original) in
-    let entries = c.take_out.ensures.entries ∙ ap (remove_entry (is_number k)) c.in_ok-push.ensures.ok ∙ removed_more k (t.next, c.args.order) es place.1 in
-    ap orders_in entries ∙ orders_last t.next c.args.order (remove_entry (is_number k) es) ∙ ap (λ l. l ++ c.args.order ∷ []) (removed_same c.args.original k es place.0)
+    let slot = subst (IsFound es c.args.original) c.requires.slot (c.requires.table.found c.args.original) in
+    let entries = c.take_out.ensures.entries ∙ ap (remove_entry (is_number k)) c.in_ok-push.ensures.ok ∙ removed_more k (t.next, c.args.order) es slot.1 in
+    ap orders_in entries ∙ orders_last t.next c.args.order (remove_entry (is_number k) es) ∙ ap (λ l. l ++ c.args.order ∷ []) (removed_same c.args.original k es slot.0)

@@ -1,6 +1,6 @@
 use Rattle.std.proofs.Common.{ap, sym, subst, ◌∙◌, is_some, true, false, None, ◌≡◌, ◌++◌, ◌∷◌, [], refl}
 use Rattle.hx_itch.specs.declared.message.Feed.TheVariants as variant
-use Rattle.hx_books.specs.Books.{without, book_after}
+use Rattle.hx_itch.specs.Books.{without, book_after}
 use Rattle.hx_reader.specs.Faults.{fault_of}
 use Rattle.hx_reader.specs.Tables.{orders_in, book_in, IsFound}
 use Rattle.hx_reader.proofs.Tables.{found_same, renewed_is}

@@ -1,6 +1,6 @@
 use Rattle.std.proofs.Common.{ap, sym, subst, ◌∙◌, ◌-◌, ◌≤◌, ◌<◌, true, false, arith, lt-ltb, le-ltb, nat_eq}
 use Rattle.indexmap.specs.IndexMap.{get}
-use Rattle.hx_books.specs.Books.{without}
+use Rattle.hx_itch.specs.Books.{without}
 use Rattle.hx_reader.specs.Tables.{orders_in, is_number, AreBelow, IsFound}
 use Rattle.hx_reader.proofs.Tables.{found_same, taken_is_without, taken_some, all_set}
 use Rattle.hx_reader.proofs.Found.{Finds, finds_set}
@@ -44,7 +44,7 @@ returns-else-was-shares-2-clause-table c =
     let entries = c.take_off-was.ensures.less lt in
     record {
       below = subst (AreBelow t.next) (sym entries) (all_set (λ e. e.0 < t.next) (is_number c.in-Some.number) (x.shares - c.args.shares) x es (λ k i. i) c.take_off-was.ensures.was c.requires.below);
-      found = subst (Finds (λ q. get nat_eq t.places q)) (sym entries) (finds_set (λ q. get nat_eq t.places q) (is_number c.in-Some.number) (x.shares - c.args.shares) x es c.requires.found c.take_off-was.ensures.was);
+      found = subst (Finds (λ q. get nat_eq t.indices q)) (sym entries) (finds_set (λ q. get nat_eq t.indices q) (is_number c.in-Some.number) (x.shares - c.args.shares) x es c.requires.found c.take_off-was.ensures.was);
       levels = c.take_off-was.ensures.levels;
     }
 

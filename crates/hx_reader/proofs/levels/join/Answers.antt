@@ -1,6 +1,6 @@
 use Rattle.std.proofs.Common.{ap, sym, ◌∙◌, is_some}
 use Rattle.hx_reader.specs.Levels.{level_at}
-use Rattle.hx_reader.proofs.RungLaws.{apart, same_again}
+use Rattle.hx_reader.proofs.LevelKeyLaws.{apart, same_again}
 use Rattle.hx_reader.proofs.levels.join.Goals as goal
 
 pub returns-in_default-with_one_more-clause-others : goal.returns-in_default-with_one_more-clause-others

@@ -1,5 +1,5 @@
 use Rattle.std.proofs.Common.{◌-◌, ◌∙◌}
-use Rattle.hx_reader.proofs.RungLaws.{apart}
+use Rattle.hx_reader.proofs.LevelKeyLaws.{apart}
 use Rattle.hx_reader.proofs.levels.leave.Goals as goal
 
 pub returns-then-level-gt1-clause-others : goal.returns-then-level-gt1-clause-others

@@ -1,5 +1,5 @@
 use Rattle.std.proofs.Common.{◌-◌}
-use Rattle.hx_reader.proofs.RungLaws.{apart}
+use Rattle.hx_reader.proofs.LevelKeyLaws.{apart}
 use Rattle.hx_reader.proofs.levels.reduce.Goals as goal
 
 pub returns-clause-others : goal.returns-clause-others

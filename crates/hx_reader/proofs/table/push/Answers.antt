@@ -3,7 +3,7 @@ use Rattle.std.specs.Map.{remove_entry}
 use Rattle.hx_reader.specs.Tables.{is_number, orders_in}
 use Rattle.hx_reader.specs.Levels.{level_at, level_in, grown}
 use Rattle.hx_reader.proofs.Tables.{comes_last, goes_again, orders_last}
-use Rattle.hx_reader.proofs.LevelLaws.{kept_alike, level_joined}
+use Rattle.hx_reader.proofs.LevelLaws.{retained_alike, level_joined}
 use Rattle.hx_reader.proofs.table.push.Goals as goal
 
 pub returns-in-Ok-clause-ok : goal.returns-in-Ok-clause-ok
@@ -14,7 +14,7 @@ returns-in-Ok-clause-levels c =
     let x = c.args.order in
     let es = c.args.orders.now.entries in
     let last = c.in_ok-insert.ensures.entries ∙ comes_last c.args.number x es c.requires.last in
-    kept_alike (λ q. level_at c.join.new.levels q) (λ q. level_at c.args.levels.now q) c.rung_of.result x (orders_in es) (orders_in c.insert.new.self.entries) (grown x.shares) c.rung_of.ensures
+    retained_alike (λ q. level_at c.join.new.levels q) (λ q. level_at c.args.levels.now q) c.level_key_of.result x (orders_in es) (orders_in c.insert.new.self.entries) (grown x.shares) c.level_key_of.ensures
     c.in-Ok.ensures.ok c.in-Ok.ensures.others c.requires.levels
     (λ q. ap (λ l. level_in q (orders_in l)) last ∙ ap (level_in q) (orders_last c.args.number x es) ∙ level_joined q x (orders_in es))
 

@@ -13,7 +13,7 @@ replayed : (setup : Setup) (es : List Entry) → AllByRecursion IsKnown es → A
 replayed setup es known recorded_whole = record {
   same = refl;
   taken = recorded setup es known recorded_whole;
-  told = texts_are setup es;
+  output = texts_are setup es;
 }
 
 pub returns : goal.returns

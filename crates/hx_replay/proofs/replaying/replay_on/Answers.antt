@@ -3,7 +3,7 @@ use Rattle.std.proofs.lemmas.Result.{err_from_is_err_and, IfOk-weaker, IfErr-wea
 use Rattle.hx_replay.specs.declared.run.Counts.{Counts}
 use Rattle.hx_replay.specs.Whole.{ReplaysAll, StopsAt}
 use Rattle.hx_replay.proofs.Runs.{replays_counts}
-use Rattle.hx_replay.proofs.PieceByPiece.{so_far_counts, so_far_played, ends_well, ends_in_line, stops_in_text, stops_long, stops_at_start, stops_in_read, stops_after_turns, starts_so}
+use Rattle.hx_replay.proofs.PieceByPiece.{so_far_counts, so_far_applied, ends_well, ends_in_line, stops_in_text, stops_long, stops_at_start, stops_in_read, stops_after_turns, starts_so}
 use Rattle.hx_replay.proofs.replaying.replay_on.Goals as goal
 
 pub returns-in_err-copy-clause-err : goal.returns-in_err-copy-clause-err
@@ -46,8 +46,8 @@ returns-then-not-branch-clause-err g c =
     IfErr-weaker c.finish.result _ (λ e. StopsAt c.args.setup.now e _ _ _ _)
     (λ y p. rw (p.0, c.counts-then-not-branch.ensures) (ends_in_line c.args.setup.now _ _ _ _ _ c.loop.run c.loop.pending c.loop.invariant end.1 end.2 (omega (arith, same, p.1)))) c.finish.ensures.err
 
-pub play_lines-requires-clause-few : goal.play_lines-requires-clause-few
-play_lines-requires-clause-few g c = so_far_counts _ _ _ _ _ _ _ c.loop.invariant
+pub apply_lines-requires-clause-few : goal.apply_lines-requires-clause-few
+apply_lines-requires-clause-few g c = so_far_counts _ _ _ _ _ _ _ c.loop.invariant
 
 pub returns-in_err-rest-clause-err : goal.returns-in_err-rest-clause-err
 returns-in_err-rest-clause-err g c =
@@ -71,8 +71,8 @@ returns-in_err-keep_rest-clause-err g c =
 pub loop-preserved : goal.loop-preserved
 loop-preserved g c =
     let piece = c.in_ok-read.ensures.piece in
-    let kept = c.in_ok-keep_rest.ensures.ok in
-    so_far_played _ _ _ _ _ _ _ _ _ _ _ _ _ _ c.loop.invariant piece.2 (c.text-in-loop.ensures ∙ piece.1) c.in_ok-rest.ensures.ok.0 c.in_ok-rest.ensures.ok.1 kept.0 (rw c.text-in-loop.ensures kept.1)
+    let retained = c.in_ok-keep_rest.ensures.ok in
+    so_far_applied _ _ _ _ _ _ _ _ _ _ _ _ _ _ c.loop.invariant piece.2 (c.text-in-loop.ensures ∙ piece.1) c.in_ok-rest.ensures.ok.0 c.in_ok-rest.ensures.ok.1 retained.0 (rw c.text-in-loop.ensures retained.1)
 
 pub returns-clause-err : goal.returns-clause-err
 returns-clause-err g c = stops_after_turns c.args.setup.now _ _ _ _ c.loop.run c.loop.pending c.loop.invariant

@@ -1,7 +1,7 @@
 use Rattle.std.proofs.Common.{◌≡◌, drop, sym, subst, arith}
 use Rattle.hx_replay.specs.Run.{Writes}
 use Rattle.std.proofs.lemmas.Grind.{common_steps}
-use Rattle.hx_replay.proofs.Writing.{writes_more, writes_kept}
+use Rattle.hx_replay.proofs.Writing.{writes_more, writes_retained}
 use Rattle.hx_replay.proofs.replaying.write_whole.Goals as goal
 use Rattle.hx_replay.proofs.replaying.write_whole.Goals.{in-Ok, in-Err+else-ne}
 
@@ -14,5 +14,5 @@ loop-preserved g c =
       | in-Ok w ↦
           let is : c.match-write.rest.now ≡ drop w.in-Ok.count c.loop.rest.now = rw w.rest-is (grind (arith, common_steps)) in
           subst (Writes w0 w2 c.args.bytes.now) (sym is) (writes_more w0 w1 w2 c.args.bytes.now c.loop.rest.now w.in-Ok.count c.loop.invariant w.in-Ok.ensures.bytes)
-      | in-Err+else-ne w ↦ rw w.rest-is (writes_kept w0 w1 w2 c.args.bytes.now c.loop.rest.now c.loop.invariant w.in-Err.ensures.bytes)
+      | in-Err+else-ne w ↦ rw w.rest-is (writes_retained w0 w1 w2 c.args.bytes.now c.loop.rest.now c.loop.invariant w.in-Err.ensures.bytes)
     ]

@@ -4,7 +4,7 @@ use Rattle.hx_replay.specs.Marks.{reply_marks}
 use Rattle.hx_replay.specs.Output.{counts_after}
 use Rattle.hx_replay.proofs.unwritten.mark_replies.Given as goal
 
--- the marks so far, and those of the rest, after as many replies more
+-- the marks so far, and those of the rest, after that many replies more
 abbrev pub invariant-loop-member : goal.invariant-loop-member
 invariant-loop-member l =
     record {

@@ -1,7 +1,7 @@
 use Rattle.std.proofs.Common.{◌≡◌, filter_map, length, map, option_map, vec_capacity, vec_len}
 use Rattle.hx_serve.proofs.places.stand_all.Given as goal
 
--- each pass so far has its place in a slot
+-- each pass so far has its session slot
 abbrev pub invariant-loop-pass : goal.invariant-loop-pass
 invariant-loop-pass g l = record {
   next : (goal.iterator-loop-pass g).can_next l.pass-iterator;

@@ -1,6 +1,6 @@
 use Rattle.std.proofs.Common.{◌≡◌, [], ◌∷◌, ◌++◌, length, ap, sym, ◌∙◌, subst, inr, arith, append_assoc}
-use Rattle.hx_session_core.specs.Intakes.{later_action, Means, after as then_at}
-use Rattle.hx_session_core.specs.declared.intake.Action.TheVariants as action
+use Rattle.hx_sessions.specs.Intakes.{later_action, Means, after as then_at}
+use Rattle.hx_sessions.specs.declared.intake.Action.TheVariants as action
 use Rattle.hx_sessions.specs.declared.inbound.Gathered.{Gathered}
 use Rattle.hx_sessions.specs.Asked.{AreMessages}
 use Rattle.hx_sessions.specs.Workers.{Gathers}

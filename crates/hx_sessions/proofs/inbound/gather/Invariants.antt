@@ -1,5 +1,5 @@
 use Rattle.std.proofs.Common.{◌≡◌, ◌++◌, ℕ, List, [], false, length}
-use Rattle.hx_session_core.specs.declared.intake.Intake.TheVariants as intakes
+use Rattle.hx_sessions.specs.declared.intake.Intake.TheVariants as intakes
 use Rattle.hx_sessions.specs.Asked.{AreMessages}
 use Rattle.hx_sessions.proofs.Taking.{Upto}
 use Rattle.hx_sessions.proofs.inbound.gather.Given as goal

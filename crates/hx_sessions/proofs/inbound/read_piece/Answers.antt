@@ -1,12 +1,12 @@
 use Rattle.std.proofs.Common.{◌≡◌, ℕ, List, [], ap, take, arith}
 use Rattle.hx_sessions.specs.declared.ending.Fault.TheVariants as faults
 use Rattle.hx_sessions.specs.declared.ending.Stop.TheVariants as stops
-use Rattle.hx_sessions.proofs.Taking.{more_taken, receiving_kept, received_here, received_end, why_all}
+use Rattle.hx_sessions.proofs.Taking.{more_taken, receiving_retained, received_here, received_end, why_all}
 use Rattle.hx_sessions.proofs.inbound.read_piece.Goals as goal
 
 pub returns-then-not-is_passing-clause-more : goal.returns-then-not-is_passing-clause-more
 returns-then-not-is_passing-clause-more g c = λ start first so_far.
-    received_here c.args.trader.now.member _ _ _ _ _ (stops.Faulted faults.Read) (receiving_kept c.args.trader.now.member _ _ _ _ _ _ so_far c.in-Err.ensures.bytes) (λ ps ds a. why_all (g.R.Read.remaining c.read.new.self) faults.Read ps ds a)
+    received_here c.args.trader.now.member _ _ _ _ _ (stops.Faulted faults.Read) (receiving_retained c.args.trader.now.member _ _ _ _ _ _ so_far c.in-Err.ensures.bytes) (λ ps ds a. why_all (g.R.Read.remaining c.read.new.self) faults.Read ps ds a)
 
 pub returns-in-Ok-eq0-clause-more : goal.returns-in-Ok-eq0-clause-more
 returns-in-Ok-eq0-clause-more g c = λ start first so_far.

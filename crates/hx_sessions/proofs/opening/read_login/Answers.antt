@@ -16,17 +16,17 @@ loop-turn-init g c =
 
 pub returns-in-Ok-Some-default-clause-ok : goal.returns-in-Ok-Some-default-clause-ok
 returns-in-Ok-Some-default-clause-ok g c =
-    let most = space_fits c.loop-turn.kept c.loop-turn.buffer (omega (arith, c.if-kept-ge-LOGIN.false)) in
+    let most = space_fits c.loop-turn.retained c.loop-turn.buffer (omega (arith, c.if-retained-ge-LOGIN.false)) in
     let read = rw c.in-Ok-Some-default.field-0-0-is at c.in-Ok-Some-default.ensures.ok in
-    awaits_login _ _ _ c.loop-turn.framer c.read_more.new.framer c.loop-turn.kept _ c.in-Ok-Some-default._count c.in-Ok-Some-default.login c.loop-turn.invariant.awaits most read
+    awaits_login _ _ _ c.loop-turn.framer c.read_more.new.framer c.loop-turn.retained _ c.in-Ok-Some-default._count c.in-Ok-Some-default.login c.loop-turn.invariant.awaits most read
 
 pub returns-in-Err-clause-err : goal.returns-in-Err-clause-err
-returns-in-Err-clause-err g c = awaits_stop _ _ _ _ c.loop-turn.framer c.loop-turn.kept c.in-Err.stop c.loop-turn.invariant.awaits c.in-Err.ensures.err
+returns-in-Err-clause-err g c = awaits_stop _ _ _ _ c.loop-turn.framer c.loop-turn.retained c.in-Err.stop c.loop-turn.invariant.awaits c.in-Err.ensures.err
 
 pub returns-then-is_some-clause-err : goal.returns-then-is_some-clause-err
 returns-then-is_some-clause-err g c =
     let read = rw c.in-Ok-None-default.field-0-0-is at c.in-Ok-None-default.ensures.ok in
-    let more = awaits_more _ _ _ c.loop-turn.framer c.read_more.new.framer c.loop-turn.kept _ c.in-Ok-None-default.count c.loop-turn.invariant.awaits read in
+    let more = awaits_more _ _ _ c.loop-turn.framer c.read_more.new.framer c.loop-turn.retained _ c.in-Ok-None-default.count c.loop-turn.invariant.awaits read in
     (more.bytes, more.read)
 
 pub returns-then-is_over-clause-known : goal.returns-then-is_over-clause-known
@@ -35,8 +35,8 @@ returns-then-is_over-clause-known g c = prefix_trans c.args.reader.now.known c.l
 pub returns-then-is_over-clause-err : goal.returns-then-is_over-clause-err
 returns-then-is_over-clause-err g c =
     let read = rw c.in-Ok-None-default.field-0-0-is at c.in-Ok-None-default.ensures.ok in
-    let more = awaits_more _ _ _ c.loop-turn.framer c.read_more.new.framer c.loop-turn.kept _ c.in-Ok-None-default.count c.loop-turn.invariant.awaits read in
-    awaits_end (day_over g.V.Venue.setup c.is_over.new.reader.known) _ _ c.read_more.new.framer (c.loop-turn.kept + c.in-Ok-None-default.count) more (sym c.is_over.ensures.over ∙ c.if-is_over.true)
+    let more = awaits_more _ _ _ c.loop-turn.framer c.read_more.new.framer c.loop-turn.retained _ c.in-Ok-None-default.count c.loop-turn.invariant.awaits read in
+    awaits_end (day_over g.V.Venue.setup c.is_over.new.reader.known) _ _ c.read_more.new.framer (c.loop-turn.retained + c.in-Ok-None-default.count) more (sym c.is_over.ensures.over ∙ c.if-is_over.true)
 
 pub loop-turn-preserved : goal.loop-turn-preserved
 loop-turn-preserved g c =
@@ -44,5 +44,5 @@ loop-turn-preserved g c =
     record {
       log = c.is_over.ensures.reader.log ∙ c.loop-turn.invariant.log;
       known = prefix_trans c.args.reader.now.known c.loop-turn.reader.known c.is_over.new.reader.known c.loop-turn.invariant.known c.is_over.ensures.reader.known;
-      awaits = awaits_more _ _ _ c.loop-turn.framer c.read_more.new.framer c.loop-turn.kept _ c.in-Ok-None-default.count c.loop-turn.invariant.awaits read;
+      awaits = awaits_more _ _ _ c.loop-turn.framer c.read_more.new.framer c.loop-turn.retained _ c.in-Ok-None-default.count c.loop-turn.invariant.awaits read;
     }

@@ -7,5 +7,5 @@ abbrev pub invariant-loop-turn : goal.invariant-loop-turn
 invariant-loop-turn g l = record {
   log : l.reader.log ≡ g.V.Venue.log;
   known : IsPrefix l.fn.reader.known l.reader.known;
-  awaits : AwaitsLogin (g.R.Read.remaining l.fn.input) (g.R.Read.remaining l.input) l.framer l.kept;
+  awaits : AwaitsLogin (g.R.Read.remaining l.fn.input) (g.R.Read.remaining l.input) l.framer l.retained;
 }

@@ -10,16 +10,16 @@ loop-i-init g c = record {
   live = c.requires.live;
   next = omega arith;
   left = omega arith;
-  sent = λ first replies behind start s. s;
+  sent = λ first replies later start s. s;
 }
 
 pub returns-then-left-eq0-clause-err : goal.returns-then-left-eq0-clause-err
-returns-then-left-eq0-clause-err g c = λ past first replies behind start s.
+returns-then-left-eq0-clause-err g c = λ past first replies later start s.
     let inv = c.loop-i.invariant in
-    (drop c.loop-i.i (texts c.args.rows.now) ++ behind, inl (inv.sent first replies behind start s, inv.live))
+    (drop c.loop-i.i (texts c.args.rows.now) ++ later, inl (inv.sent first replies later start s, inv.live))
 
 pub returns-in-Err-clause-err : goal.returns-in-Err-clause-err
-returns-in-Err-clause-err g c = λ past first replies behind start s.
+returns-in-Err-clause-err g c = λ past first replies later start s.
     let inv = c.loop-i.invariant in
     let xs = c.args.rows.now in
     let rows = texts xs in
@@ -30,9 +30,9 @@ returns-in-Err-clause-err g c = λ past first replies behind start s.
     let given : texts (take (length xs - i) (drop i xs)) ≡ drop i rows = rows_from xs i in
     let room : i < length rows = omega (arith, c.loop-i-test.true, length-map xs (λ r. r.items)) in
     let sends : Sends d new (drop i rows) false e.0 = subst (λ l. Sends d new l false e.0) given e.1 in
-    let some = sent_row_some first replies rows behind i d new e.0 _ _ _ (inv.sent first replies behind start s) inv.live room sends e.2 in
+    let some = sent_row_some first replies rows later i d new e.0 _ _ _ (inv.sent first replies later start s) inv.live room sends e.2 in
     let still = sends_open d new (drop i rows) e.0 sends in
-    (drop 1 (drop i rows ++ behind), inr (refl, λ o. absurd (cc (still, o)), some))
+    (drop 1 (drop i rows ++ later), inr (refl, λ o. absurd (cc (still, o)), some))
 
 pub loop-i-preserved : goal.loop-i-preserved
 loop-i-preserved g c =
@@ -49,5 +49,5 @@ loop-i-preserved g c =
       live = sends_open d new (drop i rows) e.0 sends;
       next = omega (arith, inv.next, next_of d new rows i e.0 room sends);
       left = omega (arith, inv.left);
-      sent = λ first replies behind start s. sent_row first replies rows behind i d new e.0 _ _ _ (inv.sent first replies behind start s) inv.live room sends e.2;
+      sent = λ first replies later start s. sent_row first replies rows later i d new e.0 _ _ _ (inv.sent first replies later start s) inv.live room sends e.2;
     }

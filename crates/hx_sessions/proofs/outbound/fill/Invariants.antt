@@ -8,5 +8,5 @@ invariant-loop-i g l = record {
   live : l.delivery.over ≡ false;
   next : l.delivery.next ≡ l.fn.delivery.next + l.i;
   left : l.left ≤ l.fn.left;
-  sent : (first : ℕ) (replies behind : List (List ℕ)) (start : Option (List ℕ)) → Sent first replies (texts l.rows ++ behind) l.fn.delivery start (Some l.fn.batch.items) → Sent first replies (drop l.i (texts l.rows) ++ behind) l.delivery start (Some l.batch.items);
+  sent : (first : ℕ) (replies later : List (List ℕ)) (start : Option (List ℕ)) → Sent first replies (texts l.rows ++ later) l.fn.delivery start (Some l.fn.batch.items) → Sent first replies (drop l.i (texts l.rows) ++ later) l.delivery start (Some l.batch.items);
 }

@@ -35,10 +35,10 @@ returns-in-Ok-clause-converses g c =
     let new : Side = record { input = left; output = out; pass = w.0.sender.pass; reader = f.0.reader } in
     let gives = λ (s : Stop). SentUntil (day_over setup f.0.reader.known) w.2.delivery.next (known_replies setup m f.0.reader.known) f.0.delivery middle out s in
     let is : c.both.result ≡ Ok ended.Logout = c.in-Ok-Logout.is ∙ ap Ok c.in-Ok-Logout.field-0-is in
-    let told : IsPrefix w.0.sender.pass.known f.0.reader.known = subst (λ (l : Entries Entry). IsPrefix l f.0.reader.known) (ap (λ (x : ReceiptState Entry). x.known) c.receipt-receipt.ensures.receipt) c.finish-outbox.ensures.told in
+    let published_end : IsPrefix w.0.sender.pass.known f.0.reader.known = subst (λ (l : Entries Entry). IsPrefix l f.0.reader.known) (ap (λ (x : ReceiptState Entry). x.known) c.receipt-receipt.ensures.receipt) c.finish-outbox.ensures.published_end in
     let ok = rw c.in-Ok.is at c.finish-outbox.ensures.ok in
     subst (λ (p : PassState). Converses setup m first [] old (record new { pass = p }) (Ok ended.Logout)) (sym same)
-    (converses_then setup m first old new middle known w.2.delivery w.1 w.3 (Ok ended.Logout) c.work-inbox.ensures.received c.work-inbox.ensures.sent (sym c.both.ensures ∙ is) (λ e. told)
+    (converses_then setup m first old new middle known w.2.delivery w.1 w.3 (Ok ended.Logout) c.work-inbox.ensures.received c.work-inbox.ensures.sent (sym c.both.ensures ∙ is) (λ e. published_end)
     (after_all setup m first known f.0.reader.known w.2.delivery f.0.delivery left old.output middle out c.finish-outbox.ensures.known ok.0 ok.1))
 
 pub returns-in-Err-last-clause-converses : goal.returns-in-Err-last-clause-converses
@@ -57,11 +57,11 @@ returns-in-Err-last-clause-converses g c =
     let new : Side = record { input = left; output = out; pass = w.0.sender.pass; reader = f.0.reader } in
     let gives = λ (s : Stop). SentUntil (day_over setup f.0.reader.known) w.2.delivery.next (known_replies setup m f.0.reader.known) f.0.delivery middle out s in
     let is : c.both.result ≡ Ok ended.Logout = c.in-Ok-Logout.is ∙ ap Ok c.in-Ok-Logout.field-0-is in
-    let told : IsPrefix w.0.sender.pass.known f.0.reader.known = subst (λ (l : Entries Entry). IsPrefix l f.0.reader.known) (ap (λ (x : ReceiptState Entry). x.known) c.receipt-receipt.ensures.receipt) c.finish-outbox.ensures.told in
+    let published_end : IsPrefix w.0.sender.pass.known f.0.reader.known = subst (λ (l : Entries Entry). IsPrefix l f.0.reader.known) (ap (λ (x : ReceiptState Entry). x.known) c.receipt-receipt.ensures.receipt) c.finish-outbox.ensures.published_end in
     let err : gives c.in-Err-last.stop = rw c.in-Err-last.is at c.finish-outbox.ensures.err in
     let r = c.both-in-Err-last.result in
     subst (λ (p : PassState). Converses setup m first [] old (record new { pass = p }) r) (sym same)
-    (converses_then setup m first old new middle known w.2.delivery w.1 w.3 r c.work-inbox.ensures.received c.work-inbox.ensures.sent (sym c.both.ensures ∙ is) (λ e. told)
+    (converses_then setup m first old new middle known w.2.delivery w.1 w.3 r c.work-inbox.ensures.received c.work-inbox.ensures.sent (sym c.both.ensures ∙ is) (λ e. published_end)
     (after_stop setup m first known f.0.reader.known w.2.delivery f.0.delivery left old.output middle out c.in-Err-last.stop r (sym c.both-in-Err-last.ensures) c.finish-outbox.ensures.known err))
 
 pub finish-outbox-requires-clause-next : goal.finish-outbox-requires-clause-next

@@ -29,7 +29,7 @@ deliver-sent-requires-clause-next g c =
     sent_bounds c.args.outbox.delivery.next (known_replies g.V.Venue.setup c.args.trader.now.member c.loop.outbox.reader.known) inv.sent.0 c.loop.outbox.delivery _ _ inv.sent.1
 
 pub returns-in-Err-clause-received : goal.returns-in-Err-clause-received
-returns-in-Err-clause-received g c = received_here c.args.trader.now.member _ _ _ _ _ stops.Told c.loop.invariant.so_far (λ ps ds a. acting_all ps ds a)
+returns-in-Err-clause-received g c = received_here c.args.trader.now.member _ _ _ _ _ stops.PeerStopped c.loop.invariant.so_far (λ ps ds a. acting_all ps ds a)
 
 pub returns-in-Err-clause-sent : goal.returns-in-Err-clause-sent
 returns-in-Err-clause-sent g c =

@@ -93,7 +93,7 @@ loop-bearing-preserved g c =
     ]
 
 all_taken : (t : ℕ) (i : ℕ) (es : List Entry) → length es ≡ t → t ≤ i → take i es ≡ es
-all_taken t i es size behind = take_all i es (omega (arith, size, behind))
+all_taken t i es size after = take_all i es (omega (arith, size, after))
 
 pub returns-clause-count : goal.returns-clause-count
 returns-clause-count g c t =

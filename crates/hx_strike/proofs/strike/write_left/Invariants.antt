@@ -6,7 +6,7 @@ use Rattle.hx_replay.specs.Struck.{without_chosen}
 use Rattle.hx_strike.specs.Taking.{IsTape}
 use Rattle.hx_strike.proofs.strike.write_left.Given as goal
 
--- the lines behind, how many of those before stay with them, and what of them was written
+-- the later lines, how many of those before stay with them, and what of them was written
 abbrev pub invariant-loop-bearing : goal.invariant-loop-bearing
 invariant-loop-bearing g l =
     let choice = choice_of l.auditor.whose l.auditor.market in

@@ -1,8 +1,8 @@
 use denote.Param.Send.{sendable}
 use Rattle.std.proofs.Crossing.{crosses}
 use Rattle.hx_etcd_log.proofs.Sent.{copied_log_send}
-use Rattle.hx_log_journal.proofs.Sent.{journal_send}
-use Rattle.hx_mirror.proofs.Sent.{mirrored_send}
+use Rattle.hx_fenced_log.proofs.JournalSent.{journal_send}
+use Rattle.hx_fenced_log.proofs.MirrorSent.{mirrored_send}
 use Rattle.hx_tape.proofs.hosting.host_mirrored.Goals as goal
 
 -- both journals go to the threads of the day

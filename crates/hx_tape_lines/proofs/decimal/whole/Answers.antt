@@ -3,7 +3,7 @@ use Rattle.std.specs.Fmt.{decimal}
 use Rattle.hx_text.proofs.Numbers.{decimal_size, decimal_front}
 use Rattle.std.proofs.lemmas.List.{get_or_append_left}
 use Rattle.std.proofs.lemmas.Slice.{between_to_end}
-use Rattle.hx_tape_lines.proofs.Fronts.{number_end, space_behind, front_is}
+use Rattle.hx_tape_lines.proofs.Fronts.{number_end, space_after, front_is}
 use Rattle.hx_tape_lines.proofs.decimal.whole.Goals as goal
 use Rattle.hx_tape_lines.proofs.decimal.whole.Goals.{then-text-at-ne32-via-then-text-at-ne32, then-text-at-ne32-via-else-text-at-ne32+then-at-eq0, else-text-eq48-via-then-text-eq48+else-at-gt1, else-text-eq48-via-else-text-eq48}
 
@@ -11,7 +11,7 @@ pub returns-then-text-at-ne32-clause-none : goal.returns-then-text-at-ne32-claus
 returns-then-text-at-ne32-clause-none c = λ n rest lt is.
     let end = number_end c.args.text.now rest c.args.at n lt is c.requires.digits c.requires.ends in
     elim c.then-text-at-ne32.branch [
-      | then-text-at-ne32-via-then-text-at-ne32 w ↦ w.if-text-at-ne32.true (ap (λ (k : ℕ). get_or c.args.text.now k 0) end ∙ space_behind c.args.text.now rest n is)
+      | then-text-at-ne32-via-then-text-at-ne32 w ↦ w.if-text-at-ne32.true (ap (λ (k : ℕ). get_or c.args.text.now k 0) end ∙ space_after c.args.text.now rest n is)
       | then-text-at-ne32-via-else-text-at-ne32+then-at-eq0 w ↦ omega (arith, end, (decimal_size n lt).0, w.if-at-eq0.true)
     ]
 

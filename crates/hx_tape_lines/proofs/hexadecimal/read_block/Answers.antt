@@ -4,11 +4,11 @@ use Rattle.hx_tape_lines.proofs.Blocks.{block_read, block_none}
 use Rattle.hx_tape_lines.proofs.hexadecimal.read_block.Goals as goal
 
 pub returns-in_default-clause-no : goal.returns-in_default-clause-no
-returns-in_default-clause-no c _ = block_none c.args.text.now c.args.place (λ bytes fits is. c.in_default.ensures.none bytes fits (c.array_at.ensures ∙ is))
+returns-in_default-clause-no c _ = block_none c.args.text.now c.args.index (λ bytes fits is. c.in_default.ensures.none bytes fits (c.array_at.ensures ∙ is))
 
 pub returns-clause-yes : goal.returns-clause-yes
-returns-clause-yes c _ behind =
+returns-clause-yes c _ later =
     let after = c.copy_from_slice.ensures.after in
-    let place = c.args.place in
-    block_read c.args.text.now c.args.bytes.now c.copy_from_slice.new.self place (place + 16 - place) (omega arith) c.requires.within
-    (sym c.array_at.ensures ∙ c.in-Some.ensures.some.0 ∙ ap encode_lower (sym after)) (subst IsBytes (sym after) c.in-Some.ensures.some.1) behind
+    let index = c.args.index in
+    block_read c.args.text.now c.args.bytes.now c.copy_from_slice.new.self index (index + 16 - index) (omega arith) c.requires.within
+    (sym c.array_at.ensures ∙ c.in-Some.ensures.some.0 ∙ ap encode_lower (sym after)) (subst IsBytes (sym after) c.in-Some.ensures.some.1) later

@@ -8,9 +8,9 @@ loop-left-init g c = record { within = omega arith; written = none_written c.arg
 
 pub loop-left-preserved : goal.loop-left-preserved
 loop-left-preserved g c =
-    let behind = drop (c.args.start + 2 * length c.args.bytes.now) c.args.text.now in
+    let later = drop (c.args.start + 2 * length c.args.bytes.now) c.args.text.now in
     let whole : c.loop-left.left - g.row.N + g.row.N ≡ c.loop-left.left = omega arith in
     record {
       within = omega (arith, c.loop-left.invariant.within);
-      written = c.write_block.ensures behind (subst (λ (n : ℕ). AreWritten c.args.bytes.now n c.args.start c.loop-left.text behind) (sym whole) c.loop-left.invariant.written);
+      written = c.write_block.ensures later (subst (λ (n : ℕ). AreWritten c.args.bytes.now n c.args.start c.loop-left.text later) (sym whole) c.loop-left.invariant.written);
     }

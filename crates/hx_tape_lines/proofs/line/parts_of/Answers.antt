@@ -2,7 +2,7 @@ use Rattle.std.proofs.Common.{◌≡◌, ◌*◌, length, sym, ap, ◌∙◌, ar
 use Rattle.std.proofs.lemmas.Bool.{eqb-true}
 use Rattle.std.proofs.lemmas.Fmt.{decimal_injective}
 use Rattle.hex.specs.Hex.{encode_lower}
-use Rattle.hx_tape_lines.proofs.Lines.{after_time, behind_time, numbers_read, hex_length}
+use Rattle.hx_tape_lines.proofs.Lines.{after_time, later_time, numbers_read, hex_length}
 use Rattle.hx_tape_lines.proofs.line.parts_of.Goals as goal
 use Rattle.hx_tape_lines.proofs.line.parts_of.Goals.{then-member-ge10000-via-then-member-ge10000, then-member-ge10000-via-else-member-ge10000+then-is_empty, then-member-ge10000-via-else-member-ge10000+else-is_empty+then-digits-gt2046}
 
@@ -12,7 +12,7 @@ returns-in_err-time-clause-none c = rw c.from_residual.ensures (λ e fits is. c.
 pub returns-in_err-member-clause-none : goal.returns-in_err-member-clause-none
 returns-in_err-member-clause-none c = rw c.from_residual-in_err-member.ensures (λ e fits is.
     let time = c.in_ok-time.ensures.some in
-    c.in_err-member.ensures.none e.member (encode_lower e.bytes) (omega (arith, fits.member)) (behind_time e c.args.text.now c.in_ok-time.time c.in_ok-time.others.now fits is time.0 time.1))
+    c.in_err-member.ensures.none e.member (encode_lower e.bytes) (omega (arith, fits.member)) (later_time e c.args.text.now c.in_ok-time.time c.in_ok-time.others.now fits is time.0 time.1))
 
 pub returns-then-member-ge10000-clause-none : goal.returns-then-member-ge10000-clause-none
 returns-then-member-ge10000-clause-none c = λ e fits is.

@@ -20,7 +20,7 @@ fn expect<R: AllocGlobal + Abort>(
     Ok(())
 }
 
-// The replies to the member himself may differ; those to one whose number begins alike may not.
+// The replies to the member itself may differ; those to one whose number begins alike may not.
 #[test]
 fn his_own_replies(rt: HostRuntime) -> Result<(), Fail> {
     expect(

@@ -47,7 +47,7 @@ fn figures_are_read(rt: HostRuntime) {
 }
 
 #[test]
-fn health_is_told(rt: HostRuntime) {
+fn health_is_reported(rt: HostRuntime) {
     let cases: [(Health, &[u8]); 3] = [
         (
             Health::Ready,

@@ -41,9 +41,9 @@ fn connect<R: Net<Listener = TcpListener, Stream = TcpStream> + Abort>(
 // The next bytes that come are these.
 fn expect(rt: &impl Abort, stream: &mut TcpStream, bytes: &[u8]) {
     let mut buffer = [0; 256];
-    let mut place = &mut buffer[..bytes.len().min(256)];
-    stream.read_exact(&mut place).expect(rt, "bytes that come");
-    equal(rt, &*place, bytes);
+    let mut slot = &mut buffer[..bytes.len().min(256)];
+    stream.read_exact(&mut slot).expect(rt, "bytes that come");
+    equal(rt, &*slot, bytes);
 }
 
 // Nothing more comes: the line was closed at its other end.
@@ -62,7 +62,7 @@ fn ask(rt: &impl Abort, stream: &mut TcpStream) {
     expect(rt, stream, OK);
 }
 
-// Where a page listens, on a port that is free, and the venue that it is of.
+// The listener of a metrics page, on a port that is free, and the venue that it is of.
 #[derive(Drop)]
 struct Stage {
     listener: TcpListener,
@@ -90,7 +90,7 @@ fn end(venue: &Model) {
 }
 
 // The page is served; two others are answered beside a silent client, one of them in pieces. Each
-// is closed five seconds behind his last request, the silent one five seconds after he came.
+// is closed five seconds after its last request, the silent one five seconds after it came.
 fn two_and_a_silent_one<R: Net<Listener = TcpListener, Stream = TcpStream> + Clock + Abort>(
     rt: &R,
     port: u16,
@@ -138,7 +138,7 @@ fn a_silent_client_holds_up_nobody(rt: HostRuntime) {
     served.expect(&rt, "a page that is served");
 }
 
-// One who sends a byte now and then is closed five seconds after he came.
+// A client that sends a byte now and then is closed five seconds after it came.
 fn a_slow_one<R: Net<Listener = TcpListener, Stream = TcpStream> + Clock + Abort>(
     rt: &R,
     port: u16,
@@ -180,8 +180,9 @@ fn a_slow_sender_is_closed(rt: HostRuntime) {
     served.expect(&rt, "a page that is served");
 }
 
-// One who sends no request, and one whose head is too large, get an answer that says so, and the
-// end; one who asks to close as well. He who came before them is answered all the time.
+// A client that sends no request, and one whose head is too large, get an answer that says so, and
+// the end; one that asks to close as well. The client that came before them is answered all the
+// time.
 fn bad_neighbours<R: Net<Listener = TcpListener, Stream = TcpStream> + Clock + Abort>(
     rt: &R,
     port: u16,

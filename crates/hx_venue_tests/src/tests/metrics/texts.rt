@@ -63,14 +63,14 @@ hx_journal_full 1
 ";
 
 #[test]
-fn all_figures_are_told(rt: HostRuntime) {
+fn all_figures_are_reported(rt: HostRuntime) {
     let figures = Figures {
         sessions: Some(2),
-        places: Some(5),
-        places_left: Some(3),
+        slots: Some(5),
+        slots_left: Some(3),
         logins_accepted: Some(7),
         logins_refused: Some(1),
-        closed_at_door: Some(4),
+        closed_at_acceptor: Some(4),
         events: Some(1_000_000),
         last_event_age: Some(1_500_000_000),
         feed_messages: Some(900_000),
@@ -82,7 +82,7 @@ fn all_figures_are_told(rt: HostRuntime) {
         journal_syncs: Some(14),
         journal_sync_time: Some(42_000_000_007),
         journal_full: Some(true),
-        hours: Some(Hours::StartOfMarketHours),
+        phase: Some(Hours::StartOfMarketHours),
     };
     let text = write_metrics(rt.alloc(), &figures).expect(&rt, "memory");
     equal(&rt, text.as_slice(), ALL);
@@ -110,7 +110,7 @@ hx_journal_full 0
 
 // The age of the last event, in nanoseconds, and how the text says it.
 #[test]
-fn nanoseconds_are_told_as_seconds(rt: HostRuntime) {
+fn nanoseconds_are_reported_as_seconds(rt: HostRuntime) {
     let cases: [(u64, &[u8]); 5] = [
         (0, b" 0.000000000\n"),
         (1, b" 0.000000001\n"),

@@ -1,4 +1,4 @@
-//! A venue that tells what it was made with.
+//! A venue that shows the figures it was made with.
 ghost use Rattle.std.specs.Prelude.{◌≡◌};
 
 use hx_metrics::{Figures, Health, Watched};

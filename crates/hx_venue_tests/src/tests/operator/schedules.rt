@@ -57,7 +57,7 @@ fn wrong(rt: &HostRuntime, text: &[u8]) -> Option<ScheduleError> {
 }
 
 #[test]
-fn the_first_line_that_is_wrong_is_told(rt: HostRuntime) {
+fn the_first_line_that_is_wrong_is_reported(rt: HostRuntime) {
     let refused: [(&[u8], usize, Wrong); 16] = [
         (b"9:30:00 Q", 1, Wrong::NoTime),
         (b"24:00:00 Q", 1, Wrong::NoTime),

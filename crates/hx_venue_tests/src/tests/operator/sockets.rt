@@ -48,7 +48,7 @@ fn opened<R: AllocGlobal + Net + Files<File = fs::File> + Abort>(
     OperatorSocket::open(rt, path).expect(rt, "a socket")
 }
 
-// Who connects.
+// A connection to the socket.
 fn connected<R: Net + Abort>(rt: &R, path: &str) -> UnixStream {
     UnixStream::connect(rt, path).expect(rt, "a connection")
 }
@@ -64,7 +64,7 @@ fn is_there<R: Files + Abort>(rt: &R, path: &str) -> bool {
     fs::exists(rt, path).expect(rt, "a folder")
 }
 
-// Who may read and write a file.
+// The permissions of a file.
 fn mode_of<R: Files + Abort>(rt: &R, path: &str) -> u32 {
     fs::metadata(rt, path).expect(rt, "a file").mode() & 0o777
 }
@@ -85,7 +85,7 @@ fn remove<R: Files + Abort>(rt: &R, path: &str) {
     fs::remove_file(rt, path).expect(rt, "a file that is removed");
 }
 
-// Runs the socket until it is told to stop.
+// Runs the socket until `stop` is set.
 fn run(rt: &HostRuntime, socket: &mut OperatorSocket, day: &mut Day, stop: &AtomicBool) {
     for _ in 0..1_000_000 {
         if stop.load(Ordering::SeqCst) {

@@ -83,7 +83,7 @@ fn the_longest_names_stand_as_they_are(rt: HostRuntime) {
 }
 
 #[test]
-fn what_is_no_command_is_told(rt: HostRuntime) {
+fn what_is_no_command_is_reported(rt: HostRuntime) {
     let refused = [
         ("", WordError::NoWord),
         ("   ", WordError::NoWord),

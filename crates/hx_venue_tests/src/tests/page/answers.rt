@@ -4,8 +4,8 @@ use super::news::news_of;
 use crate::tests::answered::answered;
 use crate::tests::{equal, holds};
 use http_server::State;
-use hx_board::Board;
-use hx_page::Page;
+use hx_market_view::MarketView;
+use hx_web::Page;
 use std::process::Abort;
 use std::random::RandomSource;
 
@@ -20,11 +20,11 @@ fn answers<R: AllocGlobal + RandomSource + Abort>(
     input: &[u8],
     step: usize,
 ) -> (State, Vec<u8>) {
-    let mut board = Board::new(rt.alloc());
-    board
+    let mut market_view = MarketView::new(rt.alloc());
+    market_view
         .take(news_of(rt, r#"{"stock":"ABCD"}"#, 7))
         .expect(rt, "memory");
-    answered(rt, &mut Page::new(rt.alloc(), &board), input, step)
+    answered(rt, &mut Page::new(rt.alloc(), &market_view), input, step)
 }
 
 // A request gets this answer, however it is cut.

@@ -1,9 +1,10 @@
-//! The page on loopback: browsers that are told, one that is slow, one that vanishes, and the end.
+//! The web page on loopback: browsers that get news, one that is slow, one that vanishes, and the
+//! end.
 
 use super::news::news_of;
 use crate::tests::equal;
-use hx_board::Post;
-use hx_page::serve_page;
+use hx_market_view::Post;
+use hx_web::serve_page;
 use std::alloc::Global;
 use std::hash::RandomState;
 use std::io::{Read, Write};
@@ -24,9 +25,9 @@ const TAKEN: &[u8] = b"HTTP/1.1 101 Switching Protocols\r\nupgrade: websocket\r\
 // The next bytes that come are these.
 fn expect(rt: &impl Abort, stream: &mut TcpStream, bytes: &[u8]) {
     let mut buffer = [0; 256];
-    let mut place = &mut buffer[..bytes.len().min(256)];
-    stream.read_exact(&mut place).expect(rt, "bytes that come");
-    equal(rt, &*place, bytes);
+    let mut slot = &mut buffer[..bytes.len().min(256)];
+    stream.read_exact(&mut slot).expect(rt, "bytes that come");
+    equal(rt, &*slot, bytes);
 }
 
 // A browser that has been taken.
@@ -46,7 +47,7 @@ fn browse<R: Net<Listener = TcpListener, Stream = TcpStream> + Abort>(
     stream
 }
 
-// A browser is told of each state, newest last, and of the end; another one vanishes.
+// A browser gets each state, newest last, and the end; another one vanishes.
 fn two_browsers<
     R: Net<Listener = TcpListener, Stream = TcpStream> + AllocGlobal + Clock + Wait + Abort,
 >(rt: &R, port: u16, post: &Post) {
@@ -72,7 +73,7 @@ fn two_browsers<
 }
 
 #[test]
-fn browsers_are_told(rt: HostRuntime) {
+fn browsers_are_reported(rt: HostRuntime) {
     let alloc = rt.alloc();
     let listener = TcpListener::bind(&rt, (Ipv4Addr::new(127, 0, 0, 1), 0u16)).expect(
         &rt,
@@ -91,7 +92,7 @@ fn browsers_are_told(rt: HostRuntime) {
     served.expect(&rt, "a page that is served");
 }
 
-// One that reads nothing is told no more than fits; the others are told all the same.
+// One that reads nothing gets no more than fits; the others get all the same.
 fn a_slow_one<
     R: Net<Listener = TcpListener, Stream = TcpStream> + AllocGlobal + Clock + Wait + Abort,
 >(rt: &R, port: u16, post: &Post) {

@@ -1,7 +1,7 @@
 //! What is new of a stock, for tests.
 
 use bytes::ByteStr;
-use hx_board::{News, Quote, StockNews, Trade};
+use hx_market_view::{News, Quote, StockNews, Trade};
 use hx_units::Symbol;
 use std::process::Abort;
 

@@ -35,12 +35,12 @@ fn buy(n: u64) -> Feed
     })
 }
 
-// The next message. Where the first step for it finds no memory, the reader is as it was, and the second gives it.
+// The next message. If the first step for it finds no memory, the reader is as it was, and the second gives it.
 fn step<R: Abort>(rt: &R, screen: &mut Screen) -> Result<Option<Feed>, ScreenError> {
     let before = screen.reader.progress();
-    let told = screen.step();
-    if !matches!(told, Err(ScreenError::Apply(ApplyError::NoMemory))) {
-        return told;
+    let reported = screen.step();
+    if !matches!(reported, Err(ScreenError::Apply(ApplyError::NoMemory))) {
+        return reported;
     }
     holds(rt, screen.reader.progress() == before);
     screen.step()

@@ -36,7 +36,7 @@ const DAYS: [&str; 23] = [
     worked::LIMIT_OF_TWO_MESSAGES,
 ];
 
-// The message of a line of the feed; none where the line is another.
+// The message of a line of the feed; none if the line is another.
 fn message_of(rt: &impl Abort, alloc: Global, line: &[u8]) -> Option<Message> {
     let rest = line.strip_prefix(b"F ")?;
     let text = str::from_utf8(rest).expect(rt, "a text");
@@ -67,14 +67,14 @@ fn feed_of(rt: &impl Abort, alloc: Global, day: &Day) -> Vec<Message> {
     feed
 }
 
-// A feed in packets of this many messages, over each network that does one thing wrong.
+// A feed in packets of `size` messages, over each network that does one thing wrong.
 fn expect_feed<R: AllocGlobal + Abort>(rt: &R, feed: Vec<Message>, size: usize) {
     let mut sent = Sent::of(rt, rt.alloc(), feed, size);
     expect_all(rt, &mut sent, Network::Good, 4);
-    for place in 0..sent.count() {
-        expect_all(rt, &mut sent, Network::Loses(place), 4);
-        expect_all(rt, &mut sent, Network::Swaps(place), 4);
-        expect_all(rt, &mut sent, Network::Repeats(place), 4);
+    for index in 0..sent.count() {
+        expect_all(rt, &mut sent, Network::Loses(index), 4);
+        expect_all(rt, &mut sent, Network::Swaps(index), 4);
+        expect_all(rt, &mut sent, Network::Repeats(index), 4);
     }
 }
 

@@ -1,9 +1,9 @@
-//! What a relay keeps when packets are lost, and how it answers.
+//! What a relay retains when packets are lost, and how it answers.
 
 use crate::tests::equal;
 use arrayvec::ArrayVec;
+use hx_feed_clients::Relay;
 use hx_mold::{Request, cut, encode_request};
-use hx_relay::Relay;
 use std::alloc::Global;
 use std::process::Abort;
 
@@ -28,7 +28,7 @@ fn packet<R: Abort>(rt: &R, alloc: Global, number: u8) -> ArrayVec<u8, 1400> {
     packets.pop().expect(rt, "a packet")
 }
 
-// The request for this many messages from a number on.
+// The request for `count` messages from a number on.
 fn request(sequence: u64, count: u16) -> Request {
     Request {
         session: SESSION,
@@ -45,7 +45,7 @@ fn what_is_lost_is_asked_for_and_then_answered(rt: HostRuntime) {
         let packet = packet(&rt, alloc, number);
         relay.receive(packet.as_slice()).expect(&rt, "memory");
     }
-    // Message 2 is missing: nothing behind it is answered yet.
+    // Message 2 is missing: nothing after it is answered yet.
     equal(&rt, relay.request(), Some(request(2, 1)));
     let third = encode_request(request(3, 1));
     equal(&rt, relay.answer(third.as_slice()).is_none(), true);
@@ -80,7 +80,7 @@ fn packets_of_another_session_and_bad_bytes_change_nothing(rt: HostRuntime) {
 }
 
 #[test]
-fn a_large_feed_is_kept(rt: HostRuntime) {
+fn a_large_feed_is_retained(rt: HostRuntime) {
     let alloc = rt.alloc();
     let mut relay = Relay::new(alloc, SESSION, 512).expect(&rt, "memory");
     let mut messages = Vec::new(alloc);

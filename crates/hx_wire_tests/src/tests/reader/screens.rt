@@ -17,8 +17,8 @@ pub type Packet = ArrayVec<u8, 1400>;
 
 const SESSION: [u8; 10] = *b"HX00000001";
 
-// How many messages a screen keeps that came too early.
-const PLACES: usize = 256;
+// How many messages a screen stores that came too early.
+const INDICES: usize = 256;
 
 // How many stocks there are.
 const STOCKS: u16 = 2;
@@ -32,12 +32,12 @@ pub struct Sent {
     server: ListMessages,
 }
 
-// The packets of a feed, each of this many messages but for the last.
+// The packets of a feed, each of `size` messages except the last.
 fn packets_of(rt: &impl Abort, alloc: Global, feed: &[Message], size: usize) -> Vec<Packet> {
     let mut packets = Vec::new(alloc);
-    for place in (0..feed.len()).step_by(size.max(1)) {
-        let end = feed.len().min(place.saturating_add(size));
-        for packet in cut(alloc, SESSION, place as u64 + 1, &feed[place..end]).expect(
+    for index in (0..feed.len()).step_by(size.max(1)) {
+        let end = feed.len().min(index.saturating_add(size));
+        for packet in cut(alloc, SESSION, index as u64 + 1, &feed[index..end]).expect(
             rt, "memory",
         ) {
             packets.push(packet).expect(rt, "memory");
@@ -47,7 +47,7 @@ fn packets_of(rt: &impl Abort, alloc: Global, feed: &[Message], size: usize) -> 
 }
 
 impl Sent {
-    /// A feed in packets of this many messages, but for the last.
+    /// A feed in packets of `size` messages, except the last.
     pub fn of(rt: &impl Abort, alloc: Global, feed: Vec<Message>, size: usize) -> Sent {
         let packets = packets_of(rt, alloc, &feed, size);
         let mut server = ListMessages::new(alloc);
@@ -65,13 +65,14 @@ impl Sent {
     }
 }
 
-// Hands out what has come: the next messages of the feed, behind this many. It answers how many were handed out in all.
+// Hands out what has come: the next messages of the feed, after the first `given`. It returns how many were handed out
+// in all.
 fn hand_out<R: Abort>(rt: &R, screen: &mut Screen, feed: &[Message], given: usize) -> usize {
-    for place in given..usize::MAX {
+    for index in given..usize::MAX {
         let Some(message) = screen.step().expect(rt, "a step") else {
-            return place;
+            return index;
         };
-        let wanted = feed.get(place).expect(rt, "a message of the feed");
+        let wanted = feed.get(index).expect(rt, "a message of the feed");
         holds(rt, decode(wanted.as_slice()) == Some(message));
     }
     usize::MAX
@@ -115,19 +116,19 @@ fn expect_best<R: Abort>(rt: &R, book: &FeedBook, wanted: &FeedBook) {
     }
 }
 
-/// The feed comes over the network to a screen, which asks for what it missed after each this many packets and in the
+/// The feed comes over the network to a screen, which asks for what it missed after every `often` packets and in the
 /// end. All messages were handed out then, in order, each once, and the book is that of the feed.
 pub fn expect_all<R: AllocGlobal + Abort>(rt: &R, sent: &mut Sent, network: Network, often: usize) {
-    let mut screen = Screen::new(rt.alloc(), SESSION, PLACES).expect(rt, "a screen");
+    let mut screen = Screen::new(rt.alloc(), SESSION, INDICES).expect(rt, "a screen");
     let mut given = 0;
-    for place in 0..sent.packets.len() + 1 {
-        for at in network.pass(place) {
+    for index in 0..sent.packets.len() + 1 {
+        for at in network.pass(index) {
             if let Some(packet) = at.and_then(|at| sent.packets.get(at)) {
                 screen.receive(packet.as_slice());
             }
         }
         given = hand_out(rt, &mut screen, &sent.feed, given);
-        if place % often.max(1) == 0 {
+        if index % often.max(1) == 0 {
             given = ask(rt, &mut screen, &sent.feed, &mut sent.server, given);
         }
     }

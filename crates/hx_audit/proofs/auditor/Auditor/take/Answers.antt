@@ -8,7 +8,7 @@ use Rattle.hx_audit.proofs.auditor.Auditor.take.Goals as goal
 pub invariant_of-self : goal.invariant_of-self
 invariant_of-self c =
     let t = c.take.ensures in
-    has_some c.take.result _ _ c.args.event.now t.setup t.passes t.market t.kept c.self.invariant
+    has_some c.take.result _ _ c.args.event.now t.setup t.passes t.market t.retained c.self.invariant
 
 pub returns-clause-taken : goal.returns-clause-taken
 returns-clause-taken c =

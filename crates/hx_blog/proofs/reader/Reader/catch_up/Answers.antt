@@ -5,7 +5,7 @@ use Rattle.hx_blog.proofs.Prefixes.{prefix_trans, prefix_both}
 use Rattle.hx_blog.proofs.reader.Reader.catch_up.Given as given
 use Rattle.hx_blog.proofs.reader.Reader.catch_up.Goals as goal
 
--- what it knows begins with what was published before it looked, and the writer confirms that it is no more
+-- what the reader knows begins with what was published before it looked, and the writer confirms that it is no more
 caught_up : (g : given.Over) (c : goal.After-confirm g) → c.look.new.self.known ≡ c.args.writer.now.published
 caught_up g c =
     let published = c.args.writer.now.published in

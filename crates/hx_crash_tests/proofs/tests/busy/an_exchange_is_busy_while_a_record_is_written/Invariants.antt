@@ -5,7 +5,7 @@ abbrev pub ghosts-look_at_one_who_writes-V-Venue : goal.ghosts-look_at_one_who_w
 ghosts-look_at_one_who_writes-V-Venue g a = record {
   log = a.ground.logs.feed.0;
   admitted = a.ground.logs.admitted.0;
-  kept = a.ground.logs.kept.0;
+  durable = a.ground.logs.durable.0;
   setup = a.ground.setup;
   before = [];
 }

@@ -4,7 +4,7 @@ abbrev pub ghosts-go_on-V-Venue : goal.ghosts-go_on-V-Venue
 ghosts-go_on-V-Venue g a = record {
   log = a.logs.feed.0;
   admitted = a.logs.admitted.0;
-  kept = a.logs.kept.0;
+  durable = a.logs.durable.0;
   setup = a.setup;
   before = a.recovered.events.items;
 }

@@ -7,4 +7,4 @@ pub returns : goal.returns
 returns c =
     let i = c.self.inside in
     rw c.deref.ensures.value
-    (subst (λ d. AreAnswered d.setup (take d.told d.history) (take d.sealed d.history) i.flying.items) c.self.view_is (flying_answered _ _ _ _ i.history.items _ _ i.told i.sealed i.flying.items i.waiting.items c.self.invariant))
+    (subst (λ d. AreAnswered d.setup (take d.published_end d.history) (take d.sealed d.history) i.writing.items) c.self.view_is (flying_answered _ _ _ _ i.history.items _ _ i.published_end i.sealed i.writing.items i.waiting.items c.self.invariant))

@@ -7,6 +7,6 @@ invariant-loop-event l = record {
   log : l.desk.log ≡ l.log;
   setup : l.desk.setup ≡ l.fn.setup;
   history : l.desk.history ≡ restored (take l.event-index l.events);
-  told : l.desk.told ≡ length l.desk.history;
-  kept : l.desk.kept ≡ 0;
+  published_end : l.desk.published_end ≡ length l.desk.history;
+  reserved : l.desk.reserved ≡ 0;
 }

@@ -7,7 +7,7 @@ use Rattle.hx_desk.proofs.desk.Desk.stands.Goals as goal
 pub returns-clause-standing : goal.returns-clause-standing
 returns-clause-standing c =
     let i = c.self.inside in
-    subst IsStanding c.self.view_is (desk_stands i.writer i.market i.history.items i.rows i.told i.sealed i.kept i.flying.items i.waiting.items c.self.invariant)
+    subst IsStanding c.self.view_is (desk_stands i.writer i.market i.history.items i.rows i.published_end i.sealed i.reserved i.writing.items i.waiting.items c.self.invariant)
 
 pub returns-clause-secret : goal.returns-clause-secret
 returns-clause-secret c = tells_no_secret c.args.self.now (returns-clause-standing c)

@@ -3,9 +3,9 @@ use Rattle.hx_blog.specs.Feed.{feed}
 use Rattle.hx_desk.specs.Entries.{ledger}
 use Rattle.hx_desk.proofs.desk.Desk.tell.Given as goal
 
--- the entries in flight, and the messages of those behind them
+-- the sealed entries, and the messages of the entries after them
 abbrev pub ghosts-publish_up_to : goal.ghosts-publish_up_to
 ghosts-publish_up_to a = record {
-  entries = drop a.told.entries (take a.sealed.entries (ledger a.market.now.setup a.history.now));
+  entries = drop a.published_end.entries (take a.sealed.entries (ledger a.market.now.setup a.history.now));
   left = feed (drop a.sealed.entries (ledger a.market.now.setup a.history.now));
 }

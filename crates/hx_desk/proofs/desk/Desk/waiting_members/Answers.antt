@@ -7,4 +7,4 @@ pub returns : goal.returns
 returns c =
     let i = c.self.inside in
     rw c.deref.ensures.value
-    (subst (λ d. AreAnswered d.setup (take d.sealed d.history) d.history i.waiting.items) c.self.view_is (waiting_answered _ _ _ _ i.history.items _ _ i.told i.sealed i.flying.items i.waiting.items c.self.invariant))
+    (subst (λ d. AreAnswered d.setup (take d.sealed d.history) d.history i.waiting.items) c.self.view_is (waiting_answered _ _ _ _ i.history.items _ _ i.published_end i.sealed i.writing.items i.waiting.items c.self.invariant))

@@ -13,7 +13,7 @@ invariant_of-pass g c =
       i.3,
       i.4,
       i.5,
-      still_sent c.pass.inside.number (take c.pass.inside.told c.pass.inside.sent.items) c.pass.inside.knows.known c.inform.new.self.published c.renew.new.receipt.known r.begins (ap (λ t. t.known) r.receipt) i.6,
+      still_sent c.pass.inside.number (take c.pass.inside.published_end c.pass.inside.sent.items) c.pass.inside.knows.known c.inform.new.self.published c.renew.new.receipt.known r.begins (ap (λ t. t.known) r.receipt) i.6,
       i.7,
     )
 
@@ -27,7 +27,7 @@ invariant_of-pass-2 g c =
       i.3,
       i.4,
       i.5,
-      still_sent c.pass.inside.number (take c.pass.inside.told c.pass.inside.sent.items) c.pass.inside.knows.known c.inform.new.self.published c.renew.new.receipt.known r.begins (ap (λ t. t.known) r.receipt) i.6,
+      still_sent c.pass.inside.number (take c.pass.inside.published_end c.pass.inside.sent.items) c.pass.inside.knows.known c.inform.new.self.published c.renew.new.receipt.known r.begins (ap (λ t. t.known) r.receipt) i.6,
       i.7,
     )
 
@@ -42,4 +42,4 @@ returns-clause-ok g c =
     c.in_ok-history.ensures
     (c.inform.ensures.known ∙ ap (λ (d : DeskState). d.published) (sym same))
     (ap (λ t. t.known) r.receipt ∙ ap (λ (d : DeskState). d.published) (sym r.same))
-    (still_sent c.pass.inside.number (take c.pass.inside.told c.pass.inside.sent.items) c.pass.inside.knows.known c.inform.new.self.published c.renew.new.receipt.known r.begins (ap (λ t. t.known) r.receipt) i.6)
+    (still_sent c.pass.inside.number (take c.pass.inside.published_end c.pass.inside.sent.items) c.pass.inside.knows.known c.inform.new.self.published c.renew.new.receipt.known r.begins (ap (λ t. t.known) r.receipt) i.6)

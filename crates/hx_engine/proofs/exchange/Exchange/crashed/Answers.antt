@@ -6,9 +6,9 @@ use Rattle.hx_blog.specs.Ends.{ReceiptState}
 use Rattle.hx_desk.specs.declared.entry.Entry.{Entry}
 use Rattle.hx_desk.specs.Entries.{restored}
 use Rattle.hx_desk.specs.Known.{history_of}
-use Rattle.hx_desk.specs.Desks.{DeskState, told_of}
+use Rattle.hx_desk.specs.Desks.{DeskState, published_of}
 use Rattle.hx_engine.specs.Journals.{lines}
-use Rattle.hx_engine.proofs.PassLaws.{history_known, published_by, told_accepted}
+use Rattle.hx_engine.proofs.PassLaws.{history_known, published_by, published_accepted}
 use Rattle.hx_engine.proofs.HeldLaws.{known_lines, longer, same_both, begins_before}
 use Rattle.hx_engine.proofs.exchange.Exchange.crashed.Goals as goal
 use Rattle.hx_tape_lines.specs.Text.{record_of}
@@ -21,10 +21,10 @@ returns-clause-begins g c =
     let begins : IsPrefix known d.published =
     subst (λ (k : Entries Entry). IsPrefix k d.published) (ap (λ (r : ReceiptState Entry). r.known) c.receipt-receipt.ensures.receipt)
     (subst (λ (x : DeskState). IsPrefix c.receipt-receipt.result.known x.published) (sym c.confirm.ensures.same) c.confirm.ensures.begins) in
-    let told : told_of d ≡ told_of held.desk = ap told_of c.confirm.ensures.same in
-    let less : IsPrefix (lines record_of (history_of known)) (lines record_of (told_of held.desk)) =
-    known_lines record_of known d.published (told_of held.desk) begins (history_known d d.published c.stands.ensures.standing refl ∙ told) in
-    IfSome_then c.journal_of.result (c.journal_of.ensures (told_of held.desk) (IfSome_then held.keeper held.home (λ k h. h.0)))
+    let published_end : published_of d ≡ published_of held.desk = ap published_of c.confirm.ensures.same in
+    let less : IsPrefix (lines record_of (history_of known)) (lines record_of (published_of held.desk)) =
+    known_lines record_of known d.published (published_of held.desk) begins (history_known d d.published c.stands.ensures.standing refl ∙ published_end) in
+    IfSome_then c.journal_of.result (c.journal_of.ensures (published_of held.desk) (IfSome_then held.keeper held.home (λ k h. h.0)))
     (λ j h leaves l.
     longer _ _ _ less (subst (λ k. IsPrefix k leaves) (h.1 ∙ h.0) (h.3 leaves l).begins))
 
@@ -37,13 +37,13 @@ returns-clause-left g c =
     subst (λ (k : Entries Entry). IsPrefix k d.published) (ap (λ (r : ReceiptState Entry). r.known) c.receipt-receipt.ensures.receipt)
     (subst (λ (x : DeskState). IsPrefix c.receipt-receipt.result.known x.published) (sym c.confirm.ensures.same) c.confirm.ensures.begins) in
     let of_setup : d.setup ≡ g.V.Venue.setup = ap (λ (x : DeskState). x.setup) c.confirm.ensures.same ∙ held.of_setup in
-    let began : take (length g.V.Venue.before) (told_of d) ≡ restored g.V.Venue.before = ap (λ (x : DeskState). take (length g.V.Venue.before) (told_of x)) c.confirm.ensures.same ∙ held.began in
-    let same : told_of held.desk ≡ told_of d = ap told_of (sym c.confirm.ensures.same) in
-    IfSome_then c.journal_of.result (c.journal_of.ensures (told_of held.desk) (IfSome_then held.keeper held.home (λ k h. h.0)))
+    let began : take (length g.V.Venue.before) (published_of d) ≡ restored g.V.Venue.before = ap (λ (x : DeskState). take (length g.V.Venue.before) (published_of x)) c.confirm.ensures.same ∙ held.began in
+    let same : published_of held.desk ≡ published_of d = ap published_of (sym c.confirm.ensures.same) in
+    IfSome_then c.journal_of.result (c.journal_of.ensures (published_of held.desk) (IfSome_then held.keeper held.home (λ k h. h.0)))
     (λ j h leaves l. record {
-      history = told_of d;
+      history = published_of d;
       records = same_both _ _ (subst (λ (a : List (List ℕ)). IsPrefix leaves a) h.0 (h.3 leaves l).begun) (subst (λ (k : List (List ℕ)). IsPrefix k leaves) (h.1 ∙ h.0) (h.3 leaves l).begins) ∙ ap (lines record_of) same;
-      accepted = told_accepted g.V.Venue.setup d c.stands.ensures.standing of_setup;
-      begins = begins_before g.V.Venue.before (told_of d) began;
+      accepted = published_accepted g.V.Venue.setup d c.stands.ensures.standing of_setup;
+      begins = begins_before g.V.Venue.before (published_of d) began;
       knew = subst (λ (k : Entries Entry). IsPrefix known k) (published_by g.V.Venue.setup d c.stands.ensures.standing of_setup) begins;
     })

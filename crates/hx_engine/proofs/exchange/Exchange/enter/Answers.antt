@@ -25,7 +25,7 @@ returns-clause-entered g c = λ some.
     subst (λ (k : Entries Entry). IsPrefix k before.published) (ap (λ (r : ReceiptState Entry). r.known) c.again-known.ensures.receipt)
     (subst (λ (d : DeskState). IsPrefix c.again-known.result.known d.published) (sym c.confirm.ensures.same) c.confirm.ensures.begins) in
     let long : length (take count events) ≡ count = length-take-le count events (at_most g.V.Venue.setup events count c.enter_all-made.result.refused made.outright) in
-    subst (λ (r : ReceiptState Entry). Enters g.V.Venue.setup c.args.number (take count events) known r.known c.enter_all-made.result.last) (sym c.tell_at_once.ensures.same.1)
+    subst (λ (r : ReceiptState Entry). Enters g.V.Venue.setup c.args.number (take count events) known r.known c.enter_all-made.result.last) (sym c.publish_at_once.ensures.same.1)
     (enters g.V.Venue.setup before after c.args.number (take count events) known c.note.new.entered.known c.enter_all-made.result.last c.stands.ensures.standing (ap (λ (d : DeskState). d.setup) c.confirm.ensures.same ∙ held.of_setup)
     made.history (made.place some ∙ ap (λ n. length before.history + n) (sym long)) made.last knew (ap (λ (r : ReceiptState Entry). r.known) c.note.ensures.entered))
 

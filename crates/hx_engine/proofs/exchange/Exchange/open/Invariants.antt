@@ -2,6 +2,6 @@ use Rattle.std.proofs.Common.{[]}
 use Rattle.hx_engine.specs.Journals.{unspoken}
 use Rattle.hx_engine.proofs.exchange.Exchange.open.Given as goal
 
--- the entries that were kept before
+-- the entries that were durable before
 abbrev pub ghosts-write_before : goal.ghosts-write_before
 ghosts-write_before g a = record { entries = unspoken a.desk.now.history; left = [] }

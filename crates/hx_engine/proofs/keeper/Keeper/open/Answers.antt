@@ -4,7 +4,7 @@ use Rattle.hx_blog.specs.Ends.{WriterState}
 use Rattle.hx_desk.specs.declared.entry.Entry.{Entry}
 use Rattle.hx_desk.specs.Known.{history_of}
 use Rattle.hx_engine.specs.Journals.{unspoken, lines}
-use Rattle.hx_engine.proofs.HeldLaws.{told_of_unspoken}
+use Rattle.hx_engine.proofs.HeldLaws.{published_of_unspoken}
 use Rattle.hx_engine.proofs.keeper.Keeper.open.Goals as goal
 use Rattle.hx_tape_lines.specs.Text.{record_of}
 
@@ -12,10 +12,10 @@ pub invariant_of-result-clause-silent : goal.invariant_of-result-clause-silent
 invariant_of-result-clause-silent g c =
     let history = c.args.desk.now.history in
     let p = ap (λ (w : WriterState Entry). w.published) c.write_before.ensures in
-    p ∙ ap unspoken (sym (told_of_unspoken history)) ∙ ap (λ (k : Entries Entry). unspoken (history_of k)) (sym p)
+    p ∙ ap unspoken (sym (published_of_unspoken history)) ∙ ap (λ (k : Entries Entry). unspoken (history_of k)) (sym p)
 
 pub invariant_of-result-clause-recorded : goal.invariant_of-result-clause-recorded
 invariant_of-result-clause-recorded g c =
     let history = c.args.desk.now.history in
     let p = ap (λ (w : WriterState Entry). w.published) c.write_before.ensures in
-    c.requires.journal ∙ ap (lines record_of) (sym (told_of_unspoken history) ∙ ap history_of (sym p))
+    c.requires.journal ∙ ap (lines record_of) (sym (published_of_unspoken history) ∙ ap history_of (sym p))

@@ -35,7 +35,7 @@ loop-i-preserved g c =
     let e = c.in-Ok.ensures in
     let before : List Entry = c.args.self.now.desk.history in
     let now : List Entry = c.loop-i.self.desk.history in
-    let seen : c.glance.new.self.desk.history ≡ now = ap (λ d. d.history) c.glance.ensures in
+    let seen : c.prefetch.new.self.desk.history ≡ now = ap (λ d. d.history) c.prefetch.ensures in
     let history = e.history ∙ ap (λ (h : List Entry). h ++ entry_of c.args.pass event ∷ []) seen in
     let done = subst (λ (h : List Entry). DoneAt g.V.Venue.setup h event c.in-Ok.done) seen e.done in
     record {

@@ -7,5 +7,5 @@ use Rattle.hx_engine.proofs.locked.Held.land.Goals as goal
 pub tell-requires-clause-keeps : goal.tell-requires-clause-keeps
 tell-requires-clause-keeps g c =
     let held = c.args.self.now in
-    let landed = c.args.landed in
-    landed_at held.desk.history held.desk.sealed landed.end landed.keeper.writer.published landed.knows.known held.register.published landed.all landed.ends (omega (arith, c.sealed_len.ensures)) c.confirm.ensures.beginning (ap (λ (w : WriterState Entry). w.published) held.registered)
+    let written_batch = c.args.written_batch in
+    landed_at held.desk.history held.desk.sealed written_batch.end written_batch.keeper.writer.published written_batch.knows.known held.register.published written_batch.all written_batch.ends (omega (arith, c.sealed_len.ensures)) c.confirm.ensures.beginning (ap (λ (w : WriterState Entry). w.published) held.registered)

@@ -9,19 +9,19 @@ pub invariant_of-self-clause-began : goal.invariant_of-self-clause-began
 invariant_of-self-clause-began g c =
     let held = c.args.self.now in
     let r = c.release.ensures.released in
-    (λ i. take (length g.V.Venue.before) (take (r.told i) (r.history i)))
-    ∙ still_begins g.V.Venue.before held.desk.history held.desk.told held.desk.sealed (omega (arith, c.stands.ensures.standing.order)) held.began
+    (λ i. take (length g.V.Venue.before) (take (r.published_end i) (r.history i)))
+    ∙ still_begins g.V.Venue.before held.desk.history held.desk.published_end held.desk.sealed (omega (arith, c.stands.ensures.standing.order)) held.began
 
 pub invariant_of-self-clause-covered : goal.invariant_of-self-clause-covered
 invariant_of-self-clause-covered g c =
     let r = c.release.ensures.released in
-    c.renew.ensures.receipt ∙ ap (λ k. record { log = g.V.Venue.kept; known = k }) (c.requires.keeps ∙ (λ i. unspoken (take (sym r.told i) (sym r.history i))))
+    c.renew.ensures.receipt ∙ ap (λ k. record { log = g.V.Venue.durable; known = k }) (c.requires.keeps ∙ (λ i. unspoken (take (sym r.published_end i) (sym r.history i))))
 
 pub invariant_of-self-clause-home : goal.invariant_of-self-clause-home
 invariant_of-self-clause-home g c =
     let r = c.release.ensures.released in (
-      c.renew.ensures.published ∙ c.requires.keeps ∙ (λ i. unspoken (take (sym r.told i) (sym r.history i))),
-      r.sealed ∙ sym r.told,
+      c.renew.ensures.published ∙ c.requires.keeps ∙ (λ i. unspoken (take (sym r.published_end i) (sym r.history i))),
+      r.sealed ∙ sym r.published_end,
     )
 
 pub invariant_of-self-clause-registered : goal.invariant_of-self-clause-registered

@@ -1,6 +1,6 @@
 use Rattle.std.proofs.Common.{◌≡◌, true, length}
 use Rattle.std.specs.Option.{IfSome}
-use Rattle.hx_levels.specs.Book.{has_key, KeysDiffer}
+use Rattle.hx_book.specs.Book.{has_key, KeysDiffer}
 use Rattle.hx_levels.specs.LevelBook.{line}
 use Rattle.hx_levels.proofs.Lines.{from_next, IsBounded}
 use Rattle.hx_levels.proofs.level_book.LevelBook.most_in_line.Given as goal

@@ -1,6 +1,6 @@
 use Rattle.std.proofs.Common.{◌≡◌, true, sym, ap, ◌∙◌, subst}
 use Rattle.std.specs.Option.{IfSome}
-use Rattle.hx_levels.specs.Book.{has_key}
+use Rattle.hx_book.specs.Book.{has_key}
 use Rattle.hx_levels.specs.LevelBook.{number_in}
 use Rattle.hx_levels.specs.Walks.{rank_after}
 use Rattle.hx_levels.proofs.Walks.{past_found}
@@ -8,5 +8,5 @@ use Rattle.hx_levels.proofs.level_book.LevelBook.rank_after.Goals as goal
 
 pub returns-in-Some : goal.returns-in-Some
 returns-in-Some c =
-    past_found (number_in c.args.self.now.nodes) c.in-Some.key.0 c.rank.result c.args.self.now.orders (subst (λ o. IfSome o (λ key. has_key key.0 c.args.self.now.orders ≡ true)) c.in-Some.is c.requires) c.rank.ensures.exact
-    ∙ ap (λ o. rank_after (number_in c.args.self.now.nodes) c.args.terms.now o c.args.self.now.orders) (sym c.in-Some.is)
+    past_found (number_in c.args.self.now.linked_orders) c.in-Some.key.0 c.rank.result c.args.self.now.orders (subst (λ o. IfSome o (λ key. has_key key.0 c.args.self.now.orders ≡ true)) c.in-Some.is c.requires) c.rank.ensures.exact
+    ∙ ap (λ o. rank_after (number_in c.args.self.now.linked_orders) c.args.terms.now o c.args.self.now.orders) (sym c.in-Some.is)

@@ -1,16 +1,16 @@
 use Rattle.std.proofs.Common.{◌≡◌, ℕ, not, Option, Some, List, sym, ap, ◌∙◌, subst}
 use Rattle.std.specs.List.{find}
 use Rattle.std.specs.Option.{IfSome, option_map}
-use Rattle.hx_levels.specs.declared.order.Key.{Key}
-use Rattle.hx_levels.specs.declared.order.Live.{Live}
-use Rattle.hx_levels.specs.declared.order.Terms.{Terms}
-use Rattle.hx_levels.specs.Book.{is_under, unconditional, is_conditional, KeysDiffer, ranked, rest_after}
-use Rattle.hx_levels.specs.LevelBook.{number_in}
+use Rattle.hx_book.specs.declared.order.Key.{Key}
+use Rattle.hx_book.specs.declared.order.Live.{Live}
+use Rattle.hx_book.specs.declared.order.Terms.{Terms}
+use Rattle.hx_book.specs.Book.{is_under, is_conditional, KeysDiffer, ranked, rest_after}
+use Rattle.hx_levels.specs.LevelBook.{number_in, unconditional}
 use Rattle.hx_levels.specs.Walks.{is_from, IsNextLarge}
-use Rattle.hx_levels.proofs.Lists.{find-filter}
-use Rattle.hx_levels.proofs.Orders.{once_under}
-use Rattle.hx_levels.proofs.Keys.{differ-filtered}
-use Rattle.hx_levels.proofs.Qualifying.{Met, met, walk-shorter, has_found}
+use Rattle.hx_book.proofs.Lists.{find-filter}
+use Rattle.hx_book.proofs.Orders.{once_under}
+use Rattle.hx_levels.proofs.Parts.{differ-filtered}
+use Rattle.hx_book.proofs.Qualifying.{Met, met, walk-shorter, has_found}
 use Rattle.hx_levels.proofs.LargeNext.{small_fails, large_here, large_later, large_never}
 use Rattle.hx_levels.proofs.level_book.LevelBook.ready_from.Goals as goal
 
@@ -35,10 +35,10 @@ pub returns-then-is_from : goal.returns-then-is_from
 returns-then-is_from c =
     let orders = c.args.self.now.orders in
     let d = c.next_large.ensures.keys in
-    let test = is_from (number_in c.args.self.now.nodes) c.args.from c.args.least in
+    let test = is_from (number_in c.args.self.now.linked_orders) c.args.from c.args.least in
     let n = c.next_large.ensures.next in
     let m = here c.args.terms.now c.walk.last c.in-Some.key c.args.least orders c.next_large.result d c.in-Some.is n in
-    let fails = small_fails (number_in c.args.self.now.nodes) c.args.from c.args.least n.test (rest_after c.walk.last (ranked c.args.terms.now (unconditional orders))) n.small in
+    let fails = small_fails (number_in c.args.self.now.linked_orders) c.args.from c.args.least n.test (rest_after c.walk.last (ranked c.args.terms.now (unconditional orders))) n.small in
     let e : c.is_from.result ≡ test m.live = subst (λ o. IfSome o (λ live. c.is_from.result ≡ test live)) (in_book c.in-Some.key orders m.live d m.found) c.is_from.ensures in
     ap (λ (k : Key). Some k) (sym m.has)
     ∙ ap (option_map (λ (live : Live). live.key)) (sym (large_here c.args.terms.now c.walk.last c.in-Some.key (unconditional orders) n.test test m fails (sym e ∙ c.if-is_from.true)) ∙ c.walk.invariant.ahead)
@@ -52,10 +52,10 @@ pub walk-preserved : goal.walk-preserved
 walk-preserved c =
     let orders = c.args.self.now.orders in
     let d = c.next_large.ensures.keys in
-    let test = is_from (number_in c.args.self.now.nodes) c.args.from c.args.least in
+    let test = is_from (number_in c.args.self.now.linked_orders) c.args.from c.args.least in
     let n = c.next_large.ensures.next in
     let m = here c.args.terms.now c.walk.last c.in-Some.key c.args.least orders c.next_large.result d c.in-Some.is n in
-    let fails = small_fails (number_in c.args.self.now.nodes) c.args.from c.args.least n.test (rest_after c.walk.last (ranked c.args.terms.now (unconditional orders))) n.small in
+    let fails = small_fails (number_in c.args.self.now.linked_orders) c.args.from c.args.least n.test (rest_after c.walk.last (ranked c.args.terms.now (unconditional orders))) n.small in
     let e : c.is_from.result ≡ test m.live = subst (λ o. IfSome o (λ live. c.is_from.result ≡ test live)) (in_book c.in-Some.key orders m.live d m.found) c.is_from.ensures in
     record {
       ahead = large_later c.args.terms.now c.walk.last c.in-Some.key (unconditional orders) n.test test m fails (sym e ∙ c.if-is_from.false) ∙ c.walk.invariant.ahead;
@@ -64,8 +64,8 @@ walk-preserved c =
 
 pub returns : goal.returns
 returns c =
-    let test = is_from (number_in c.args.self.now.nodes) c.args.from c.args.least in
+    let test = is_from (number_in c.args.self.now.linked_orders) c.args.from c.args.least in
     let n = c.next_large.ensures.next in
     let rest = rest_after c.walk.last (ranked c.args.terms.now (unconditional c.args.self.now.orders)) in
     ap (option_map (λ (live : Live). live.key))
-    (sym (large_never n.test test rest (sym c.in_default.is ∙ n.next) (small_fails (number_in c.args.self.now.nodes) c.args.from c.args.least n.test rest n.small)) ∙ c.walk.invariant.ahead)
+    (sym (large_never n.test test rest (sym c.in_default.is ∙ n.next) (small_fails (number_in c.args.self.now.linked_orders) c.args.from c.args.least n.test rest n.small)) ∙ c.walk.invariant.ahead)

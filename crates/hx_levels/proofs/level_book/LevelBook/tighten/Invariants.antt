@@ -4,5 +4,5 @@ use Rattle.hx_levels.proofs.level_book.LevelBook.tighten.Given as goal
 abbrev pub invariant-levels : goal.invariant-levels
 invariant-levels l = record {
   orders : l.self.orders ≡ l.fn.self.orders;
-  place : l.self.place ≡ l.fn.self.place;
+  reserved : l.self.reserved ≡ l.fn.self.reserved;
 }

@@ -1,6 +1,6 @@
 use Rattle.std.proofs.Common.{◌≡◌, ◌≤◌, ◌+◌, subst, ℕ, Option, Some, None, sym, ap, ◌∙◌, refl, arith}
 use Rattle.std.specs.Option.{IfNone, MatchOption}
-use Rattle.hx_levels.specs.Rung.{LevelKey}
+use Rattle.hx_levels.specs.LevelKeys.{LevelKey}
 use Rattle.hx_levels.specs.Levels.{level_at, IsFirstLevel}
 use Rattle.hx_levels.proofs.FirstLevels.{first_key, before_second}
 use Rattle.hx_levels.proofs.level_book.levels.first_from.Goals as goal

@@ -1,4 +1,4 @@
-use Rattle.hx_levels.specs.Book.{IsWalk}
+use Rattle.hx_book.specs.Book.{IsWalk}
 use Rattle.hx_market_tests.proofs.tests.books.agree_by_minimum.Given as goal
 
 abbrev pub invariant-loop-i : goal.invariant-loop-i

@@ -1,6 +1,6 @@
 use Rattle.std.specs.Option.{IfSome}
-use Rattle.hx_levels.specs.declared.order.Terms.{Terms}
-use Rattle.hx_levels.specs.Book.{IsRanked}
+use Rattle.hx_book.specs.declared.order.Terms.{Terms}
+use Rattle.hx_book.specs.Book.{IsRanked}
 use Rattle.hx_market_tests.proofs.tests.books.agree_by_rank.Given as goal
 
 abbrev pub invariant-loop : goal.invariant-loop

@@ -1,6 +1,6 @@
 use Rattle.std.proofs.Common.{◌≡◌, true}
 use Rattle.std.specs.Option.{IfSome}
-use Rattle.hx_levels.specs.Book.{has_key}
+use Rattle.hx_book.specs.Book.{has_key}
 use Rattle.hx_market_tests.proofs.tests.books.agree_in_time.Given as goal
 
 abbrev pub invariant-loop : goal.invariant-loop

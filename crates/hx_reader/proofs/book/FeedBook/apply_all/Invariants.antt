@@ -1,5 +1,5 @@
 use Rattle.std.proofs.Common.{◌≡◌, take}
-use Rattle.hx_books.specs.Books.{book_from}
+use Rattle.hx_itch.specs.Books.{book_from}
 use Rattle.hx_reader.specs.Faults.{AreFaultless}
 use Rattle.hx_reader.proofs.book.FeedBook.apply_all.Given as goal
 

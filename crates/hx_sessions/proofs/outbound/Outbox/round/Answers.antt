@@ -104,12 +104,12 @@ returns-in-Ok-filled-clause-ok g c =
     let page = ap texts c.deref-2.ensures.value ∙ ((subst (λ r. IfOk r (λ x. AreKnownReplies g.V.Venue.setup c.args.member c.news_page-page.new.reader.known (part c.next-from.result 64) (texts x.items))) c.in-Ok.is c.news_page-page.ensures.replies).exact ∙ ap (λ n. take 64 (drop (n - 1) replies)) c.next-from.ensures) in
     let ahead = page_ahead replies (texts c.deref-2.result.now) d c.new-batch.result.items c.requires.live c.requires.next.0 most page c.new-batch.ensures in
     let f = c.fill-filled in
-    let behind = drop 64 (drop (d.next - 1) replies) in
+    let later = drop 64 (drop (d.next - 1) replies) in
     let ok = c.in-Ok-filled.ensures in
     let all = subst (Appends (g.W.Write.contents c.args.self.now.output) (g.W.Write.contents c.write_whole.new.writer)) c.as_slice.ensures.value c.in-Ok-write_whole.ensures.ok in (
       ok.live,
-      behind,
-      batch_sent d.next replies behind f.new.delivery f.new.batch.items _ _ (ok.ok d.next replies behind (Some []) ahead) all,
+      later,
+      batch_sent d.next replies later f.new.delivery f.new.batch.items _ _ (ok.ok d.next replies later (Some []) ahead) all,
       elim c.if-ended-2.branch [
         | then-ended-2 w ↦ λ e. absurd (cc (w.result-is, e))
         | else-ended-2 w ↦ λ e.

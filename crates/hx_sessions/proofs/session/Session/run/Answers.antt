@@ -1,6 +1,6 @@
 use Rattle.std.proofs.Common.{◌≡◌, List, [], ap, sym, ◌∙◌, subst}
 use Rattle.hx_desk.specs.Known.{known_replies}
-use Rattle.hx_session_core.specs.Deliveries.{Delivery}
+use Rattle.hx_sessions.specs.Deliveries.{Delivery}
 use Rattle.hx_sessions.specs.Asked.{CarriesOn}
 use Rattle.hx_sessions.specs.Served.{Side, Converses}
 use Rattle.hx_sessions.proofs.Courses.{dismissed, opened}

@@ -1,7 +1,7 @@
 use Rattle.std.proofs.Common.{◌≡◌, Some, refl, sym, ap, ◌∙◌}
-use Rattle.hx_levels.specs.Nodes.{ends_with}
+use Rattle.hx_levels.specs.OrderLinks.{ends_with}
 use Rattle.hx_levels.specs.Levels.{slot_of, level_at, ends_in, level_in, joined}
-use Rattle.hx_levels.proofs.InPlace.{written, written_others}
+use Rattle.hx_levels.proofs.InSlots.{written, written_others}
 use Rattle.hx_levels.proofs.level_book.level_store.LevelStore.join_queue.Goals as goal
 
 here : (c : goal.After-join_in) → slot_of (record { slots = c.self.inside.slots.entries; slab = c.self.inside.slab }) c.args.at ≡ Some c.unwrap-slot.result

@@ -1,6 +1,6 @@
 use Rattle.std.proofs.Common.{◌≡◌, Some, refl, sym, ap, ◌∙◌}
 use Rattle.hx_levels.specs.Levels.{slot_of, level_at, with_ends}
-use Rattle.hx_levels.proofs.InPlace.{written, written_others}
+use Rattle.hx_levels.proofs.InSlots.{written, written_others}
 use Rattle.hx_levels.proofs.level_book.level_store.LevelStore.leave_queue.Goals as goal
 
 here : (c : goal.After-leave_in) → slot_of (record { slots = c.self.inside.slots.entries; slab = c.self.inside.slab }) c.args.at ≡ Some c.unwrap-slot.result

@@ -1,6 +1,6 @@
 use Rattle.std.proofs.Common.{◌≡◌, Some, refl, sym, ap, ◌∙◌}
 use Rattle.hx_levels.specs.Levels.{slot_of, level_at, with_most}
-use Rattle.hx_levels.proofs.InPlace.{is_there, written, written_others}
+use Rattle.hx_levels.proofs.InSlots.{is_there, written, written_others}
 use Rattle.hx_levels.proofs.level_book.level_store.LevelStore.lower.Goals as goal
 
 pub lower_in-requires : goal.lower_in-requires

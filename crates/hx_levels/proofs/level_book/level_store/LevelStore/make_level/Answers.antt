@@ -5,7 +5,7 @@ use Rattle.slab.specs.Slab.{get}
 use Rattle.hx_levels.specs.declared.level_book.levels.Level.{Level}
 use Rattle.hx_levels.specs.declared.level_book.level_store.Tier.{Tier}
 use Rattle.hx_levels.specs.Levels.{LevelStore, slot_of, level_in, level_at, or_empty}
-use Rattle.hx_levels.proofs.InPlace.{has_level, is_vacant, is_taken, inserted, inserted_others}
+use Rattle.hx_levels.proofs.InSlots.{has_level, is_vacant, is_taken, inserted, inserted_others}
 use Rattle.hx_levels.proofs.level_book.level_store.LevelStore.make_level.Goals as goal
 
 some_slot : (found : Option ℕ) (slot : Option ℕ) → IfSome found (λ s. slot ≡ Some s) → is_some found ≡ true → IsSome slot

@@ -1,6 +1,6 @@
 use Rattle.std.proofs.Common.{sym, ap, ◌∙◌}
 use Rattle.hx_levels.specs.Levels.{level_at}
-use Rattle.hx_levels.proofs.InPlace.{is_there, removed, removed_others}
+use Rattle.hx_levels.proofs.InSlots.{is_there, removed, removed_others}
 use Rattle.hx_levels.proofs.level_book.level_store.LevelStore.remove.Goals as goal
 
 pub remove-requires-in-Some : goal.remove-requires-in-Some

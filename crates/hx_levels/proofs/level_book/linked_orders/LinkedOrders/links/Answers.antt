@@ -1,5 +1,5 @@
 use Rattle.std.proofs.Common.{vec_capacity, sym, ap, ◌∙◌, arith}
-use Rattle.hx_levels.specs.Nodes.{time_links, queue_links, number_at}
+use Rattle.hx_levels.specs.OrderLinks.{time_links, queue_links, number_at}
 use Rattle.hx_levels.proofs.Joined.{has-order, read_links, links-joined}
 use Rattle.hx_levels.proofs.level_book.linked_orders.LinkedOrders.links.Goals as goal
 

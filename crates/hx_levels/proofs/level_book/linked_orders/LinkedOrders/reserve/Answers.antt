@@ -2,9 +2,9 @@ use Rattle.std.proofs.Common.{◌≤◌, List, vec_capacity, sym, ap, ◌∙◌,
 use Rattle.std.proofs.lemmas.Bool.{true≢false}
 use Rattle.std.proofs.lemmas.Result.{on_ok_weaker}
 use Rattle.slab.specs.Slab.{Slab, HasRoomFor}
-use Rattle.hx_levels.specs.declared.order.Order.{Order}
+use Rattle.hx_book.specs.declared.order.Order.{Order}
 use Rattle.hx_levels.specs.declared.level_book.linked_orders.Both.{Both}
-use Rattle.hx_levels.specs.Nodes.{nodes_of, HaveLinks}
+use Rattle.hx_levels.specs.OrderLinks.{linked_orders_of, HaveLinks}
 use Rattle.hx_levels.proofs.Joined.{room-joined, joined-room}
 use Rattle.hx_levels.proofs.level_book.linked_orders.LinkedOrders.reserve.Goals as goal
 
@@ -44,7 +44,7 @@ returns-clause-had_room c = λ room.
     let i = c.self.inside in
     let r = room-joined i.orders i.links.items (vec_capacity i.links) c.self.invariant (subst (λ s. HasRoomFor s 1) (sym c.self.view_is) room) in
     let same = c.reserve_order.ensures.had_room r.0 in
-    let places = c.reserve_links.ensures.had_room (subst (λ n. n ≤ vec_capacity i.links) (ap (λ (s : Slab Order). s.capacity) (sym same) ∙ sym c.capacity.ensures.value) r.1) in
-    ap (λ s. nodes_of s c.reserve_links.new.links.items (vec_capacity c.reserve_links.new.links)) same
-    ∙ ap (λ l. nodes_of i.orders l (vec_capacity c.reserve_links.new.links)) c.reserve_links.ensures.items
-    ∙ ap (nodes_of i.orders i.links.items) places ∙ c.self.view_is
+    let indices = c.reserve_links.ensures.had_room (subst (λ n. n ≤ vec_capacity i.links) (ap (λ (s : Slab Order). s.capacity) (sym same) ∙ sym c.capacity.ensures.value) r.1) in
+    ap (λ s. linked_orders_of s c.reserve_links.new.links.items (vec_capacity c.reserve_links.new.links)) same
+    ∙ ap (λ l. linked_orders_of i.orders l (vec_capacity c.reserve_links.new.links)) c.reserve_links.ensures.items
+    ∙ ap (linked_orders_of i.orders i.links.items) indices ∙ c.self.view_is

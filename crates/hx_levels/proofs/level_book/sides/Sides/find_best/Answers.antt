@@ -1,5 +1,5 @@
 use Rattle.std.proofs.Common.{◌≡◌, ℕ, ◌<◌, ◌≤◌, None, refl, sym, ap, subst, arith}
-use Rattle.hx_levels.specs.Rung.{LevelKey}
+use Rattle.hx_levels.specs.LevelKeys.{LevelKey}
 use Rattle.hx_levels.specs.Levels.{level_at}
 use Rattle.hx_levels.specs.Bests.{NoneBetter}
 use Rattle.hx_levels.proofs.Renewed.{renewed}

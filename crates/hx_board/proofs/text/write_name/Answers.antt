@@ -1,7 +1,0 @@
-use Rattle.std.proofs.Common.{rules, append_assoc}
-use Rattle.hx_board.specs.Texts.{string_member}
-use Rattle.hx_board.proofs.text.write_name.Goals as goal
-
-pub returns : goal.returns
-unfolding string_member
-returns c = search (rules, append_assoc)

@@ -1,8 +1,0 @@
-use Rattle.hx_bounds.proofs.AfterReplace.{sound_lessened, sound_filtered}
-use Rattle.hx_bounds.proofs.after_a_cancel.Goals as goal
-
-pub returns-clause-canceled : goal.returns-clause-canceled
-returns-clause-canceled c = sound_lessened
-
-pub returns-clause-ended : goal.returns-clause-ended
-returns-clause-ended c = sound_filtered

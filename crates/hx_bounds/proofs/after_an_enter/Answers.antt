@@ -1,8 +1,0 @@
-use Rattle.hx_bounds.proofs.AfterEnter.{sound_accepted, sound_rejected}
-use Rattle.hx_bounds.proofs.after_an_enter.Goals as goal
-
-pub returns-clause-accepted : goal.returns-clause-accepted
-returns-clause-accepted c = sound_accepted
-
-pub returns-clause-rejected : goal.returns-clause-rejected
-returns-clause-rejected c = sound_rejected

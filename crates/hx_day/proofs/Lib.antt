@@ -1,0 +1,10 @@
+pub mod Elements
+pub mod Increasing
+pub mod Held
+pub mod Due
+pub mod ChainShares
+pub mod UsedTokens
+pub mod OneOrderPerChain
+pub mod Counts
+pub mod AfterEnter
+pub mod AfterReplace

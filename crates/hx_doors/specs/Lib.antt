@@ -1,4 +1,0 @@
-pub mod Addresses
-pub mod Pauses
-pub mod Promises
-pub mod Sources

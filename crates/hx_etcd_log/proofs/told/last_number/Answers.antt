@@ -1,9 +1,0 @@
-use Rattle.std.proofs.Common.{ap, ◌∙◌}
-use Rattle.hx_terms.specs.declared.head.Head.{Head}
-use Rattle.hx_etcd_log.proofs.Known.{last_number}
-use Rattle.hx_etcd_log.proofs.told.last_number.Goals as goal
-
-pub returns-in-Some-clause-last : goal.returns-in-Some-clause-last
-returns-in-Some-clause-last c =
-    ap (λ (h : Head). h.number) c.head.ensures.head
-    ∙ last_number c.args.before c.args.records.now c.in-Some.last.now c.requires.next c.in-Some.ensures.value

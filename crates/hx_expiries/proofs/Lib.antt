@@ -1,4 +1,0 @@
-pub mod Members
-pub mod Increasing
-pub mod Held
-pub mod Due

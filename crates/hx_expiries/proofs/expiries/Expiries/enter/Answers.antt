@@ -1,5 +1,0 @@
-use Rattle.hx_expiries.proofs.Held.{holds_also}
-use Rattle.hx_expiries.proofs.expiries.Expiries.enter.Goals as goal
-
-pub returns-clause-ok : goal.returns-clause-ok
-returns-clause-ok c = rw (← c.self.view_is) (holds_also c.self.inside.entries c.insert.new.self c.args.expiry c.args.place c.in_ok-insert.ensures.updates)

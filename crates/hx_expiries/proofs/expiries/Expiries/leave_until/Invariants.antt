@@ -1,9 +1,0 @@
-use Rattle.std.proofs.Common.{ℕ, List, length}
-use Rattle.hx_expiries.proofs.Due.{IsWalked}
-use Rattle.hx_expiries.proofs.expiries.Expiries.leave_until.Given as goal
-
-abbrev pub invariant-loop-first : goal.invariant-loop-first
-invariant-loop-first l = (places : List ℕ) × IsWalked l.fn.self l.self-inside.entries.keys l.time places
-
-abbrev pub decreases-loop-first : goal.decreases-loop-first
-decreases-loop-first l = length l.self-inside.entries.keys

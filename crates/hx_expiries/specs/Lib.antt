@@ -1,2 +1,0 @@
-pub mod Increasing
-pub mod Expiries

@@ -1,0 +1,2 @@
+-- What a relay retains.
+pub mod Keeping

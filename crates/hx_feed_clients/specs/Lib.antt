@@ -1,0 +1,2 @@
+-- What a relay retains of a feed.
+pub mod Relays

@@ -1,0 +1,13 @@
+pub mod Taking
+pub mod Fronts
+pub mod Spelling
+pub mod Copies
+pub mod Standing
+pub mod Telling
+pub mod Known
+pub mod Leaving
+pub mod Keeping
+pub mod Succeeding
+pub mod JournalSent
+pub mod HalfWritten
+pub mod MirrorSent

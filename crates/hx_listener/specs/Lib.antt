@@ -1,0 +1,4 @@
+pub mod Addresses
+pub mod Backoffs
+pub mod Promises
+pub mod Sources

@@ -1,5 +1,0 @@
-pub mod Known
-pub mod Leaving
-pub mod Keeping
-pub mod Succeeding
-pub mod Sent

@@ -1,5 +1,0 @@
-use Rattle.hx_log_journal.proofs.Succeeding.{next_reads}
-use Rattle.hx_log_journal.proofs.laws.the_next_reads_what_is_left.Goals as goal
-
-pub returns : goal.returns
-returns c = next_reads

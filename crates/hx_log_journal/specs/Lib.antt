@@ -1,4 +1,0 @@
-pub mod States
-pub mod Stops
-pub mod Faults
-pub mod Laws

@@ -1,9 +1,0 @@
-use Rattle.std.proofs.Common.{◌+◌, ◌-◌, ◌%◌, ◌^◌, sym, ap, ◌∙◌}
-use Rattle.hx_members.specs.Rows.{RowList, is_at}
-use Rattle.hx_members.proofs.Indexes.{row_place-is_at}
-use Rattle.hx_members.proofs.rows.Rows.hinted.Goals as goal
-
-pub returns-then-is_at : goal.returns-then-is_at
-returns-then-is_at c =
-    let at = (c.content.result + (2 ^ 64 - 1)) % 2 ^ 64 in
-    row_place-is_at c.args.name c.args.self.now.rows at c.requires (ap (λ (v : RowList). is_at v.rows c.args.name at) (sym c.self.view_is) ∙ sym c.is_at.ensures ∙ c.if-is_at.true)

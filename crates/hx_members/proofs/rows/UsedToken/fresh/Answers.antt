@@ -1,5 +1,0 @@
-use Rattle.hx_members.specs.Rows.{fresh}
-use Rattle.hx_members.proofs.rows.UsedToken.fresh.Goals as goal
-
-pub returns : goal.returns
-returns c = λ j. fresh (c.of.ensures j) c.args.chain

@@ -1,5 +1,0 @@
-use Rattle.std.proofs.Common.{◌+◌, ◌-◌, length}
-use Rattle.hx_members.proofs.series.AllSeries.extend.Given as goal
-
-abbrev pub decreases-loop-alloc : goal.decreases-loop-alloc
-decreases-loop-alloc l = l.member + 1 - length l.self.members.items

@@ -1,2 +1,0 @@
-pub mod Half
-pub mod Sent

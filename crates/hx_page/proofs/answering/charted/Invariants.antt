@@ -1,8 +1,0 @@
-use Rattle.std.proofs.Common.{◌≡◌, drop}
-use Rattle.hx_page.specs.Answers.{charted}
-use Rattle.hx_page.proofs.answering.charted.Given as goal
-
--- none of those before is the one
-abbrev pub invariant-loop-sheet : goal.invariant-loop-sheet
-invariant-loop-sheet l =
-    charted l.path (drop l.sheet-index l.sheets) ≡ charted l.path l.sheets

@@ -1,7 +1,0 @@
-use Rattle.std.proofs.Common.{rules, append_assoc}
-use Rattle.hx_page.specs.Answers.{sheet_tokens}
-use Rattle.hx_page.proofs.answering.write_sheet.Goals as goal
-
-pub returns : goal.returns
-unfolding sheet_tokens
-returns c = search (rules, append_assoc)

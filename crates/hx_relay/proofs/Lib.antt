@@ -1,2 +1,0 @@
--- What a relay keeps.
-pub mod Keeping

@@ -1,2 +1,0 @@
--- What a relay keeps of a feed.
-pub mod Relays

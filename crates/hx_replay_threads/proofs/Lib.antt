@@ -1,7 +1,0 @@
-pub mod Reading
-pub mod Turning
-pub mod BehindTurns
-pub mod TurnLists
-pub mod TurnsOfPlayer
-pub mod Sending
-pub mod TurnEnds

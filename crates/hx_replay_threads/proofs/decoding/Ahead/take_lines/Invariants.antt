@@ -1,5 +1,0 @@
-use Rattle.hx_replay_threads.specs.Ahead.{TakesLines}
-use Rattle.hx_replay_threads.proofs.decoding.Ahead.take_lines.Given as goal
-
-abbrev pub invariant-loop : goal.invariant-loop
-invariant-loop l = TakesLines l.fn.text l.fn.self l.self l.rest

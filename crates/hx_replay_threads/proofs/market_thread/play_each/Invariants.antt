@@ -1,8 +1,0 @@
-use Rattle.std.proofs.Common.{List, ◌++◌, take}
-use Rattle.hx_tape_lines.specs.Text.{Entry}
-use Rattle.hx_replay_threads.specs.Ahead.{AreOf, PlaysAll}
-use Rattle.hx_replay_threads.proofs.market_thread.play_each.Given as goal
-
-abbrev pub invariant-loop-event : goal.invariant-loop-event
-invariant-loop-event g l =
-    (es : List Entry) → AreOf es l.events → PlaysAll l.fn.run l.run (take l.event-index es) (l.telling ++ l.recent)

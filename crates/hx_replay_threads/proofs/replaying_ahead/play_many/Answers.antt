@@ -1,5 +1,0 @@
-use Rattle.hx_replay.proofs.Runs.{replays_none}
-use Rattle.hx_replay_threads.proofs.replaying_ahead.play_many.Goals as goal
-
-pub returns-else-text-gt-FEW-clause-ok : goal.returns-else-text-gt-FEW-clause-ok
-returns-else-text-gt-FEW-clause-ok g c = replays_none c.args.run.now c.args.pending.now (g.W.Write.contents c.args.writer.now)

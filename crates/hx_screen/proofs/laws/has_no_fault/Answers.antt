@@ -1,5 +1,0 @@
-use Rattle.hx_screen.proofs.FaultlessEvents.{has_no_fault}
-use Rattle.hx_screen.proofs.laws.has_no_fault.Goals as goal
-
-pub returns : goal.returns
-returns c = has_no_fault

@@ -1,5 +1,0 @@
-use Rattle.hx_screen.proofs.Venues.{packets_carry, stays_publisher}
-use Rattle.hx_screen.proofs.laws.packets_carry.Goals as goal
-
-pub returns : goal.returns
-returns g c = record { packets = packets_carry _; stays = stays_publisher _ }

@@ -1,5 +1,0 @@
-use Rattle.hx_screen.proofs.Calls.{shows_the_book}
-use Rattle.hx_screen.proofs.laws.shows_the_book.Goals as goal
-
-pub returns : goal.returns
-returns g c = shows_the_book _

@@ -1,8 +1,0 @@
-use Rattle.std.proofs.Common.{List, ◌++◌, ap, ◌∙◌}
-use Rattle.hx_rules.specs.declared.event.Event.{Event}
-use Rattle.hx_serve.proofs.beginning.Beginning.play.Goals as goal
-
--- the events that were played are those of the journal
-pub returns-clause-events : goal.returns-clause-events
-returns-clause-events g c =
-    c.in_default.ensures.played ∙ ap (λ (l : List Event). l ++ c.deref.result.now) c.in_ok-day.ensures.events ∙ c.deref.ensures.value

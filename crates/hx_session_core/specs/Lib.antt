@@ -1,4 +1,0 @@
-pub mod Starts
-pub mod Intakes
-pub mod Deliveries
-pub mod Runs

@@ -1,6 +1,0 @@
-use Rattle.std.proofs.Common.{◌<◌}
-use Rattle.hx_tape.proofs.copy.copy_log.Given as goal
-
--- records are numbered from 1 on
-abbrev pub invariant-loop : goal.invariant-loop
-invariant-loop g l = 0 < l.next

@@ -1,4 +1,0 @@
-pub mod Standing
-pub mod Fronts
-pub mod Spelling
-pub mod Copies

@@ -1,5 +1,0 @@
-use Rattle.hx_terms.proofs.Spelling.{read_as}
-use Rattle.hx_terms.proofs.text.read_record.Goals as goal
-
-pub returns-clause-only : goal.returns-clause-only
-returns-clause-only c = read_as c.read.result c.args.text.now c.read.ensures.ok c.read.ensures.fault

@@ -1,4 +1,0 @@
-//! What a vendor's screen shows.
-
-mod boards;
-mod texts;

@@ -1,0 +1,4 @@
+//! What a vendor's screen shows.
+
+mod market_views;
+mod texts;

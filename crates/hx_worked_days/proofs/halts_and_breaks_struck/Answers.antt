@@ -1,7 +1,0 @@
-use Rattle.std.proofs.Common.{refl}
-use Rattle.hx_worked_days.proofs.Computing.{struck_of}
-use Rattle.hx_worked_days.proofs.halts_and_breaks_struck.Goals as goal
-
-pub returns : goal.returns
-unfolding struck_of
-returns c = refl

@@ -1,7 +1,0 @@
-use Rattle.std.proofs.Common.{refl}
-use Rattle.hx_worked_days.proofs.Computing.{all_of}
-use Rattle.hx_worked_days.proofs.limits_of_fields.Goals as goal
-
-pub returns : goal.returns
-unfolding all_of
-returns c = refl
