@@ -29,7 +29,7 @@ filter_push p (x ∷ xs) e = at (p x) (filter_push p xs e)
     at true ih = ap (λ (l : List Token). x ∷ l) ih
     at false ih = ih
 
-once_push : (ns : List Token) (e : Token) → each_once (ns ++ e ∷ []) ≡ each_once ns ++ cond (list_any (is_token e) ns) [] (e ∷ [])
+pub once_push : (ns : List Token) (e : Token) → each_once (ns ++ e ∷ []) ≡ each_once ns ++ cond (list_any (is_token e) ns) [] (e ∷ [])
 once_push [] e = refl
 once_push (x ∷ ns) e =
     ap (λ (l : List Token). x ∷ filter (λ u. not (is_token u x)) l) (once_push ns e) ∙ at (is_token e x) refl (list_any (is_token e) ns)
@@ -44,7 +44,7 @@ once_push (x ∷ ns) e =
         ap (λ (l : List Token). x ∷ l) (filter_push (λ u. not (is_token u x)) (each_once ns) e ∙ ap (λ (c : Bool). filter (λ u. not (is_token u x)) (each_once ns) ++ cond (not c) (e ∷ []) []) h)
 
 -- a token other than x is there with and without those that are x
-any_filter : (e x : Token) → is_token e x ≡ false → (l : List Token) → list_any (is_token e) (filter (λ u. not (is_token u x)) l) ≡ list_any (is_token e) l
+pub any_filter : (e x : Token) → is_token e x ≡ false → (l : List Token) → list_any (is_token e) (filter (λ u. not (is_token u x)) l) ≡ list_any (is_token e) l
 any_filter e x h [] = refl
 any_filter e x h (y ∷ l) = at (is_token y x) refl (any_filter e x h l)
   where
@@ -56,7 +56,7 @@ any_filter e x h (y ∷ l) = at (is_token y x) refl (any_filter e x h l)
     at true p ih = ih ∙ sym (ap (λ (c : Bool). c || list_any (is_token e) l) (other p))
     at false p ih = ap (λ (c : Bool). is_token e y || c) ih
 
-any_once : (e : Token) (ns : List Token) → list_any (is_token e) (each_once ns) ≡ list_any (is_token e) ns
+pub any_once : (e : Token) (ns : List Token) → list_any (is_token e) (each_once ns) ≡ list_any (is_token e) ns
 any_once e [] = refl
 any_once e (x ∷ ns) = at (is_token e x) refl (any_once e ns)
   where

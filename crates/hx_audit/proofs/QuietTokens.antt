@@ -37,13 +37,6 @@ pub quiet_of_himself : (m n : ℕ) (a : Market) (t : Token) → eqb n m ≡ true
 unfolding quiet_of_one
 quiet_of_himself m n a t h = rw (h, ap (λ k. is_quiet a k t) ((Decides-eqb n m).0 h)) refl
 
-pub differs : (n k : ℕ) → (n ≡ k → ⊥) → eqb n k ≡ false
-differs n k h = at (eqb n k) refl
-  where
-    at : (b : Bool) → eqb n k ≡ b → eqb n k ≡ false
-    at true e = absurd (h ((Decides-eqb n k).0 e))
-    at false e = e
-
 -- a number of no member has no quiet tokens
 pub quiet_of_nobody : (a : Market) (n : ℕ) (t : Token) → AreOfMembers a.tokens → (IsMember n → ⊥) → false ≡ is_quiet a n t
 unfolding is_quiet

@@ -9,18 +9,9 @@ use Rattle.hx_rules.specs.declared.fault.PrepareError.TheVariants as reason
 use Rattle.hx_market.specs.Markets.{Market, opening}
 use Rattle.hx_market.specs.Refusals.{refusal, or_no_memory}
 use Rattle.hx_market.specs.Steps.{step, market_after, run}
-use Rattle.hx_audit.specs.Recording.{AreAccepted, AreRecorded, IsRefusedAt, Explains, IsErrorAt, error_at}
+use Rattle.hx_audit.specs.Recording.{AreRecorded, IsRefusedAt, Explains, IsErrorAt, error_at}
 use Rattle.hx_audit.specs.declared.fault.StrikeError.{StrikeError}
-
-accepted_push : (setup : Setup) (a : Market) (xs : List Event) (x : Event) → AreAccepted setup a xs → refusal setup (market_after setup a xs).recorded x ≡ None → AreAccepted setup a (xs ++ x ∷ [])
-unfolding market_after
-accepted_push setup a [] x h r = (r, tt)
-accepted_push setup a (y ∷ xs) x h r = (h.0, accepted_push setup (step setup a y).market xs x h.1 r)
-
-after_push : (setup : Setup) (a : Market) (xs : List Event) (x : Event) → market_after setup a (xs ++ x ∷ []) ≡ (step setup (market_after setup a xs) x).market
-unfolding market_after
-after_push setup a [] x = refl
-after_push setup a (y ∷ xs) x = after_push setup (step setup a y).market xs x
+use Rattle.hx_laws.proofs.Accepted.{accepted_push, market_after_push}
 
 -- what is known before the event of an index: the market is that after the events before it, all of which are recorded
 pub record Took (setup : Setup) (events : List Event) (index : ℕ) (m : Market) : Type 0 where
@@ -36,7 +27,7 @@ unfolding run
 took_more setup events i a b x h e t r s =
     let more = taken events i x h e in
     record {
-      market = s ∙ ap (λ (m : Market). (step setup m x).market) t.market ∙ sym (after_push setup (opening setup) (take i events) x) ∙ ap (run setup) (sym more);
+      market = s ∙ ap (λ (m : Market). (step setup m x).market) t.market ∙ sym (market_after_push setup (opening setup) (take i events) x) ∙ ap (run setup) (sym more);
       recorded =
           subst (AreRecorded setup) (sym more)
           (accepted_push setup (opening setup) (take i events) x t.recorded (ap (λ (m : Market). refusal setup m.recorded x) (sym t.market) ∙ r));
@@ -85,5 +76,5 @@ pub one_more : (setup : Setup) (events : List Event) (a b : Market) (x : Event) 
 unfolding run
 one_more setup events a b x r m p s = (
   accepted_push setup (opening setup) events x r (ap (λ (k : Market). refusal setup k.recorded x) (sym m) ∙ p),
-  s ∙ ap (λ (k : Market). (step setup k x).market) m ∙ sym (after_push setup (opening setup) events x),
+  s ∙ ap (λ (k : Market). (step setup k x).market) m ∙ sym (market_after_push setup (opening setup) events x),
 )

@@ -12,8 +12,8 @@ use Rattle.hx_blog.specs.Packed.{IsMessage, words_of}
 use Rattle.hx_blog.specs.Feed.{Entries, feed}
 use Rattle.hx_blog.specs.Views.{LogState}
 use Rattle.hx_blog.specs.Rule.{KnowsABeginning, IsWrittenBy, RuleOfTheLog}
-use Rattle.hx_blog.proofs.Prefixes.{prefix_self, prefix_trans}
 use Rattle.hx_blog.proofs.Feeds.{length-words}
+use Rattle.hx_units.proofs.Prefixes.{prefix_self, prefix_trans}
 
 -- an index that has an element is within the list
 pub within : {A : Type 0} (l : List A) (i : ℕ) (a : A) → get_elem? l i ≡ some a → i < length l
@@ -36,7 +36,7 @@ module _ {E : Type 0} (room : ℕ) where
   -- a seat that knows a beginning of a list knows a beginning of a longer one
   pub knows_more : (writer : ℕ) (all now : Entries E) (seat : ℕ) (v : View E) → IsPrefix all now → KnowsABeginning room writer all seat v → KnowsABeginning room writer now seat v
   knows_more writer all now seat v p f =
-      record { room_is = f.room_is; known = prefix_trans v.known all now f.known p; told = prefix_trans v.told all now f.told p; read = f.read; only_writer = f.only_writer }
+      record { room_is = f.room_is; known = prefix_trans v.known all now f.known p; received = prefix_trans v.received all now f.received p; read = f.read; only_writer = f.only_writer }
 
   -- the other seats stay when one seat's view changes
   pub seats_set : (writer : ℕ) (all now : Entries E) (views : List (View E)) (id : ℕ) (w : View E) → IsPrefix all now

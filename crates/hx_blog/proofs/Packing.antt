@@ -28,9 +28,6 @@ padded_bytes m (suc k) is = by (dec_lt k (length m))
         zeros (suc n) zero = refl
         zeros (suc n) (suc i) = zeros n i
 
-pub padded_at : (m : List ℕ) (k : ℕ) → k < length m → get_or (padded m) (suc k) 0 ≡ get_or m k 0
-padded_at m k l = get_or-append m (replicate (47 - length m) 0) 0 k l
-
 packed_at : (m : List ℕ) (i : ℕ) → i < 6 → get_or (packed m) i 0 ≡ word_at (padded m) (8 * i)
 unfolding packed
 packed_at m zero l = refl
@@ -79,11 +76,11 @@ six (a ∷ b ∷ c ∷ d ∷ f ∷ g ∷ []) m n l h e =
 six (a ∷ b ∷ c ∷ d ∷ f ∷ g ∷ x ∷ ws) m n l h e = absurd (omega arith)
 
 -- a message, from its six words in a feed
-pub message_loaded : (ms : List (List ℕ)) (place : ℕ) (front : List ℕ) (last : ℕ) (message : List ℕ) → place < length ms → All IsMessage ms → length front ≡ 6
-    → ((k : ℕ) → k < 5 → get_or front k 0 ≡ get_or (packed (get_or ms place [])) k 0) → last ≡ get_or (words_of ms) (6 * place + 6 - 1) 0
-    → ((m : List ℕ) → IsMessage m → set front 5 last ≡ packed m → message ≡ m) → slice_get ms place ≡ Some message
-message_loaded ms place front last message h all six_words words sixth unpacked =
-    let m = get_or ms place [] in
-    let index : 6 * place + 6 - 1 ≡ 6 * place + 5 = omega arith in
-    let last_is : last ≡ get_or (packed m) 5 0 = sixth ∙ (ap (λ i. get_or (words_of ms) i 0) index ∙ word_of ms place 5 h (omega arith)) in
-    slice_get-get_or ms place [] h ∙ ap Some (sym (unpacked m (all place [] h) (six front m last six_words words last_is)))
+pub message_loaded : (ms : List (List ℕ)) (index : ℕ) (front : List ℕ) (last : ℕ) (message : List ℕ) → index < length ms → All IsMessage ms → length front ≡ 6
+    → ((k : ℕ) → k < 5 → get_or front k 0 ≡ get_or (packed (get_or ms index [])) k 0) → last ≡ get_or (words_of ms) (6 * index + 6 - 1) 0
+    → ((m : List ℕ) → IsMessage m → set front 5 last ≡ packed m → message ≡ m) → slice_get ms index ≡ Some message
+message_loaded ms index front last message h all six_words words sixth unpacked =
+    let m = get_or ms index [] in
+    let word_index : 6 * index + 6 - 1 ≡ 6 * index + 5 = omega arith in
+    let last_is : last ≡ get_or (packed m) 5 0 = sixth ∙ (ap (λ i. get_or (words_of ms) i 0) word_index ∙ word_of ms index 5 h (omega arith)) in
+    slice_get-get_or ms index [] h ∙ ap Some (sym (unpacked m (all index [] h) (six front m last six_words words last_is)))

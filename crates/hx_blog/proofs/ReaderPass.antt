@@ -11,9 +11,9 @@ use Rattle.hx_blog.specs.Feed.{feed}
 use Rattle.hx_blog.specs.Views.{LogState, SeatState}
 use Rattle.hx_blog.specs.Rule.{KnowsABeginning, RuleOfTheLog}
 use Rattle.hx_blog.specs.Steps.{IsWordOfFeed, LoadsCount, LoadsWord, LoadsLastWord}
-use Rattle.hx_blog.proofs.Prefixes.{prefix_self, prefix_length}
 use Rattle.hx_blog.proofs.Feeds.{feed-prefix, words-front, length-words}
 use Rattle.hx_blog.proofs.Moves.{reader_moves, load_leaves, words_used}
+use Rattle.hx_units.proofs.Prefixes.{prefix_self, prefix_length}
 
 all_front : {A : Type 0} (P : A → Type 0) (xs ys zs : List A) → xs ++ ys ≡ zs → All P zs → All P xs
 all_front P xs ys zs e h k d l =
@@ -30,7 +30,7 @@ module _ {E : Type 0} (room : ℕ) where
       let count : get_or s.words 0 0 ≡ length (feed all) = ap (λ ws. get_or ws 0 0) rule.2.words in
       let longer = prefix_length (feed v.known) (feed all) (feed-prefix v.known all f.known) in
       let r = f.read in
-      let mine : KnowsABeginning room rule.0 all id w = record { room_is = f.room_is; known = prefix_self all; told = f.told; read = omega arith; only_writer = f.only_writer } in
+      let mine : KnowsABeginning room rule.0 all id w = record { room_is = f.room_is; known = prefix_self all; received = f.received; read = omega arith; only_writer = f.only_writer } in
       let used = words_used room s rule.0 rule.1 rule.2 in
       (w, keeps, tt, load_leaves room s 0 (set s.views id w) (reader_moves room s id v w rule at reads (λ _. mine)), (refl, f.known, count, omega (arith, count, used, f.room_is)))
 
@@ -61,5 +61,5 @@ module _ {E : Type 0} (room : ℕ) where
       let v = me.0 in
       let f = rule.2.seats id v at live in
       let w : View E = record v { read = v.read + 1 } in
-      let mine : KnowsABeginning room rule.0 rule.1.known id w = record { room_is = f.room_is; known = f.known; told = f.told; read = omega arith; only_writer = f.only_writer } in
+      let mine : KnowsABeginning room rule.0 rule.1.known id w = record { room_is = f.room_is; known = f.known; received = f.received; read = omega arith; only_writer = f.only_writer } in
       (w, keeps, tt, load_leaves room s i (set s.views id w) (reader_moves room s id v w rule at reads (λ _. mine)), (refl, word_below s slots id me rule i at live above h))

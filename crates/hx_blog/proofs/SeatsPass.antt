@@ -10,10 +10,11 @@ use Rattle.hx_blog.specs.declared.view.View.{View}
 use Rattle.hx_blog.specs.Feed.{Entries, feed}
 use Rattle.hx_blog.specs.Views.{LogState, SeatState, writing, spent}
 use Rattle.hx_blog.specs.Rule.{KnowsABeginning, RuleOfTheLog}
-use Rattle.hx_blog.specs.Steps.{newcomer, told_of, Learns, Confirms}
-use Rattle.hx_blog.proofs.Prefixes.{prefix_self, prefix_length, longest}
+use Rattle.hx_blog.specs.Steps.{newcomer, with_received, Learns, Confirms}
+use Rattle.hx_blog.proofs.Prefixes.{longest}
 use Rattle.hx_blog.proofs.Feeds.{feed-prefix}
 use Rattle.hx_blog.proofs.Moves.{the_writer, writer_moves, reader_moves, load_leaves}
+use Rattle.hx_units.proofs.Prefixes.{prefix_self, prefix_length}
 
 not_writing : false ≡ true → ⊥
 not_writing e = true≢false (sym e)
@@ -37,7 +38,7 @@ module _ {E : Type 0} (room : ℕ) where
   )
     where
       one : (seat : ℕ) (v : View E) → get_elem? (writing {E = E} room [] [] [] ∷ []) seat ≡ some v → v.gone ≡ false → KnowsABeginning room 0 [] seat v
-      one zero v e l = subst (λ (u : View E). KnowsABeginning room 0 [] 0 u) (some-injective _ v e) record { room_is = refl; known = ([], refl); told = ([], refl); read = zero-le; only_writer = λ _. refl }
+      one zero v e l = subst (λ (u : View E). KnowsABeginning room 0 [] 0 u) (some-injective _ v e) record { room_is = refl; known = ([], refl); received = ([], refl); read = zero-le; only_writer = λ _. refl }
       one (suc seat) v e l = absurd (some-ne-none v (sym e))
 
   pub splits_off : (id : ℕ) (v : View E) → v.gone ≡ false → Splits (RuleOfTheLog room) id v v (newcomer v)
@@ -49,7 +50,7 @@ module _ {E : Type 0} (room : ℕ) where
       let mine : (seat : ℕ) → KnowsABeginning room rule.0 rule.1.known seat new = λ seat. record {
         room_is = f.room_is;
         known = f.known;
-        told = (rule.1.known, refl);
+        received = (rule.1.known, refl);
         read = zero-le;
         only_writer = λ e. absurd (not_writing e);
       } in
@@ -72,45 +73,45 @@ module _ {E : Type 0} (room : ℕ) where
         },
       )
 
-  writer_is_told : (s : LogState E) (id : ℕ) (v : View E) (all : Entries E) (rule : RuleOfTheLog room s) → get_elem? s.views id ≡ some v → v.gone ≡ false → v.writes ≡ true → IsPrefix all rule.1.known
-      → RuleOfTheLog room record { words = s.words; homes = s.homes; views = set s.views id (record v { told = all }) }
-  writer_is_told s id v all rule at live writes p =
+  writer_receives : (s : LogState E) (id : ℕ) (v : View E) (all : Entries E) (rule : RuleOfTheLog room s) → get_elem? s.views id ≡ some v → v.gone ≡ false → v.writes ≡ true → IsPrefix all rule.1.known
+      → RuleOfTheLog room record { words = s.words; homes = s.homes; views = set s.views id (record v { received = all }) }
+  writer_receives s id v all rule at live writes p =
       let k = the_writer room s id v rule at live writes in
       let f = k.seats id v at live in
       let here : id ≡ rule.0 = (rule.2.seats id v at live).only_writer writes in
       let same : rule.1.known ≡ v.known = ap (λ (u : View E). u.known) (some-injective rule.1 v (sym rule.2.view ∙ (ap (λ i. get_elem? s.views i) (sym here) ∙ at))) in
-      writer_moves room s id v (record v { told = all }) k.unused s.words k (prefix_self v.known) live writes k.words refl k.messages
-      record { room_is = f.room_is; known = f.known; told = subst (IsPrefix all) same p; read = f.read; only_writer = f.only_writer }
+      writer_moves room s id v (record v { received = all }) k.unused s.words k (prefix_self v.known) live writes k.words refl k.messages
+      record { room_is = f.room_is; known = f.known; received = subst (IsPrefix all) same p; read = f.read; only_writer = f.only_writer }
 
   -- any seat may take in a beginning of what is published
-  is_told : (s : LogState E) (id : ℕ) (v : View E) (all : Entries E) (b : Bool) → v.writes ≡ b → (rule : RuleOfTheLog room s) → get_elem? s.views id ≡ some v → v.gone ≡ false → IsPrefix all rule.1.known
-      → RuleOfTheLog room record { words = s.words; homes = s.homes; views = set s.views id (record v { told = all }) }
-  is_told s id v all true writes rule at live p = writer_is_told s id v all rule at live writes p
-  is_told s id v all false reads rule at live p =
+  receives : (s : LogState E) (id : ℕ) (v : View E) (all : Entries E) (b : Bool) → v.writes ≡ b → (rule : RuleOfTheLog room s) → get_elem? s.views id ≡ some v → v.gone ≡ false → IsPrefix all rule.1.known
+      → RuleOfTheLog room record { words = s.words; homes = s.homes; views = set s.views id (record v { received = all }) }
+  receives s id v all true writes rule at live p = writer_receives s id v all rule at live writes p
+  receives s id v all false reads rule at live p =
       let f = rule.2.seats id v at live in
-      reader_moves room s id v (record v { told = all }) rule at reads (λ _. record { room_is = f.room_is; known = f.known; told = p; read = f.read; only_writer = f.only_writer })
+      reader_moves room s id v (record v { received = all }) rule at reads (λ _. record { room_is = f.room_is; known = f.known; received = p; read = f.read; only_writer = f.only_writer })
 
-  pub joins : (id : ℕ) (v : View E) (other : ℕ) (w : View E) → v.gone ≡ false → w.gone ≡ false → w.writes ≡ false → Joins (RuleOfTheLog room) id v other w (told_of v w) spent
+  pub joins : (id : ℕ) (v : View E) (other : ℕ) (w : View E) → v.gone ≡ false → w.gone ≡ false → w.writes ≡ false → Joins (RuleOfTheLog room) id v other w (with_received v w) spent
   joins id v other w live other_live reads s rule at apart there =
-      let told : IsPrefix w.known rule.1.known =
-      ⊎_elim (λ (t : (other ≡ id) × (told_of v w ≡ w)). absurd (apart t.0)) (λ (t : (other ≢ id) × (get_elem? s.views other ≡ some w)). (rule.2.seats other w t.1 other_live).known)
-      (at_set s.views id other (told_of v w) w there) in
-      let both = is_told s id v w.known v.writes refl rule at live told in
-      reader_moves room record { words = s.words; homes = s.homes; views = set s.views id (told_of v w) } other w spent both there reads (λ gone. absurd (true≢false gone))
+      let received : IsPrefix w.known rule.1.known =
+      ⊎_elim (λ (t : (other ≡ id) × (with_received v w ≡ w)). absurd (apart t.0)) (λ (t : (other ≢ id) × (get_elem? s.views other ≡ some w)). (rule.2.seats other w t.1 other_live).known)
+      (at_set s.views id other (with_received v w) w there) in
+      let both = receives s id v w.known v.writes refl rule at live received in
+      reader_moves room record { words = s.words; homes = s.homes; views = set s.views id (with_received v w) } other w spent both there reads (λ gone. absurd (true≢false gone))
 
   pub learns : (slots id : ℕ) (me : SeatState E) → me.0.gone ≡ false → me.0.writes ≡ false → Allows (RuleOfTheLog room) slots id me 0 (λ n. n) (Learns (step slots 0 0 0 none) me)
   learns slots id me live reads s rule homes at fits =
       let v = me.0 in
       let f = rule.2.seats id v at live in
-      let l = longest v.known v.told rule.1.known f.known f.told (dec_le (length v.told) (length v.known)) in
-      let w : View E = record v { known = l.0; told = [] } in
+      let l = longest v.known v.received rule.1.known f.known f.received (dec_le (length v.received) (length v.known)) in
+      let w : View E = record v { known = l.0; received = [] } in
       let longer = prefix_length (feed v.known) (feed l.0) (feed-prefix v.known l.0 l.2) in
       let r = f.read in
-      let mine : KnowsABeginning room rule.0 rule.1.known id w = record { room_is = f.room_is; known = l.1; told = (rule.1.known, refl); read = omega arith; only_writer = f.only_writer } in
+      let mine : KnowsABeginning room rule.0 rule.1.known id w = record { room_is = f.room_is; known = l.1; received = (rule.1.known, refl); read = omega arith; only_writer = f.only_writer } in
       (w, keeps, tt, load_leaves room s 0 (set s.views id w) (reader_moves room s id v w rule at reads (λ _. mine)), (refl, l.2, l.3, l.4))
 
   pub confirms : (slots id : ℕ) (me : SeatState E) → me.0.gone ≡ false → me.0.writes ≡ true → Allows (RuleOfTheLog room) slots id me 0 (λ n. n) (Confirms (step slots 0 0 0 none) me)
   confirms slots id me live writes s rule homes at fits =
       let v = me.0 in
       let k = the_writer room s id v rule at live writes in
-      (record v { told = [] }, keeps, tt, load_leaves room s 0 (set s.views id (record v { told = [] })) (is_told s id v [] v.writes refl rule at live (rule.1.known, refl)), (refl, (k.seats id v at live).told))
+      (record v { received = [] }, keeps, tt, load_leaves room s 0 (set s.views id (record v { received = [] })) (receives s id v [] v.writes refl rule at live (rule.1.known, refl)), (refl, (k.seats id v at live).received))

@@ -11,9 +11,9 @@ use Rattle.hx_blog.specs.Feed.{Entries, feed}
 use Rattle.hx_blog.specs.Views.{SeatState}
 use Rattle.hx_blog.specs.Rule.{KnowsABeginning, RuleOfTheLog}
 use Rattle.hx_blog.specs.Steps.{StoresWord, StoresLastWord, StoresCount}
-use Rattle.hx_blog.proofs.Prefixes.{prefix_self}
 use Rattle.hx_blog.proofs.Feeds.{feed-append, words-append, length-words}
 use Rattle.hx_blog.proofs.Moves.{more_words, the_writer, writer_moves, words_used}
+use Rattle.hx_units.proofs.Prefixes.{prefix_self}
 
 all_one : {A : Type 0} (P : A → Type 0) (y : A) → P y → All P (y ∷ [])
 all_one P y p zero d l = p
@@ -44,7 +44,7 @@ module _ {E : Type 0} (room : ℕ) where
         keeps,
         tt,
         writer_moves room s id v w more.0 (set s.words i n) k (prefix_self v.known) live writes (ap (λ l. set l i n) k.words ∙ more.1) (length-set s.words i n) k.messages
-            record { room_is = f.room_is; known = f.known; told = f.told; read = f.read; only_writer = λ _. refl },
+            record { room_is = f.room_is; known = f.known; received = f.received; read = f.read; only_writer = λ _. refl },
         refl,
       )
 
@@ -67,14 +67,14 @@ module _ {E : Type 0} (room : ℕ) where
         keeps,
         tt,
         writer_moves room s id v w more.0 (set s.words i n) k (prefix_self v.known) live writes (ap (λ l. set l i n) k.words ∙ (more.1 ∙ ap (λ l. length (feed v.known) ∷ l) words)) (length-set s.words i n) messages
-            record { room_is = f.room_is; known = f.known; told = f.told; read = f.read; only_writer = λ _. refl },
+            record { room_is = f.room_is; known = f.known; received = f.received; read = f.read; only_writer = λ _. refl },
         refl,
       )
 
-  pub stores_count : (slots id : ℕ) (me : SeatState E) (entries : Entries E) (left : List (List ℕ)) (n : ℕ) → me.0.gone ≡ false → me.0.writes ≡ true → me.0.told ≡ [] → me.0.read ≡ 0
+  pub stores_count : (slots id : ℕ) (me : SeatState E) (entries : Entries E) (left : List (List ℕ)) (n : ℕ) → me.0.gone ≡ false → me.0.writes ≡ true → me.0.received ≡ [] → me.0.read ≡ 0
       → feed entries ++ left ≡ me.0.staged → n ≡ length (feed me.0.known) + length (feed entries)
       → Allows (RuleOfTheLog room) slots id me 0 (λ _. n) (λ _. StoresCount entries left (step slots 0 n 0 none) me n)
-  stores_count slots id me entries left n live writes told read same count s rule homes at fits =
+  stores_count slots id me entries left n live writes received read same count s rule homes at fits =
       let v = me.0 in
       let k = the_writer room s id v rule at live writes in
       let w : View E = record v { known = v.known ++ entries; staged = left } in
@@ -86,7 +86,7 @@ module _ {E : Type 0} (room : ℕ) where
       let mine : KnowsABeginning room id w.known id w = record {
         room_is = (k.seats id v at live).room_is;
         known = prefix_self w.known;
-        told = subst (λ t. IsPrefix t w.known) (sym told) (w.known, refl);
+        received = subst (λ t. IsPrefix t w.known) (sym received) (w.known, refl);
         read = omega (arith, read);
         only_writer = λ _. refl;
       } in (

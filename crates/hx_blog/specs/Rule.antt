@@ -15,7 +15,7 @@ module _ {E : Type 0} where
       : Type 0 where
     pub room_is : v.room ≡ room
     pub known : IsPrefix v.known published
-    pub told : IsPrefix v.told published
+    pub received : IsPrefix v.received published
     pub read : v.read ≤ length (feed v.known)
     pub only_writer : v.writes ≡ true → seat ≡ writer
 

@@ -59,17 +59,17 @@ module _ {E : Type 0} where
 
   -- Sixth kind: a seat is joined into another, which takes in what that seat knew, and then compares the two lists. The
   -- seat that was joined away knows nothing from then on.
-  abbrev pub told_of : View E → View E → View E
-  told_of v joined = record v { told = joined.known }
+  abbrev pub with_received : View E → View E → View E
+  with_received v joined = record v { received = joined.known }
 
   -- A reader or a receipt that compares the lists: it knows from then on the longer one, which both begin.
   abbrev pub Learns : Step (Unit {0}) → SeatState E → ℕ → SeatState E → Type 0
   Learns step old count new =
-      (new ≡ (record old.0 { known = new.0.known; told = [] }, old.1))
-      × IsPrefix old.0.known new.0.known × IsPrefix old.0.told new.0.known
-      × ((new.0.known ≡ old.0.known) ⊎ (new.0.known ≡ old.0.told))
+      (new ≡ (record old.0 { known = new.0.known; received = [] }, old.1))
+      × IsPrefix old.0.known new.0.known × IsPrefix old.0.received new.0.known
+      × ((new.0.known ≡ old.0.known) ⊎ (new.0.known ≡ old.0.received))
 
   -- The writer compares the lists: what was joined into its seat is a beginning of what it published.
   abbrev pub Confirms : Step (Unit {0}) → SeatState E → ℕ → SeatState E → Type 0
   Confirms step old count new =
-      (new ≡ (record old.0 { told = [] }, old.1)) × IsPrefix old.0.told old.0.known
+      (new ≡ (record old.0 { received = [] }, old.1)) × IsPrefix old.0.received old.0.known

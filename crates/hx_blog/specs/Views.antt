@@ -23,7 +23,7 @@ module _ {E : Type 0} where
         writes = true;
         room = room;
         known = known;
-        told = [];
+        received = [];
         staged = staged;
         begun = begun;
         read = 0;
@@ -38,7 +38,7 @@ module _ {E : Type 0} where
         writes = false;
         room = room;
         known = known;
-        told = [];
+        received = [];
         staged = [];
         begun = [];
         read = read;
@@ -53,7 +53,7 @@ module _ {E : Type 0} where
         writes = false;
         room = 0;
         known = [];
-        told = [];
+        received = [];
         staged = [];
         begun = [];
         read = 0;

@@ -56,19 +56,19 @@ pub(crate) fn load_count<E>(table: &LogTable<E>, seat: &mut LogSeat<E>) -> u64
 }
 
 // Loads the first five words of the message at this index, counted from 0, which is known.
-fn load_front<E>(table: &LogTable<E>, seat: &mut LogSeat<E>, place: u64) -> [u64; 6]
+fn load_front<E>(table: &LogTable<E>, seat: &mut LogSeat<E>, index: u64) -> [u64; 6]
     requires log { seat.old.table_id ≡ table.now.shared.table_id }
     requires sized { table.now.shared.table_id.words ≡ 6 * seat.old.me.0.room + 1 }
     requires reading { IsReading seat.old.me }
-    requires known { place < length (feed seat.old.me.0.known) }
-    requires room { (place < seat.old.me.0.room) × (seat.old.me.0.room ≤ most_room) }
+    requires known { index < length (feed seat.old.me.0.known) }
+    requires room { (index < seat.old.me.0.room) × (seat.old.me.0.room ≤ most_room) }
     ensures same { (seat.new.table_id ≡ seat.old.table_id) × (seat.new.me ≡ seat.old.me) }
     ensures words { (k : ℕ) → k < 5 → slice_index result k
-        ≡ slice_index (packed (slice_index_or (feed seat.old.me.0.known) place [])) k }
+        ≡ slice_index (packed (slice_index_or (feed seat.old.me.0.known) index [])) k }
     ensures length { length result ≡ 6 }
 {
     let mut words = [0; 6];
-    let first = 6 * place as usize + 1;
+    let first = 6 * index as usize + 1;
     for k in 0..5 {
         words[k] = table.shared.load::<LoadWord>(seat, first + k);
     }
@@ -79,18 +79,18 @@ fn load_front<E>(table: &LogTable<E>, seat: &mut LogSeat<E>, place: u64) -> [u64
 pub(crate) fn load_message<E>(
     table: &LogTable<E>,
     seat: &mut LogSeat<E>,
-    place: u64,
+    index: u64,
 ) -> ArrayVec<u8, 44>
     requires log { seat.old.table_id ≡ table.now.shared.table_id }
     requires sized { table.now.shared.table_id.words ≡ 6 * seat.old.me.0.room + 1 }
     requires reading { IsReading seat.old.me }
-    requires known { place < length (feed seat.old.me.0.known) }
-    requires room { (place < seat.old.me.0.room) × (seat.old.me.0.room ≤ most_room) }
+    requires known { index < length (feed seat.old.me.0.known) }
+    requires room { (index < seat.old.me.0.room) × (seat.old.me.0.room ≤ most_room) }
     ensures same { (seat.new.table_id ≡ seat.old.table_id) × (seat.new.me ≡ seat.old.me) }
-    ensures message { slice_get (feed seat.old.me.0.known) place ≡ Some result.items }
+    ensures message { slice_get (feed seat.old.me.0.known) index ≡ Some result.items }
 {
-    let mut words = load_front(table, seat, place);
-    words[5] = table.shared.load::<LoadWord>(seat, 6 * place as usize + 6);
+    let mut words = load_front(table, seat, index);
+    words[5] = table.shared.load::<LoadWord>(seat, 6 * index as usize + 6);
     unpack(&words)
 }
 

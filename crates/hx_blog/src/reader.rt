@@ -150,7 +150,7 @@ impl<E> Reader<E> {
         requires receipt { receipt.log ≡ log.now }
         ensures same { self.new ≡ record self.old { known = self.new.known } }
         ensures known { IsPrefix self.old.known self.new.known }
-        ensures told { IsPrefix receipt.known self.new.known }
+        ensures received { IsPrefix receipt.known self.new.known }
         ensures longer { (self.new.known ≡ self.old.known) ⊎ (self.new.known ≡ receipt.known) }
         ensures got { got self.new ≡ got self.old }
     {

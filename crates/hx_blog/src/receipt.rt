@@ -49,7 +49,7 @@ impl<E> Receipt<E> {
         requires receipt { receipt.log ≡ log.now }
         ensures log { self.new.log ≡ self.old.log }
         ensures known { IsPrefix self.old.known self.new.known }
-        ensures told { IsPrefix receipt.known self.new.known }
+        ensures received { IsPrefix receipt.known self.new.known }
         ensures longer { (self.new.known ≡ self.old.known) ⊎ (self.new.known ≡ receipt.known) }
     {
         let Receipt { seat } = receipt;

@@ -21,10 +21,10 @@ impl<E> Split<View<E>> for SplitOff {
 struct Tell;
 
 impl<E> Join<View<E>> for Tell {
-    ghost use Rattle.hx_blog.specs.Steps.{told_of};
+    ghost use Rattle.hx_blog.specs.Steps.{with_received};
     ghost use Rattle.hx_blog.specs.Views.{spent};
 
-    ghost both = { told_of };
+    ghost both = { with_received };
 
     ghost spent = { spent };
 }
@@ -67,7 +67,7 @@ pub(crate) fn tell_reader<E>(table: &LogTable<E>, seat: &mut LogSeat<E>, other: 
     ensures same { seat.new.me
         ≡ (reading seat.old.me.0.room seat.new.me.0.known seat.old.me.0.read seat.old.me.0.loads, []) }
     ensures known { IsPrefix seat.old.me.0.known seat.new.me.0.known }
-    ensures told { IsPrefix other.me.0.known seat.new.me.0.known }
+    ensures received { IsPrefix other.me.0.known seat.new.me.0.known }
     ensures longer { (seat.new.me.0.known ≡ seat.old.me.0.known)
         ⊎ (seat.new.me.0.known ≡ other.me.0.known) }
 {

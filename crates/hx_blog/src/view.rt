@@ -12,7 +12,7 @@ pub struct View<E> {
     /// The entries that it knows, each an event with its messages.
     pub known: LinkedList<(E, LinkedList<LinkedList<u8>>)>,
     /// The entries known by the seat that was just joined into this one.
-    pub told: LinkedList<(E, LinkedList<LinkedList<u8>>)>,
+    pub received: LinkedList<(E, LinkedList<LinkedList<u8>>)>,
     /// The writer's messages above the count.
     pub staged: LinkedList<LinkedList<u8>>,
     /// The words so far of the message that the writer has begun to store.

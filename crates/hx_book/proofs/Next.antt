@@ -11,6 +11,7 @@ use Rattle.hx_book.specs.declared.order.Terms.{Terms}
 use Rattle.hx_book.specs.Lists.{head_of, after_first}
 use Rattle.hx_book.specs.Rank.{first_of, higher}
 use Rattle.hx_units.specs.Side.{is_buy}
+use Rattle.hx_units.proofs.Lists.{find-same}
 use Rattle.hx_book.specs.Book.{is_under, is_ahead, crosses, ranked, has_key, order_of, KeysDiffer, IsRanked, next_by_rank, is_candidate, is_equal, IsIndex}
 use Rattle.hx_book.proofs.Lists.{PassesOnce, or_else, find-none, find-filter, once_filtered, all_filtered, found_among}
 use Rattle.hx_book.proofs.Rank.{is_level, next_by_class, first_of-find, first_of-filter, find-by_rank}
@@ -47,10 +48,6 @@ find-and keep test (x ∷ xs) = at (keep x) (find-and keep test xs)
         → cond (b && test x) (Some x) (find (λ y. keep y && test y) xs) ≡ find test (cond b (x ∷ filter keep xs) (filter keep xs))
     at true ih = ap (λ r. cond (test x) (Some x) r) ih
     at false ih = ih
-
-find-same : (p q : Live → Bool) → ((x : Live) → p x ≡ q x) → (xs : List Live) → find p xs ≡ find q xs
-find-same p q h [] = refl
-find-same p q h (x ∷ xs) = ap (λ b. cond b (Some x) (find p xs)) (h x) ∙ ap (λ r. cond (q x) (Some x) r) (find-same p q h xs)
 
 -- ranking alike is the same price and both shown or both not
 level_of : (buy sa sx : Bool) (p q : ℕ) → Bool

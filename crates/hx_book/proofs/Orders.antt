@@ -1,7 +1,7 @@
 -- Rank among orders is an order, and keys that differ.
 use Rattle.std.proofs.Common.{◌≡◌, ℕ, Bool, true, false, not, ◌&&◌, ◌||◌, cond, eqb, ltb, List, [], ◌∷◌, Option, Some, None, refl, sym, subst, arith}
 use Rattle.std.specs.List.{AllByRecursion}
-use Rattle.std.specs.Option.{option_map, is_some, IfSome}
+use Rattle.std.specs.Option.{option_map, IfSome}
 use Rattle.hx_book.specs.declared.order.Key.{Key}
 use Rattle.hx_book.specs.declared.order.Terms.{Terms}
 use Rattle.hx_book.specs.Lists.{head_of, after_first}
@@ -66,10 +66,6 @@ once_under key (live ∷ rest) d = (
       none_under key rest (subst (λ n. has_key n rest ≡ false) e d.0)),
   once_under key rest d.1,
 )
-
-pub is_some-copied : {A B : Type 0} (f : A → B) (r : Option A) → is_some r ≡ is_some (option_map f r)
-is_some-copied f None = refl
-is_some-copied f (Some x) = refl
 
 if_some_weaker : {A : Type 0} (P Q : A → Type 0) → ((x : A) → P x → Q x) → (o : Option A) → IfSome o P → IfSome o Q
 if_some_weaker P Q w None h = tt

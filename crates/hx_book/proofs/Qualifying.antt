@@ -132,9 +132,6 @@ pub is_some_of : {A B : Type 0} (f : A → B) (r : Option A) (y : B) → option_
 is_some_of f None y h = cc
 is_some_of f (Some x) y h = refl
 
-pub some_same : {A : Type 0} {x y : A} → Some x ≡ Some y → x ≡ y
-some_same e = cc
-
 head-find : (xs : List Live) → head_of xs ≡ find (λ _. true) xs
 head-find [] = refl
 head-find (x ∷ xs) = refl

@@ -1,11 +1,11 @@
 -- A list by rank: it is sorted, and the first of it that passes a test is `first_of`.
-use Rattle.std.proofs.Common.{◌≡◌, Bool, true, false, not, ◌&&◌, cond, List, [], ◌∷◌, ◌++◌, Option, Some, None, refl, sym, ap, ◌∙◌, subst}
+use Rattle.std.proofs.Common.{◌≡◌, Bool, true, false, not, ◌&&◌, cond, List, [], ◌∷◌, Option, Some, None, refl, sym, ap, ◌∙◌, subst}
 use Rattle.std.specs.List.{AllByRecursion, find, filter}
-use Rattle.std.specs.Option.{IfSome, MatchOption}
+use Rattle.std.specs.Option.{IfSome}
 use Rattle.std.proofs.lemmas.Bool.{cond_both, cond-true, cond-false, true≢false, false_from_ne_true, true_from_ne_false}
 use Rattle.hx_book.specs.Lists.{head_of, after_first, drop_first}
 use Rattle.hx_book.proofs.Lists.{all_weaker, find-all, or_else, found_among, find-none, PassesOnce}
-use Rattle.hx_book.specs.Rank.{placed, by_rank, higher, first_of, IsFirst}
+use Rattle.hx_book.specs.Rank.{placed, by_rank, higher, first_of}
 
 module _ {X : Type 0} (ahead : X → X → Bool) (asym : (x y : X) → ahead x y ≡ true → ahead y x ≡ false) (skip : (x y z : X) → ahead x y ≡ false → ahead y z ≡ false → ahead x z ≡ false) where
   abbrev pub IsByRank : List X → Type 0
@@ -263,64 +263,3 @@ module _ {X : Type 0} (ahead : X → X → Bool) (asym : (x y : X) → ahead x y
           ≡ first_of ahead test (cond b (x ∷ filter keep xs) (filter keep xs))
       at true e ih = ap (λ r. cond (test x) (higher ahead x r) r) ih
       at false e ih = ih
-
-  all_joined : (P : X → Type 0) (xs ys : List X) → AllByRecursion P xs → AllByRecursion P ys → AllByRecursion P (xs ++ ys)
-  all_joined P [] ys a b = b
-  all_joined P (x ∷ xs) ys a b = (a.0, all_joined P xs ys a.1 b)
-
-  -- `first_of` gives the one that is before all others that pass, and nothing if none passes
-  pub first_of-is : (test : X → Bool) (xs : List X) → MatchOption (first_of ahead test xs) (AllByRecursion (λ x. test x ≡ false) xs) (IsFirst ahead test xs)
-  first_of-is test [] = tt
-  first_of-is test (e ∷ es) = at (test e) refl (first_of ahead test es) (first_of-is test es)
-    where
-      front : (w : X) → test e ≡ true → IsFirst ahead test es w → (b : Bool) → ahead w e ≡ b → IsFirst ahead test (e ∷ es) (cond b w e)
-      front w t f true a = record {
-        earlier = e ∷ f.earlier;
-        later = f.later;
-        list_is = ap (λ l. e ∷ l) f.list_is;
-        passes = f.passes;
-        above_earlier = ((λ _. a), f.above_earlier);
-        not_below_later = f.not_below_later;
-      }
-      front w t f false a = record {
-        earlier = [];
-        later = es;
-        list_is = refl;
-        passes = t;
-        above_earlier = tt;
-        not_below_later = let P : X → Type 0 = λ y. test y ≡ true → ahead y e ≡ false in
-            subst (λ l. AllByRecursion P l) (sym f.list_is)
-            (all_joined P f.earlier (w ∷ f.later)
-            (all_weaker (λ y. test y ≡ true → ahead w y ≡ true) P (λ y h p. skip y w e (asym w y (h p)) a) f.earlier f.above_earlier)
-            ((λ _. a), all_weaker (λ y. test y ≡ true → ahead y w ≡ false) P (λ y h p. skip y w e (h p) a) f.later f.not_below_later));
-      }
-
-      at : (b : Bool) → test e ≡ b → (r : Option X) → MatchOption r (AllByRecursion (λ x. test x ≡ false) es) (IsFirst ahead test es)
-          → MatchOption (cond b (higher ahead e r) r) (AllByRecursion (λ x. test x ≡ false) (e ∷ es)) (IsFirst ahead test (e ∷ es))
-      at true t None m = record {
-        earlier = [];
-        later = es;
-        list_is = refl;
-        passes = t;
-        above_earlier = tt;
-        not_below_later = all_weaker (λ y. test y ≡ false) (λ y. test y ≡ true → ahead y e ≡ false) (λ y n p. absurd (true≢false (sym p ∙ n))) es m;
-      }
-      at true t (Some w) f = front w t f (ahead w e) refl
-      at false t None m = (t, m)
-      at false t (Some w) f = record {
-        earlier = e ∷ f.earlier;
-        later = f.later;
-        list_is = ap (λ l. e ∷ l) f.list_is;
-        passes = f.passes;
-        above_earlier = ((λ p. absurd (true≢false (sym p ∙ t))), f.above_earlier);
-        not_below_later = f.not_below_later;
-      }
-
-  pub first_of-all : (P : X → Type 0) (test : X → Bool) (xs : List X) → AllByRecursion P xs → IfSome (first_of ahead test xs) P
-  first_of-all P test [] h = tt
-  first_of-all P test (x ∷ xs) h = at (test x) (first_of ahead test xs) (first_of-all P test xs h.1)
-    where
-      at : (b : Bool) (r : Option X) → IfSome r P → IfSome (cond b (higher ahead x r) r) P
-      at true None i = h.0
-      at true (Some w) i = cond_both (ahead w x) w x P (λ _. i) (λ _. h.0)
-      at false r i = i

@@ -1,7 +1,6 @@
 -- A list by rank. `ahead x y` says that x ranks above y, wherever the two stand; those that rank alike stay in their
 -- order.
-use Rattle.std.specs.Prelude.{◌≡◌, Bool, true, false, List, [], ◌∷◌, ◌++◌, Option, Some, None, if◌then◌else◌}
-use Rattle.std.specs.List.{AllByRecursion}
+use Rattle.std.specs.Prelude.{Bool, List, [], ◌∷◌, Option, Some, None, if◌then◌else◌}
 
 module _ {X : Type 0} (ahead : X → X → Bool) where
   -- x put before the first that does not rank above it
@@ -23,14 +22,3 @@ module _ {X : Type 0} (ahead : X → X → Bool) where
   abbrev pub first_of : (X → Bool) → List X → Option X
   first_of test [] = None
   first_of test (x ∷ xs) = if test x then higher x (first_of test xs) else first_of test xs
-
--- x passes, and is before every other that passes: it ranks above those earlier in the list, and those
--- later in the list do not rank above it
-pub record IsFirst {X : Type 0} (ahead : X → X → Bool) (test : X → Bool) (list : List X) (x : X)
-    : Type 0 where
-  pub earlier : List X
-  pub later : List X
-  pub list_is : list ≡ earlier ++ x ∷ later
-  pub passes : test x ≡ true
-  pub above_earlier : AllByRecursion (λ y. test y ≡ true → ahead x y ≡ true) earlier
-  pub not_below_later : AllByRecursion (λ y. test y ≡ true → ahead y x ≡ false) later

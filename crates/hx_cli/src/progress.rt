@@ -10,7 +10,7 @@ const INPUT: &str = "/dev/stdin";
 /// Shows how far a run is, on one line of standard error that each next call overwrites. If standard error is no
 /// terminal it shows nothing.
 #[derive(Drop)]
-pub(crate) struct Meter<'a, R> {
+pub(crate) struct ProgressLine<'a, R> {
     rt: &'a R,
     shown: bool,
     // The part that was shown last, in hundredths.
@@ -22,10 +22,10 @@ fn is_terminal(descriptor: i32) -> bool {
     libc::isatty(descriptor) == 1
 }
 
-impl<'a, R: Eprint> Meter<'a, R> {
+impl<'a, R: Eprint> ProgressLine<'a, R> {
     /// For a run that writes at its end alone.
-    pub(crate) fn new(rt: &'a R) -> Meter<'a, R> {
-        Meter {
+    pub(crate) fn new(rt: &'a R) -> ProgressLine<'a, R> {
+        ProgressLine {
             rt,
             shown: is_terminal(libc::STDERR_FILENO),
             last: None,
@@ -33,8 +33,8 @@ impl<'a, R: Eprint> Meter<'a, R> {
     }
 
     /// For a run that writes as it goes: if that goes to a terminal too, nothing is shown between its lines.
-    fn beside_output(rt: &'a R) -> Meter<'a, R> {
-        Meter {
+    fn beside_output(rt: &'a R) -> ProgressLine<'a, R> {
+        ProgressLine {
             rt,
             shown: is_terminal(libc::STDERR_FILENO) && !is_terminal(libc::STDOUT_FILENO),
             last: None,
@@ -65,7 +65,7 @@ impl<'a, R: Eprint> Meter<'a, R> {
 /// Standard input, which shows how many of a file's bytes are read.
 #[derive(Drop)]
 pub(crate) struct WatchedInput<'a, R, I> {
-    meter: Meter<'a, R>,
+    progress_line: ProgressLine<'a, R>,
     reader: I,
     read: u64,
     of: u64,
@@ -83,7 +83,7 @@ impl<'a, R: Eprint + Input<Reader = I> + Files, I: Read> WatchedInput<'a, R, I> 
     /// Nothing of it is read yet.
     pub(crate) fn new(rt: &'a R) -> WatchedInput<'a, R, I> {
         WatchedInput {
-            meter: Meter::beside_output(rt),
+            progress_line: ProgressLine::beside_output(rt),
             reader: rt.reader(),
             read: 0,
             of: length_of_input(rt),
@@ -92,7 +92,7 @@ impl<'a, R: Eprint + Input<Reader = I> + Files, I: Read> WatchedInput<'a, R, I> 
 
     /// Shows nothing more.
     pub(crate) fn end(&mut self) {
-        self.meter.end();
+        self.progress_line.end();
     }
 }
 
@@ -103,7 +103,7 @@ impl<R: Eprint, I: Read> Read for WatchedInput<'_, R, I> {
         match self.reader.read(buffer) {
             Ok(count) => {
                 self.read = self.read.saturating_add(count as u64);
-                self.meter.tell("bytes", self.read, self.of);
+                self.progress_line.tell("bytes", self.read, self.of);
                 Ok(count)
             }
             Err(e) => Err(e),

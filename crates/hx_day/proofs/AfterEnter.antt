@@ -8,6 +8,7 @@ use Rattle.hx_match.specs.Matching.{Execution, Matched, matched}
 use Rattle.hx_members.specs.Chains.{Used, Chain, is_used, entered_of, executed_by, note, IsEnteredAt, entered_used}
 use Rattle.hx_members.specs.Setups.{Setup}
 use Rattle.hx_refs.specs.Numbers.{Numbers, raised}
+use Rattle.hx_refs.proofs.Numbers.{length-raised}
 use Rattle.hx_ouch.specs.declared.inbound.Enter.{Enter}
 use Rattle.hx_rules.specs.Orders.{is_immediate}
 use Rattle.hx_rules.specs.Markets.{Market, opening}
@@ -19,7 +20,7 @@ use Rattle.hx_day.specs.Bounds.{own, is_name, open_in, IsPlaced, ArePlaced, CanN
 use Rattle.hx_day.proofs.ChainShares.{open-append, IsWithin, Counted, counted, executed-noted, can, placed-append}
 use Rattle.hx_day.proofs.UsedTokens.{placed-more, open-more, open-unused, executed-unused, executed-fresh, chained-more, chained-append, chained-noted, entered-last, used-last, get-last, same-name}
 use Rattle.hx_day.proofs.OneOrderPerChain.{NoneOf, StayLone, stay_lone, lone-more, lone-append, none-more, none-unused}
-use Rattle.hx_day.proofs.Counts.{ended, total-raised, total-within, length-raised, raised-along, raised-limited}
+use Rattle.hx_day.proofs.Counts.{ended, total-raised, total-within, raised-along, raised-limited}
 
 zeros : (n i : ℕ) → slice_index (replicate n 0) i ≤ 0
 zeros zero i = omega arith

@@ -2,14 +2,15 @@
 use Rattle.std.proofs.Common.{◌≡◌, ℕ, suc, ◌+◌, ◌-◌, ◌*◌, ◌≤◌, Bool, true, false, cond, ltb, not, List, [], ◌∷◌, ◌++◌, length, Some, refl, sym, ap, ◌∙◌, subst, arith, slice_index}
 use Rattle.std.specs.List.{filter, find}
 use Rattle.std.proofs.lemmas.Bool.{cond_both}
-use Rattle.std.proofs.lemmas.List.Filters.{length-filter_both}
 use Rattle.hx_units.specs.declared.names.Token.{Token}
 use Rattle.hx_units.specs.declared.names.Symbol.{Symbol}
+use Rattle.hx_units.proofs.Lists.{length-filter-le}
 use Rattle.hx_book.specs.declared.order.Order.{Order}
 use Rattle.hx_book.proofs.Lists.{found_among, all_filtered}
 use Rattle.hx_match.specs.Matching.{with_shares}
 use Rattle.hx_members.specs.Chains.{Used, is_used, entered_of, executed_by, entered_used, IsEnteredAt}
 use Rattle.hx_refs.specs.Numbers.{raised}
+use Rattle.hx_refs.proofs.Numbers.{length-raised}
 use Rattle.hx_ouch.specs.declared.inbound.Replace.{Replace}
 use Rattle.hx_rules.specs.Orders.{is_called, is_immediate}
 use Rattle.hx_rules.specs.Markets.{Market}
@@ -23,7 +24,7 @@ use Rattle.hx_day.specs.Bounds.{chains_by, own, is_name, open_in, IsPlaced, AreP
 use Rattle.hx_day.proofs.ChainShares.{IsWithin, open-append, placed-append, placed-shares, own-le}
 use Rattle.hx_day.proofs.UsedTokens.{placed-more, open-more, chained-more, entered-last, used-last, get-append, same-name}
 use Rattle.hx_day.proofs.OneOrderPerChain.{NoneOf, open-none, none-more, lone-more, lone-filter, lone-lessened, gone}
-use Rattle.hx_day.proofs.Counts.{total-within, length-raised, raised-along, raised-limited}
+use Rattle.hx_day.proofs.Counts.{total-within, raised-along, raised-limited}
 use Rattle.hx_day.proofs.AfterEnter.{more, raised-le, Arrives, matched_of, counted_arrival, own_note, ends, sound_arrived, draws}
 
 -- Orders that go.
@@ -36,14 +37,11 @@ open-filter ts i t keep (x ∷ xs) = at (keep x) (open-filter ts i t keep xs)
     at true h = omega arith
     at false h = omega arith
 
-length-filter : (keep : Order → Bool) (xs : List Order) → length (filter keep xs) ≤ length xs
-length-filter keep xs = let parts = length-filter_both keep (λ x. not (keep x)) (λ x. refl) xs in omega arith
-
 pub sound_filtered : (m : Market) (keep : Order → Bool) (phase : ℕ) → IsSound m → IsSound (record m { live = filter keep m.live; phase = phase })
 sound_filtered m keep phase h = record {
   public = h.public;
   private = h.private;
-  matches = (let a = h.matches in let b = length-filter keep m.live in omega arith);
+  matches = (let a = h.matches in let b = length-filter-le keep m.live in omega arith);
   within = λ i t. let a = h.within i t in let b = open-filter m.tokens i t keep m.live in omega arith;
   placed = all_filtered (IsPlaced m.tokens) keep m.live h.placed;
   lone = lone-filter m.tokens keep m.live h.lone;
@@ -88,7 +86,7 @@ pub sound_handed : (m : Market) (i : ℕ) (t u : Token) → IsSound m → IsSoun
 sound_handed m i t u h = record {
   public = h.public;
   private = h.private;
-  matches = (let a = h.matches in let b = length-filter (λ x. not (is_called i t x)) m.live in omega arith);
+  matches = (let a = h.matches in let b = length-filter-le (λ x. not (is_called i t x)) m.live in omega arith);
   within = within_others m i t u h;
   placed = placed-more m.tokens _ (others_in m i t) (placed_others m i t h);
   lone = lone-more m.tokens _ (others_in m i t) (placed_others m i t h) (lone-filter m.tokens (λ x. not (is_called i t x)) m.live h.lone);
@@ -149,7 +147,7 @@ can_replace m i t old x h l r =
     let k : Market = drawn (handed_over m i t x.token) i false in
     let a = arrives_replaced m i t old x false h r in
     let e = ends (handed_over m i t x.token) x in
-    let fewer = length-filter (λ y. not (is_called i t y)) m.live in
+    let fewer = length-filter-le (λ y. not (is_called i t y)) m.live in
     let sum : total m.recorded ≤ length m.recorded * 4294967295 = total-within m.recorded 4294967295 h.limited in
     let len : length m.recorded * 4294967295 ≡ 4096 * 4294967295 = ap (λ n. n * 4294967295) h.numbered in
     let own_member : x.member ≡ i = r.member ∙ (who i t old r.names.called).0 in
@@ -170,7 +168,7 @@ sound_replaced m i time stock r old x h l s same =
     let d = draws m.numbers i x.shown in
     let room = l.in_range in
     let size = h.numbered in
-    let fewer = length-filter (λ y. not (is_called i r.existing_token y)) m.live in
+    let fewer = length-filter-le (λ y. not (is_called i r.existing_token y)) m.live in
     subst (λ (u : Token). IsSound (arrive time (is_immediate r.time_in_force) x (drawn (handed_over (recording m i) i r.existing_token u) i x.shown)).market) same
     (sound_arrived (drawn (handed_over (recording m i) i r.existing_token x.token) i x.shown) x time (is_immediate r.time_in_force)
     (arrives_recorded (arrives_replaced m i r.existing_token old x x.shown h s))
@@ -208,7 +206,7 @@ open-lessened ts i t m u by (x ∷ xs) = at (is_called m u x) (open-lessened ts 
     at true h = let a = open-append ts i t (less x by) xs in let b = small in omega arith
     at false h = omega arith
 
-length-lessened : (m : ℕ) (u : Token) (by : ℕ) (xs : List Order) → length (lessened m u by xs) ≤ length xs
+pub length-lessened : (m : ℕ) (u : Token) (by : ℕ) (xs : List Order) → length (lessened m u by xs) ≤ length xs
 length-lessened m u by [] = omega arith
 length-lessened m u by (x ∷ xs) = at (is_called m u x) (length-lessened m u by xs)
   where

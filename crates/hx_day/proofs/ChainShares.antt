@@ -3,7 +3,6 @@ use Rattle.std.proofs.Common.{◌≡◌, ℕ, zero, suc, ◌+◌, ◌-◌, ◌�
 use Rattle.std.specs.Option.{IfSome, option_map_or}
 use Rattle.std.proofs.lemmas.Bool.{cond-true, cond-false, cond_both, and_parts}
 use Rattle.std.proofs.lemmas.Bool.Decides.{nat_tests}
-use Rattle.std.proofs.lemmas.Slice.Eq.{bytes_eq-Decides}
 use Rattle.hx_units.specs.declared.names.Token.{Token}
 use Rattle.hx_units.specs.Names.{is_token}
 use Rattle.hx_book.specs.declared.order.Order.{Order}
@@ -11,14 +10,9 @@ use Rattle.hx_book.specs.Book.{outranks}
 use Rattle.hx_match.specs.declared.fills.Incoming.{Incoming}
 use Rattle.hx_match.specs.Matching.{Execution, Position, Matched, later, first_of_entries, passes, first_entry, less_of, matched_by, matched_entries, itself, with_shares}
 use Rattle.hx_members.specs.Chains.{Used, Chain, is_chain, entered_of, executed_by, executed_at, note, noted, IsEnteredAt, noted_at}
+use Rattle.hx_members.proofs.ChainLaws.{same_token, is_token-itself}
 use Rattle.hx_day.specs.Bounds.{noted_both, chains_by, CanNote, CanNoteAll, own, is_name, open_in, IsPlaced, ArePlaced}
 use Rattle.hx_rules.specs.Executions.{chains_after}
-
-pub is_token-true : (t u : Token) → is_token t u ≡ true → t ≡ u
-is_token-true t u h = ap (λ (z : List ℕ). record t { 0 = z }) ((bytes_eq-Decides t.0 u.0).0 h)
-
-pub is_token-self : (t : Token) → is_token t t ≡ true
-is_token-self t = (bytes_eq-Decides t.0 t.0).1 refl
 
 both : (a b : Bool) → a ≡ true → b ≡ true → (a && b) ≡ true
 both true true h k = refl
@@ -26,7 +20,7 @@ both true false h k = k
 both false b h k = h
 
 pub name-self : (m : ℕ) (e : Token) → is_name m e m e ≡ true
-name-self m e = both (eqb m m) (is_token e e) (eq-eqb m m refl) (is_token-self e)
+name-self m e = both (eqb m m) (is_token e e) (eq-eqb m m refl) (is_token-itself e)
 
 -- two names of one chain are one
 name-joined : (m i k : ℕ) (e t u : Token) → is_name k u m e ≡ true → is_name k u i t ≡ true → is_name m e i t ≡ true
@@ -34,8 +28,8 @@ name-joined m i k e t u h j =
     let a = and_parts (eqb k m) (is_token u e) h in
     let b = and_parts (eqb k i) (is_token u t) j in
     let mi : m ≡ i = sym (eqb-true k m a.0) ∙ eqb-true k i b.0 in
-    let et : e ≡ t = sym (is_token-true u e a.1) ∙ is_token-true u t b.1 in
-    both (eqb m i) (is_token e t) (eq-eqb m i mi) (subst (λ (z : Token). is_token e z ≡ true) et (is_token-self e))
+    let et : e ≡ t = sym (same_token u e a.1) ∙ same_token u t b.1 in
+    both (eqb m i) (is_token e t) (eq-eqb m i mi) (subst (λ (z : Token). is_token e z ≡ true) et (is_token-itself e))
 
 pub own-true : (b : Bool) (n : ℕ) → b ≡ true → own b n ≡ n
 own-true true n h = refl

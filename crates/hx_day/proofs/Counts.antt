@@ -1,12 +1,13 @@
 -- The state that lets a market commit the next event.
-use Rattle.std.proofs.Common.{◌≡◌, ℕ, zero, suc, ◌+◌, ◌-◌, ◌*◌, ◌<◌, ◌≤◌, min, max, Bool, true, false, cond, ltb, leb, List, [], ◌∷◌, ◌++◌, length, Option, Some, None, refl, ap, ◌∙◌, arith, slice_index}
+use Rattle.std.proofs.Common.{◌≡◌, ℕ, zero, suc, ◌+◌, ◌-◌, ◌*◌, ◌<◌, ◌≤◌, min, Bool, true, false, cond, ltb, List, [], ◌∷◌, ◌++◌, length, Option, Some, None, refl, ap, ◌∙◌, arith, slice_index}
 use Rattle.std.specs.Option.{IfSome}
-use Rattle.std.proofs.lemmas.Bool.{cond-true, cond_both, ltb-true, and_parts}
+use Rattle.std.proofs.lemmas.Bool.{cond-true, cond_both, ltb-true}
 use Rattle.std.proofs.lemmas.Bool.Decides.{nat_tests}
 use Rattle.hx_book.specs.declared.order.Order.{Order}
-use Rattle.hx_book.specs.Book.{outranks, crosses}
+use Rattle.hx_book.specs.Book.{outranks}
 use Rattle.hx_match.specs.declared.fills.Incoming.{Incoming}
-use Rattle.hx_match.specs.Matching.{Position, Matched, later, first_of_entries, passes, qualifies, terms, less_of, matched_by, matched_entries, itself, with_shares}
+use Rattle.hx_match.specs.Matching.{Position, Matched, later, first_of_entries, passes, less_of, matched_by, matched_entries, itself, with_shares}
+use Rattle.hx_match.proofs.First.{some_shares}
 use Rattle.hx_refs.specs.Numbers.{raised}
 use Rattle.hx_day.specs.Bounds.{total}
 use Rattle.hx_day.proofs.ChainShares.{first, StandsIn, split}
@@ -16,12 +17,6 @@ length-append [] ys = omega arith
 length-append (x ∷ xs) ys = let h : length (xs ++ ys) ≡ length xs + length ys = length-append xs ys in omega arith
 
 -- Each execution but the last ends an order.
-
-some_shares : (inc : Incoming) (r : ℕ) (x : Order) → passes inc r x ≡ true → 0 < min r x.shares
-some_shares inc r x h = enough (min r x.shares) (max inc.minimum (min x.minimum x.shares)) (and_parts (crosses (terms inc) x) (qualifies inc r x) h).1
-  where
-    enough : (f k : ℕ) → leb (max 1 k) f ≡ true → 0 < f
-    enough f k e = grind (arith, nat_tests)
 
 passing : (inc : Incoming) (r : ℕ) (xs : List Order) → IfSome (first inc r xs) (λ p. passes inc r p.order ≡ true)
 passing inc r [] = tt
@@ -118,24 +113,6 @@ total-within (x ∷ xs) b h =
   where
     mul_more : (n b : ℕ) → suc n * b ≡ n * b + b
     mul_more n b = grind arith
-
-pub length-raised : (xs : List ℕ) (i : ℕ) → length (raised xs i) ≡ length xs
-length-raised [] i = refl
-length-raised (x ∷ xs) zero = refl
-length-raised (x ∷ xs) (suc i) = ap (λ n. suc n) (length-raised xs i)
-
-pub raised-same : (xs : List ℕ) (i : ℕ) → i < length xs → slice_index (raised xs i) i ≡ slice_index xs i + 1
-raised-same [] i h = absurd (omega arith)
-raised-same (x ∷ xs) zero h = refl
-raised-same (x ∷ xs) (suc i) h = raised-same xs i (omega arith)
-
--- one is raised by one, or none
-raised-between : (xs : List ℕ) (i k : ℕ) → slice_index xs k ≤ slice_index (raised xs i) k
-raised-between [] i k = omega arith
-raised-between (x ∷ xs) zero zero = omega arith
-raised-between (x ∷ xs) zero (suc k) = omega arith
-raised-between (x ∷ xs) (suc i) zero = omega arith
-raised-between (x ∷ xs) (suc i) (suc k) = raised-between xs i k
 
 pub raised-along : (ps rs : List ℕ) (i : ℕ) → i < length rs → ((k : ℕ) → slice_index ps k ≤ slice_index rs k) → (k : ℕ) → slice_index (raised ps i) k ≤ slice_index (raised rs i) k
 raised-along [] rs i l h k = omega arith

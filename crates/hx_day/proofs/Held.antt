@@ -1,5 +1,5 @@
 -- What is held after an entry comes or goes.
-use Rattle.std.proofs.Common.{◌≡◌, ℕ, Bool, true, false, cond, ◌⊎◌, ◌↔◌, List, [], IsTrue, Contains, BTreeSet, Ordering, Equal, Less, Greater, nat_cmp, is_eq, refl, sym, ap, ◌∙◌, subst, inl, inr, true≢false, rules}
+use Rattle.std.proofs.Common.{◌≡◌, ℕ, Bool, true, false, cond, ◌⊎◌, ◌↔◌, List, [], IsTrue, Contains, BTreeSet, Ordering, nat_cmp, is_eq, refl, sym, ap, ◌∙◌, subst, inl, inr, true≢false, rules}
 use Rattle.std.specs.Cmp.{IsTotalOrder}
 use Rattle.std.specs.Cmp.Rules.{comparing}
 use Rattle.std.specs.Ordering.{ordering_then}
@@ -10,6 +10,7 @@ use Rattle.std.proofs.lemmas.Map.Lookups.{CmpEqualImpliesEq, exact_pairs, exact_
 use Rattle.std.proofs.lemmas.Map.Views.{btree_set_contains_iff}
 use Rattle.hx_day.specs.Expiries.{Entry, Holds, HoldsNothing, HoldsAlso, HoldsOthers, IsEntry}
 use Rattle.hx_day.proofs.Elements.{none_of_none}
+use Rattle.hx_units.proofs.Booleans.{is_eq-true}
 
 -- the order of entries in the table: by expiry, then by index
 abbrev pub entry_cmp : Entry → Entry → Ordering
@@ -25,18 +26,13 @@ total = search (comparing, rules)
 pub exact : CmpEqualImpliesEq entry_cmp
 exact x y h = ap (λ (p : ℕ × ℕ). entry p.0 p.1) (exact_pairs nat_cmp nat_cmp exact_unsigned exact_unsigned (x.expiry, x.index) (y.expiry, y.index) h)
 
-equal_from : (o : Ordering) → is_eq o ≡ true → o ≡ Equal
-equal_from Less h = cc
-equal_from Equal h = refl
-equal_from Greater h = cc
-
 -- whether the set is asked for that entry
 abbrev asked : (expiry index e p : ℕ) → Bool
 asked expiry index e p = is_at (entry_cmp (entry expiry index)) (entry e p)
 
 asked_same : (expiry index e p : ℕ) → asked expiry index e p ≡ true → IsEntry e p expiry index
 asked_same expiry index e p h =
-    let same = exact (entry expiry index) (entry e p) (equal_from (entry_cmp (entry expiry index) (entry e p)) h) in
+    let same = exact (entry expiry index) (entry e p) (is_eq-true (entry_cmp (entry expiry index) (entry e p)) h) in
     (ap (λ (x : Entry). x.expiry) (sym same), ap (λ (x : Entry). x.index) (sym same))
 
 same_asked : (expiry index e p : ℕ) → IsEntry e p expiry index → asked expiry index e p ≡ true

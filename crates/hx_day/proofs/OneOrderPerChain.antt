@@ -8,11 +8,12 @@ use Rattle.hx_book.specs.declared.order.Order.{Order}
 use Rattle.hx_match.specs.declared.fills.Incoming.{Incoming}
 use Rattle.hx_match.specs.Matching.{Position, matched_by, matched_entries, itself, with_shares}
 use Rattle.hx_members.specs.Chains.{Used, is_used, entered_of, entered_used}
+use Rattle.hx_members.proofs.ChainLaws.{is_used-at}
 use Rattle.hx_rules.specs.Orders.{is_called}
 use Rattle.hx_rules.specs.Removal.{others, less, lessened}
 use Rattle.hx_day.specs.Bounds.{own, is_name, is_of_chain, open_in, ArePlaced, AreLone}
 use Rattle.hx_day.proofs.ChainShares.{first, StandsIn, split}
-use Rattle.hx_day.proofs.UsedTokens.{entered-append, same-name, used-get}
+use Rattle.hx_day.proofs.UsedTokens.{entered-append, same-name}
 use Rattle.hx_day.proofs.ChainShares.{name-self}
 
 -- the order is of the chain of another
@@ -87,7 +88,7 @@ none-unused ts i t (x ∷ xs) u h = none-join (is_of_chain ts i t x) (list_any (
     not_it : (b : Bool) → is_of_chain ts i t x ≡ b → b ≡ false
     not_it true e =
         let s = same-name x.member i (entered_of ts x.member x.token) t e in
-        let used : is_used ts x.member (entered_of ts x.member x.token) ≡ true = used-get ts x.chain (entered_used x.member (entered_of ts x.member x.token)) h.0.at in
+        let used : is_used ts x.member (entered_of ts x.member x.token) ≡ true = is_used-at ts x.chain (entered_used x.member (entered_of ts x.member x.token)) h.0.at in
         let at : is_used ts i t ≡ true = subst (λ k. is_used ts k t ≡ true) s.0 (subst (λ (z : Token). is_used ts x.member z ≡ true) s.1 used) in
         absurd (let z : true ≡ false = sym at ∙ u in cc)
     not_it false e = refl

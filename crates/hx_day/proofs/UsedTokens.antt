@@ -1,13 +1,14 @@
 -- Used tokens, when one more token is used.
-use Rattle.std.proofs.Common.{◌≡◌, ℕ, zero, suc, ◌+◌, Bool, true, false, cond, eqb, ◌||◌, List, [], ◌∷◌, ◌++◌, length, Some, None, refl, sym, ap, ◌∙◌, subst, arith, eqb-true, slice_get}
+use Rattle.std.proofs.Common.{◌≡◌, ℕ, zero, suc, Bool, true, false, cond, eqb, ◌||◌, List, [], ◌∷◌, ◌++◌, length, Some, None, refl, sym, ap, ◌∙◌, subst, arith, eqb-true, slice_get}
 use Rattle.std.specs.List.{AllByRecursion}
 use Rattle.std.proofs.lemmas.Bool.{cond-true, and_parts, or_left, or_right}
 use Rattle.hx_units.specs.declared.names.Token.{Token}
 use Rattle.hx_units.specs.Names.{is_token}
 use Rattle.hx_book.specs.declared.order.Order.{Order}
 use Rattle.hx_members.specs.Chains.{Used, Chain, is_use, is_used, is_chain, entered_of, executed_by, note, noted, IsEnteredAt, entered_used}
+use Rattle.hx_members.proofs.ChainLaws.{same_token, is_used-at}
 use Rattle.hx_day.specs.Bounds.{own, is_name, open_in, ArePlaced}
-use Rattle.hx_day.proofs.ChainShares.{is_token-true, name-self}
+use Rattle.hx_day.proofs.ChainShares.{name-self}
 
 pub used-append : (ts us : List Used) (m : ℕ) (t : Token) → is_used ts m t ≡ true → is_used (ts ++ us) m t ≡ true
 used-append [] us m t h = absurd (let z : false ≡ true = h in cc)
@@ -49,18 +50,6 @@ pub get-last : (ts : List Used) (u : Used) → slice_get (ts ++ u ∷ []) (lengt
 get-last [] u = refl
 get-last (v ∷ ts) u = get-last ts u
 
-pub length-push : (ts : List Used) (u : Used) → length (ts ++ u ∷ []) ≡ length ts + 1
-length-push [] u = omega arith
-length-push (v ∷ ts) u = let h : length (ts ++ u ∷ []) ≡ length ts + 1 = length-push ts u in omega arith
-
--- what stands among the used tokens is used
-pub used-get : (ts : List Used) (i : ℕ) (u : Used) → slice_get ts i ≡ Some u → is_used ts u.member u.token ≡ true
-used-get [] i u h = absurd (let z : None ≡ Some u = h in cc)
-used-get (v ∷ ts) zero u h =
-    let same : v ≡ u = let z : Some v ≡ Some u = h in cc in
-    or_left (is_use u.member u.token v) (is_used ts u.member u.token) (subst (λ (w : Used). is_use u.member u.token w ≡ true) (sym same) (name-self u.member u.token))
-used-get (v ∷ ts) (suc i) u h = or_right (is_use u.member u.token v) (is_used ts u.member u.token) (used-get ts i u h)
-
 -- Live orders stay placed, and the open shares of each chain the same.
 
 pub placed-more : (ts us : List Used) (xs : List Order) → ArePlaced ts xs → ArePlaced (ts ++ us) xs
@@ -82,7 +71,7 @@ open-more ts us i t (x ∷ xs) h =
     let b : open_in (ts ++ us) i t xs ≡ open_in ts i t xs = open-more ts us i t xs h.1 in omega arith
 
 pub same-name : (m i : ℕ) (e t : Token) → is_name m e i t ≡ true → (m ≡ i) × (e ≡ t)
-same-name m i e t h = let a = and_parts (eqb m i) (is_token e t) h in (eqb-true m i a.0, is_token-true e t a.1)
+same-name m i e t h = let a = and_parts (eqb m i) (is_token e t) h in (eqb-true m i a.0, same_token e t a.1)
 
 -- an unused token's chain has no live order, and nothing executed
 pub open-unused : (ts : List Used) (i : ℕ) (t : Token) (xs : List Order) → is_used ts i t ≡ false → ArePlaced ts xs → open_in ts i t xs ≡ 0
@@ -94,7 +83,7 @@ open-unused ts i t (x ∷ xs) u h =
     none : (b : Bool) → is_name x.member (entered_of ts x.member x.token) i t ≡ b → cond b x.shares 0 ≡ 0
     none true e =
         let s = same-name x.member i (entered_of ts x.member x.token) t e in
-        let used : is_used ts x.member (entered_of ts x.member x.token) ≡ true = used-get ts x.chain (entered_used x.member (entered_of ts x.member x.token)) h.0.at in
+        let used : is_used ts x.member (entered_of ts x.member x.token) ≡ true = is_used-at ts x.chain (entered_used x.member (entered_of ts x.member x.token)) h.0.at in
         let at : is_used ts i t ≡ true = subst (λ k. is_used ts k t ≡ true) s.0 (subst (λ (z : Token). is_used ts x.member z ≡ true) s.1 used) in
         absurd (let z : true ≡ false = sym at ∙ u in cc)
     none false e = refl

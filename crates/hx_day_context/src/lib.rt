@@ -23,6 +23,6 @@ pub use notices::{
     notice_of_end, tell_end,
 };
 pub use seated::{SessionSlotInput, SessionSlotOutput};
-pub use session_slots::{SessionSlots, Sitter};
+pub use session_slots::{ActiveSession, SessionSlots};
 pub use status::write_status;
 pub use trading_status::{Stage, TradingStatus};

@@ -11,7 +11,7 @@ const NUMBERS: usize = 4096;
 
 /// A session that runs.
 #[derive(Clone, Copy, Debug, PartialEq, Eq)]
-pub struct Sitter {
+pub struct ActiveSession {
     /// The member who has logged in.
     pub member: MemberNo,
     /// From where.
@@ -21,7 +21,7 @@ pub struct Sitter {
 // A session slot, in which one session runs at a time.
 #[derive(Drop)]
 struct SessionSlot {
-    sitter: Mutex<Option<Sitter>>,
+    active_session: Mutex<Option<ActiveSession>>,
     // Whether the operator wants the session to end.
     is_called: AtomicBool,
 }
@@ -42,7 +42,7 @@ impl SessionSlots {
         let mut session_slots = Vec::with_capacity(alloc, count)?;
         for _ in 0..count {
             session_slots.push(SessionSlot {
-                sitter: Mutex::new(None),
+                active_session: Mutex::new(None),
                 is_called: AtomicBool::new(false),
             })?;
         }
@@ -67,34 +67,34 @@ impl SessionSlots {
         self.session_slots.is_empty()
     }
 
-    /// A member sits down.
-    pub fn sit(&self, rt: &impl Wait, session_slot: usize, sitter: Sitter) {
+    /// A session of a member begins in the slot.
+    pub fn occupy(&self, rt: &impl Wait, session_slot: usize, active_session: ActiveSession) {
         if let Some(session_slot) = self.session_slots.get(session_slot) {
             session_slot.is_called.store(false, Ordering::SeqCst);
-            *session_slot.sitter.lock(rt) = Some(sitter);
+            *session_slot.active_session.lock(rt) = Some(active_session);
         }
     }
 
     /// The slot is empty again. Returns whether the operator had called its session off.
-    pub fn rise(&self, rt: &impl Wait, session_slot: usize) -> bool {
+    pub fn vacate(&self, rt: &impl Wait, session_slot: usize) -> bool {
         let Some(session_slot) = self.session_slots.get(session_slot) else {
             return false;
         };
-        *session_slot.sitter.lock(rt) = None;
+        *session_slot.active_session.lock(rt) = None;
         session_slot.is_called.swap(false, Ordering::SeqCst)
     }
 
     /// The session in this slot.
-    pub fn sitter(&self, rt: &impl Wait, session_slot: usize) -> Option<Sitter> {
+    pub fn active_session(&self, rt: &impl Wait, session_slot: usize) -> Option<ActiveSession> {
         let session_slot = self.session_slots.get(session_slot)?;
-        *session_slot.sitter.lock(rt)
+        *session_slot.active_session.lock(rt)
     }
 
     /// The number of slots that are taken.
     pub fn taken(&self, rt: &impl Wait) -> u64 {
         let mut taken: u64 = 0;
         for session_slot in &self.session_slots {
-            if session_slot.sitter.lock(rt).is_some() {
+            if session_slot.active_session.lock(rt).is_some() {
                 taken = taken.saturating_add(1);
             }
         }
@@ -105,8 +105,8 @@ impl SessionSlots {
     pub fn call_off(&self, rt: &impl Wait, member: MemberNo) -> u64 {
         let mut count: u64 = 0;
         for session_slot in &self.session_slots {
-            let sitter = *session_slot.sitter.lock(rt);
-            if sitter.is_some_and(|sitter| sitter.member == member) {
+            let active_session = *session_slot.active_session.lock(rt);
+            if active_session.is_some_and(|active_session| active_session.member == member) {
                 session_slot.is_called.store(true, Ordering::SeqCst);
                 count = count.saturating_add(1);
             }

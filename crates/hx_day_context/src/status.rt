@@ -47,12 +47,12 @@ fn write_sessions<B>(
         session_slots.len()
     );
     for session_slot in 0..session_slots.len() {
-        if let Some(sitter) = session_slots.sitter(rt, session_slot) {
+        if let Some(active_session) = session_slots.active_session(rt, session_slot) {
             let _ = write!(
                 lines,
                 "member {} from {}\n",
-                sitter.member.get(),
-                sitter.from
+                active_session.member.get(),
+                active_session.from
             );
         }
     }

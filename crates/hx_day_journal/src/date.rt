@@ -7,9 +7,9 @@ use std::alloc::{AllocError, Global};
 const DIGITS: usize = 8;
 
 // The digit of a number at an index, counted from the last.
-fn digit(number: u32, place: u32) -> u8 {
+fn digit(number: u32, index: u32) -> u8 {
     let mut rest = number;
-    for _ in 0..place {
+    for _ in 0..index {
         rest /= 10;
     }
     b'0' + (rest % 10) as u8
@@ -24,8 +24,8 @@ pub fn date_of(alloc: Global, day: u64) -> Result<Vec<u8>, AllocError> {
     let year = u32::from(date.year.unsigned_abs());
     let number = year * 10_000 + u32::from(date.month) * 100 + u32::from(date.day);
     let mut text = Vec::with_capacity(alloc, DIGITS)?;
-    for place in 0..DIGITS {
-        text.push(digit(number, (DIGITS - 1 - place) as u32))?;
+    for index in 0..DIGITS {
+        text.push(digit(number, (DIGITS - 1 - index) as u32))?;
     }
     Ok(text)
 }

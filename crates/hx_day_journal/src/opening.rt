@@ -1,11 +1,4 @@
 //! How the journal of a day is opened.
-ghost use Rattle.std.specs.Prelude.{◌≡◌, true, IfOk};
-ghost use Rattle.hx_disk.specs.Calls.{seen_of};
-ghost use Rattle.hx_journal.specs.Files.{stored, appended};
-ghost use Rattle.hx_journal.specs.Records.{records_of};
-ghost use Rattle.hx_tape_lines.specs.Text.{record_of};
-ghost use Rattle.hx_desk.specs.Entries.{restored};
-ghost use Rattle.hx_engine.specs.Journals.{lines};
 
 use crate::date::date_of;
 use crate::fault::DayJournalError;
@@ -62,15 +55,7 @@ pub fn open_journal<'a, B: NoticeSink, T: Files<File = fs::File> + AllocGlobal +
     notice_sink: &'a B,
     path: &str,
     wanted: Wanted<'_>,
-) -> Result<Recovered<DayFile<'a, B, T>>, DayJournalError>
-    ensures appended { IfOk result (λ r.
-        records_of (appended (λ d. seen_of d.log.events) r.journal)
-        ≡ lines record_of (restored r.events.items)) }
-    ensures durable { IfOk result (λ r.
-        records_of (stored (λ d. seen_of d.log.events) r.journal)
-        ≡ lines record_of (restored r.events.items)) }
-    ensures is_open { IfOk result (λ r. r.journal.is_open ≡ true) }
-{
+) -> Result<Recovered<DayFile<'a, B, T>>, DayJournalError> {
     let alloc = rt.alloc();
     let day = date_of(alloc, wanted.day)?;
     let head = Head::new(alloc, wanted.session, &day, wanted.setup)?;

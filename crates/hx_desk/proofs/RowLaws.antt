@@ -186,13 +186,13 @@ times_of_first m (x ∷ ms) (suc i) = at (cond (eqb x m) 1 0) (times m (take i m
     at b n k l = omega arith
 
 -- the reply to one more of these members is published
-pub one_published : (counts old members : List ℕ) (rows : List (Vec (ArrayVec ℕ))) (row : Vec (ArrayVec ℕ)) (i place n : ℕ) → i < length members → place < length counts → place < length rows
-    → place ≡ slice_index members i → n ≡ get_or counts place n → row ≡ get_or rows place row
-    → slice_index counts place ≡ slice_index old place + times place (take i members)
-    → slice_index old place + times place members ≤ length (row_of (map row_texts rows) place)
-    → (n ≡ slice_index counts place) × (n < length row.items)
-one_published counts old members rows row i place n within in_counts in_rows is at here all room =
-    let read : n ≡ slice_index counts place = get_or_read counts place n in_counts at 0 in
-    let once : ◌≡◌ {A = ℕ} (cond (eqb (slice_index members i) place) 1 0) 1 = ap (λ (b : Bool). cond b 1 0) (eq-eqb (slice_index members i) place (sym is)) in
-    let row_is : length (row_of (map row_texts rows) place) ≡ length row.items = ap (λ (r : List (List ℕ)). length r) (row_at rows place row in_rows here) ∙ length-map row.items (λ (x : ArrayVec ℕ). x.items) in
-    (read, omega (arith, read, once, all, room, row_is, next_time place members i within, times_of_first place members (i + 1)))
+pub one_published : (counts old members : List ℕ) (rows : List (Vec (ArrayVec ℕ))) (row : Vec (ArrayVec ℕ)) (i index n : ℕ) → i < length members → index < length counts → index < length rows
+    → index ≡ slice_index members i → n ≡ get_or counts index n → row ≡ get_or rows index row
+    → slice_index counts index ≡ slice_index old index + times index (take i members)
+    → slice_index old index + times index members ≤ length (row_of (map row_texts rows) index)
+    → (n ≡ slice_index counts index) × (n < length row.items)
+one_published counts old members rows row i index n within in_counts in_rows is at here all room =
+    let read : n ≡ slice_index counts index = get_or_read counts index n in_counts at 0 in
+    let once : ◌≡◌ {A = ℕ} (cond (eqb (slice_index members i) index) 1 0) 1 = ap (λ (b : Bool). cond b 1 0) (eq-eqb (slice_index members i) index (sym is)) in
+    let row_is : length (row_of (map row_texts rows) index) ≡ length row.items = ap (λ (r : List (List ℕ)). length r) (row_at rows index row in_rows here) ∙ length-map row.items (λ (x : ArrayVec ℕ). x.items) in
+    (read, omega (arith, read, once, all, room, row_is, next_time index members i within, times_of_first index members (i + 1)))

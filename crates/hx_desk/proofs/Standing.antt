@@ -12,7 +12,8 @@ use Rattle.hx_rules.specs.declared.event.Event.{Event}
 use Rattle.hx_market.specs.Markets.{Market, opening}
 use Rattle.hx_market.specs.Outputs.{Reply}
 use Rattle.hx_market.specs.Refusals.{refusal}
-use Rattle.hx_laws.specs.Recorded.{AreAccepted, AreRecorded}
+use Rattle.hx_laws.specs.Recorded.{AreRecorded}
+use Rattle.hx_laws.proofs.Accepted.{accepted_push, market_after_push, accepted_front}
 use Rattle.hx_market.specs.Steps.{step, market_after, outputs_from, run, output, feed_of, replies_among, replies_of, feed, replies}
 use Rattle.hx_desk.specs.declared.entry.Entry.{Entry}
 use Rattle.hx_desk.specs.declared.mark.Mark.{Mark}
@@ -24,13 +25,9 @@ use Rattle.hx_desk.specs.Desks.{DeskState, IsStanding, desk_of}
 use Rattle.hx_desk.specs.InStep.{IsMark, AreInStep, replies_after}
 use Rattle.hx_blog.proofs.Feeds.{feed-append}
 use Rattle.hx_desk.proofs.Growth.{replies_append}
+use Rattle.hx_units.proofs.Lists.{slice_index-zeros}
 
 -- One more event.
-
-market_more : (setup : Setup) (a : Market) (xs : List Event) (e : Event) → market_after setup a (xs ++ e ∷ []) ≡ (step setup (market_after setup a xs) e).market
-unfolding market_after
-market_more setup a [] e = refl
-market_more setup a (x ∷ xs) e = market_more setup (step setup a x).market xs e
 
 ledger_more : (setup : Setup) (a : Market) (xs : List Entry) (e : Entry)
     → ledger_from setup a (xs ++ e ∷ []) ≡ ledger_from setup a xs ++ (e, feed_spelled (step setup (market_after setup a (events_of xs)) e.event).output.feed) ∷ []
@@ -46,11 +43,6 @@ replies_more setup a p xs e =
     ∙ ap (λ (l : List Outbound). replies_of p (outputs_from setup a xs) ++ l) (append-nil (replies_among p (step setup (market_after setup a xs) e).output.replies))
 
 -- The events that are accepted.
-
-accepted_push : (setup : Setup) (a : Market) (xs : List Event) (x : Event) → AreAccepted setup a xs → refusal setup (market_after setup a xs).recorded x ≡ None → AreAccepted setup a (xs ++ x ∷ [])
-unfolding market_after
-accepted_push setup a [] x h r = (r, tt)
-accepted_push setup a (y ∷ xs) x h r = (h.0, accepted_push setup (step setup a y).market xs x h.1 r)
 
 -- The feed that is published.
 
@@ -168,10 +160,6 @@ replies_begin setup p n h =
           ∙ ap replies_spelled (sym (replies_append setup (opening setup) p xs ys) ∙ ap (λ (es : List Event). replies_of p (outputs_from setup (opening setup) es)) all),
     )
 
-accepted_front : (setup : Setup) (a : Market) (xs ys : List Event) → AreAccepted setup a (xs ++ ys) → AreAccepted setup a xs
-accepted_front setup a [] ys h = tt
-accepted_front setup a (x ∷ xs) ys h = (h.0, accepted_front setup (step setup a x).market xs ys h.1)
-
 -- a beginning of a history that the market accepts
 pub accepted_take : (setup : Setup) (n : ℕ) (h : List Entry) → AreRecorded setup (events_of h) → AreRecorded setup (events_of (take n h))
 accepted_take setup n h all =
@@ -219,11 +207,6 @@ shown_same (n ∷ counts) (r ∷ rows) (s ∷ more) e f = let here : take n s �
 shown_none : (n : ℕ) → shown (replicate n 0) (replicate n []) ≡ replicate n []
 shown_none zero = refl
 shown_none (suc n) = ap (λ (l : RowList). [] ∷ l) (shown_none n)
-
-index_of_zeros : (n m : ℕ) → slice_index (replicate n 0) m ≡ 0
-index_of_zeros zero m = refl
-index_of_zeros (suc n) zero = refl
-index_of_zeros (suc n) (suc m) = index_of_zeros n m
 
 pub shows_nothing : (counts : List ℕ) (rows : RowList) → counts ≡ replicate 4096 0 → rows ≡ no_rows → shown counts rows ≡ no_rows
 shows_nothing counts rows c r = (λ i. shown (c i) (r i)) ∙ shown_none 4096
@@ -284,7 +267,7 @@ starts setup market published staged h rows counts start writing waiting opens n
     } in
     let row : (p : ℕ) → row_of rows p ≡ replies_after setup p h = λ p. ap (λ (r : RowList). row_of r p) is_empty ∙ (row_of_none 4096 p ∙ ap (λ (k : List Entry). replies_after setup p k) (sym empty)) in
     let count : (p : ℕ) → slice_index counts p ≡ length (replies_after setup p h) =
-    λ p. ap (λ (k : List ℕ). slice_index k p) zero_counts ∙ (index_of_zeros 4096 p ∙ ap (λ (k : List Entry). length (replies_after setup p k)) (sym empty)) in
+    λ p. ap (λ (k : List ℕ). slice_index k p) zero_counts ∙ (slice_index-zeros 4096 p ∙ ap (λ (k : List Entry). length (replies_after setup p k)) (sym empty)) in
     let before : (p : ℕ) → slice_index counts p ≡ length (replies_after setup p (take start.entries h)) = λ p. count p ∙ ap (λ (k : List Entry). length (replies_after setup p k)) (sym none) in
     record {
       runs = opens ∙ ap (λ (k : List Entry). run setup (events_of k)) (sym empty);
@@ -298,7 +281,7 @@ starts setup market published staged h rows counts start writing waiting opens n
       sized_counts = ap (λ (k : List ℕ). length k) zero_counts ∙ length-replicate {A = ℕ} 4096 0;
       replies = λ p l. row p;
       published_replies = λ p l. before p;
-      flying_replies = λ p l. omega (arith, before p, ap (λ (k : List ℕ). times p k) nobody);
+      writing_replies = λ p l. omega (arith, before p, ap (λ (k : List ℕ). times p k) nobody);
       all_replies = λ p l. omega (arith, count p, ap (λ (k : List ℕ). times p k) nobody, ap (λ (k : List ℕ). times p k) nobody');
     }
 
@@ -327,7 +310,7 @@ market_next : (setup : Setup) (market : Market) (h : List Entry) (e : Entry) →
 unfolding run
 market_next setup market h e runs =
     ap (λ (m : Market). (step setup m e.event).market) runs
-    ∙ sym (market_more setup (opening setup) (events_of h) e.event)
+    ∙ sym (market_after_push setup (opening setup) (events_of h) e.event)
     ∙ ap (run setup) (sym (map-append (λ (x : Entry). x.event) h (e ∷ [])))
 
 accepted_next : (setup : Setup) (market : Market) (h : List Entry) (e : Entry) → market ≡ run setup (events_of h) → AreRecorded setup (events_of h) → refusal setup market.recorded e.event ≡ None
@@ -360,7 +343,7 @@ grown setup market published staged h rows counts published_end sealed writing w
           ∙ ap (λ (r : List (List ℕ)). r ++ replies_spelled (replies_among p rs)) (s.replies p l)
           ∙ sym (replies_next setup market p h e s.runs);
       published_replies = λ p l. s.published_replies p l ∙ ap (λ (k : List Entry). length (replies_after setup p k)) (before published_end.entries s.published_mark.within);
-      flying_replies = λ p l. s.flying_replies p l ∙ ap (λ (k : List Entry). length (replies_after setup p k)) (before sealed.entries s.sealed_mark.within);
+      writing_replies = λ p l. s.writing_replies p l ∙ ap (λ (k : List Entry). length (replies_after setup p k)) (before sealed.entries s.sealed_mark.within);
       all_replies = λ p l.
           omega (
             arith,
@@ -396,10 +379,10 @@ still_shown setup market published staged h rows counts published_end sealed wri
 -- The sealed entries are published.
 
 -- the messages of the sealed entries are the first ones that are staged
-pub flying_staged : (setup : Setup) (published : blog.Entries Entry) (staged : List (List ℕ)) (h : List Entry) (published_end sealed : Mark) → published_end.entries ≤ sealed.entries
+pub writing_staged : (setup : Setup) (published : blog.Entries Entry) (staged : List (List ℕ)) (h : List Entry) (published_end sealed : Mark) → published_end.entries ≤ sealed.entries
     → published ≡ ledger setup (take published_end.entries h) → blog.feed published ++ staged ≡ blog.feed (ledger setup h)
     → blog.feed (drop published_end.entries (take sealed.entries (ledger setup h))) ++ blog.feed (drop sealed.entries (ledger setup h)) ≡ staged
-flying_staged setup published staged h published_end sealed order is all =
+writing_staged setup published staged h published_end sealed order is all =
     let whole = ledger setup h in
     let between = drop published_end.entries (take sealed.entries whole) in
     let left = drop sealed.entries whole in
@@ -427,9 +410,9 @@ still_staged setup h n =
     ∙ ap blog.feed (take-append-drop n whole)
 
 -- the number of these messages
-pub flying_count : (setup : Setup) (h : List Entry) (published_end sealed : Mark) → published_end.entries ≤ sealed.entries → IsMark setup h published_end → IsMark setup h sealed
+pub writing_count : (setup : Setup) (h : List Entry) (published_end sealed : Mark) → published_end.entries ≤ sealed.entries → IsMark setup h published_end → IsMark setup h sealed
     → sealed.messages ≡ published_end.messages + length (blog.feed (drop published_end.entries (take sealed.entries (ledger setup h))))
-flying_count setup h published_end sealed order t s =
+writing_count setup h published_end sealed order t s =
     let between = drop published_end.entries (take sealed.entries (ledger setup h)) in
     let front = ledger setup (take published_end.entries h) in
     let all : front ++ between ≡ ledger setup (take sealed.entries h) = now_published setup front h published_end sealed order refl in

@@ -136,7 +136,7 @@ needed_of d event = length (step d.setup d.market event).output.feed
 abbrev pub refusal_of : DeskState → Event → Option PrepareError
 refusal_of d event = refusal d.setup d.market.recorded event
 
--- The desk has grown by an entry, and published nothing: the entry's place in the history is counted from 1, and so is
+-- The desk has grown by an entry, and published nothing: the entry's position in the history is counted from 1, and so is
 -- the number of its first message of the feed.
 pub record Grows (old new : DeskState) (entry : Entry) (done : Done) : Type 0 where
   pub log : new.log ≡ old.log
@@ -164,7 +164,7 @@ pub record Releases (old new : DeskState) : Type 0 where
   pub reserved : new.reserved ≡ old.reserved
 
 -- The desk has grown by an entry, and all of its history is published: the log has the history with its feed, and each
--- row is its member's replies to the history. The entry's place in the history is counted from 1, and so is the number
+-- row is its member's replies to the history. The entry's position in the history is counted from 1, and so is the number
 -- of its first message of the feed.
 pub record Submits (old new : DeskState) (entry : Entry) (done : Done) : Type 0 where
   pub log : new.log ≡ old.log

@@ -50,7 +50,7 @@ pub record AreInStep
   pub published_replies :
       (m : ℕ) → m < row_count
       → slice_index counts m ≡ length (replies_after setup m (take published_end.entries history))
-  pub flying_replies :
+  pub writing_replies :
       (m : ℕ) → m < row_count
       → slice_index counts m + times m writing
       ≡ length (replies_after setup m (take sealed.entries history))

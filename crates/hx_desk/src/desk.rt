@@ -360,7 +360,7 @@ impl Desk {
     }
 
     /// The members of the replies to the sealed entries, each once per reply.
-    pub fn flying_members(&self) -> &[MemberNo]
+    pub fn writing_members(&self) -> &[MemberNo]
         ensures { AreAnswered self.now.setup (take self.now.published_end self.now.history)
             (take self.now.sealed self.now.history) result.now }
     {

@@ -11,10 +11,10 @@ pub struct Entry {
     pub event: Event,
 }
 
-/// The answer for a recorded event: its place in the history, and its messages of the feed.
+/// The answer for a recorded event: its position in the history, and its messages of the feed.
 #[derive(Clone, Copy, Debug, PartialEq, Eq)]
 pub struct Done {
-    /// Its place in the history, from 1.
+    /// Its position in the history, from 1.
     pub place: u64,
     /// The number, from 1, of its first message of the feed; if it has none, of the next message to come.
     pub first: u64,

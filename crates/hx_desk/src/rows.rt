@@ -69,10 +69,10 @@ fn make_room(
 {
     clear(counts, members);
     for member in members {
-        let place = member.get() as usize;
-        let count = counts[place] + 1;
-        counts[place] = count;
-        let row = &mut rows[place];
+        let row_index = member.get() as usize;
+        let count = counts[row_index] + 1;
+        counts[row_index] = count;
+        let row = &mut rows[row_index];
         row.reserve(count)?;
     }
     Ok(())
@@ -127,11 +127,11 @@ fn raise(counts: &mut Vec<usize>, rows: &[Row], members: &[MemberNo])
     ensures raised { AreRaised counts.old.items counts.new.items members.now }
 {
     for member in members {
-        let place = member.get() as usize;
-        let most = rows[place].len();
-        let count = counts[place];
+        let row_index = member.get() as usize;
+        let most = rows[row_index].len();
+        let count = counts[row_index];
         prove!(count < most);
-        counts[place] = count + 1;
+        counts[row_index] = count + 1;
     }
 }
 
@@ -183,9 +183,9 @@ impl Rows {
         ensures few { length (published_row self.now member) < 2 ^ 63 }
         ensures range { member < 4096 }
     {
-        let place = member.get() as usize;
-        let row = &self.rows[place];
-        let published_end = self.published_end[place].min(row.len());
+        let row_index = member.get() as usize;
+        let row = &self.rows[row_index];
+        let published_end = self.published_end[row_index].min(row.len());
         &row[..published_end]
     }
 

@@ -4,23 +4,10 @@ use mathlib.Core.Logic.{inl, inr}
 use Rattle.std.proofs.Common.{arith}
 use Rattle.hx_disk.specs.Device.{Mixed, Cut}
 
--- A call with its answer: which call, an offset or a length, whether it succeeded, and bytes. Calls
--- stand in a list, the newest first.
+-- A call with its answer: which call (0 opens the file, 1 writes, 2 cuts it, 3 syncs it), an offset
+-- or a length, whether it succeeded, and bytes. Calls stand in a list, the newest first.
 abbrev pub Event : Type 0
 Event = ℕ × ℕ × Bool × List ℕ
-
--- the file was opened, with these bytes, all of them on the disk
-abbrev pub opened : List ℕ → Event
-opened bytes = (0, 0, true, bytes)
-
-abbrev pub wrote : ℕ → Bool → List ℕ → Event
-wrote at ok bytes = (1, at, ok, bytes)
-
-abbrev pub cut_to : ℕ → Bool → List ℕ → Event
-cut_to len ok bytes = (2, len, ok, bytes)
-
-abbrev pub synced : ℕ → Bool → List ℕ → Event
-synced offset ok bytes = (3, offset, ok, bytes)
 
 abbrev pub event_of : List ℕ → List ℕ → Event
 event_of numbers bytes =

@@ -16,7 +16,7 @@ use Rattle.hx_desk.specs.Desks.{DeskState, IsStanding, published_of}
 use Rattle.hx_engine.specs.Passes.{PassState, sent_from, sent_in, AreSomeOf}
 use Rattle.hx_engine.specs.Finish.{times_given, AreAllOnce, sent_by_all, is_any_waiting, IsReturned, IsFinished}
 use Rattle.hx_desk.proofs.Standing.{published_is, take_whole}
-use Rattle.hx_engine.proofs.Places.{some_length, some_all}
+use Rattle.hx_engine.proofs.Positions.{some_length, some_all}
 use Rattle.hx_engine.proofs.PassLaws.{published_by, history_known}
 use lib.ListN.{length-map}
 use Rattle.hx_itch.specs.Message.{feed_bytes}

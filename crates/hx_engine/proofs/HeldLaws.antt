@@ -1,5 +1,5 @@
 -- The state under the lock, and the batch on its way to the journal.
-use Rattle.std.proofs.Common.{◌≡◌, inl, inr, ℕ, zero, suc, ◌+◌, ◌<◌, ◌≤◌, List, [], ◌∷◌, ◌++◌, length, take, drop, get_or, refl, ap, sym, ◌∙◌, subst, arith, append_assoc, append-nil, length-append}
+use Rattle.std.proofs.Common.{◌≡◌, inl, inr, ℕ, zero, suc, ◌+◌, ◌<◌, ◌≤◌, List, [], ◌∷◌, ◌++◌, length, take, drop, get_or, refl, ap, sym, ◌∙◌, subst, arith, append_assoc}
 use Rattle.std.proofs.lemmas.List.{map-append, length-map, length-take, length-take-le, take-append-le, drop-append-le, take-append-drop}
 use Rattle.std.proofs.Math.Seq.{take-append_seam}
 use Rattle.std.specs.List.{AllByRecursion}
@@ -95,8 +95,8 @@ spelled_from line h published_end sealed published known texts l is p same are =
     are ∙ ap (λ k. lines line (drop k h)) same
     ∙ ap (lines line) (sym (published_of_unspoken (drop published_end h)) ∙ ap history_of (sym (drop_unspoken published_end h)) ∙ (λ i. history_of (drop (sym n i) (sym is i))))
 
-pub landed_at : (h : List Entry) (sealed end : ℕ) (published known register : Entries Entry) → published ≡ known → end ≡ length known → sealed ≡ end → IsPrefix known register → register ≡ unspoken h → published ≡ unspoken (take sealed h)
-landed_at h sealed end published known register all ends same p is =
+pub published_at : (h : List Entry) (sealed end : ℕ) (published known register : Entries Entry) → published ≡ known → end ≡ length known → sealed ≡ end → IsPrefix known register → register ≡ unspoken h → published ≡ unspoken (take sealed h)
+published_at h sealed end published known register all ends same p is =
     all ∙ front known register p ∙ (λ i. take (sym (same ∙ ends) i) (is i)) ∙ take_unspoken sealed h
 
 -- Records.
@@ -147,17 +147,6 @@ known_lines line known published h p is = (
 )
 
 -- What a crash leaves.
-
-none_of : {A : Type 0} (xs : List A) → length xs ≡ 0 → xs ≡ []
-none_of [] is = refl
-none_of (x ∷ xs) is = absurd (omega (arith, is))
-
--- each of two lists begins with the other
-pub same_both : {A : Type 0} (xs ys : List A) → IsPrefix xs ys → IsPrefix ys xs → xs ≡ ys
-same_both {A = A} xs ys p q =
-    let more = sym (length-append xs p.0) ∙ ap length p.1 in
-    let less = sym (length-append ys q.0) ∙ ap length q.1 in
-    sym (append-nil xs) ∙ ap (λ (r : List A). xs ++ r) (sym (none_of p.0 (omega (arith, more, less)))) ∙ p.1
 
 -- a history begins with the events that were durable before
 pub begins_before : (before : List Event) (h : List Entry) → take (length before) h ≡ restored before → IsPrefix (restored before) h

@@ -1,5 +1,5 @@
 pub mod HeldLaws
-pub mod Places
+pub mod Positions
 pub mod PassLaws
 pub mod AllBack
 pub mod Refusing

@@ -23,7 +23,9 @@ use Rattle.hx_engine.specs.Passes.{Sent, PassState, sent_by, placed, sent_from, 
 use Rattle.hx_engine.specs.Exchanges.{Sends, SendsAll, SendsFirst, Enters, Settles, LastDone, IsAudit}
 use Rattle.hx_engine.specs.Journals.{unspoken}
 use Rattle.hx_desk.specs.Known.{IsWhole}
-use Rattle.hx_engine.proofs.Places.{more_known, history_of_ledger, stand_at, are_below, all_sent, sent_append, some_of_more}
+use Rattle.hx_engine.proofs.Positions.{more_known, history_of_ledger, stand_at, are_below, all_sent, sent_append, some_of_more}
+use Rattle.hx_engine.proofs.HeldLaws.{published_of_unspoken}
+use Rattle.hx_units.proofs.Prefixes.{prefix_trans}
 
 -- what a standing desk of this setup published is the published part of its history, with its feed
 pub published_by : (setup : Setup) (d : DeskState) → IsStanding d → d.setup ≡ setup → d.published ≡ ledger setup (published_of d)
@@ -75,16 +77,12 @@ published_accepted setup d s of_setup = accepted_take setup d.published_end d.hi
 
 -- Histories that are written down.
 
-history_unspoken : (h : List Entry) → history_of (unspoken h) ≡ h
-history_unspoken [] = refl
-history_unspoken (e ∷ h) = ap (λ (l : List Entry). e ∷ l) (history_unspoken h)
-
 -- a history whose beginning is another history that was written down
 begins_with : (h : List Entry) (entered : Entries Entry) (history : List Entry) → entered ≡ unspoken h → IsPrefix entered (unspoken history) → (rest : List Entry) × (history ≡ h ++ rest)
 begins_with h entered history is p = (
   history_of p.0,
-  sym (history_unspoken history) ∙ ap history_of (sym p.1) ∙ map-append (λ (x : Entry × List (List ℕ)). x.0) entered p.0
-      ∙ ap (λ (k : Entries Entry). history_of k ++ history_of p.0) is ∙ ap (λ (l : List Entry). l ++ history_of p.0) (history_unspoken h),
+  sym (published_of_unspoken history) ∙ ap history_of (sym p.1) ∙ map-append (λ (x : Entry × List (List ℕ)). x.0) entered p.0
+      ∙ ap (λ (k : Entries Entry). history_of k ++ history_of p.0) is ∙ ap (λ (l : List Entry). l ++ history_of p.0) (published_of_unspoken h),
 )
 
 -- the published part of a longer history begins with a history that is no longer than that part
@@ -155,7 +153,7 @@ pub sends_one : (setup : Setup) (old new : PassState) (event : Event) (done : Do
 sends_one setup old new event done s =
     let last = s.last [] event refl in
     let same : s.before ++ [] ≡ s.before = append-nil s.before in
-    let place : done.place ≡ length s.before + 1 = last.place ∙ ap (λ (h : List Entry). length h + 1) same in
+    let position : done.place ≡ length s.before + 1 = last.place ∙ ap (λ (h : List Entry). length h + 1) same in
     record {
       before = s.before;
       after = s.after;
@@ -163,40 +161,37 @@ sends_one setup old new event done s =
       knows = s.knows;
       accepted = s.accepted;
       number = s.number;
-      sent = s.sent ∙ ap (λ k. old.sent ++ (k, event) ∷ []) (sym place);
-      place = place;
-      above = subst (λ k. AllByRecursion (λ x. x.0 < k) old.sent) (sym place) s.above;
+      sent = s.sent ∙ ap (λ k. old.sent ++ (k, event) ∷ []) (sym position);
+      place = position;
+      above = subst (λ k. AllByRecursion (λ x. x.0 < k) old.sent) (sym position) s.above;
       first = last.first ∙ ap (λ (h : List Entry). length (feed (ledger setup h)) + 1) same;
       count = last.count ∙ ap (λ (h : List Entry). length (step setup (run setup (events_of h)) event).output.feed) same;
       idle = s.idle;
     }
 
 -- an event enters a desk that stands
-ledger_more_from : (setup : Setup) (a : Market) (h rest : List Entry) → IsPrefix (ledger_from setup a h) (ledger_from setup a (h ++ rest))
+pub ledger_more_from : (setup : Setup) (a : Market) (h rest : List Entry) → IsPrefix (ledger_from setup a h) (ledger_from setup a (h ++ rest))
 unfolding ledger_from
 ledger_more_from setup a [] rest = (ledger_from setup a rest, refl)
 ledger_more_from setup a (e ∷ h) rest =
     let more = ledger_more_from setup (step setup a e.event).market h rest in
     (more.0, ap (λ (l : Entries Entry). (e, feed_spelled (step setup a e.event).output.feed) ∷ l) more.1)
 
-ledger_more : (setup : Setup) (h rest : List Entry) → IsPrefix (ledger setup h) (ledger setup (h ++ rest))
+pub ledger_more : (setup : Setup) (h rest : List Entry) → IsPrefix (ledger setup h) (ledger setup (h ++ rest))
 unfolding ledger
 ledger_more setup h rest = ledger_more_from setup (opening setup) h rest
-
-then : {A : Type 0} (xs ys zs : List A) → IsPrefix xs ys → IsPrefix ys zs → IsPrefix xs zs
-then xs ys zs p q = (p.0 ++ q.0, sym (append_assoc xs p.0 q.0) ∙ (ap (λ w. w ++ q.0) p.1 ∙ q.1))
 
 pub enters : (setup : Setup) (d e : DeskState) (number : ℕ) (events : List Event) (known entered : Entries Entry) (done : Done) → IsStanding d → d.setup ≡ setup
     → e.history ≡ d.history ++ sent_by number events → done.place ≡ length d.history + length events → LastDone setup number d.history events done
     → IsPrefix known d.published → entered ≡ unspoken e.history → Enters setup number events known entered done
-enters setup d e number events known entered done s of_setup grows place last knew written =
+enters setup d e number events known entered done s of_setup grows position last knew written =
     let published_end : d.published ≡ ledger setup (published_of d) = published_by setup d s of_setup in
     let all : IsPrefix (ledger setup (published_of d)) (ledger setup d.history) = subst (λ (h : List Entry). IsPrefix (ledger setup (published_of d)) (ledger setup h)) (take-append-drop d.published_end d.history) (ledger_more setup (published_of d) (drop d.published_end d.history)) in
     record {
       before = d.history;
-      knew = then known (ledger setup (published_of d)) (ledger setup d.history) (subst (IsPrefix known) published_end knew) all;
+      knew = prefix_trans known (ledger setup (published_of d)) (ledger setup d.history) (subst (IsPrefix known) published_end knew) all;
       written = written ∙ ap unspoken grows;
-      place = place;
+      place = position;
       last = last;
     }
 

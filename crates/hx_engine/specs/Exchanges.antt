@@ -97,15 +97,15 @@ pub record Enters
   pub place : done.place ≡ length before + length events
   pub last : LastDone setup number before events done
 
--- The market accepts the history, which begins with what was entered. It is published at least up to `place`, and
+-- The market accepts the history, which begins with what was entered. It is published at least up to `position`, and
 -- exactly what is published is known.
 pub record Settles
-    (setup : Setup) (place : ℕ) (entered old new : Entries Entry)
+    (setup : Setup) (position : ℕ) (entered old new : Entries Entry)
     : Type 0 where
   pub history : List Entry
   pub published_end : ℕ
   pub begins : IsPrefix entered (unspoken history)
-  pub far : place ≤ published_end
+  pub far : position ≤ published_end
   pub knew : IsPrefix old new
   pub knows : new ≡ ledger setup (take published_end history)
   pub accepted : AreRecorded setup (events_of history)
@@ -159,7 +159,7 @@ pub record LearnsMore (old new : PassState) : Type 0 where
   pub known : IsPrefix old.known new.known
 
 -- The market accepts the history, which is exactly what the reader and the pass know. The events of the pass are among
--- its entries under its number, each at its own place in the history, in their order. The feed that the reader knows,
+-- its entries under its number, each at its own position in the history, in their order. The feed that the reader knows,
 -- of which it has read a beginning, discloses nothing of quiet chains.
 pub record IsAudit
     (setup : Setup) (history : List Entry) (reader : ReaderState Entry) (pass : PassState)

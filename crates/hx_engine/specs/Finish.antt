@@ -42,7 +42,7 @@ is_any_waiting (p ∷ passes) = if length p.waiting == 0 then is_any_waiting pas
 
 -- The market accepts the history. It begins with the events that were durable before, and has exactly one entry more
 -- for each event that the passes sent. What each pass sent are exactly its entries, each once and in order, at their
--- places in the history. What a pass knew is a beginning of the history with its feed. `messages` is the number of
+-- positions in the history. What a pass knew is a beginning of the history with its feed. `messages` is the number of
 -- messages of that feed.
 pub record IsFinished
     (setup : Setup) (durable_before : List Event) (passes : List PassState) (history : List Entry)

@@ -5,7 +5,7 @@ use Rattle.hx_rules.specs.declared.event.Event.{Event}
 use Rattle.hx_desk.specs.declared.entry.Entry.{Entry}
 use Rattle.hx_desk.specs.Entries.{entry_of}
 
--- an event that was sent, with its place in the history, which is counted from 1
+-- an event that was sent, with its position in the history, which is counted from 1
 abbrev pub Sent : Type 0
 Sent = ℕ × Event
 
@@ -26,14 +26,14 @@ abbrev pub new_passes : (count : ℕ) → List PassState
 new_passes zero = []
 new_passes (suc n) = new_passes n ++ new_pass (suc n) ∷ []
 
--- the entries of a pass, each with its place in the history, whose first entry is at `place`
-abbrev pub sent_from : (number place : ℕ) → List Entry → List Sent
-sent_from number place [] = []
-sent_from number place (e ∷ history) =
-    if e.pass == number then (place, e.event) ∷ sent_from number (place + 1) history
-    else sent_from number (place + 1) history
+-- the entries of a pass, each with its position in the history, whose first entry is at `position`
+abbrev pub sent_from : (number position : ℕ) → List Entry → List Sent
+sent_from number position [] = []
+sent_from number position (e ∷ history) =
+    if e.pass == number then (position, e.event) ∷ sent_from number (position + 1) history
+    else sent_from number (position + 1) history
 
--- the entries of a pass, with their places in the history
+-- the entries of a pass, with their positions in the history
 abbrev pub sent_in : (number : ℕ) → List Entry → List Sent
 sent_in number history = sent_from number 1 history
 
@@ -43,7 +43,7 @@ AreSomeOf xs [] = xs ≡ []
 AreSomeOf xs (y ∷ ys) =
     AreSomeOf xs ys ⊎ ((rest : List Sent) × (xs ≡ y ∷ rest) × AreSomeOf rest ys)
 
--- the event has its place in the history, under this number
+-- the event has its position in the history, under this number
 abbrev pub StandsAt : (number : ℕ) → List Entry → Sent → Type 0
 StandsAt number history x =
     (1 ≤ x.0) × (slice_get history (x.0 - 1) ≡ Some (entry_of number x.1))
@@ -52,7 +52,7 @@ StandsAt number history x =
 abbrev pub sent_by : (number : ℕ) → List Event → List Entry
 sent_by number events = map (entry_of number) events
 
--- events with their places in a history, after `later` entries
+-- events with their positions in a history, after `later` entries
 abbrev pub placed : (later : ℕ) → List Event → List Sent
 placed later [] = []
 placed later (e ∷ events) = (later + 1, e) ∷ placed (later + 1) events

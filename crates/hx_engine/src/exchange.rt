@@ -11,7 +11,7 @@ ghost use Rattle.hx_engine.specs.Finish.{is_any_waiting, AreAllOnce, IsMissing, 
 ghost use Rattle.hx_engine.specs.Journals.{lines, unspoken, IsLeft};
 
 use crate::answers::{Audit, FinishError, Finished};
-use crate::keeper::Keeper;
+use crate::journal_writer::JournalWriter;
 use crate::locked::Held;
 use crate::pass::Pass;
 use crate::pass_count::PassCount;
@@ -76,20 +76,20 @@ impl<V: Venue, J: Journal + Drop> Drop for Exchange<V, J> {
 }
 
 // Takes out the journal, which holds the records of all that is published.
-fn journal_of<V: Venue, J: Journal + Drop>(keeper: Option<Keeper<V, J>>) -> Option<J>
-    ensures { (h : List Entry) → IfSome keeper (λ k. k.writer.published ≡ unspoken h)
+fn journal_of<V: Venue, J: Journal + Drop>(journal_writer: Option<JournalWriter<V, J>>) -> Option<J>
+    ensures { (h : List Entry) → IfSome journal_writer (λ k. k.writer.published ≡ unspoken h)
         → IfSome result (λ j. (J.appended j ≡ lines record_of h) × (J.durable j ≡ J.appended j)
         × (J.is_open j ≡ true)
         × ((records : List (List ℕ)) → J.left_since j (J.moment j) records
         → IsBetween (J.durable j) records (J.appended j))) }
 {
-    match keeper {
-        Some(keeper) => {
-            let Keeper {
+    match journal_writer {
+        Some(journal_writer) => {
+            let JournalWriter {
                 journal,
                 writer: _,
                 of: _,
-            } = keeper;
+            } = journal_writer;
             journal.stands();
             Some(journal)
         }
@@ -152,7 +152,7 @@ impl<V: Venue, J: Journal + Drop> Exchange<V, J> {
             mut desk,
             mut book,
             mut spare,
-            keeper,
+            journal_writer,
             ..
         } = desk.into_inner();
         take_all_back(&mut desk, &log, &mut spare, passes);
@@ -165,7 +165,7 @@ impl<V: Venue, J: Journal + Drop> Exchange<V, J> {
             feed,
             log,
             writer,
-            journal: journal_of(keeper),
+            journal: journal_of(journal_writer),
         })
     }
 
@@ -195,13 +195,13 @@ impl<V: Venue, J: Journal + Drop> Exchange<V, J> {
         } = self;
         let Held {
             mut desk,
-            keeper,
+            journal_writer,
             ..
         } = desk.into_inner();
         let receipt = reader.receipt(&log);
         desk.confirm(&log, receipt);
         desk.stands();
-        journal_of(keeper)
+        journal_of(journal_writer)
     }
 
     /// A copy of the history, which is what the reader and the pass know from then on.

@@ -13,7 +13,7 @@ ghost use Rattle.hx_engine.specs.Exchanges.{DoneAt, LastDone, AreAdmittedUpTo, I
 use crate::answers::{SubmitError, refused};
 use crate::batch_write::{BatchWrite, WrittenBatch};
 use crate::entered::Entered;
-use crate::keeper::Keeper;
+use crate::journal_writer::JournalWriter;
 use crate::spelled::Records;
 use crate::venue::Venue;
 use hx_blog::{Log, NamesEntries, Receipt, Writer};
@@ -65,7 +65,7 @@ pub struct Held<V: Venue, J: Journal> {
     pub durable: Receipt<Entry>,
     // The records of the entries that are not sealed.
     pub records: Records,
-    pub keeper: Option<Keeper<V, J>>,
+    pub journal_writer: Option<JournalWriter<V, J>>,
     // Why the journal failed, if it did.
     pub failed: Option<JournalError>,
     // The sum of what was prefetched: nobody reads it.
@@ -87,7 +87,7 @@ pub struct Held<V: Venue, J: Journal> {
       known = unspoken (take desk.published_end desk.history);
     } },
     pub ghost spelled: { records ≡ lines record_of (drop desk.sealed desk.history) },
-    pub ghost home: { IfSome keeper (λ k.
+    pub ghost home: { IfSome journal_writer (λ k.
         (k.writer.published ≡ unspoken (take desk.published_end desk.history))
         × (desk.sealed ≡ desk.published_end)) } by { Prim.hlevel props },
 }
@@ -121,7 +121,7 @@ impl<V: Venue, J: Journal + Drop> Held<V, J> {
         spare: Share<V>,
         register: Writer<Entry>,
         durable: Receipt<Entry>,
-        keeper: Keeper<V, J>,
+        journal_writer: JournalWriter<V, J>,
     ) -> Held<V, J>
         requires desk { IsResumed V.log V.setup V.before desk }
         requires book { book.total ≡ 0 }
@@ -132,7 +132,7 @@ impl<V: Venue, J: Journal + Drop> Held<V, J> {
           staged = [];
         } }
         requires durable { durable ≡ record { log = V.durable; known = unspoken (restored V.before) } }
-        requires keeper { keeper.writer.published ≡ unspoken (restored V.before) }
+        requires journal_writer { journal_writer.writer.published ≡ unspoken (restored V.before) }
     {
         Held {
             desk,
@@ -141,7 +141,7 @@ impl<V: Venue, J: Journal + Drop> Held<V, J> {
             register,
             durable,
             records: Records::new(alloc),
-            keeper: Some(keeper),
+            journal_writer: Some(journal_writer),
             failed: None,
             prefetched: 0,
             alloc,
@@ -150,7 +150,9 @@ impl<V: Venue, J: Journal + Drop> Held<V, J> {
 
     /// Whether the journal is there and touches no disk.
     pub fn is_quick(&self) -> bool {
-        self.keeper.as_ref().is_some_and(|keeper| keeper.is_quick())
+        self.journal_writer
+            .as_ref()
+            .is_some_and(|journal_writer| journal_writer.is_quick())
     }
 
     /// Which threads have news since `seen` messages of the feed were published.
@@ -254,14 +256,14 @@ impl<V: Venue, J: Journal + Drop> Held<V, J> {
     }
 
     // Prefetches what the events from an index on are about, if all events that were prefetched before are admitted.
-    fn prefetch(&mut self, events: &[Event], place: usize)
-        requires { place ≤ length events.now }
+    fn prefetch(&mut self, events: &[Event], index: usize)
+        requires { index ≤ length events.now }
         ensures { self.new.desk ≡ self.old.desk }
     {
-        if place % AT_ONCE == 0 {
+        if index % AT_ONCE == 0 {
             self.prefetched = self
                 .prefetched
-                .wrapping_add(self.desk.prefetch(&events[place..]));
+                .wrapping_add(self.desk.prefetch(&events[index..]));
         }
     }
 
@@ -328,16 +330,16 @@ impl<V: Venue, J: Journal + Drop> Held<V, J> {
             desk,
             register,
             records,
-            keeper,
+            journal_writer,
             alloc,
             ..
         } = self;
-        let keeper = keeper.take()?;
+        let journal_writer = journal_writer.take()?;
         desk.stands();
         desk.seal();
         let records = replace(records, Records::new(*alloc));
         Some(BatchWrite {
-            keeper,
+            journal_writer,
             records,
             knows: register.receipt(admitted),
             end: desk.sealed_len(),
@@ -346,7 +348,7 @@ impl<V: Venue, J: Journal + Drop> Held<V, J> {
 
     /// Takes the journal back, and publishes the batch that it holds now. If this is not the batch that was taken,
     /// which cannot be, the exchange stops.
-    pub fn land(
+    pub fn publish_batch(
         &mut self,
         log: &Log<Entry>,
         admitted: &Log<Entry>,
@@ -358,41 +360,41 @@ impl<V: Venue, J: Journal + Drop> Held<V, J> {
         requires durable { durable.now ≡ V.durable }
     {
         let WrittenBatch {
-            keeper,
+            journal_writer,
             room,
             knows,
             end,
         } = written_batch;
-        if self.keeper.is_some() || self.desk.sealed_len() != end {
+        if self.journal_writer.is_some() || self.desk.sealed_len() != end {
             self.failed = Some(JournalError::Closed);
             return;
         }
         self.records.reuse(room);
         self.register.confirm(admitted, knows);
-        self.tell(log, durable, keeper);
+        self.tell(log, durable, journal_writer);
     }
 
     // Publishes what the journal holds.
-    fn tell(&mut self, log: &Log<Entry>, durable: &Log<Entry>, keeper: Keeper<V, J>)
+    fn tell(&mut self, log: &Log<Entry>, durable: &Log<Entry>, journal_writer: JournalWriter<V, J>)
         requires log { log.now ≡ V.log }
         requires durable { durable.now ≡ V.durable }
-        requires keeps { keeper.writer.published
+        requires keeps { journal_writer.writer.published
             ≡ unspoken (take self.old.desk.sealed self.old.desk.history) }
     {
-        let mut keeper = keeper;
+        let mut journal_writer = journal_writer;
         let Held {
             desk,
             durable: receipt,
-            keeper: home,
+            journal_writer: home,
             ..
         } = self;
         desk.stands();
         desk.release(log);
-        keeper.renew(durable, receipt);
-        *home = Some(keeper);
+        journal_writer.renew(durable, receipt);
+        *home = Some(journal_writer);
     }
 
-    /// Whether the entry with this place in the history is published. If it is, a pass that knows of its admission
+    /// Whether the entry with this position in the history is published. If it is, a pass that knows of its admission
     /// knows from then on all that is published.
     pub fn settle(
         &mut self,
@@ -400,19 +402,19 @@ impl<V: Venue, J: Journal + Drop> Held<V, J> {
         admitted: &Log<Entry>,
         knows: &mut Receipt<Entry>,
         entered: &mut Receipt<Entry>,
-        place: u64,
+        position: u64,
     ) -> bool
         requires log { log.now ≡ V.log }
         requires admitted { admitted.now ≡ V.admitted }
         requires knows { knows.old.log ≡ V.log }
         requires entered { entered.old.log ≡ V.admitted }
         ensures published_end { MatchBool result
-            (Settles V.setup place entered.old.known knows.old.known knows.new.known)
+            (Settles V.setup position entered.old.known knows.old.known knows.new.known)
             (knows.new ≡ knows.old) }
         ensures log { knows.new.log ≡ V.log }
         ensures entered { entered.new ≡ entered.old }
     {
-        if self.desk.published_len() < place {
+        if self.desk.published_len() < position {
             return false;
         }
         let mine = entered.again(admitted);
@@ -423,7 +425,7 @@ impl<V: Venue, J: Journal + Drop> Held<V, J> {
     }
 
     // Writes and publishes the waiting entries, if the journal touches no disk.
-    fn lead_at_once(&mut self, log: &Log<Entry>, admitted: &Log<Entry>, durable: &Log<Entry>)
+    fn commit_at_once(&mut self, log: &Log<Entry>, admitted: &Log<Entry>, durable: &Log<Entry>)
         requires log { log.now ≡ V.log }
         requires admitted { admitted.now ≡ V.admitted }
         requires durable { durable.now ≡ V.durable }
@@ -432,13 +434,13 @@ impl<V: Venue, J: Journal + Drop> Held<V, J> {
             return;
         };
         match batch_write.write_batch(durable) {
-            Ok(written_batch) => self.land(log, admitted, durable, written_batch),
+            Ok(written_batch) => self.publish_batch(log, admitted, durable, written_batch),
             Err((_journal, error)) => self.failed = Some(error),
         }
     }
 
     /// Writes and publishes the waiting entries under the lock, if the journal touches no disk. Returns a receipt for
-    /// all that is published, if the entry with this place in the history is.
+    /// all that is published, if the entry with this position in the history is.
     pub fn publish_at_once(
         &mut self,
         log: &Log<Entry>,
@@ -446,7 +448,7 @@ impl<V: Venue, J: Journal + Drop> Held<V, J> {
         durable: &Log<Entry>,
         knows: &mut Receipt<Entry>,
         entered: &mut Receipt<Entry>,
-        place: u64,
+        position: u64,
     ) -> Option<Receipt<Entry>>
         requires log { log.now ≡ V.log }
         requires admitted { admitted.now ≡ V.admitted }
@@ -454,15 +456,15 @@ impl<V: Venue, J: Journal + Drop> Held<V, J> {
         requires knows { knows.old.log ≡ V.log }
         requires entered { entered.old.log ≡ V.admitted }
         ensures published_end { IfSome result (λ r. (r.log ≡ V.log)
-            × Settles V.setup place entered.old.known knows.old.known r.known) }
+            × Settles V.setup position entered.old.known knows.old.known r.known) }
         ensures same { (knows.new ≡ knows.old) × (entered.new ≡ entered.old) }
     {
         if !self.is_quick() {
             return None;
         }
-        self.lead_at_once(log, admitted, durable);
+        self.commit_at_once(log, admitted, durable);
         let mut published_end = knows.again(log);
-        if self.settle(log, admitted, &mut published_end, entered, place) {
+        if self.settle(log, admitted, &mut published_end, entered, position) {
             return Some(published_end);
         }
         None

@@ -8,7 +8,7 @@ ghost use Rattle.hx_engine.specs.Passes.{new_passes};
 
 use crate::applied::Applied;
 use crate::exchange::Exchange;
-use crate::keeper::{Keeper, write_before};
+use crate::journal_writer::{JournalWriter, write_before};
 use crate::locked::Held;
 use crate::pass::{Pass, make_passes};
 use crate::pass_count::PassCount;
@@ -44,6 +44,9 @@ pub struct Recovered<J: Journal> {
     pub journal: J,
     /// The events, in their order.
     pub events: Vec<Event>,
+    pub ghost appended: { J.appended journal ≡ lines record_of (restored events.items) },
+    pub ghost durable: { J.durable journal ≡ J.appended journal },
+    pub ghost opened: { J.is_open journal ≡ true },
 }
 
 impl<V: Venue, J: Journal + Drop> Exchange<V, J> {
@@ -122,9 +125,6 @@ impl<V: Venue, J: Journal + Drop> Exchange<V, J> {
         requires durable { IsNewLog V.durable logs.durable }
         requires of_setup { setup ≡ V.setup }
         requires before { recovered.events.items ≡ V.before }
-        requires journal { J.appended recovered.journal ≡ lines record_of (restored V.before) }
-        requires safe { (J.durable recovered.journal ≡ J.appended recovered.journal)
-            × (J.is_open recovered.journal ≡ true) }
         requires blank { (blank.name ≡ V.name) × (blank.parts ≡ V.parts) }
         requires passes { (1 ≤ passes) × (passes ≤ most_passes) × (passes ≡ V.parts) }
         ensures { IfOk result (λ made. made.1.items ≡ new_passes passes) }
@@ -182,13 +182,21 @@ impl<V: Venue, J: Journal + Drop> Exchange<V, J> {
         )?;
         let wakers = Wakers::new(alloc, passes).map_err(|_| NoMemory)?;
         write_before::<Brand>(&mut register, &admitted, &desk);
-        let mut keeper = Keeper::open(&durable, pen, journal, &desk);
-        let receipt = keeper.receipt(&durable);
+        let mut journal_writer = JournalWriter::open(&durable, pen, journal, &desk);
+        let receipt = journal_writer.receipt(&durable);
         let exchange = Exchange {
             log,
             admitted,
             durable,
-            desk: Mutex::new(Held::open(alloc, desk, book, spare, register, receipt, keeper)),
+            desk: Mutex::new(Held::open(
+                alloc,
+                desk,
+                book,
+                spare,
+                register,
+                receipt,
+                journal_writer,
+            )),
             recorded: Condvar::new(),
             wakers,
             feed_waker: Waker::new(),

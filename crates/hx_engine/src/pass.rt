@@ -13,7 +13,7 @@ use std::marker::Model;
 use std::mem::replace;
 use std::sync::ledger::Share;
 
-/// What one client of an exchange sent, and what it knows. Contracts see its number, its events, each with its place in
+/// What one client of an exchange sent, and what it knows. Contracts see its number, its events, each with its position in
 /// the history, those of its events that were admitted and not published, and the entries that it knows.
 #[derive(Drop)]
 pub struct Pass<V: Venue> {
@@ -63,7 +63,7 @@ impl<V: Venue> Pass<V> {
         self.number
     }
 
-    /// Its published events, each with its place in the history.
+    /// Its published events, each with its position in the history.
     pub fn sent(&self) -> &[(u64, Event)]
         ensures { result.now ≡ self.now.sent }
     {

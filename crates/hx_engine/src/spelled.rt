@@ -24,14 +24,14 @@ impl Model for Records {
 }
 
 // The offset at which the piece before this index ends, or 0.
-fn end_before(ends: &[usize], place: usize) -> usize
-    requires { place ≤ length ends.now }
-    ensures { result ≡ get_or (0 ∷ ends.now) place 0 }
+fn end_before(ends: &[usize], index: usize) -> usize
+    requires { index ≤ length ends.now }
+    ensures { result ≡ get_or (0 ∷ ends.now) index 0 }
 {
-    if place == 0 {
+    if index == 0 {
         return 0;
     }
-    ends[place - 1]
+    ends[index - 1]
 }
 
 impl Records {
@@ -63,12 +63,12 @@ impl Records {
     }
 
     /// The record at an index, which counts from 0.
-    pub fn get(&self, place: usize) -> &[u8]
-        requires { place < length self.now }
-        ensures { result.now ≡ get_or self.now place [] }
+    pub fn get(&self, index: usize) -> &[u8]
+        requires { index < length self.now }
+        ensures { result.now ≡ get_or self.now index [] }
     {
-        let start = end_before(&self.ends, place);
-        &self.text[start..self.ends[place]]
+        let start = end_before(&self.ends, index);
+        &self.text[start..self.ends[index]]
     }
 
     /// Puts a record after the others.

@@ -67,7 +67,7 @@ fn spell_all(alloc: Global, events: &[Event]) -> Result<Records, NoMemory>
     Ok(written)
 }
 
-// Moves the first `count` events, which were admitted at consecutive places in the history, the last one at `last`.
+// Moves the first `count` events, which were admitted at consecutive positions in the history, the last one at `last`.
 fn move_first(sent: &mut Vec<(u64, Event)>, events: &mut Vec<Event>, count: usize, last: u64)
     requires room { vec_len sent.old + count ≤ vec_capacity sent.old }
     requires inside { count ≤ length events.old.items }
@@ -218,10 +218,10 @@ impl<V: Venue, J: Journal + Drop> Exchange<V, J> {
         if !rests_on_others(error) {
             return error;
         }
-        let place = self.history_len(rt);
+        let position = self.history_len(rt);
         let mut known = knows.again(&self.log);
         let mut mine = entered.again(&self.admitted);
-        if self.await_published(rt, &mut known, &mut mine, place, None) {
+        if self.await_published(rt, &mut known, &mut mine, position, None) {
             return error;
         }
         SubmitError::Stopped
@@ -342,22 +342,22 @@ impl<V: Venue, J: Journal + Drop> Exchange<V, J> {
         }
     }
 
-    // Waits until the entry with this place in the history is published, and becomes the leader if there is none;
+    // Waits until the entry with this position in the history is published, and becomes the leader if there is none;
     // returns false if the journal has failed. If a receipt shows that the entry is published, it does not wait.
     fn await_published(
         &self,
         rt: &impl Wait,
         knows: &mut Receipt<Entry>,
         entered: &mut Receipt<Entry>,
-        place: u64,
+        position: u64,
         published_end: Option<Receipt<Entry>>,
     ) -> bool
         requires knows { knows.old.log ≡ V.log }
         requires entered { entered.old.log ≡ V.admitted }
         requires published_end { IfSome published_end (λ r. (r.log ≡ V.log)
-            × Settles V.setup place entered.old.known knows.old.known r.known) }
+            × Settles V.setup position entered.old.known knows.old.known r.known) }
         ensures published_end { MatchBool result
-            (Settles V.setup place entered.old.known knows.old.known knows.new.known)
+            (Settles V.setup position entered.old.known knows.old.known knows.new.known)
             (knows.new.known ≡ knows.old.known) }
         ensures logs { (knows.new.log ≡ V.log) × (entered.new.log ≡ V.admitted) }
     {
@@ -366,37 +366,39 @@ impl<V: Venue, J: Journal + Drop> Exchange<V, J> {
             return true;
         }
         for _ in rt.forever() {
-            match self.turn(rt, knows, entered, place) {
+            match self.turn(rt, knows, entered, position) {
                 Ok(published_end) => return published_end,
-                Err(batch_write) => self.lead(rt, batch_write),
+                Err(batch_write) => self.commit(rt, batch_write),
             }
         }
         unreachable!()
     }
 
-    // The next step of a thread whose entry has this place in the history: the entry is published, or the journal has
+    // The next step of a thread whose entry has this position in the history: the entry is published, or the journal has
     // failed, or the thread becomes the leader of this batch.
     fn turn(
         &self,
         rt: &impl Wait,
         knows: &mut Receipt<Entry>,
         entered: &mut Receipt<Entry>,
-        place: u64,
+        position: u64,
     ) -> Result<bool, BatchWrite<V, J>>
         requires knows { knows.old.log ≡ V.log }
         requires entered { entered.old.log ≡ V.admitted }
         ensures published_end { IfOk result (λ published_end. MatchBool published_end
-            (Settles V.setup place entered.old.known knows.old.known knows.new.known)
+            (Settles V.setup position entered.old.known knows.old.known knows.new.known)
             (knows.new ≡ knows.old)) }
-        ensures leads { OnErr result (knows.new ≡ knows.old) }
+        ensures leader { OnErr result (knows.new ≡ knows.old) }
         ensures log { knows.new.log ≡ V.log }
         ensures entered { entered.new ≡ entered.old }
     {
         let mut held = self.recorded.wait_while(rt, self.desk.lock(rt), |held| {
-            held.desk.published_len() < place && held.failed.is_none() && held.keeper.is_none()
+            held.desk.published_len() < position
+                && held.failed.is_none()
+                && held.journal_writer.is_none()
         });
         let held = &mut *held;
-        if held.settle(&self.log, &self.admitted, knows, entered, place) {
+        if held.settle(&self.log, &self.admitted, knows, entered, position) {
             return Ok(true);
         }
         match held.begin(&self.admitted) {
@@ -407,13 +409,13 @@ impl<V: Venue, J: Journal + Drop> Exchange<V, J> {
 
     // Writes a batch outside the lock, then publishes it under the lock, and wakes the waiting threads, the publisher
     // too: others wait for the batch, and their replies are no more urgent than the feed.
-    fn lead(&self, rt: &impl Wait, batch_write: BatchWrite<V, J>) {
+    fn commit(&self, rt: &impl Wait, batch_write: BatchWrite<V, J>) {
         let news = match batch_write.write_batch(&self.durable) {
             Ok(written_batch) => {
                 let mut held = self.desk.lock(rt);
                 let seen = held.desk.feed_count();
-                self.wakers.wake(rt, held.desk.flying_members());
-                held.land(&self.log, &self.admitted, &self.durable, written_batch);
+                self.wakers.wake(rt, held.desk.writing_members());
+                held.publish_batch(&self.log, &self.admitted, &self.durable, written_batch);
                 held.news_since(seen)
             }
             Err((_journal, error)) => {

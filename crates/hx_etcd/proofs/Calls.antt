@@ -87,7 +87,7 @@ module _ (a b c : Option (List ℕ)) (before middle : List ℕ) (head : Head) (h
   body_fails NoMemory fault = tt
 
   -- a body came
-  pub answer_comes : (rest : List ℕ) (answer : Answer) (is_over : Bool) → BodyComes b c middle head.framing answer.body.items rest → answer.status ≡ head.status → is_over ≡ not (head.is_kept && (length rest == 0)) → AnswerComes a c before answer rest is_over
+  pub answer_comes : (rest : List ℕ) (answer : Answer) (is_over : Bool) → BodyComes b c middle head.framing answer.body.items rest → answer.status ≡ head.status → is_over ≡ not (head.is_persistent && (length rest == 0)) → AnswerComes a c before answer rest is_over
   answer_comes rest answer is_over k same over =
       let came = k.comes.came in
       record {
@@ -107,5 +107,5 @@ module _ (a b c : Option (List ℕ)) (before middle : List ℕ) (head : Head) (h
           content = k.has;
         };
         status = same ∙ h.tells.status;
-        over = over ∙ ap (λ (t : Bool). not (t && (length rest == 0))) h.tells.kept;
+        over = over ∙ ap (λ (t : Bool). not (t && (length rest == 0))) h.tells.persistent;
       }

@@ -18,7 +18,7 @@ use Rattle.http1.specs.Message.{known_of}
 use Rattle.http1.proofs.TextLemmas.{front_within}
 use Rattle.hx_etcd.specs.declared.response.Head.{Head}
 use Rattle.hx_etcd.specs.Pieces.{Tells, IsHeadOf}
-use Rattle.hx_etcd.specs.Responses.{most_head, most_fields, framing_of, is_kept, HasHead, NeverHasHead, RunsToClose}
+use Rattle.hx_etcd.specs.Responses.{most_head, most_fields, framing_of, is_persistent, HasHead, NeverHasHead, RunsToClose}
 
 -- ---- there will be no head
 

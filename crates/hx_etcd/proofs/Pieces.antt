@@ -1,6 +1,5 @@
 -- A body that is read piece by piece.
-use Rattle.std.proofs.Common.{◌≡◌, ◌≢◌, ℕ, ◌+◌, ◌-◌, ◌<◌, ◌≤◌, List, [], ◌∷◌, ◌++◌, length, take, drop, refl, sym, ap, ◌∙◌, subst, arith, append_assoc, length-drop}
-use Rattle.std.proofs.Math.Seq.{take-length}
+use Rattle.std.proofs.Common.{◌≡◌, ◌≢◌, ℕ, ◌+◌, ◌-◌, ◌<◌, ◌≤◌, List, [], ◌∷◌, ◌++◌, length, drop, refl, sym, ap, ◌∙◌, subst, arith, append_assoc}
 use Rattle.std.proofs.lemmas.List.{drop-drop, append-nil}
 use Rattle.httparse.specs.declared.spans.HeaderSpan.{HeaderSpan}
 use Rattle.http1.specs.declared.decode.Decoder.{Decoder}
@@ -21,10 +20,6 @@ runs_bounded : (old new : Decoder) (input : List ℕ) (len : ℕ) (piece : List 
 runs_bounded (Length left) new input len piece runs bounded = λ e. let bad : Length (left - len) ≡ UntilClose = sym runs ∙ e in cc bad
 runs_bounded (Chunked chunks max_len) new input len piece runs bounded = λ e. let bad : Chunked runs.0 max_len ≡ UntilClose = sym runs.1 ∙ e in cc bad
 runs_bounded UntilClose new input len piece runs bounded = absurd (bounded refl)
-
--- a slice from an index on
-pub from_there : (at : ℕ) (input : List ℕ) → take (length input - at) (drop at input) ≡ drop at input
-from_there at input = ap (λ (k : ℕ). take k (drop at input)) (sym (length-drop at input)) ∙ take-length (drop at input)
 
 -- a piece more is read
 goes_further : (d0 d1 d2 : Decoder) (input : List ℕ) (at len : ℕ) (content piece : List ℕ) → GoesOn d0 input d1 at content → Continues d1 (drop at input) d2 len piece → GoesOn d0 input d2 (at + len) (content ++ piece)

@@ -10,7 +10,7 @@ use Rattle.hx_etcd.specs.declared.response.CallError.TheVariants.{Over, Stream, 
 use Rattle.hx_etcd.specs.declared.response.Head.{Head}
 use Rattle.hx_etcd.specs.declared.reported.Answer.{Answer}
 use Rattle.hx_etcd.specs.Pieces.{Tells}
-use Rattle.hx_etcd.specs.Responses.{is_kept, HasHead, LacksHead, NeverHasHead, RunsToClose, HasBody, LacksBody, NeverHasBody, IsAnswer, LacksAnswer, NeverHasAnswer}
+use Rattle.hx_etcd.specs.Responses.{is_persistent, HasHead, LacksHead, NeverHasHead, RunsToClose, HasBody, LacksBody, NeverHasBody, IsAnswer, LacksAnswer, NeverHasAnswer}
 
 -- ---- connections
 
@@ -70,7 +70,7 @@ pub record AnswerComes (known later : Option (List ℕ)) (before : List ℕ) (an
   pub head : ResponseHead
   pub is : IsAnswer whole head answer.body.items rest
   pub status : answer.status ≡ status_code head
-  pub over : is_over ≡ not (is_kept head && (length rest == 0))
+  pub over : is_over ≡ not (is_persistent head && (length rest == 0))
 
 -- ---- what comes, and is no answer
 

@@ -9,14 +9,14 @@ use Rattle.hx_etcd.specs.declared.response.CallError.{CallError}
 use Rattle.hx_etcd.specs.declared.response.CallError.TheVariants.{Over, Stream, Ended, Http, NoLength, TooLong, NoMemory}
 use Rattle.hx_etcd.specs.declared.response.Head.{Head}
 use Rattle.hx_etcd.specs.declared.response.Piece.{Piece}
-use Rattle.hx_etcd.specs.Responses.{most_head, most_fields, is_kept, HasHead, NeverHasHead, RunsToClose}
+use Rattle.hx_etcd.specs.Responses.{most_head, most_fields, is_persistent, HasHead, NeverHasHead, RunsToClose}
 
 -- ---- heads
 
 -- the parts of a response's head that are reported
 pub record Tells (h : ResponseHead) (head : Head) : Type 0 where
   pub status : head.status ≡ status_code h
-  pub kept : head.is_kept ≡ is_kept h
+  pub persistent : head.is_persistent ≡ is_persistent h
 
 -- the input begins with a head
 pub record IsHeadOf (input : List ℕ) (head : Head) : Type 0 where

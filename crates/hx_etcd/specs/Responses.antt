@@ -34,8 +34,8 @@ abbrev pub framing_of : ResponseHead → Result Framing FramingError
 framing_of h = response_framing Other (status_code h) h.minor (known_of h.fields)
 
 -- the connection goes on after a final response of HTTP/1.1 that does not say `close` (section 9.3)
-abbrev pub is_kept : ResponseHead → Bool
-is_kept h = (nat_lt 0 h.minor && nat_le 200 (status_code h)) && not (known_of h.fields).close
+abbrev pub is_persistent : ResponseHead → Bool
+is_persistent h = (nat_lt 0 h.minor && nat_le 200 (status_code h)) && not (known_of h.fields).close
 
 -- these bytes are the head of a response (section 4), whose body ends in this way, and the rest
 pub record HasHead (bytes : List ℕ) (h : ResponseHead) (framing : Framing) (rest : List ℕ)

@@ -63,7 +63,7 @@ impl<R: Read + Drop, W: Write + Drop> Connection<R, W> {
         self.writer.flush()?;
         let head = self.inlet.next_head()?;
         let body = self.inlet.next_body(&head)?;
-        self.is_over = !(head.is_kept && self.inlet.is_clear());
+        self.is_over = !(head.is_persistent && self.inlet.is_clear());
         Ok(Answer {
             status: head.status,
             body,

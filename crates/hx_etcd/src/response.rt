@@ -71,7 +71,7 @@ pub(crate) struct Head {
     // Where its body ends.
     pub(crate) framing: Framing,
     // Whether the connection goes on after it.
-    pub(crate) is_kept: bool,
+    pub(crate) is_persistent: bool,
     // How many bytes it has.
     pub(crate) len: usize,
 }
@@ -93,7 +93,7 @@ pub(crate) fn read_head(input: &[u8]) -> Result<Option<Head>, CallError>
                 Ok(framing) => Ok(Some(Head {
                     status: head.code,
                     framing,
-                    is_kept: head.version > 0 && head.code >= 200 && !known.close,
+                    is_persistent: head.version > 0 && head.code >= 200 && !known.close,
                     len: head.len,
                 })),
                 Err(error) => Err(CallError::Http(ReadError::Framing(error))),

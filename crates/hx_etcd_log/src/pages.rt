@@ -1,7 +1,7 @@
 //! A copy of a log in a file, as it is read page by page.
 use crate::{PageError, Pages};
 use hx_fenced_log::{LogRecord, RecordsError, read_records};
-use hx_text::split_once;
+use hx_units::split_once;
 use std::alloc::Global;
 use std::io::Read;
 

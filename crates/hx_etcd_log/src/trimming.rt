@@ -11,7 +11,7 @@ use hx_etcd::{
     trim_request,
 };
 use hx_fenced_log::LogRecord;
-use hx_text::read_number;
+use hx_units::read_number;
 use std::alloc::Global;
 
 /// The copies of a log, as they show in an etcd of these nodes how much they have, and the trimming of the log.

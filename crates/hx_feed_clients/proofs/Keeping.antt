@@ -4,28 +4,19 @@ use Rattle.std.specs.Option.{option_to_list}
 use Rattle.std.proofs.lemmas.List.{append_assoc, append-nil}
 use Rattle.std.specs.List.{AllByRecursion}
 use Rattle.hx_reader.specs.Readings.{Reading, opening, first_retained, ready, vacated, handed, is_whole}
-use Rattle.hx_reader.specs.Runs.{Step, Comes, IsAsked, after, gives, after_all, given, TellsOf, IsBeginning}
+use Rattle.hx_reader.specs.Runs.{Step, Comes, IsAsked, after, gives, TellsOf, IsBeginning}
 use Rattle.hx_reader.proofs.Orders as orders
+use Rattle.hx_reader.proofs.Runs.{after_all_push, given_push}
 use Rattle.hx_feed_clients.specs.declared.relaying.relay.Relay.{Relay}
 use Rattle.hx_feed_clients.specs.Relays.{HasRead, HasTaken, KeepsAll, KeepsTheFeed, asks}
-
-after_one : (r : Reading) (steps : List Step) (s : Step) → after_all r (steps ++ s ∷ []) ≡ after (after_all r steps) s
-after_one r [] s = refl
-after_one r (t ∷ steps) s = after_one (after r t) steps s
-
-given_one : (r : Reading) (steps : List Step) (s : Step) → given r (steps ++ s ∷ []) ≡ given r steps ++ gives (after_all r steps) s
-given_one r [] s = append-nil (gives r s)
-given_one r (t ∷ steps) s =
-    ap (λ (l : List (List ℕ)). gives r t ++ l) (given_one (after r t) steps s)
-    ∙ sym (append_assoc (gives r t) (given (after r t) steps) (gives (after_all (after r t) steps) s))
 
 -- one step more
 pub one_step : (session : List ℕ) (indices : ℕ) (steps : List Step) (s : Step) (old new : Relay) → HasRead session indices steps old → new.reader ≡ after old.reader s → new.server.messages ≡ old.server.messages ++ gives old.reader s → new.server.session ≡ old.server.session → HasRead session indices (steps ++ s ∷ []) new
 one_step session indices steps s old new read reader messages same = record {
-  reader = reader ∙ (ap (λ (r : Reading). after r s) read.reader ∙ sym (after_one (opening session indices) steps s));
+  reader = reader ∙ (ap (λ (r : Reading). after r s) read.reader ∙ sym (after_all_push (opening session indices) steps s));
   messages = messages
       ∙ (ap₂ (λ (l : List (List ℕ)) (r : Reading). l ++ gives r s) read.messages read.reader
-      ∙ sym (given_one (opening session indices) steps s));
+      ∙ sym (given_push (opening session indices) steps s));
   of_session = same ∙ read.of_session;
 }
 

@@ -7,7 +7,7 @@ mod requests;
 mod text;
 
 use crate::datagrams::{AHEAD, DATAGRAM, hear, now, session_of};
-use crate::watching::observer::{Nobody, Observer, OnPage, Progress};
+use crate::watching::observer::{Nobody, Observer, Progress, WebObserver};
 use crate::watching::quotes::Quotes;
 use crate::watching::requests::Requests;
 use crate::watching::text::{Depth, Name};
@@ -17,7 +17,7 @@ use hx_market_view::{Post, Recorder};
 use hx_mold::encode_request;
 use hx_reader::Screen;
 use hx_units::Symbol;
-use hx_web::serve_page;
+use hx_web::serve_web;
 use std::alloc::Global;
 use std::hash::RandomState;
 use std::io;
@@ -317,12 +317,12 @@ pub fn watch_on_page<
     let (served, watched) = join(
         rt,
         move || {
-            let served = serve_page(rt, alloc, listener, shared, keys);
+            let served = serve_web(rt, alloc, listener, shared, keys);
             shared.close(rt);
             served
         },
         move || {
-            let mut page = OnPage {
+            let mut page = WebObserver {
                 rt,
                 post: shared,
                 recorder: Recorder::new(alloc),

@@ -5,7 +5,8 @@ use Rattle.std.proofs.Common.{◌≡◌, ℕ, ◌+◌, ◌-◌, ◌≤◌, Bool,
 use Rattle.std.proofs.Math.Seq.{take-append_seam}
 use Rattle.std.proofs.lemmas.List.{append-nil}
 use Rattle.std.proofs.lemmas.List.Elements.{All-head, All-tail}
-use Rattle.hx_text.specs.Cuts.{Lacks}
+use Rattle.std.proofs.lemmas.Bool.{false_from_ne_true}
+use Rattle.hx_units.specs.Cuts.{Lacks}
 use Rattle.hx_journal.specs.Lines.{text_of}
 use Rattle.hx_journal.specs.Records.{is_mark}
 use Rattle.hx_fenced_log.specs.declared.terms.copy.RecordsError.{RecordsError}
@@ -23,10 +24,6 @@ use Rattle.hx_fenced_log.proofs.Spelling.{line_lacks, head_lacks, same_record, f
 
 true_false : (b : Bool) → b ≡ true → b ≡ false → ⊥
 true_false b p q = cc
-
-not_true : (b : Bool) → (b ≡ true → ⊥) → b ≡ false
-not_true true h = absurd (h refl)
-not_true false h = refl
 
 -- what stands after a line does not change how it begins
 same_mark : (line more other : List ℕ) → is_mark (line ++ 10 ∷ more) ≡ is_mark (line ++ 10 ∷ other)
@@ -210,7 +207,7 @@ line_passed text len rest line others h cut lacks mark = record {
   is = longer text h.front rest line others h.is cut;
   counted = counted_on len h.front line h.counted;
   passes = λ more none same.
-      let unmarked : is_mark more ≡ false = not_true (is_mark more) (λ m. true_false (is_mark others) (same m) mark) in
+      let unmarked : is_mark more ≡ false = false_from_ne_true (is_mark more) (λ m. true_false (is_mark others) (same m) mark) in
       let passed : BeginsNone (h.front ++ (line ++ 10 ∷ more)) =
       h.passes (line ++ 10 ∷ more) (after_line line more lacks unmarked none) (λ m. ap is_mark cut ∙ same_mark line others more ∙ m) in
       let there : (h.front ++ (line ++ 10 ∷ [])) ++ more ≡ h.front ++ (line ++ 10 ∷ more) =

@@ -1,9 +1,8 @@
 -- The lines in front of the rest of a text.
 use Rattle.std.specs.Prelude.{◌==◌, true}
-use Rattle.std.proofs.Common.{◌≡◌, ℕ, suc, ◌+◌, ◌≤◌, List, [], ◌∷◌, ◌++◌, length, refl, sym, ap, ◌∙◌, subst, arith, append_assoc, length-append}
+use Rattle.std.proofs.Common.{◌≡◌, ℕ, ◌+◌, ◌≤◌, List, [], ◌∷◌, ◌++◌, length, refl, sym, ap, ◌∙◌, subst, arith, append_assoc, length-append}
 use Rattle.std.proofs.lemmas.List.{append-nil}
 use Rattle.std.proofs.lemmas.Bool.{eqb-true}
-use Rattle.hx_text.specs.Cuts.{Lacks}
 use Rattle.hx_journal.specs.Lines.{IsLine, AreLines, text_of, lines_of}
 use Rattle.hx_journal.specs.Records.{IsRecord}
 use Rattle.hx_journal.proofs.Lines.{lines_of-text, text_of-append, few_lines_of}
@@ -45,15 +44,6 @@ pub few_read : (count : ℕ) (text rest : List ℕ) → StandInFront count text 
 few_read count text rest h =
     let size : length text ≡ length (text_of h.front) + length rest = ap length h.is ∙ length-append (text_of h.front) rest in
     omega (arith, h.counted, few_lines_of h.front, size)
-
-line_of_lacks : (bytes : List ℕ) → Lacks 0 bytes → Lacks 10 bytes → IsLine bytes
-line_of_lacks [] none feed = tt
-line_of_lacks (b ∷ bytes) none feed =
-    ((none 0 0 (omega arith), feed 0 0 (omega arith)), line_of_lacks bytes (λ k d lt. none (suc k) d (omega arith)) (λ k d lt. feed (suc k) d (omega arith)))
-
--- a line has no zero and no line feed
-pub is_line : (line : List ℕ) → Lacks 0 line → Lacks 10 line → IsLine line
-is_line line none feed = line_of_lacks line none feed
 
 -- a line that is cut at a zero is none
 pub cut_is_none : (line front later : List ℕ) → line ≡ front ++ 0 ∷ later → IsLine line → ⊥

@@ -7,7 +7,6 @@ use Rattle.hx_journal.specs.Lines.{text_of, lines_of}
 use Rattle.hx_journal.specs.Records.{IsRecord}
 use Rattle.hx_journal.specs.Crashes.{Leaves}
 use Rattle.hx_journal.proofs.Lines.{lines_of-text, text_of-append}
-use Rattle.hx_journal.proofs.Prefixes.{prefix_self}
 use Rattle.hx_fenced_log.specs.Lines.{AreTapeLines}
 use Rattle.hx_fenced_log.specs.Records.{Record}
 use Rattle.hx_fenced_log.proofs.Fronts.{are_lines, are_append}
@@ -20,6 +19,7 @@ use Rattle.hx_fenced_log.specs.JournalFaults.{IsClosedBy}
 use Rattle.hx_fenced_log.specs.Stops.{IsLeftSince}
 use Rattle.hx_fenced_log.proofs.Known.{number_is, still_read, same_taken, tells_more, read_on, durable_read, durable_is, durable_lines, durable_taken, durable_count, durable_writer}
 use Rattle.hx_fenced_log.proofs.Leaving.{unmoved_leaves, durable_leaves}
+use Rattle.hx_units.proofs.Prefixes.{prefix_self}
 
 -- ---- a reader that reads on
 

@@ -1,5 +1,5 @@
 -- What is read of a log as it grows.
-use Rattle.std.proofs.Common.{◌≡◌, ℕ, ◌+◌, ◌≤◌, List, [], ◌∷◌, ◌++◌, length, take, true, cond, refl, sym, ap, ◌∙◌, subst, arith, length-append}
+use Rattle.std.proofs.Common.{◌≡◌, ℕ, ◌+◌, List, [], ◌∷◌, ◌++◌, length, take, true, cond, refl, sym, ap, ◌∙◌, subst, arith, length-append}
 use Rattle.std.proofs.Math.Seq.{take-append_seam}
 use mathlib.Core.List.{IsPrefix}
 use Rattle.hx_journal.specs.Lines.{text_of, lines_of}
@@ -10,14 +10,12 @@ use Rattle.hx_fenced_log.specs.Terms.{counts, start, after_all, taking, passing,
 use Rattle.hx_fenced_log.proofs.Fronts.{are_lines}
 use Rattle.hx_fenced_log.specs.declared.log.writer.LogWriter.{LogWriter}
 use Rattle.hx_fenced_log.specs.Writers.{IsAt, Follows, Keeps, TakesOver}
-use Rattle.hx_fenced_log.proofs.Standing.{after_more, number_after_all, joined}
+use Rattle.hx_fenced_log.proofs.Standing.{after_more, number_after_all}
 use Rattle.hx_fenced_log.specs.JournalStates.{count_read, read_of, HasRead, taken_of, TellsMore}
+use Rattle.hx_units.proofs.Prefixes.{prefix_trans}
 
 front_of : {A : Type 0} (xs ys : List A) → IsPrefix xs ys → take (length xs) ys ≡ xs
 front_of xs ys p = ap (take (length xs)) (sym p.1) ∙ take-append_seam xs p.0
-
-pub prefix_length : {A : Type 0} (xs ys : List A) → IsPrefix xs ys → length xs ≤ length ys
-prefix_length xs ys p = omega (arith, sym (ap length p.1) ∙ length-append xs p.0)
 
 -- the number of records read is the number of records known
 pub many_read : (log known : List Record) (at : Reading) → IsAt log known at → count_read at ≡ length known
@@ -36,7 +34,7 @@ pub has_read : (log known : List Record) (at : Reading) → IsAt log known at �
 has_read log known at h = subst (λ (l : List Record). IsAt log l at) (sym (read_is log known at h)) h
 
 pub stays_at : (old new known : List Record) (at : Reading) → IsPrefix old new → IsAt old known at → IsAt new known at
-stays_at old new known at grows h = record { begins = joined known old new h.begins grows; reading = h.reading }
+stays_at old new known at grows h = record { begins = prefix_trans known old new h.begins grows; reading = h.reading }
 
 -- a log that grows is read as far
 pub still_read : (old new : List Record) (at : Reading) → IsPrefix old new → HasRead old at → HasRead new at

@@ -6,15 +6,16 @@ use Rattle.std.proofs.lemmas.List.{append-nil, take-append-le, get_or_append_lef
 use Rattle.std.specs.List.{AllByRecursion}
 use mathlib.Core.List.{IsPrefix}
 use Rattle.hx_journal.specs.Crashes.{IsBetween, Leaves}
-use Rattle.hx_journal.proofs.Prefixes.{prefix_trans}
 use Rattle.hx_fenced_log.specs.declared.terms.reading.Reading.{Reading}
 use Rattle.hx_fenced_log.specs.Records.{Record}
 use Rattle.hx_fenced_log.specs.Terms.{counts, is_later, is_by_who_stands, start, after, after_all, taking, passing, taken}
 use Rattle.hx_fenced_log.specs.declared.log.writer.LogWriter.{LogWriter}
-use Rattle.hx_fenced_log.proofs.Standing.{after_more, taken_more}
+use Rattle.hx_fenced_log.proofs.Standing.{after_more}
 use Rattle.hx_fenced_log.specs.JournalStates.{count_read, read_of, HasRead, taken_of}
 use Rattle.hx_fenced_log.specs.Stops.{next_record, IsSentIfOwn, IsLeft, sent_then, IsLeftSince}
-use Rattle.hx_fenced_log.proofs.Known.{prefix_length, many_read, still_read, same_read, same_taken}
+use Rattle.hx_fenced_log.proofs.Known.{many_read, still_read, same_read, same_taken}
+use Rattle.hx_fenced_log.proofs.Taking.{after-counted, taken_append}
+use Rattle.hx_units.proofs.Prefixes.{prefix_trans, prefix_length}
 
 -- ---- why a record counts
 
@@ -29,9 +30,6 @@ stands_is p t term w writer e le = (grind (arith, nat_tests), grind (arith, nat_
 no_earlier : (p w : Bool) (t term : ℕ) → (p && (ltb t term || (eqb term t && w))) ≡ true → t ≤ term
 no_earlier p w t term e = grind (arith, nat_tests)
 
-counted : (at : Reading) (r : Record) → counts at r.head ≡ true → after at r ≡ taking at r
-counted at r is = ap (λ (b : Bool). cond b (taking at r) (passing at)) is
-
 passed : (at : Reading) (r : Record) → counts at r.head ≡ false → after at r ≡ passing at
 passed at r is = ap (λ (b : Bool). cond b (taking at r) (passing at)) is
 
@@ -41,7 +39,7 @@ rises : (at : Reading) (r : Record) → at.term ≤ (after at r).term
 rises at r = by_test (counts at r.head) refl
   where
     by_test : (b : Bool) → counts at r.head ≡ b → at.term ≤ (after at r).term
-    by_test true is = omega (arith, no_earlier (eqb r.head.index at.index) (eqb r.head.writer at.writer) at.term r.head.term is, ap (λ (a : Reading). a.term) (counted at r is))
+    by_test true is = omega (arith, no_earlier (eqb r.head.index at.index) (eqb r.head.writer at.writer) at.term r.head.term is, ap (λ (a : Reading). a.term) (after-counted at r is))
     by_test false is = omega (arith, ap (λ (a : Reading). a.term) (passed at r is))
 
 pub rise : (at : Reading) (rs : List Record) → at.term ≤ (after_all at rs).term
@@ -59,7 +57,7 @@ module _ (writer term : ℕ) (sent : Record) where
   own_counts : (at : Reading) (r : Record) (rs : List Record) → at.term ≡ term → at.writer ≡ writer → (after_all (after at r) rs).term ≡ term → IsSentIfOwn writer term sent r → counts at r.head ≡ true
       → (r ≡ sent) × ((taking at r).term ≡ term) × ((taking at r).writer ≡ writer)
   own_counts at r rs is_term is_writer ends own it_does =
-      let now : r.head.term ≡ (after at r).term = sym (ap (λ (a : Reading). a.term) (counted at r it_does)) in
+      let now : r.head.term ≡ (after at r).term = sym (ap (λ (a : Reading). a.term) (after-counted at r it_does)) in
       let le : r.head.term ≤ at.term = omega (arith, now, rise (after at r) rs, ends, is_term) in
       let s = stands_is (eqb r.head.index at.index) at.term r.head.term r.head.writer at.writer it_does le in
       (own (s.1 ∙ is_writer) (s.0 ∙ is_term), s.0 ∙ is_term, s.1 ∙ is_writer)
@@ -79,7 +77,7 @@ module _ (writer term : ℕ) (sent : Record) where
           let there : r.head.index ≡ sent.head.index = ap (λ (x : Record). x.head.index) o.0 in
           let size : length r.lines ≡ length sent.lines = ap (λ (x : Record). length x.lines) o.0 in
           let none : length r.lines ≡ 0 = omega (arith, here, there, index, size) in
-          let now = counted at r is in
+          let now = after-counted at r is in
           let rest = more (taking at r) o.1 o.2 (omega (arith, index, none)) (ap (λ (a : Reading). (after_all a rs).term) (sym now) ∙ ends) in
           ap (λ (a : Reading). r.lines ++ taken a rs) now ∙ ap (λ (l : List (List ℕ)). r.lines ++ l) rest ∙ append-nil r.lines ∙ empty r.lines none
       by_test false is more =
@@ -99,7 +97,7 @@ module _ (writer term : ℕ) (sent : Record) where
           let here : r.head.index ≡ at.index = index_is r.head.index at.index (is_later at r.head || is_by_who_stands at r.head) is in
           let there : r.head.index ≡ sent.head.index = ap (λ (x : Record). x.head.index) o.0 in
           let size : length r.lines ≡ length sent.lines = ap (λ (x : Record). length x.lines) o.0 in
-          let now = counted at r is in
+          let now = after-counted at r is in
           let rest = nothing_more (taking at r) rs o.1 o.2 (omega (arith, here, there, size)) (ap (λ (a : Reading). (after_all a rs).term) (sym now) ∙ ends) own.1 in
           inr (ap (λ (a : Reading). r.lines ++ taken a rs) now ∙ ap (λ (l : List (List ℕ)). r.lines ++ l) rest ∙ append-nil r.lines ∙ ap (λ (x : Record). x.lines) o.0)
       by_test false is more =
@@ -116,7 +114,7 @@ pub left_between : (writer : ℕ) (read : List Record) (sent : Record) (lines : 
 left_between writer read sent lines active h =
     let at = after_all start read in
     let more = taken at h.others in
-    let is : lines ≡ taken start read ++ more = h.is ∙ taken_more start read h.others in
+    let is : lines ≡ taken start read ++ more = h.is ∙ taken_append start read h.others in
     let ends : (after_all at h.others).term ≡ at.term = ap (λ (a : Reading). a.term) (sym (after_more start read h.others)) ∙ h.same_term in
     record {
       begins = (more, sym is);

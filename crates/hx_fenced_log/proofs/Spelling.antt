@@ -4,9 +4,9 @@ use Rattle.std.proofs.Common.{◌≡◌, ℕ, ◌<◌, ◌^◌, List, [], ◌∷
 use Rattle.std.specs.Fmt.{decimal}
 use Rattle.std.proofs.lemmas.Fmt.{decimal_injective}
 use Rattle.std.proofs.lemmas.List.Elements.{All-append, All-cons, All-nil}
-use Rattle.hx_text.specs.Cuts.{Lacks}
-use Rattle.hx_text.proofs.Numbers.{lacks-decimal}
-use Rattle.hx_text.proofs.Splits.{same_split, none_split}
+use Rattle.hx_units.specs.Cuts.{Lacks}
+use Rattle.hx_units.proofs.Decimals.{lacks-decimal}
+use Rattle.hx_units.proofs.Splits.{same_split, none_split}
 use Rattle.hx_journal.specs.Lines.{IsLine, text_of, lines_of}
 use Rattle.hx_journal.specs.Records.{IsRecord}
 use Rattle.hx_journal.proofs.Lines.{lines_of-text}

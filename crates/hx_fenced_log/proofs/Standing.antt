@@ -1,11 +1,12 @@
 -- What stands in a log, and how far it is read.
-use Rattle.std.proofs.Common.{◌≡◌, ◌≢◌, ◌&&◌, ◌||◌, eqb, ltb, ℕ, zero, suc, ◌+◌, ◌-◌, ◌<◌, ◌≤◌, List, [], ◌∷◌, ◌++◌, length, take, drop, get_or, Bool, true, false, cond, refl, sym, ap, ◌∙◌, subst, arith, append_assoc, length-append}
+use Rattle.std.proofs.Common.{◌≡◌, ◌≢◌, ◌&&◌, ◌||◌, eqb, ltb, ℕ, zero, suc, ◌+◌, ◌-◌, ◌<◌, ◌≤◌, List, [], ◌∷◌, ◌++◌, length, take, drop, get_or, Bool, true, false, cond, refl, sym, ap, ◌∙◌, subst, arith, append_assoc}
 use Rattle.std.proofs.lemmas.Bool.Decides.{nat_tests}
 use Rattle.std.proofs.lemmas.List.{append-nil, length-take-le, take_more}
 use Rattle.std.specs.Prelude.{Result, Ok, Err, OnOk}
 use mathlib.Core.List.{IsPrefix}
 use Rattle.hx_journal.specs.Lines.{text_of}
 use Rattle.hx_journal.proofs.Lines.{text_of-append}
+use Rattle.hx_journal.proofs.Recovery.{no_text}
 use Rattle.hx_fenced_log.specs.declared.terms.head.Head.{Head}
 use Rattle.hx_fenced_log.specs.declared.terms.reading.Reading.{Reading}
 use Rattle.hx_fenced_log.specs.declared.terms.reading.Verdict.{Verdict}
@@ -15,12 +16,13 @@ use Rattle.hx_fenced_log.specs.Lines.{AreTapeLines}
 use Rattle.hx_fenced_log.specs.Records.{Record}
 use Rattle.hx_fenced_log.specs.Terms.{IsReason, is_later, is_by_who_stands, counts, start, after, after_all, taking, passing, taken, next_of, takeover_of}
 use Rattle.hx_fenced_log.proofs.Fronts.{are_append}
-use Rattle.hx_fenced_log.proofs.Taking.{next_counts, takeover_counts}
+use Rattle.hx_fenced_log.proofs.Taking.{next_counts, takeover_counts, after-counted, taken_append}
 use Rattle.hx_fenced_log.specs.declared.log.writer.LogWriter.{LogWriter}
 use Rattle.hx_fenced_log.specs.Logs.{AreNumbered, Stands}
 use Rattle.hx_fenced_log.specs.Writers.{IsAt, Follows, Keeps, TakesOver}
 use Rattle.hx_fenced_log.specs.declared.log.error.LogError.TheVariants as refusal
 use Rattle.hx_fenced_log.specs.declared.log.error.KeepError.TheVariants as fault
+use Rattle.hx_units.proofs.Prefixes.{prefix_trans}
 
 -- ---- numbers
 
@@ -57,12 +59,6 @@ pub after_more : (at : Reading) (xs ys : List Record) → after_all at (xs ++ ys
 after_more at [] ys = refl
 after_more at (x ∷ xs) ys = after_more (after at x) xs ys
 
-pub taken_more : (at : Reading) (xs ys : List Record) → taken at (xs ++ ys) ≡ taken at xs ++ taken (after_all at xs) ys
-taken_more at [] ys = refl
-taken_more at (x ∷ xs) ys =
-    ap (λ (l : List (List ℕ)). cond (counts at x.head) x.lines [] ++ l) (taken_more (after at x) xs ys)
-    ∙ sym (append_assoc (cond (counts at x.head) x.lines []) (taken (after at x) xs) (taken (after_all (after at x) xs) ys))
-
 -- one record more is read
 pub read_more : (at : Reading) (rs : List Record) (i : ℕ) (d : Record) → i < length rs → after_all at (take (i + 1) rs) ≡ after (after_all at (take i rs)) (get_or rs i d)
 read_more at rs i d lt = ap (after_all at) (take_more rs i d lt) ∙ after_more at (take i rs) (get_or rs i d ∷ [])
@@ -84,7 +80,7 @@ text_more at rs i d text lt it_does is =
     ap (λ (l : List ℕ). l ++ text_of r.lines) is
     ∙ sym (text_of-append (taken at front) r.lines)
     ∙ ap (λ (l : List (List ℕ)). text_of (taken at front ++ l)) (sym here)
-    ∙ ap text_of (sym (taken_more at front (r ∷ [])))
+    ∙ ap text_of (sym (taken_append at front (r ∷ [])))
     ∙ ap (λ (l : List Record). text_of (taken at l)) (sym (take_more rs i d lt))
 
 -- if it is passed over, none are
@@ -97,7 +93,7 @@ text_same at rs i d text lt it_does_not is =
     is
     ∙ ap text_of (sym (append-nil (taken at front)))
     ∙ ap (λ (l : List (List ℕ)). text_of (taken at front ++ l)) (sym here)
-    ∙ ap text_of (sym (taken_more at front (r ∷ [])))
+    ∙ ap text_of (sym (taken_append at front (r ∷ [])))
     ∙ ap (λ (l : List Record). text_of (taken at l)) (sym (take_more rs i d lt))
 
 -- whether or not, they are lines of a tape
@@ -105,7 +101,7 @@ pub lines_more : (at : Reading) (rs : List Record) (i : ℕ) (d : Record) → i 
 lines_more at rs i d lt front good =
     let r = get_or rs i d in
     let read = take i rs in
-    subst AreTapeLines (sym (ap (taken at) (take_more rs i d lt) ∙ taken_more at read (r ∷ [])))
+    subst AreTapeLines (sym (ap (taken at) (take_more rs i d lt) ∙ taken_append at read (r ∷ [])))
     (are_append (taken at read) (taken (after_all at read) (r ∷ [])) front (are_append (cond (counts (after_all at read) r.head) r.lines []) [] (by_test (counts (after_all at read) r.head)) tt))
   where
     by_test : (b : Bool) → AreTapeLines (cond b (get_or rs i d).lines [])
@@ -150,9 +146,6 @@ is_passed_over at head verdict.OtherIndex h ne = elsewhere (is_later at head || 
 
 -- ---- beginnings
 
-pub joined : {A : Type 0} (a b c : List A) → IsPrefix a b → IsPrefix b c → IsPrefix a c
-joined a b c p q = (p.0 ++ q.0, sym (append_assoc a p.0 q.0) ∙ ap (λ (l : List _). l ++ q.0) p.1 ∙ q.1)
-
 -- two beginnings of a list that are as long are one
 same_front : {A : Type 0} (a b all : List A) → IsPrefix a all → IsPrefix b all → length a ≡ length b → a ≡ b
 same_front [] [] all p q e = refl
@@ -177,7 +170,7 @@ pub durable_at : (old new known : List Record) (at now : Reading) (r : Record) �
 durable_at old new known at now r h grows stands number is =
     let number_is : at.number ≡ 1 + length known = ap (λ (a : Reading). a.number) h.reading ∙ number_after_all start known in
     let size : length known ≡ length stands.front = omega (arith, number_is, number, stands.numbered) in
-    let same : known ≡ stands.front = same_front known stands.front new (joined known old new h.begins grows) (front_of stands.front (r ∷ []) new stands.is) size in
+    let same : known ≡ stands.front = same_front known stands.front new (prefix_trans known old new h.begins grows) (front_of stands.front (r ∷ []) new stands.is) size in
     record {
       begins = subst (λ (l : List Record). IsPrefix (l ++ r ∷ []) new) (sym same) stands.is;
       reading = is ∙ ap (λ (a : Reading). after a r) h.reading ∙ sym (after_more start known (r ∷ []));
@@ -186,7 +179,7 @@ durable_at old new known at now r h grows stands number is =
 -- the lines of one more record that counts
 reported_more : (known : List Record) (at : Reading) (r : Record) → at ≡ after_all start known → counts at r.head ≡ true → taken start (known ++ r ∷ []) ≡ taken start known ++ r.lines
 reported_more known at r is it_does =
-    taken_more start known (r ∷ [])
+    taken_append start known (r ∷ [])
     ∙ ap (λ (l : List (List ℕ)). taken start known ++ l)
     (ap (λ (b : Bool). cond b r.lines [] ++ []) (ap (λ (a : Reading). counts a r.head) (sym is) ∙ it_does) ∙ append-nil r.lines)
 
@@ -204,25 +197,18 @@ keeps old new known a b r text h grows stands active head is good text_is =
       reported = reported_more known a.reading r h.reading it_does;
     }
 
-no_lines : (lines : List (List ℕ)) → [] ≡ text_of lines → lines ≡ []
-no_lines [] e = refl
-no_lines (l ∷ lines) e = let none : 0 ≡ length (l ++ 10 ∷ text_of lines) = ap length e in absurd (omega (arith, none, length-append l (10 ∷ text_of lines)))
-
-stands_then : (at : Reading) (r : Record) → counts at r.head ≡ true → after at r ≡ taking at r
-stands_then at r is = ap (λ (b : Bool). cond b (taking at r) (passing at)) is
-
 pub takes_over : (old new known : List Record) (a b : LogWriter) (r : Record) → IsAt old known a.reading → IsPrefix old new → Stands new r → r.head ≡ takeover_of a.writer a.reading
     → b.reading ≡ after a.reading r → b.writer ≡ a.writer → [] ≡ text_of r.lines → TakesOver new known a b
 takes_over old new known a b r h grows stands head is who none =
     let it_does : counts a.reading r.head ≡ true = ap (counts a.reading) head ∙ (takeover_counts a.reading a.writer).0 in
-    let now : b.reading ≡ taking a.reading r = is ∙ stands_then a.reading r it_does in
+    let now : b.reading ≡ taking a.reading r = is ∙ after-counted a.reading r it_does in
     record {
       durable = r;
       at = durable_at old new known a.reading b.reading r h grows stands (ap (λ (k : Head). k.number) head) is;
       active = ap (λ (c : Reading). c.writer) now ∙ ap (λ (k : Head). k.writer) head ∙ sym who;
       same = who;
       term = ap (λ (c : Reading). c.term) now ∙ ap (λ (k : Head). k.term) head;
-      reported = reported_more known a.reading r h.reading it_does ∙ ap (λ (l : List (List ℕ)). taken start known ++ l) (no_lines r.lines none) ∙ append-nil (taken start known);
+      reported = reported_more known a.reading r h.reading it_does ∙ ap (λ (l : List (List ℕ)). taken start known ++ l) (no_text r.lines none) ∙ append-nil (taken start known);
     }
 
 -- records from the next number on stand after what is read
@@ -231,7 +217,7 @@ pub follows : (old new known more : List Record) (at now : Reading) (text : List
 follows old new known more at now text h grows later is good text_is =
     let number_is : at.number ≡ 1 + length known = ap (λ (a : Reading). a.number) h.reading ∙ number_after_all start known in
     let index : at.number - 1 ≡ length known = omega (arith, number_is) in
-    let begins = joined known old new h.begins grows in
+    let begins = prefix_trans known old new h.begins grows in
     let rest : drop (at.number - 1) new ≡ begins.0 =
     ap (λ (k : ℕ). drop k new) index ∙ ap (drop (length known)) (sym begins.1) ∙ drop_front known begins.0 in
     record {
@@ -242,7 +228,7 @@ follows old new known more at now text h grows later is good text_is =
       };
       lines = good;
       text_is = text_is;
-      reported = taken_more start known more ∙ ap (λ (a : Reading). taken start known ++ taken a more) (sym h.reading);
+      reported = taken_append start known more ∙ ap (λ (a : Reading). taken start known ++ taken a more) (sym h.reading);
     }
   where
     drop_front : (xs ys : List Record) → drop (length xs) (xs ++ ys) ≡ ys

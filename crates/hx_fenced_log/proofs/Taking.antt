@@ -7,7 +7,7 @@ use Rattle.hx_fenced_log.specs.Records.{Record}
 use Rattle.hx_fenced_log.specs.Terms.{counts, is_later, is_by_who_stands, after, after_all, taking, passing, taken, takeover_of}
 use Rattle.hx_fenced_log.specs.TermLaws.{OneBeginsOther, TakenGrows, DeposedDoNotCount, OneIsAhead, OneWriterATerm, NextCounts, TakeoverCounts, TakeoverAddsNothing}
 
-taken_append : (at : Reading) (xs ys : List Record) → taken at (xs ++ ys) ≡ taken at xs ++ taken (after_all at xs) ys
+pub taken_append : (at : Reading) (xs ys : List Record) → taken at (xs ++ ys) ≡ taken at xs ++ taken (after_all at xs) ys
 taken_append at [] ys = refl
 taken_append at (x ∷ xs) ys =
     ap (λ (l : List (List ℕ)). cond (counts at x.head) x.lines [] ++ l) (taken_append (after at x) xs ys)
@@ -92,14 +92,14 @@ rise at [] = record { term = omega arith; writer = λ _. refl }
 rise at (r ∷ rs) = joined at (after at r) (after_all (after at r) rs) (rises at r) (rise (after at r) rs)
 
 -- after a record that counts, its term stands
-stands : (at : Reading) (r : Record) → counts at r.head ≡ true → after at r ≡ taking at r
-stands at r is = ap (λ (b : Bool). cond b (taking at r) (passing at)) is
+pub after-counted : (at : Reading) (r : Record) → counts at r.head ≡ true → after at r ≡ taking at r
+after-counted at r is = ap (λ (b : Bool). cond b (taking at r) (passing at)) is
 
 pub deposed : DeposedDoNotCount
 deposed at one late between is below = by_test (counts (after_all (after at one) between) late.head) refl
   where
     here : (after at one).term ≡ one.head.term
-    here = ap (λ (a : Reading). a.term) (stands at one is)
+    here = ap (λ (a : Reading). a.term) (after-counted at one is)
 
     by_test : (b : Bool) → counts (after_all (after at one) between) late.head ≡ b → b ≡ false
     by_test true it_does = absurd (omega (arith, below, here, (rise (after at one) between).term, (is_active_now (after_all (after at one) between) late.head it_does).0))
@@ -108,8 +108,8 @@ deposed at one late between is below = by_test (counts (after_all (after at one)
 pub one_writer : OneWriterATerm
 one_writer at first second between is too same =
     let rest_after = after_all (after at first) between in
-    let here : (after at first).term ≡ first.head.term = ap (λ (a : Reading). a.term) (stands at first is) in
-    let by : (after at first).writer ≡ first.head.writer = ap (λ (a : Reading). a.writer) (stands at first is) in
+    let here : (after at first).term ≡ first.head.term = ap (λ (a : Reading). a.term) (after-counted at first is) in
+    let by : (after at first).writer ≡ first.head.writer = ap (λ (a : Reading). a.writer) (after-counted at first is) in
     let up = rise (after at first) between in
     let active = is_active_now rest_after second.head too in
     let level : second.head.term ≡ rest_after.term = omega (arith, same, here, up.term, active.0) in
@@ -130,7 +130,7 @@ takes_over at writer = grind (arith, eq-eqb at.index at.index refl, later at.ter
 pub takeover_counts : TakeoverCounts
 takeover_counts at writer = (
   takes_over at writer,
-  ap (λ (a : Reading). a.writer) (stands at (record { head = takeover_of writer at; lines = [] }) (takes_over at writer)),
+  ap (λ (a : Reading). a.writer) (after-counted at (record { head = takeover_of writer at; lines = [] }) (takes_over at writer)),
 )
 
 pub takeover_adds_nothing : TakeoverAddsNothing

@@ -12,7 +12,7 @@ use Rattle.hx_fenced_log.specs.declared.log.writer.LogWriter.{LogWriter}
 use Rattle.hx_fenced_log.specs.Writers.{IsAt}
 use Rattle.hx_fenced_log.specs.Calls.{Call, Followed, Durable, TookOver, Failed, text_by, Does, Called, AreCalls, log_after, text_of_calls, HasReported}
 use Rattle.hx_fenced_log.specs.LogLaws.{NoneIsReportedOtherwise, OneTakesFirst, WhatIsReadStands}
-use Rattle.hx_fenced_log.proofs.Standing.{joined}
+use Rattle.hx_units.proofs.Prefixes.{prefix_trans}
 
 -- how far a log is read, and the text that may be reported of it
 record MayTell (log : List Record) (at : Reading) (text : List ℕ) : Type 0 where
@@ -27,7 +27,7 @@ record IsOfFront (log : List Record) (text : List ℕ) : Type 0 where
   is : text ≡ text_of (taken start known)
 
 pub stands_on : WhatIsReadStands
-stands_on earlier later known at grows h = record { begins = joined known earlier later h.begins grows; reading = h.reading }
+stands_on earlier later known at grows h = record { begins = prefix_trans known earlier later h.begins grows; reading = h.reading }
 
 -- these lines, too, may be reported
 reported_on : (known : List Record) (text more : List ℕ) (all : List Record) (lines : List (List ℕ)) → text ≡ text_of (taken start known) → more ≡ text_of lines → taken start all ≡ taken start known ++ lines
@@ -50,7 +50,7 @@ one_call log before rest_after old new TookOver text h waits grows does =
     let t = does h.known (stands_on log before h.known old.reading waits h.is_at) in
     record { known = h.known ++ t.durable ∷ []; is_at = t.at; is = append-nil text ∙ h.is ∙ ap text_of (sym t.reported) }
 one_call log before rest_after old new Failed text h waits grows does =
-    let here = stands_on log rest_after h.known old.reading (joined log before rest_after waits grows) h.is_at in
+    let here = stands_on log rest_after h.known old.reading (prefix_trans log before rest_after waits grows) h.is_at in
     record {
       known = h.known;
       is_at = subst (λ (w : LogWriter). IsAt rest_after h.known w.reading) (sym does) here;
@@ -76,7 +76,7 @@ reported_of committed reported h =
     let all = all_calls [] h.writer h.calls [] none h.are_calls in
     record {
       known = all.known;
-      begins = joined all.known (log_after [] h.calls) committed all.begins h.of_log;
+      begins = prefix_trans all.known (log_after [] h.calls) committed all.begins h.of_log;
       is = subst (λ (l : List ℕ). IsPrefix reported l) all.is h.reported_is;
     }
 
@@ -93,6 +93,6 @@ none_otherwise committed one other p q =
     let one_text = text_of (taken start a.known) in
     let other_text = text_of (taken start b.known) in
     elim (one_takes_first committed a.known b.known a.begins b.begins) [
-      | inl before ↦ two_beginnings one other other_text (joined one one_text other_text a.is (text_begins (taken start a.known) (taken start b.known) before)) b.is
-      | inr before ↦ two_beginnings one other one_text a.is (joined other other_text one_text b.is (text_begins (taken start b.known) (taken start a.known) before))
+      | inl before ↦ two_beginnings one other other_text (prefix_trans one one_text other_text a.is (text_begins (taken start a.known) (taken start b.known) before)) b.is
+      | inr before ↦ two_beginnings one other one_text a.is (prefix_trans other other_text one_text b.is (text_begins (taken start b.known) (taken start a.known) before))
     ]

@@ -1,7 +1,7 @@
 -- The lines of a record, and what else a text may have.
 use Rattle.std.specs.Prelude.{◌≡◌, ◌≢◌, ℕ, suc, ◌+◌, ◌≤◌, ◌^◌, List, [], ◌∷◌, ◌++◌, length}
 use Rattle.std.specs.List.{AllByRecursion}
-use Rattle.hx_text.specs.Cuts.{Lacks}
+use Rattle.hx_units.specs.Cuts.{Lacks}
 use Rattle.hx_journal.specs.Lines.{lines_of, text_of}
 use Rattle.hx_journal.specs.Records.{IsRecord}
 use Rattle.hx_fenced_log.specs.declared.terms.head.Head.{Head}

@@ -2,7 +2,7 @@
 use Rattle.std.specs.Prelude.{◌≡◌, ◌≢◌, ℕ, List, ◌∷◌, ◌++◌, Result, Ok, Err}
 use Rattle.std.specs.Fmt.{decimal}
 use Rattle.hx_units.specs.Letters.{letter, space, line_feed}
-use Rattle.hx_text.specs.Cuts.{Lacks}
+use Rattle.hx_units.specs.Cuts.{Lacks}
 use Rattle.hx_journal.specs.Lines.{text_of}
 use Rattle.hx_fenced_log.specs.declared.terms.head.Head.{Head}
 use Rattle.hx_fenced_log.specs.declared.terms.record.RecordError.{RecordError}

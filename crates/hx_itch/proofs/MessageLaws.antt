@@ -1,8 +1,9 @@
 -- What is spelled so is read.
-use Rattle.std.proofs.Common.{◌≡◌, ℕ, ◌^◌, ◌<◌, Bool, true, false, cond, ◌||◌, List, length, Option, Some, None, refl, sym, ◌∙◌, arith}
+use Rattle.std.proofs.Common.{◌≡◌, ℕ, ◌^◌, ◌<◌, List, length, Some, None, refl, sym, ◌∙◌, arith}
 use Rattle.std.specs.Prelude.{◌↔◌, IfSome, IsSome, IsTrue, is_some}
 use Rattle.hx_units.specs.Fields.{is_message, number_at, spelled, AreBytes}
 use Rattle.hx_units.proofs.FieldLaws.{cells, by_cells, first_message, number_2, number_4, number_6, number_8}
+use Rattle.hx_units.proofs.Options.{is_some-next, is_some-last, is_some-first}
 use Rattle.hx_itch.specs.declared.message.SystemEvent.{SystemEvent}
 use Rattle.hx_itch.specs.declared.message.StockDirectory.{StockDirectory}
 use Rattle.hx_itch.specs.declared.message.AddOrder.{AddOrder}
@@ -130,33 +131,20 @@ feed_again (variant.BrokenTrade m) fits = broken_trade_again m fits
 
 -- ---- which bytes are a message
 
-some_first : {A : Type 0} (b : Bool) (x : A) (others : Option A) → is_some (cond b (Some x) others) ≡ (b || is_some others)
-some_first true x others = refl
-some_first false x others = refl
-
-some_next : {A : Type 0} (p b : Bool) (x : A) (others : Option A) → (p || is_some (cond b (Some x) others)) ≡ ((p || b) || is_some others)
-some_next true b x others = refl
-some_next false b x others = some_first b x others
-
-some_last : {A : Type 0} (p b : Bool) (x : A) → (p || is_some (cond b (Some x) None)) ≡ (p || b)
-some_last true b x = refl
-some_last false true x = refl
-some_last false false x = refl
-
 pub feed_readable : (bytes : List ℕ) → IsSome (feed_message_of bytes) ↔ IsTrue (is_feed_message bytes)
 feed_readable bytes =
     let same : is_some (feed_message_of bytes) ≡ is_feed_message bytes =
-    some_first (is_message 12 83 bytes) (variant.SystemEvent (system_event_of bytes)) _
-    ∙ some_next _ (is_message 39 82 bytes) (variant.StockDirectory (stock_directory_of bytes)) _
-    ∙ some_next _ (is_message 36 65 bytes) (variant.AddOrder (add_order_of bytes)) _
-    ∙ some_next _ (is_message 40 70 bytes) (variant.AddOrderWithAttribution (add_order_with_attribution_of bytes)) _
-    ∙ some_next _ (is_message 31 69 bytes) (variant.OrderExecuted (order_executed_of bytes)) _
-    ∙ some_next _ (is_message 23 88 bytes) (variant.OrderCancel (order_cancel_of bytes)) _
-    ∙ some_next _ (is_message 19 68 bytes) (variant.OrderDelete (order_delete_of bytes)) _
-    ∙ some_next _ (is_message 35 85 bytes) (variant.OrderReplace (order_replace_of bytes)) _
-    ∙ some_next _ (is_message 44 80 bytes) (variant.Trade (trade_of bytes)) _
-    ∙ some_next _ (is_message 25 72 bytes) (variant.StockTradingAction (stock_trading_action_of bytes)) _
-    ∙ some_last _ (is_message 19 66 bytes) (variant.BrokenTrade (broken_trade_of bytes)) in
+    is_some-first (is_message 12 83 bytes) (variant.SystemEvent (system_event_of bytes)) _
+    ∙ is_some-next _ (is_message 39 82 bytes) (variant.StockDirectory (stock_directory_of bytes)) _
+    ∙ is_some-next _ (is_message 36 65 bytes) (variant.AddOrder (add_order_of bytes)) _
+    ∙ is_some-next _ (is_message 40 70 bytes) (variant.AddOrderWithAttribution (add_order_with_attribution_of bytes)) _
+    ∙ is_some-next _ (is_message 31 69 bytes) (variant.OrderExecuted (order_executed_of bytes)) _
+    ∙ is_some-next _ (is_message 23 88 bytes) (variant.OrderCancel (order_cancel_of bytes)) _
+    ∙ is_some-next _ (is_message 19 68 bytes) (variant.OrderDelete (order_delete_of bytes)) _
+    ∙ is_some-next _ (is_message 35 85 bytes) (variant.OrderReplace (order_replace_of bytes)) _
+    ∙ is_some-next _ (is_message 44 80 bytes) (variant.Trade (trade_of bytes)) _
+    ∙ is_some-next _ (is_message 25 72 bytes) (variant.StockTradingAction (stock_trading_action_of bytes)) _
+    ∙ is_some-last _ (is_message 19 66 bytes) (variant.BrokenTrade (broken_trade_of bytes)) in
     (λ s. sym same ∙ s, λ t. same ∙ t)
 
 -- ---- a time that is read has 6 bytes

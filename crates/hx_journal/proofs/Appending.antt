@@ -7,8 +7,8 @@ use Rattle.hx_journal.specs.Records.{is_mark, records_of, sealed, recovered}
 use Rattle.hx_journal.specs.Crashes.{IsBetween, Leaves}
 use Rattle.hx_journal.specs.Files.{LineFileState, stored, appended, HasFromTo, HasBetween}
 use Rattle.hx_journal.specs.Blocks.{left_of}
-use Rattle.hx_journal.proofs.Prefixes.{prefix_self, prefix_trans}
-use Rattle.hx_journal.proofs.Sealing.{recovers_between, keeps_sealed, sealed_prefix, sealed_mark, one_record, no_record, records_of-append, prefix_records}
+use Rattle.hx_journal.proofs.Sealing.{recovers_between, keeps_sealed, sealed_prefix, sealed_mark, no_record, records_of-append, prefix_records}
+use Rattle.hx_units.proofs.Prefixes.{prefix_self, prefix_trans}
 
 -- a mark more: no record, and the blocks are whole
 pub mark_added : (stored waiting : List (List ℕ)) (mark : List ℕ) → is_mark mark ≡ true → records_of (stored ++ (waiting ++ mark ∷ [])) ≡ records_of (stored ++ waiting)

@@ -2,7 +2,7 @@
 use Rattle.std.proofs.Common.{◌≡◌, ◌≤◌, ◌<◌, ◌+◌, ◌-◌, ◌++◌, List, ℕ, zero, suc, [], ◌∷◌, length, get_or, refl, sym, ap, subst, ◌∙◌, arith, append_assoc, length-append, zero-add, not}
 use Rattle.std.proofs.lemmas.List.{append-nil, get_or-append_right}
 use Rattle.std.proofs.lemmas.List.Sums.{length-filter, count_by-le-length}
-use Rattle.hx_text.specs.Cuts.{Lacks}
+use Rattle.hx_units.specs.Cuts.{Lacks}
 use Rattle.hx_journal.specs.Lines.{IsLine, AreLines, lines_of, text_of}
 use Rattle.hx_journal.specs.Records.{is_mark, records_of}
 use Rattle.hx_journal.proofs.Lines.{lines_of-text, lines_of_are, text_of-append, few_lines_of}
@@ -80,7 +80,3 @@ few_records text whole =
 
 pub few_of : (lines : List (List ℕ)) → length (records_of lines) ≤ length lines
 few_of lines = omega (arith, length-filter (λ (line : List ℕ). not (is_mark line)) lines, count_by-le-length (λ (line : List ℕ). not (is_mark line)) lines)
-
--- a shorter rest
-pub shorter : (rest line after : List ℕ) → rest ≡ line ++ 10 ∷ after → length after < length rest
-shorter rest line after cut = omega (arith, ap length cut, length-append line (10 ∷ after))

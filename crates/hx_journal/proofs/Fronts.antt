@@ -2,18 +2,18 @@
 use Rattle.std.proofs.Common.{◌≡◌, ◌≢◌, inr, Option, None, Some, ℕ, suc, ◌≤◌, ◌+◌, ◌-◌, Bool, true, false, List, [], ◌∷◌, ◌++◌, length, take, drop, get_or, refl, sym, ap, subst, ◌∙◌, arith, append_assoc, length-take}
 use Rattle.std.proofs.lemmas.List.{take-take, take_all, get_or-take, get_or-drop, length-drop}
 use mathlib.Core.List.{IsPrefix}
-use Rattle.hx_text.specs.Cuts.{Lacks}
+use Rattle.hx_units.specs.Cuts.{Lacks}
 use Rattle.hx_journal.specs.Lines.{lines_of, text_of}
 use Rattle.hx_journal.specs.Records.{is_mark, records_of, sealed, recovered}
 use Rattle.hx_journal.specs.Crashes.{IsBetween}
 use Rattle.hx_journal.specs.Heads.{IsWord, head_of}
 use Rattle.hx_journal.specs.Surveys.{before_damage, marks_of, StandsAfter}
-use Rattle.hx_journal.proofs.Prefixes.{prefix_self, prefix_trans}
 use Rattle.hx_journal.proofs.Lines.{prefix_lines_of, lines_of_are, lines_of-text, lines_of-text_before}
 use Rattle.hx_journal.proofs.Sealing.{sealed_prefix, sealed_again, keeps_sealed, prefix_records}
 use Rattle.hx_journal.proofs.Spelling.{line-head}
 use Rattle.hx_journal.proofs.Copying.{first_line, no_lines}
 use Rattle.hx_journal.proofs.Recovery.{are_sealed, lines_of_front}
+use Rattle.hx_units.proofs.Prefixes.{prefix_self, prefix_trans}
 
 -- Of a text up to an offset, the whole blocks end where those of the text up to their own end do.
 module _ (text : List ℕ) (at end : ℕ) (inside : end ≤ length (take at text)) (front : take end (take at text) ≡ text_of (sealed (lines_of (take at text)))) where

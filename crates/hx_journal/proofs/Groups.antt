@@ -3,9 +3,9 @@ use Rattle.std.proofs.Common.{◌≡◌, ℕ, ◌≤◌, List, [], ◌∷◌, �
 use Rattle.hx_disk.specs.Device.{Mixed, Cut, Follows, Only}
 use Rattle.hx_journal.specs.Lines.{IsLine, text_of, lines_of}
 use Rattle.hx_journal.specs.Files.{IsAtRest, HasFromTo, HasThose}
-use Rattle.hx_journal.proofs.Prefixes.{prefix_self}
 use Rattle.hx_journal.proofs.Lines.{lines_of-text_before, lines_of-text, lines_of_are, text_of-append, few_lines_of}
 use Rattle.hx_journal.proofs.Torn.{torn_write, torn_cut, torn_zeros, has_front}
+use Rattle.hx_units.proofs.Prefixes.{prefix_self}
 
 -- before the write
 pub before_write : (file group : List ℕ) (outcomes : List ℕ → Type 0) → Only file outcomes → (c : List ℕ) → outcomes c → HasFromTo (lines_of file) (lines_of file ++ lines_of group) c

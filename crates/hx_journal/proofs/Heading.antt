@@ -1,7 +1,7 @@
 -- How the first line of a journal is cut into its parts.
 use Rattle.std.proofs.Common.{◌≡◌, ℕ, zero, suc, List, [], ◌∷◌, ◌++◌, sym, ap, subst, ◌∙◌, refl, arith, append_assoc}
 use Rattle.std.specs.Prelude.{Option, None, Some, IfNone}
-use Rattle.hx_text.specs.Cuts.{Lacks}
+use Rattle.hx_units.specs.Cuts.{Lacks}
 use Rattle.hx_journal.specs.Heads.{IsWord, IsHeadOf, head_of}
 
 -- what holds anyway holds if there is nothing

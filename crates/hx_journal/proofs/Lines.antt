@@ -110,10 +110,6 @@ pub text_of-append : (rs ss : List (List ℕ)) → text_of (rs ++ ss) ≡ text_o
 text_of-append [] ss = refl
 text_of-append (r ∷ rs) ss = ap (λ l. r ++ 10 ∷ l) (text_of-append rs ss) ∙ sym (append_assoc r (10 ∷ text_of rs) (text_of ss))
 
-pub are-append : (rs ss : List (List ℕ)) → AreLines rs → AreLines ss → AreLines (rs ++ ss)
-are-append [] ss h k = k
-are-append (r ∷ rs) ss h k = (h.0, are-append rs ss h.1 k)
-
 -- no more lines than bytes
 pub few_lines_of : (rs : List (List ℕ)) → length rs ≤ length (text_of rs)
 few_lines_of [] = omega arith

@@ -1,5 +1,5 @@
 -- How a run of device calls goes on.
-use Rattle.std.proofs.Common.{inl, inr, ⊎_elim, ℕ, ◌≤◌, List, arith}
+use Rattle.std.proofs.Common.{inl, inr, ⊎_elim, ℕ, List, arith}
 use Rattle.hx_disk.specs.Device.{Elapses, LeavesOnly}
 
 module _ {D : Type 0} (moment : D → ℕ) (left_since : D → ℕ → List ℕ → Type 0) where
@@ -15,10 +15,6 @@ module _ {D : Type 0} (moment : D → ℕ) (left_since : D → ℕ → List ℕ 
     each = λ c left. ⊎_elim (so_far.each c) (here c) (time.nothing_else (moment old) c so_far.later left);
     before = λ t c le left. ⊎_elim (so_far.before t c le) (λ now. inr (here c now)) (time.nothing_else t c (omega (arith, le, so_far.later)) left);
   }
-
-  -- what a crash leaves now is among what it left since
-  pub left_now : (old new : D) (P may_leave : List ℕ → Type 0) → ((t : ℕ) (c : List ℕ) → t ≤ moment new → may_leave c → left_since new t c) → LeavesOnly moment left_since old new P → (c : List ℕ) → may_leave c → P c
-  left_now old new P may_leave counts so_far c left = so_far.each c (counts (moment old) c so_far.later left)
 
   -- one run and then another
   pub and_then : (old mid new : D) (P Q : List ℕ → Type 0) → LeavesOnly moment left_since old mid P → LeavesOnly moment left_since mid new Q → ((c : List ℕ) → Q c → P c) → LeavesOnly moment left_since old new P

@@ -1,7 +1,7 @@
 -- What is read of a file, and what stays of it.
 use Rattle.std.proofs.Common.{◌≡◌, ℕ, Bool, true, false, List, [], ◌∷◌, ◌++◌, take, refl, ap, sym, ◌∙◌, subst}
 use mathlib.Core.List.{IsPrefix}
-use Rattle.hx_text.specs.Cuts.{Lacks}
+use Rattle.hx_units.specs.Cuts.{Lacks}
 use Rattle.hx_journal.specs.Lines.{IsLine, AreLines, lines_of, text_of}
 use Rattle.hx_journal.specs.Records.{is_mark, records_of, sealed, recovered, ReadsAlike}
 use Rattle.hx_journal.specs.Crashes.{IsBetween}
@@ -9,10 +9,10 @@ use Rattle.hx_journal.specs.Files.{HasFromTo}
 use Rattle.hx_journal.specs.Openings.{IsRefusal, IsOpenCause}
 use Rattle.hx_journal.specs.declared.open_error.OpenError.{OpenError}
 use Rattle.hx_journal.specs.declared.open_error.OpenError.TheVariants.{Journal, Damaged, OtherHead}
-use Rattle.hx_journal.proofs.Prefixes.{prefix_trans}
 use Rattle.hx_journal.proofs.Lines.{lines_of-text, lines_of_are}
 use Rattle.hx_journal.proofs.Sealing.{sealed_prefix, no_record, prefix_records, reads_alike}
 use Rattle.hx_journal.proofs.Copying.{first_line}
+use Rattle.hx_units.proofs.Prefixes.{prefix_trans}
 
 are_front : (front after : List (List ℕ)) → AreLines (front ++ after) → AreLines front
 are_front [] after are = tt
@@ -55,7 +55,7 @@ first_is file end line rest front lacks cut =
     let first = first_line (sealed (lines_of file)) line rest (are_sealed file) lacks (sym front ∙ cut) in
     (first.0, sym first.1)
 
-no_text : (ls : List (List ℕ)) → [] ≡ text_of ls → ls ≡ []
+pub no_text : (ls : List (List ℕ)) → [] ≡ text_of ls → ls ≡ []
 no_text [] e = refl
 no_text ([] ∷ ls) e = absurd (cc (e))
 no_text ((b ∷ line) ∷ ls) e = absurd (cc (e))

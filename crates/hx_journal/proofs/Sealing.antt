@@ -6,7 +6,7 @@ use mathlib.Core.List.{IsPrefix}
 use Rattle.hx_journal.specs.Lines.{lines_of}
 use Rattle.hx_journal.specs.Records.{is_mark, records_of, sealed_with, sealed, recovered, ReadsAlike}
 use Rattle.hx_journal.specs.Crashes.{IsBetween}
-use Rattle.hx_journal.proofs.Prefixes.{prefix_self, prefix_trans, prefix_both}
+use Rattle.hx_units.proofs.Prefixes.{prefix_self, prefix_trans, prefix_both}
 
 -- a line before lines that stay
 before_some : (line : List ℕ) (front : List (List ℕ)) (next : List ℕ) (rest : List (List ℕ)) → sealed_with line (front ++ next ∷ rest) ≡ line ∷ front ++ next ∷ rest
@@ -89,9 +89,6 @@ prefix_records front lines p = (records_of p.0, sym (filter-append _ front p.0) 
 
 pub records_of-append : (xs ys : List (List ℕ)) → records_of (xs ++ ys) ≡ records_of xs ++ records_of ys
 records_of-append xs ys = filter-append _ xs ys
-
-pub one_record : (bytes : List ℕ) → is_mark bytes ≡ false → records_of (bytes ∷ []) ≡ bytes ∷ []
-one_record bytes is = rw is refl
 
 pub no_record : (mark : List ℕ) → is_mark mark ≡ true → records_of (mark ∷ []) ≡ []
 no_record mark is = rw is refl

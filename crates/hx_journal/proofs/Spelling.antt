@@ -2,8 +2,8 @@
 use Rattle.std.proofs.Common.{◌<◌, ◌+◌, ◌^◌, ◌++◌, List, ℕ, zero, suc, [], ◌∷◌, length, take, get_or, sym, subst, arith}
 use Rattle.std.proofs.lemmas.List.{take_more}
 use Rattle.std.specs.Fmt.{decimal}
-use Rattle.hx_text.specs.Cuts.{Lacks}
-use Rattle.hx_text.proofs.Numbers.{lacks-decimal}
+use Rattle.hx_units.specs.Cuts.{Lacks}
+use Rattle.hx_units.proofs.Decimals.{lacks-decimal}
 use Rattle.hx_journal.specs.Lines.{IsText, IsLine}
 use Rattle.hx_journal.specs.Heads.{IsWord, head_of}
 use Rattle.hx_journal.specs.Marks.{mark_of}
@@ -12,7 +12,7 @@ pub line-append : (a b : List ℕ) → IsLine a → IsLine b → IsLine (a ++ b)
 line-append [] b f g = g
 line-append (x ∷ a) b f g = (f.0, line-append a b f.1 g)
 
-line_of_lacks : (bytes : List ℕ) → Lacks 0 bytes → Lacks 10 bytes → IsLine bytes
+pub line_of_lacks : (bytes : List ℕ) → Lacks 0 bytes → Lacks 10 bytes → IsLine bytes
 line_of_lacks [] none feed = tt
 line_of_lacks (b ∷ bytes) none feed =
     ((none zero 0 (omega arith), feed zero 0 (omega arith)), line_of_lacks bytes (λ k d lt. none (suc k) d (omega arith)) (λ k d lt. feed (suc k) d (omega arith)))
@@ -23,11 +23,11 @@ line-decimal n lt = line_of_lacks (decimal n) (lacks-decimal 0 n (omega arith) l
 text : (b : ℕ) → 10 < b → IsText b
 text b lt = (λ e. absurd (omega (arith, lt, e)), λ e. absurd (omega (arith, lt, e)))
 
-pub line-mark : (offset size previous sum : ℕ) → offset < 2 ^ 64 → size < 2 ^ 64 → previous < 2 ^ 64 → sum < 2 ^ 64 → IsLine (mark_of offset size previous sum)
-line-mark offset size previous sum lp ls lv lu =
-    line-append (35 ∷ decimal offset ++ 32 ∷ decimal size ++ 32 ∷ decimal previous) (32 ∷ decimal sum)
-    (line-append (35 ∷ decimal offset ++ 32 ∷ decimal size) (32 ∷ decimal previous)
-    (line-append (35 ∷ decimal offset) (32 ∷ decimal size) (text 35 (omega arith), line-decimal offset lp) (text 32 (omega arith), line-decimal size ls))
+pub line-mark : (first_number size previous sum : ℕ) → first_number < 2 ^ 64 → size < 2 ^ 64 → previous < 2 ^ 64 → sum < 2 ^ 64 → IsLine (mark_of first_number size previous sum)
+line-mark first_number size previous sum lp ls lv lu =
+    line-append (35 ∷ decimal first_number ++ 32 ∷ decimal size ++ 32 ∷ decimal previous) (32 ∷ decimal sum)
+    (line-append (35 ∷ decimal first_number ++ 32 ∷ decimal size) (32 ∷ decimal previous)
+    (line-append (35 ∷ decimal first_number) (32 ∷ decimal size) (text 35 (omega arith), line-decimal first_number lp) (text 32 (omega arith), line-decimal size ls))
     (text 32 (omega arith), line-decimal previous lv))
     (text 32 (omega arith), line-decimal sum lu)
 

@@ -7,8 +7,9 @@ use Rattle.hx_disk.specs.Device.{Holds, Mixed, Cut, byte}
 use Rattle.hx_journal.specs.Lines.{AreLines, text_of, lines_of}
 use Rattle.hx_journal.specs.Crashes.{IsBetween}
 use Rattle.hx_journal.specs.Files.{IsAtRest}
-use Rattle.hx_journal.proofs.Prefixes.{prefix_each, prefix_both}
+use Rattle.hx_journal.proofs.Prefixes.{prefix_each}
 use Rattle.hx_journal.proofs.Lines.{prefix_lines_of, lines_of-text_before, lines_of_are, lines_of-zero, text_of-append}
+use Rattle.hx_units.proofs.Prefixes.{prefix_both}
 
 -- nothing is read of zeros
 lines_of-zeros : (bytes : List ℕ) → ((i : ℕ) → get_or bytes i 0 ≡ 0) → lines_of bytes ≡ []

@@ -1,7 +1,7 @@
 -- A journal's first line.
 use Rattle.std.specs.Prelude.{◌≡◌, ◌<◌, ℕ, List, [], ◌∷◌, ◌++◌}
 use mathlib.Core.List.{IsPrefix}
-use Rattle.hx_text.specs.Cuts.{Lacks}
+use Rattle.hx_units.specs.Cuts.{Lacks}
 
 -- each byte is one that is printed, and no space
 abbrev pub IsWord : List ℕ → Type 0

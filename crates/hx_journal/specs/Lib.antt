@@ -8,4 +8,4 @@ pub mod Files
 pub mod Blocks
 pub mod Openings
 pub mod Surveys
-pub mod Unkept
+pub mod NullJournal

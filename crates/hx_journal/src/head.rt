@@ -5,7 +5,7 @@ ghost use Rattle.hx_journal.specs.Records.{is_mark};
 ghost use Rattle.hx_journal.specs.Heads.{IsWord, IsHeadOf, head_of};
 ghost use Rattle.hx_journal.specs.declared.head.HeadError.TheVariants.{Memory};
 
-use hx_text::split_once;
+use hx_units::split_once;
 use std::alloc::{AllocError, Global};
 use std::marker::Model;
 

@@ -17,12 +17,12 @@ mod journal;
 mod line_file;
 mod mark;
 mod measure;
+mod null_journal;
 mod open_error;
 mod opening;
 mod sum;
 mod surveying;
 mod tape;
-mod unkept;
 
 pub use cutting::cut_off;
 pub use error::JournalError;
@@ -33,6 +33,7 @@ pub use hx_disk::{
     CallLog, Device, DeviceError, FileError, HostFile, MemoryFile, Noted, RawFile, open_file,
 };
 pub use journal::Journal;
+pub use line_file::push_line;
+pub use null_journal::NullJournal;
 pub use open_error::OpenError;
 pub use surveying::{Survey, survey_of};
-pub use unkept::Unkept;

@@ -5,28 +5,28 @@ ghost use Rattle.hx_journal.specs.Records.{is_mark};
 ghost use Rattle.hx_journal.specs.Marks.{mark_of};
 
 use crate::sum::crc32;
-use hx_text::{read_number, split_once};
+use hx_units::{read_number, split_once};
 use itoa::Buffer;
 use std::alloc::AllocError;
 
 /// Spells the line that ends a block, over what the vector has, and returns the block's sum: that
-/// of its lines and of the line itself up to the sum. `offset` is the number of the block's first
-/// record in the day, and `previous` the sum of the block before.
+/// of its lines and of the line itself up to the sum. `first_number` is the number of the block's
+/// first record in the day, and `previous` the sum of the block before.
 pub fn spell_mark(
     mark: &mut Vec<u8>,
-    offset: u64,
+    first_number: u64,
     lines: &[u8],
     previous: u32,
 ) -> Result<u32, AllocError>
     ensures spelled { IfOk result (λ sum.
-        mark.new.items ≡ mark_of offset (length lines.now) previous sum) }
+        mark.new.items ≡ mark_of first_number (length lines.now) previous sum) }
     ensures is_line { OnOk result (IsLine mark.new.items) }
     ensures is_mark { OnOk result (is_mark mark.new.items ≡ true) }
 {
     let mut buffer = Buffer::new();
     mark.clear();
     mark.push(b'#')?;
-    mark.extend_from_slice(buffer.format(offset).as_bytes())?;
+    mark.extend_from_slice(buffer.format(first_number).as_bytes())?;
     mark.push(b' ')?;
     mark.extend_from_slice(buffer.format(lines.len()).as_bytes())?;
     mark.push(b' ')?;
@@ -51,7 +51,7 @@ pub fn ends_whole_block(front: &[u8], line: &[u8]) -> bool {
 // Of a mark: the size of its block, its sum, and what of the line the sum is of.
 fn read_mark(line: &[u8]) -> Option<(usize, u64, &[u8])> {
     let numbers = line.strip_prefix(b"#")?;
-    let (_offset, numbers) = split_once(numbers, b' ')?;
+    let (_first_number, numbers) = split_once(numbers, b' ')?;
     let (size, numbers) = split_once(numbers, b' ')?;
     let (_previous, sum) = split_once(numbers, b' ')?;
     let signed = line.get(..line.len() - sum.len())?;

@@ -15,7 +15,7 @@ use crate::open_error::OpenError;
 use crate::sum::crc32;
 use crate::tape::tape_of;
 use crate::{Device, FileJournal, Head, JournalError};
-use hx_text::split_once;
+use hx_units::split_once;
 use std::alloc::Global;
 
 impl<D: Device> FileJournal<D> {

@@ -12,7 +12,7 @@ use crate::head::may_be_torn_head;
 use crate::head_parts::{HeadParts, read_head};
 use crate::measure::measure;
 use crate::tape::tape_of;
-use hx_text::split_once;
+use hx_units::split_once;
 use std::alloc::{AllocError, Global};
 
 /// How far a journal goes: its whole blocks up to the first that is damaged, or all of them, and what stands after

@@ -4,7 +4,7 @@ ghost use Rattle.hx_journal.specs.Lines.{text_of, lines_of};
 ghost use Rattle.hx_journal.specs.Records.{is_mark, records_of};
 
 use crate::line_file::push_line;
-use hx_text::split_once;
+use hx_units::split_once;
 use std::alloc::{AllocError, Global};
 
 /// The text of the records among lines, without the marks, and how many records there are.

@@ -2,3 +2,4 @@ pub mod History
 pub mod Quiet
 pub mod FeedBook
 pub mod Fits
+pub mod Accepted

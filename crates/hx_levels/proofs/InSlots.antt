@@ -3,15 +3,13 @@ use Rattle.std.proofs.Common.{◌≡◌, ℕ, Bool, true, false, eqb, Option, So
 use Rattle.std.proofs.lemmas.Bool.{eqb-false, true≢false}
 use Rattle.std.specs.Option.{IsSome, is_some, option_map, unwrap_or}
 use Rattle.std.specs.BTreeMap.{is_at}
+use Rattle.std.proofs.lemmas.Option.{same_Some}
 use Rattle.slab.specs.Slab.{Slab, get}
 use Rattle.hx_levels.specs.declared.level_book.levels.Level.{Level}
 use Rattle.hx_levels.specs.declared.level_book.level_store.Tier.{Tier}
 use Rattle.hx_levels.specs.LevelKeys.{LevelKey, level_key_cmp}
 use Rattle.hx_levels.specs.Levels.{LevelStore, AreInSlots, slot_of, level_key_in, level_in, level_at, on_level}
 use Rattle.hx_levels.proofs.LevelKeys.{apart, one_level_key}
-
-same_some : {A : Type 0} {x y : A} → Some x ≡ Some y → x ≡ y
-same_some h = cc
 
 none_some : {A : Type 0} {x : A} → None ≡ Some x → ⊥
 none_some h = cc
@@ -95,7 +93,7 @@ module _ (old new : LevelStore) (at : LevelKey) (slot : ℕ) (change : Level →
       by None h = refl
       by (Some s) h =
           ap (option_map (λ (t : Tier). t.level))
-          (others s (ne_eqb s slot (λ e. n (same_some (sym (book.leads q s h) ∙ ap (level_key_in old) e ∙ book.leads at slot here)))))
+          (others s (ne_eqb s slot (λ e. n (same_Some _ _ (sym (book.leads q s h) ∙ ap (level_key_in old) e ∙ book.leads at slot here)))))
 
 -- a level is put into a vacant slot
 
@@ -112,7 +110,7 @@ module _ (old new : LevelStore) (at : LevelKey) (slot : ℕ) (level : Level)
       leads : (q : LevelKey) (s : ℕ) → slot_of new q ≡ Some s → (b : Bool) → is_at (level_key_cmp at) q ≡ b → level_key_in new s ≡ Some q
       leads q s h true e =
           let r : q ≡ at = one_level_key at q e in
-          let k : slot ≡ s = same_some (sym slot_is ∙ ap (slot_of new) (sym r) ∙ h) in
+          let k : slot ≡ s = same_Some _ _ (sym slot_is ∙ ap (slot_of new) (sym r) ∙ h) in
           ap (level_key_in new) (sym k) ∙ ap (option_map (λ (t : Tier). t.at)) tier_is ∙ ap Some (sym r)
       leads q s h false e =
           let l = book.leads q s (sym (slots_others q e) ∙ h) in
@@ -121,7 +119,7 @@ module _ (old new : LevelStore) (at : LevelKey) (slot : ℕ) (level : Level)
       stands : (q : LevelKey) (s : ℕ) → level_key_in new s ≡ Some q → (b : Bool) → eqb s slot ≡ b → slot_of new q ≡ Some s
       stands q s h true e =
           let k : s ≡ slot = eqb-true s slot e in
-          let r : at ≡ q = same_some (ap (option_map (λ (t : Tier). t.at)) (sym tier_is) ∙ ap (level_key_in new) (sym k) ∙ h) in
+          let r : at ≡ q = same_Some _ _ (ap (option_map (λ (t : Tier). t.at)) (sym tier_is) ∙ ap (level_key_in new) (sym k) ∙ h) in
           ap (slot_of new) (sym r) ∙ slot_is ∙ ap Some (sym k)
       stands q s h false e =
           let l = book.stands q s (ap (option_map (λ (t : Tier). t.at)) (sym (others s (eqb-false s slot e))) ∙ h) in
@@ -141,7 +139,7 @@ module _ (old new : LevelStore) (at : LevelKey) (slot : ℕ)
     (gone : slot_of new at ≡ None) (slots_others : (q : LevelKey) → is_at (level_key_cmp at) q ≡ false → slot_of new q ≡ slot_of old q)
     (tier_gone : get new.slab slot ≡ None) (others : (k : ℕ) → (k ≡ slot → ⊥) → get new.slab k ≡ get old.slab k) where
   other_slot : (q : LevelKey) (s : ℕ) → (q ≡ at → ⊥) → level_key_in old s ≡ Some q → s ≡ slot → ⊥
-  other_slot q s n h e = n (same_some (sym h ∙ ap (level_key_in old) e ∙ book.leads at slot here))
+  other_slot q s n h e = n (same_Some _ _ (sym h ∙ ap (level_key_in old) e ∙ book.leads at slot here))
 
   pub removed : AreInSlots new
   removed = record { leads = leads; stands = λ q s h. stands q s h (eqb s slot) refl }
@@ -156,7 +154,7 @@ module _ (old new : LevelStore) (at : LevelKey) (slot : ℕ)
       stands q s h true e = absurd (none_some (ap (option_map (λ (t : Tier). t.at)) (sym tier_gone) ∙ ap (level_key_in new) (sym (eqb-true s slot e)) ∙ h))
       stands q s h false e =
           let l = book.stands q s (ap (option_map (λ (t : Tier). t.at)) (sym (others s (eqb-false s slot e))) ∙ h) in
-          slots_others q (apart at q (λ r. eqb-false s slot e (same_some (sym l ∙ ap (slot_of old) r ∙ here)))) ∙ l
+          slots_others q (apart at q (λ r. eqb-false s slot e (same_Some _ _ (sym l ∙ ap (slot_of old) r ∙ here)))) ∙ l
 
   pub removed_others : (q : LevelKey) → (q ≡ at → ⊥) → level_at new q ≡ level_at old q
   removed_others q n = ap (level_in new.slab) (slots_others q (apart at q n)) ∙ by (slot_of old q) refl

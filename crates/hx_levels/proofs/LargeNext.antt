@@ -2,7 +2,7 @@
 use Rattle.std.proofs.Common.{◌≡◌, ℕ, ◌+◌, ◌<◌, ◌≤◌, Bool, true, false, not, ◌&&◌, ◌||◌, cond, eqb, ltb, leb, List, [], ◌∷◌, ◌++◌, Option, Some, None, refl, sym, ap, ◌∙◌, subst, arith}
 use Rattle.std.specs.List.{AllByRecursion, find, filter}
 use Rattle.std.specs.Option.{option_map, IfSome, IfNone}
-use Rattle.std.proofs.lemmas.Bool.{cond_both, cond-true, cond-false, and_parts, and_from, or_parts}
+use Rattle.std.proofs.lemmas.Bool.{cond_both, cond-true, cond-false, and_parts, and_from, or_parts, leb-false, leb-true, le-leb, lt-leb}
 use Rattle.std.proofs.lemmas.Bool.Decides.{nat_tests}
 use Rattle.slab.specs.Slab.{Slab, get}
 use Rattle.hx_book.specs.declared.order.Key.{Key}
@@ -24,7 +24,7 @@ use Rattle.hx_book.proofs.Orders.{ahead_asym, ahead_skip}
 use Rattle.hx_book.proofs.Next.{Ranked, all_retained}
 use Rattle.hx_levels.proofs.Sized.{Bounds}
 use Rattle.hx_levels.proofs.LevelRanks.{InClass, IsPriced, all_in_class, ahead-distance, crosses-level_key, distance_of}
-use Rattle.hx_levels.proofs.LevelNext.{IsQueued, best_from, none_from, not_there, rank, next_farther}
+use Rattle.hx_levels.proofs.LevelNext.{IsQueued, best_from, none_from, not_there, rank, next_farther, all_after}
 use Rattle.hx_levels.proofs.Ranking.{ranked_found}
 use Rattle.hx_levels.proofs.Rising.{all_fail}
 use Rattle.hx_book.proofs.Qualifying.{Met, next-find}
@@ -52,10 +52,6 @@ any_next terms after least orders result e = record {
     each : (zs : List Live) → AllByRecursion (λ (z : Live). true ≡ false → z.order.shares < least) zs
     each [] = tt
     each (z ∷ zs) = ((λ h. cc), each zs)
-
-after_all : (P : Live → Type 0) (test : Live → Bool) (xs : List Live) → AllByRecursion P xs → AllByRecursion P (after_first test xs)
-after_all P test [] h = tt
-after_all P test (x ∷ xs) h = cond_both (test x) xs (after_first test xs) (λ r. AllByRecursion P r) (λ _. h.1) (λ _. after_all P test xs h.1)
 
 module _ (ahead : Live → Live → Bool) (asym : (x y : Live) → ahead x y ≡ true → ahead y x ≡ false) (skip : (x y z : Live) → ahead x y ≡ false → ahead y z ≡ false → ahead x z ≡ false) where
   after_sorted : (test : Live → Bool) (xs : List Live) → IsByRank ahead asym skip xs → IsByRank ahead asym skip (after_first test xs)
@@ -101,24 +97,12 @@ module _ (linked_orders : Slab LinkedOrder) (levels : LevelStore) (retained : Op
   abbrev is_far : ℕ → Live → Bool
   is_far begin y = leb begin (distance_of y)
 
-  of_leb : (a b : ℕ) → leb a b ≡ true → a ≤ b
-  of_leb a b h = grind (arith, nat_tests)
-
-  to_leb : (a b : ℕ) → a ≤ b → leb a b ≡ true
-  to_leb a b l = grind (arith, nat_tests)
-
-  not_leb : (a b : ℕ) → leb a b ≡ false → b < a
-  not_leb a b h = grind (arith, nat_tests)
-
-  to_not_leb : (a b : ℕ) → b < a → leb a b ≡ false
-  to_not_leb a b l = grind (arith, nat_tests)
-
   -- an order in a level that was passed
   small_one : (from begin : ℕ) → ((d : ℕ) → from ≤ d → d < begin → d ≤ limit_of terms → IfSome (level_at levels (contra terms d)) (λ l. l.most < least))
       → (y : Live) → IsKnown y → from ≤ distance_of y → is_far begin y ≡ false → y.order.shares < least
   small_one from begin small y k a f =
       let r = crosses-level_key terms y k.1 k.0 in
-      by (level_at levels (contra terms (distance_of y))) refl (small (distance_of y) a (not_leb begin (distance_of y) f) r.1)
+      by (level_at levels (contra terms (distance_of y))) refl (small (distance_of y) a (leb-false begin (distance_of y) f) r.1)
       (subst (λ v. Bounds y.order.shares (level_at levels v)) r.0 k.3) r.0
     where
       by : (o : Option Level) → level_at levels (contra terms (distance_of y)) ≡ o → IfSome o (λ l. l.most < least) → Bounds y.order.shares o → level_key_of (terms_of y.order) ≡ contra terms (distance_of y) → y.order.shares < least
@@ -139,10 +123,10 @@ module _ (linked_orders : Slab LinkedOrder) (levels : LevelStore) (retained : Op
       cross y t = (and_parts (crosses terms y.order) (is_far begin y) t).0
 
       after : (y : Live) → (crosses terms y.order && is_far begin y) ≡ true → InClass orders y → IsPriced y → begin ≤ distance_of y
-      after y t c p = of_leb begin (distance_of y) (and_parts (crosses terms y.order) (is_far begin y) t).1
+      after y t c p = leb-true begin (distance_of y) (and_parts (crosses terms y.order) (is_far begin y) t).1
 
       within : (y : Live) → crosses terms y.order ≡ true → IsPriced y → begin ≤ distance_of y → (crosses terms y.order && is_far begin y) ≡ true
-      within y c p l = and_from (crosses terms y.order) (is_far begin y) c (to_leb begin (distance_of y) l)
+      within y c p l = and_from (crosses terms y.order) (is_far begin y) c (le-leb begin (distance_of y) l)
 
       by : (o : Option ℕ) → IfSome o (IsFirstFrom levels terms.locate (not (is_buy terms.side)) begin (limit_of terms))
           → IfNone o ((d : ℕ) (s : Bool) → begin ≤ d → d ≤ limit_of terms → first_at levels terms.locate (not (is_buy terms.side)) d s ≡ None)
@@ -183,7 +167,7 @@ module _ (linked_orders : Slab LinkedOrder) (levels : LevelStore) (retained : Op
     all_far =
         by (after_first (is_under key) (ranked terms orders)) (next_farther linked_orders levels retained orders book terms key ranks linked_order stored ends hidden)
         (after_sorted (is_ahead terms.side) (ahead_asym terms.side) (ahead_skip terms.side) (is_under key) (ranked terms orders) sorted)
-        (after_all IsKnown (is_under key) (ranked terms orders) known)
+        (all_after IsKnown (is_under key) (ranked terms orders) known)
       where
         each : (h : Live) → IsKnown h → distance_of it.live + 1 ≤ distance_of h → (zs : List Live) → AllByRecursion (λ y. is_ahead terms.side y h ≡ false) zs → AllByRecursion IsKnown zs
             → AllByRecursion (λ y. distance_of it.live + 1 ≤ distance_of y) zs
@@ -199,11 +183,11 @@ module _ (linked_orders : Slab LinkedOrder) (levels : LevelStore) (retained : Op
         → IsNextLarge (Some (record { 0 = key })) least (ranked terms orders) (option_map to_key result)
     large_after result f = record {
       test = is_far f.begin;
-      small = smalls (after_first (is_under key) (ranked terms orders)) all_far (after_all IsKnown (is_under key) (ranked terms orders) known);
+      small = smalls (after_first (is_under key) (ranked terms orders)) all_far (all_after IsKnown (is_under key) (ranked terms orders) known);
       next = from_begin f.begin result f.found f.none
           ∙ ap (option_map (λ (y : Live). y.key)) (sym (first_after (is_ahead terms.side) (ahead_asym terms.side) (ahead_skip terms.side) (is_far f.begin) key it.live (ranked terms orders) sorted
           (all_weaker IsKnown (λ y. is_ahead terms.side it.live y ≡ false → is_far f.begin y ≡ false)
-          (λ y k a. let g = no_nearer it.live y known_live k a in let b = f.above in to_not_leb f.begin (distance_of y) (omega (arith, g, b))) (ranked terms orders) known)
+          (λ y k a. let g = no_nearer it.live y known_live k a in let b = f.above in lt-leb f.begin (distance_of y) (omega (arith, g, b))) (ranked terms orders) known)
           (own (is_ahead terms.side it.live it.live) refl) line_found));
     }
       where

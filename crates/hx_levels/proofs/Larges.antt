@@ -2,7 +2,7 @@
 use Rattle.std.proofs.Common.{◌≡◌, ℕ, ◌+◌, ◌*◌, ◌/◌, ◌%◌, ◌^◌, ◌<◌, ◌≤◌, Bool, true, false, ◌&&◌, cond, eqb, leb, List, Option, Some, None, refl, ap, ◌∙◌, arith, eq-eqb, eqb-true, ne_eqb}
 use Rattle.std.specs.List.{find}
 use Rattle.std.specs.Option.{IfSome}
-use Rattle.std.proofs.lemmas.Bool.{and_parts, cond-false, false_from_ne_true}
+use Rattle.std.proofs.lemmas.Bool.{and_parts, cond-false, false_from_ne_true, leb-true}
 use Rattle.std.proofs.lemmas.Bool.Decides.{nat_tests}
 use Rattle.hx_levels.specs.declared.level_book.levels.Level.{Level}
 use Rattle.hx_levels.specs.LevelKeys.{LevelKey, level_key_number, level_key_of_number}
@@ -30,9 +30,6 @@ level_key_back at l =
     apart : (b : Bool) → ((at.locate * 2 + cond b 1 0) * 2 ^ 32 + at.distance) % 2 ^ 32 ≡ at.distance
     apart true = omega arith
     apart false = omega arith
-
-of_leb : (a b : ℕ) → leb a b ≡ true → a ≤ b
-of_leb a b h = grind (arith, nat_tests)
 
 module _ (levels : LevelStore) (entries : List Entry) (sizes : AreSizes levels entries) (from : LevelKey) (limit least : ℕ) (small : limit < 4294967295) (some : 0 < least) where
   abbrev first : ℕ
@@ -83,7 +80,7 @@ module _ (levels : LevelStore) (entries : List Entry) (sizes : AreSizes levels e
         let f = found-first first last 4294967295 least e entries rising found in
         let p = and_parts (leb first e.rank) (leb e.rank last && (leb e.least 4294967295 && leb least e.shares)) f.1 in
         let q = and_parts (leb e.rank last) (leb e.least 4294967295 && leb least e.shares) p.1 in
-        (of_leb first e.rank p.0, of_leb e.rank last q.0)
+        (leb-true first e.rank p.0, leb-true e.rank last q.0)
 
     pub begins : from.distance ≤ e.rank % 4294967296
     begins = let w = within in omega (arith, w.0, w.1)

@@ -1,11 +1,11 @@
 -- LevelKeys that compare alike are one.
-use Rattle.std.proofs.Common.{◌≡◌, ℕ, ◌≤◌, Bool, true, false, Ordering, refl, sym, ap, ◌∙◌}
-use Rattle.std.specs.Ordering.{nat_cmp, bool_cmp, ordering_then, is_eq}
+use Rattle.std.proofs.Common.{◌≡◌, ℕ, ◌≤◌, Bool, true, false, refl, sym, ap, ◌∙◌}
+use Rattle.std.specs.Ordering.{nat_cmp, bool_cmp, ordering_then}
 use Rattle.std.specs.BTreeMap.{is_at}
-use Rattle.std.specs.declared.cmp.Ordering.TheVariants.{Less, Equal, Greater}
 use Rattle.std.proofs.lemmas.Bool.{false_from_ne_true}
 use Rattle.std.proofs.lemmas.Map.Lookups.{CmpEqualImpliesEq, exact_pairs, exact_unsigned}
 use Rattle.hx_levels.specs.LevelKeys.{LevelKey, level_key_cmp}
+use Rattle.hx_units.proofs.Booleans.{is_eq-true}
 
 exact_bool : CmpEqualImpliesEq bool_cmp
 exact_bool true true h = refl
@@ -20,13 +20,8 @@ exact_level_keys a b h =
     (exact_pairs bool_cmp nat_cmp exact_bool exact_unsigned)
     (a.locate, (a.buy, a.distance)) (b.locate, (b.buy, b.distance)) h)
 
-equal_from : (o : Ordering) → is_eq o ≡ true → o ≡ Equal
-equal_from Less h = cc
-equal_from Equal h = refl
-equal_from Greater h = cc
-
 pub apart : (at q : LevelKey) → (q ≡ at → ⊥) → is_at (level_key_cmp at) q ≡ false
-apart at q h = false_from_ne_true (is_at (level_key_cmp at) q) (λ t. h (sym (exact_level_keys at q (equal_from (level_key_cmp at q) t))))
+apart at q h = false_from_ne_true (is_at (level_key_cmp at) q) (λ t. h (sym (exact_level_keys at q (is_eq-true (level_key_cmp at q) t))))
 
 pub one_level_key : (at q : LevelKey) → is_at (level_key_cmp at) q ≡ true → q ≡ at
-one_level_key at q t = sym (exact_level_keys at q (equal_from (level_key_cmp at q) t))
+one_level_key at q t = sym (exact_level_keys at q (is_eq-true (level_key_cmp at q) t))

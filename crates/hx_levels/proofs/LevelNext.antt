@@ -17,6 +17,8 @@ use Rattle.hx_levels.specs.OrderLinks.{queue_links, time_links}
 use Rattle.hx_levels.specs.LevelKeys.{LevelKey}
 use Rattle.hx_levels.specs.Levels.{LevelStore, level_at, ends_in, first_at, IsFirstFrom, IsEmptyLevel}
 use Rattle.hx_units.specs.Side.{is_buy}
+use Rattle.hx_units.proofs.Booleans.{same_bools}
+use Rattle.hx_units.proofs.Lists.{find-same_all}
 use Rattle.hx_book.specs.Book.{is_under, is_ahead, crosses, ranked as ranked_line, has_key, IsRanked, next_by_rank, next_by_time, is_candidate, is_equal, terms_of, KeysDiffer, is_conditional}
 use Rattle.hx_levels.specs.LevelBook.{keys_of, is_in, queue, level_key_of, contra, limit_of, to_key, IsBook, unconditional}
 use Rattle.hx_ranked.specs.Contents.{Contents as RankedContents}
@@ -170,17 +172,7 @@ after-keys key (x ∷ xs) = cond_both (is_under key x) xs (after_first (is_under
     (λ e. cond-true (is_under key x) (keys_of xs) (after_first (λ k. eqb k key) (keys_of xs)) e)
     (λ e. cond-false (is_under key x) (keys_of xs) (after_first (λ k. eqb k key) (keys_of xs)) e ∙ after-keys key xs)
 
-iff_bool : (a b : Bool) → (a ≡ true → b ≡ true) → (b ≡ true → a ≡ true) → a ≡ b
-iff_bool true true h k = refl
-iff_bool true false h k = sym (h refl)
-iff_bool false true h k = k refl
-iff_bool false false h k = refl
-
-find-same_all : (p q : Live → Bool) (xs : List Live) → AllByRecursion (λ x. p x ≡ q x) xs → find p xs ≡ find q xs
-find-same_all p q [] h = refl
-find-same_all p q (x ∷ xs) h = ap (λ b. cond b (Some x) (find p xs)) h.0 ∙ ap (λ r. cond (q x) (Some x) r) (find-same_all p q xs h.1)
-
-all_after : (P : Live → Type 0) (test : Live → Bool) (xs : List Live) → AllByRecursion P xs → AllByRecursion P (after_first test xs)
+pub all_after : (P : Live → Type 0) (test : Live → Bool) (xs : List Live) → AllByRecursion P xs → AllByRecursion P (after_first test xs)
 all_after P test [] h = tt
 all_after P test (x ∷ xs) h = cond_both (test x) xs (after_first test xs) (λ r. AllByRecursion P r) (λ _. h.1) (λ _. all_after P test xs h.1)
 
@@ -202,7 +194,7 @@ is_shown false false h = refl
 
 equal-in : (terms : Terms) (a y : Live) → IsPriced a → IsPriced y → crosses terms a.order ≡ true → is_in (level_key_of (terms_of a.order)) a.order.shown y ≡ is_equal terms a.order y
 equal-in terms a y pa py c =
-    iff_bool (is_in (level_key_of (terms_of a.order)) a.order.shown y) (is_equal terms a.order y)
+    same_bools (is_in (level_key_of (terms_of a.order)) a.order.shown y) (is_equal terms a.order y)
     (λ i. let u = is_in_at (level_key_of (terms_of a.order)) a.order.shown y i in
     let r = crosses-level_key terms a pa c in
     let x = level_key-crosses terms y (distance_of a) py (u.0 ∙ r.0) r.1 in

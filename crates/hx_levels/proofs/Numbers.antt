@@ -12,6 +12,7 @@ use Rattle.hx_book.specs.Book.{is_under, with_less, reduced, has_key}
 use Rattle.hx_levels.specs.LevelBook.{AreNumbered, number_in, rank_at}
 use Rattle.hx_book.proofs.Lists.{all_dropped, all_filtered}
 use Rattle.hx_book.proofs.Orders.{none_under}
+use Rattle.hx_units.proofs.Lists.{all_pushed}
 
 -- each order has the same number twice
 abbrev pub AreSame : (n m : ℕ → ℕ) → List Live → Type 0
@@ -27,10 +28,6 @@ numbered-same n m next (x ∷ xs) e a =
     later (z ∷ zs) f b =
         (subst (λ k. k < m z.key.0) (sym e.0) (subst (λ k. n x.key.0 < k) (sym f.0) b.0), later zs f.1 b.1)
 
-pub all-push : (P : Live → Type 0) (orders : List Live) (x : Live) → AllByRecursion P orders → P x → AllByRecursion P (orders ++ x ∷ [])
-all-push P [] x a p = (p, tt)
-all-push P (y ∷ ys) x a p = (a.0, all-push P ys x a.1 p)
-
 pub all-below : (n : ℕ → ℕ) (next : ℕ) (orders : List Live) → AreNumbered n next orders → AllByRecursion (λ y. n y.key.0 < next) orders
 all-below n next [] a = tt
 all-below n next (x ∷ xs) a = (a.1, all-below n next xs a.2)
@@ -41,7 +38,7 @@ numbered-push n next [] x a e = (tt, let h : n x.key.0 ≡ next = e in omega ari
 numbered-push n next (y ∷ ys) x a e =
     let h : n x.key.0 ≡ next = e in
     let l : n y.key.0 < next = a.1 in (
-      all-push (λ z. n y.key.0 < n z.key.0) ys x a.0 (omega arith),
+      all_pushed (λ (z : Live). n y.key.0 < n z.key.0) ys x a.0 (omega arith),
       omega arith,
       numbered-push n next ys x a.2 e,
     )

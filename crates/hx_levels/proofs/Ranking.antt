@@ -12,6 +12,7 @@ use Rattle.hx_levels.specs.LevelBook.{AreNumbered, rank_at, rank_of, contra, unc
 use Rattle.hx_book.proofs.Lists.{all_weaker, all_filtered, once_filtered}
 use Rattle.hx_book.proofs.Rank.{placed-all, all_ranked, first_of-find, first_of-filter, find-by_rank}
 use Rattle.hx_book.proofs.Orders.{ahead_asym, ahead_skip, once_under}
+use Rattle.hx_book.proofs.Next.{all_retained}
 use Rattle.hx_levels.proofs.LevelRanks.{IsPriced, crosses-level_key, distance_of, ahead-distance}
 use Rattle.hx_levels.proofs.LevelNext.{find-retained}
 use Rattle.hx_levels.proofs.Numbers.{numbered-filtered}
@@ -109,10 +110,6 @@ module _ (n : ℕ → ℕ) (terms : Terms) where
       (all_ranked (is_ahead terms.side) (ahead_asym terms.side) (ahead_skip terms.side) (IsCrossing n terms) xs a.1)
       (all_ranked (is_ahead terms.side) (ahead_asym terms.side) (ahead_skip terms.side) (λ y. n x.key.0 < n y.key.0) xs b.0)
       (by_rank_rising next xs a.1 b.2)
-
-all_retained : (keep : Live → Bool) (xs : List Live) → AllByRecursion (λ x. keep x ≡ true) (filter keep xs)
-all_retained keep [] = tt
-all_retained keep (x ∷ xs) = cond_both (keep x) (x ∷ filter keep xs) (filter keep xs) (λ r. AllByRecursion (λ y. keep y ≡ true) r) (λ t. (t, all_retained keep xs)) (λ _. all_retained keep xs)
 
 -- each order is found under its key
 pub all_own : (xs : List Live) → KeysDiffer xs → AllByRecursion (λ y. find (is_under y.key.0) xs ≡ Some y) xs

@@ -7,14 +7,7 @@ use Rattle.hx_book.specs.declared.order.Live.{Live}
 use Rattle.hx_book.specs.Lists.{after_first}
 use Rattle.hx_book.specs.Book.{is_under}
 use Rattle.hx_book.proofs.Lists.{found_among, all_weaker}
-
-pub find-same_all : (p q : Live → Bool) (xs : List Live) → AllByRecursion (λ x. p x ≡ q x) xs → find p xs ≡ find q xs
-find-same_all p q [] h = refl
-find-same_all p q (x ∷ xs) h = ap (λ b. cond b (Some x) (find p xs)) h.0 ∙ ap (λ r. cond (q x) (Some x) r) (find-same_all p q xs h.1)
-
-pub find-same : (p q : Live → Bool) → ((x : Live) → p x ≡ q x) → (xs : List Live) → find p xs ≡ find q xs
-find-same p q h [] = refl
-find-same p q h (x ∷ xs) = ap (λ b. cond b (Some x) (find p xs)) (h x) ∙ ap (λ r. cond (q x) (Some x) r) (find-same p q h xs)
+use Rattle.hx_units.proofs.Lists.{find-same_all}
 
 pub found_passes : (test : Live → Bool) (a : Live) (xs : List Live) → find test xs ≡ Some a → test a ≡ true
 found_passes test a [] f = cc

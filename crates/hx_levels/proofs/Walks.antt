@@ -2,7 +2,7 @@
 use Rattle.std.proofs.Common.{◌≡◌, ℕ, ◌+◌, ◌^◌, ◌<◌, ◌≤◌, Bool, true, false, not, ◌&&◌, cond, ltb, leb, max, min, List, [], ◌∷◌, Option, Some, None, refl, sym, ap, ◌∙◌, subst, arith}
 use Rattle.std.specs.List.{AllByRecursion, find, filter}
 use Rattle.std.specs.Option.{option_map, IfSome, IfNone}
-use Rattle.std.proofs.lemmas.Bool.{cond_both, cond-true, cond-false, true≢false, false_from_ne_true, and_parts, and_from}
+use Rattle.std.proofs.lemmas.Bool.{cond_both, cond-true, cond-false, true≢false, false_from_ne_true, and_parts, and_from, leb-true, le-leb}
 use Rattle.std.proofs.lemmas.Bool.Decides.{nat_tests}
 use Rattle.slab.specs.Slab.{Slab}
 use Rattle.hx_book.specs.declared.order.Order.{Order}
@@ -27,7 +27,7 @@ use Rattle.hx_levels.proofs.Added.{none_has}
 use Rattle.hx_levels.proofs.Parts.{differ-filtered}
 use Rattle.hx_levels.proofs.Numbers.{numbered-filtered}
 use Rattle.hx_book.proofs.Next.{next-some}
-use Rattle.hx_levels.proofs.Rising.{IsRisingBy, find-same, found_passes, find-both, from_all, after_is, rising_after, begins_later, sooner, found_by_two, all_fail, first_until, apart}
+use Rattle.hx_levels.proofs.Rising.{IsRisingBy, found_passes, find-both, from_all, after_is, rising_after, begins_later, sooner, found_by_two, all_fail, first_until, apart}
 use Rattle.hx_levels.proofs.Ranking.{IsCrossing, ranked_rising, ranked_crossing, ranked_found, ranked_own, retained_by_rank}
 use Rattle.hx_levels.proofs.Waiting.{range_crosses, crosses_first, crosses_last, own_entry, Finds, waiting_is, rest_from_rank}
 use Rattle.hx_book.proofs.Qualifying.{has_found, is_qualifying, next-find}
@@ -35,6 +35,7 @@ use Rattle.hx_ranked.specs.declared.entry.Entry.{Entry}
 use Rattle.hx_ranked.specs.Contents.{Contents as RankedContents}
 use Rattle.hx_ranked.specs.Ranked.{IsRising, has_rank, is_within, first_within_of, is_from as is_entry_from}
 use Rattle.hx_ranked.proofs.Found.{first-of-all, none-of-all, found-rank}
+use Rattle.hx_units.proofs.Lists.{find-same}
 
 -- what a walk reads of a book
 pub record Facts (n : ℕ → ℕ) (entries : List Entry) (orders : List Live) : Type 0 where
@@ -117,12 +118,6 @@ module _ (n : ℕ → ℕ) (entries : List Entry) (orders : List Live) (f : Fact
   swap_two false false true e = refl
   swap_two a b false e = cc
 
-  to_leb : (a b : ℕ) → a ≤ b → leb a b ≡ true
-  to_leb a b l = grind (arith, nat_tests)
-
-  of_leb : (a b : ℕ) → leb a b ≡ true → a ≤ b
-  of_leb a b l = grind (arith, nat_tests)
-
   all_and : (a b c d : Bool) → (a && (b && (c && d))) ≡ (c && (a && (b && d)))
   all_and true true true d = refl
   all_and true true false d = refl
@@ -143,9 +138,9 @@ module _ (n : ℕ → ℕ) (entries : List Entry) (orders : List Live) (f : Fact
       (λ y p s t.
       let q = and_parts (leb (rank_after n terms after orders) (rank_of n y)) (leb (rank_of n y) last && (leb (least_of y.order) left && leb least y.order.shares)) t in
       let w = and_parts (leb (rank_of n y) last) (leb (least_of y.order) left && leb least y.order.shares) q.1 in
-      let a : rank_after n terms after orders ≤ rank_of n y = of_leb (rank_after n terms after orders) (rank_of n y) q.0 in
+      let a : rank_after n terms after orders ≤ rank_of n y = leb-true (rank_after n terms after orders) (rank_of n y) q.0 in
       let b : first_rank terms ≤ rank_after n terms after orders = first_below after r in
-      let d : rank_of n y ≤ last = of_leb (rank_of n y) last w.0 in
+      let d : rank_of n y ≤ last = leb-true (rank_of n y) last w.0 in
       range_crosses n terms y p lim s (omega arith) (omega arith))
       result (finds result e)
       ∙ ap (option_map (entry_of n)) (sym (from_rank after (is_waiting_until n last left least) r))
@@ -172,12 +167,12 @@ module _ (n : ℕ → ℕ) (entries : List Entry) (orders : List Live) (f : Fact
       waiting_is n f.next terms entries orders f.differ f.priced f.numbered f.small f.indexed (is_in_range (rank_after n terms after orders) (last_rank terms))
       (λ y. leb (rank_after n terms after orders) (rank_of n y) && is_conditional y.order)
       (λ y c. swap_two (leb (rank_after n terms after orders) (rank_of n y)) (is_conditional y.order) (leb (rank_of n y) (last_rank terms))
-      (to_leb (rank_of n y) (last_rank terms) (crosses_last n terms y c)))
+      (le-leb (rank_of n y) (last_rank terms) (crosses_last n terms y c)))
       (λ y p s t.
       let q = and_parts (leb (rank_after n terms after orders) (rank_of n y)) (leb (rank_of n y) (last_rank terms)) t in
-      let a : rank_after n terms after orders ≤ rank_of n y = of_leb (rank_after n terms after orders) (rank_of n y) q.0 in
+      let a : rank_after n terms after orders ≤ rank_of n y = leb-true (rank_after n terms after orders) (rank_of n y) q.0 in
       let b : first_rank terms ≤ rank_after n terms after orders = first_below after r in
-      range_crosses n terms y p lim s (omega arith) (of_leb (rank_of n y) (last_rank terms) q.1))
+      range_crosses n terms y p lim s (omega arith) (leb-true (rank_of n y) (last_rank terms) q.1))
       result finds
       ∙ ap (option_map (entry_of n)) (sym (from_rank after (λ y. is_conditional y.order) r))
 
@@ -188,7 +183,7 @@ module _ (n : ℕ → ℕ) (entries : List Entry) (orders : List Live) (f : Fact
       let first = first-of-all (is_entry_from (rank_after n terms after orders)) e entries up h in
       conditional_is after r lim (Some e) (
         first.0,
-        and_from (leb (rank_after n terms after orders) e.rank) (leb e.rank (last_rank terms)) first.1 (to_leb e.rank (last_rank terms) l),
+        and_from (leb (rank_after n terms after orders) e.rank) (leb e.rank (last_rank terms)) first.1 (le-leb e.rank (last_rank terms) l),
         λ q v g t. first.2 q v g (and_parts (leb (rank_after n terms after orders) v.rank) (leb v.rank (last_rank terms)) t).0,
       )
 
@@ -202,7 +197,7 @@ module _ (n : ℕ → ℕ) (entries : List Entry) (orders : List Live) (f : Fact
       let p = and_parts (leb (rank_after n terms after orders) v.rank) (leb v.rank (last_rank terms)) t in
       let a : e.rank ≤ q = first.2 q v g p.0 in
       let b : v.rank ≡ q = found-rank q v entries g in
-      let d : v.rank ≤ last_rank terms = of_leb v.rank (last_rank terms) p.1 in
+      let d : v.rank ≤ last_rank terms = leb-true v.rank (last_rank terms) p.1 in
       absurd (omega arith)))
 
   pub conditional_none : (after : Option Key) → IfSome after (λ key. IsRanked terms key.0 orders) → limit_of terms < 2 ^ 32
@@ -252,7 +247,7 @@ module _ (n : ℕ → ℕ) (entries : List Entry) (orders : List Live) (f : Fact
   pub ready_after_rank : (rank least : ℕ) → find (is_from n rank least) (ranked terms (unconditional orders)) ≡ find (λ y. leb rank (rank_of n y) && is_ready least y) (ranked terms orders)
   ready_after_rank rank least =
       sym (retained_by_rank terms orders (is_from n rank least))
-      ∙ find-same (λ y. not (is_conditional y.order) && is_from n rank least y) (λ y. leb rank (rank_of n y) && is_ready least y)
+      ∙ find-same (λ (y : Live). not (is_conditional y.order) && is_from n rank least y) (λ y. leb rank (rank_of n y) && is_ready least y)
       (λ y. move (leb rank (rank_of n y)) (not (is_conditional y.order)) (leb least y.order.shares)) (ranked terms orders)
 
   pub ready_conditional : (key : Key) (least rank : ℕ) → IsRanked terms key.0 orders → IfSome (find (is_under key.0) orders) (λ live. rank ≡ rank_of n live)
@@ -322,9 +317,9 @@ module _ (n : ℕ → ℕ) (entries : List Entry) (orders : List Live) (f : Fact
   next_is after left minimum l =
       found_by_two (rank_of n) (λ y. is_conditional y.order) (is_qualifying left minimum) (rest_after after (ranked terms orders)) (rest_rising after)
       ∙ ap (λ o. sooner (rank_of n) o (find (λ y. not (is_conditional y.order) && is_qualifying left minimum y) (rest_after after (ranked terms orders))))
-      (find-same (λ y. is_conditional y.order && is_qualifying left minimum y) (is_waiting left (max 1 minimum)) (waits left minimum l) (rest_after after (ranked terms orders)))
+      (find-same (λ (y : Live). is_conditional y.order && is_qualifying left minimum y) (is_waiting left (max 1 minimum)) (waits left minimum l) (rest_after after (ranked terms orders)))
       ∙ ap (sooner (rank_of n) (find (is_waiting left (max 1 minimum)) (rest_after after (ranked terms orders))))
-      (find-same (λ y. not (is_conditional y.order) && is_qualifying left minimum y) (is_ready (max 1 minimum)) (ready left minimum l) (rest_after after (ranked terms orders)))
+      (find-same (λ (y : Live). not (is_conditional y.order) && is_qualifying left minimum y) (is_ready (max 1 minimum)) (ready left minimum l) (rest_after after (ranked terms orders)))
 
   -- what is found after an order stands in the book
   abbrev IsOwn : Live → Type 0
@@ -407,7 +402,7 @@ module _ (n : ℕ → ℕ) (entries : List Entry) (orders : List Live) (f : Fact
           let within : leb (rank_after n terms after orders) (rank_of n w) ≡ true =
           (and_parts (leb (rank_after n terms after orders) (rank_of n w)) (here w)
           (found_passes (λ y. leb (rank_after n terms after orders) (rank_of n y) && here y) w (ranked terms orders) (sym (from_rank after here r) ∙ h))).0 in
-          let low : rank_after n terms after orders ≤ rank_of n w = of_leb (rank_after n terms after orders) (rank_of n w) within in
+          let low : rank_after n terms after orders ≤ rank_of n w = leb-true (rank_after n terms after orders) (rank_of n w) within in
           g ∙ ap (option_map (λ (y : Live). y.key))
           (from_rank after (is_ready least) r
           ∙ sym (begins_later (rank_of n) (rank_after n terms after orders) (rank_of n w + 1) (is_ready least) (ranked terms orders) rising (omega arith) (later w s))
@@ -445,9 +440,9 @@ module _ (n : ℕ → ℕ) (entries : List Entry) (orders : List Live) (f : Fact
       next-find terms after orders
       ∙ ap (option_map (λ (y : Live). y.key)) (found_by_two (rank_of n) (λ y. is_conditional y.order) (λ _. true) (rest_after after (ranked terms orders)) (rest_rising after)
       ∙ ap (λ o. sooner (rank_of n) o (find (λ y. not (is_conditional y.order) && true) (rest_after after (ranked terms orders))))
-      (find-same (λ y. is_conditional y.order && true) (λ y. is_conditional y.order) (λ y. and_true (is_conditional y.order)) (rest_after after (ranked terms orders)))
+      (find-same (λ (y : Live). is_conditional y.order && true) (λ y. is_conditional y.order) (λ y. and_true (is_conditional y.order)) (rest_after after (ranked terms orders)))
       ∙ ap (sooner (rank_of n) (find (λ y. is_conditional y.order) (rest_after after (ranked terms orders))))
-      (find-same (λ y. not (is_conditional y.order) && true) (is_ready 0) (λ y. ap (λ b. not (is_conditional y.order) && b) (sym (to_leb 0 y.order.shares (omega arith)))) (rest_after after (ranked terms orders))))
+      (find-same (λ (y : Live). not (is_conditional y.order) && true) (is_ready 0) (λ y. ap (λ b. not (is_conditional y.order) && b) (sym (le-leb 0 y.order.shares (omega arith)))) (rest_after after (ranked terms orders))))
     where
       and_true : (b : Bool) → (b && true) ≡ b
       and_true true = refl

@@ -28,7 +28,7 @@ pub struct Heartbeat<'x, N> {
 
 impl<'x, N: Nodes + Drop> Heartbeat<'x, N> {
     /// Writes heartbeats until the day is over, or until the operator has the writer resign.
-    pub fn shine<R: AllocGlobal + Clock>(self, rt: &R, is_over: &AtomicBool) {
+    pub fn run<R: AllocGlobal + Clock>(self, rt: &R, is_over: &AtomicBool) {
         let Heartbeat {
             mut heartbeats,
             writer,

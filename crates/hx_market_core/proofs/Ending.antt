@@ -2,9 +2,10 @@
 use Rattle.std.proofs.Common.{◌≡◌, ℕ, ◌+◌, ◌<◌, Bool, true, false, cond, eqb, ltb, List, [], ◌∷◌, ◌++◌, length, Option, Some, None, Contains, refl, sym, ap, ◌∙◌, subst, inl, inr, arith, eq-eqb, eqb-true, slice_get}
 use Rattle.std.specs.Option.{option_map}
 use Rattle.std.specs.List.{AllByRecursion, filter, find}
-use Rattle.std.proofs.lemmas.Bool.{cond-true, cond-false}
+use Rattle.std.proofs.lemmas.Bool.{cond-true, cond-false, ne_eqb}
 use Rattle.std.proofs.lemmas.Bool.Decides.{nat_tests}
 use Rattle.hx_units.specs.declared.names.Token.{Token}
+use Rattle.hx_units.proofs.Lists.{find-same_all}
 use Rattle.hx_day.specs.Increasing.{AreIncreasing}
 use Rattle.hx_day.specs.declared.expiries.entry.Entry.{Entry}
 use Rattle.hx_day.specs.Expiries.{IsDue, AreIndicesUntil}
@@ -30,19 +31,12 @@ use Rattle.hx_market_core.proofs.OrderKeys.{StandsUsed, stand_used, used_index, 
 
 -- The order at an index.
 
-differs : (p q : ℕ) → (p ≡ q → ⊥) → eqb p q ≡ false
-differs p q n = at (eqb p q) refl
-  where
-    at : (b : Bool) → eqb p q ≡ b → b ≡ false
-    at true e = absurd (n (eqb-true p q e))
-    at false e = refl
-
 -- none stands below all of them
 none_below : (ts : List Used) (q n : ℕ) (xs : List Live) → q < n → AreInOrder ts n (lives xs) → order_at ts q xs ≡ None
 none_below ts q n [] l h = refl
 none_below ts q n (x ∷ xs) l h =
     let a = h.0 in
-    cond-false (eqb (order_index ts x.order) q) (Some x) (order_at ts q xs) (differs (order_index ts x.order) q (λ e. absurd (omega arith)))
+    cond-false (eqb (order_index ts x.order) q) (Some x) (order_at ts q xs) (ne_eqb (order_index ts x.order) q (λ e. absurd (omega arith)))
     ∙ none_below ts q (order_index ts x.order + 1) xs (omega arith) h.1
 
 none_at_all : (ts : List Used) (qs : List ℕ) → orders_at ts qs [] ≡ []
@@ -53,7 +47,7 @@ none_at_all ts (q ∷ qs) = none_at_all ts qs
 skipped : (ts : List Used) (x : Live) (xs : List Live) (qs : List ℕ) → AllByRecursion (λ q. order_index ts x.order < q) qs → orders_at ts qs (x ∷ xs) ≡ orders_at ts qs xs
 skipped ts x xs [] h = refl
 skipped ts x xs (q ∷ qs) h =
-    ap (λ o. one_or_none o ++ orders_at ts qs (x ∷ xs)) (cond-false (eqb (order_index ts x.order) q) (Some x) (order_at ts q xs) (differs (order_index ts x.order) q (λ e. let a = h.0 in absurd (omega arith))))
+    ap (λ o. one_or_none o ++ orders_at ts qs (x ∷ xs)) (cond-false (eqb (order_index ts x.order) q) (Some x) (order_at ts q xs) (ne_eqb (order_index ts x.order) q (λ e. let a = h.0 in absurd (omega arith))))
     ∙ ap (λ l. one_or_none (order_at ts q xs) ++ l) (skipped ts x xs qs h.1)
 
 -- the orders that pass are at these indices
@@ -162,15 +156,11 @@ at_called ts ks index m t xs k e = each xs (stand_used ts ks xs k)
 
     one : (x : Order) → order_index ts x < length ts → (b : Bool) → is_called m t x ≡ b → eqb (order_index ts x) index ≡ b
     one x l true c = eq-eqb (order_index ts x) index (named x c)
-    one x l false c = differs (order_index ts x) index (λ p. let z : true ≡ false = sym (called x (used_index ts x.member x.token l) l p) ∙ c in cc)
+    one x l false c = ne_eqb (order_index ts x) index (λ p. let z : true ≡ false = sym (called x (used_index ts x.member x.token l) l p) ∙ c in cc)
 
     each : (ys : List Live) → AllByRecursion (StandsUsed ts) ys → AtCalled ts index m t ys
     each [] b = tt
     each (y ∷ ys) b = (one y.order b.0 (is_called m t y.order) refl, each ys b.1)
-
-find_same : (f g : Live → Bool) (xs : List Live) → AllByRecursion (λ x. f x ≡ g x) xs → find f xs ≡ find g xs
-find_same f g [] h = refl
-find_same f g (x ∷ xs) h = ap (λ b. cond b (Some x) (find f xs)) h.0 ∙ ap (λ o. cond (g x) (Some x) o) (find_same f g xs h.1)
 
 find_lives : (test : Order → Bool) (xs : List Live) → option_map (λ x. x.order) (find (λ x. test x.order) xs) ≡ find test (lives xs)
 find_lives test [] = refl
@@ -188,7 +178,7 @@ none_of_map (Some x) h = absurd (let z : Some x.order ≡ None = h in cc)
 pub none_called_at : (ts : List Used) (ks : List (Option ℕ)) (index m : ℕ) (t : Token) (xs : List Live) → AreKeyed ts ks xs → index_of ts m t ≡ index → find (is_called m t) (lives xs) ≡ None
     → order_at ts index xs ≡ None
 none_called_at ts ks index m t xs k e n =
-    find_same (λ x. eqb (order_index ts x.order) index) (λ x. is_called m t x.order) xs (at_called ts ks index m t xs k e)
+    find-same_all (λ (x : Live). eqb (order_index ts x.order) index) (λ (x : Live). is_called m t x.order) xs (at_called ts ks index m t xs k e)
     ∙ none_of_map (find (λ x. is_called m t x.order) xs) (find_lives (is_called m t) xs ∙ n)
 
 -- what is found under a key stands under it
@@ -208,8 +198,8 @@ found_under key o (x ∷ xs) h = at (is_under key x) refl h (found_under key o x
 pub only_called_at : (ts : List Used) (ks : List (Option ℕ)) (index m : ℕ) (t : Token) (xs : List Live) (live : Live) → AreKeyed ts ks xs → index_of ts m t ≡ index → IsOnly xs m t live
     → order_at ts index xs ≡ Some live
 only_called_at ts ks index m t xs live k e only =
-    find_same (λ x. eqb (order_index ts x.order) index) (λ x. is_called m t x.order) xs (at_called ts ks index m t xs k e)
-    ∙ find_same (λ x. is_called m t x.order) (is_under live.key.0) xs only.only
+    find-same_all (λ (x : Live). eqb (order_index ts x.order) index) (λ (x : Live). is_called m t x.order) xs (at_called ts ks index m t xs k e)
+    ∙ find-same_all (λ (x : Live). is_called m t x.order) (is_under live.key.0) xs only.only
     ∙ found_under live.key.0 live.order xs only.found
 
 pub none_named_at : (ts : List Used) (ks : List (Option ℕ)) (index : ℕ) (xs : List Live) → AreKeyed ts ks xs → name_at ts index ≡ None → order_at ts index xs ≡ None
@@ -226,4 +216,4 @@ none_named_at ts ks index xs k n = find-none (λ x. eqb (order_index ts x.order)
 
     each : (ys : List Live) → AllByRecursion (StandsUsed ts) ys → AllByRecursion (λ x. eqb (order_index ts x.order) index ≡ false) ys
     each [] b = tt
-    each (y ∷ ys) b = (differs (order_index ts y.order) index (some y.order b.0), each ys b.1)
+    each (y ∷ ys) b = (ne_eqb (order_index ts y.order) index (some y.order b.0), each ys b.1)

@@ -5,6 +5,7 @@ use Rattle.std.specs.List.{AllByRecursion, find}
 use Rattle.std.proofs.lemmas.Bool.{cond_both}
 use Rattle.std.proofs.lemmas.Option.{slice_get_past, slice_get_within}
 use Rattle.hx_units.specs.declared.names.Token.{Token}
+use Rattle.hx_units.proofs.Lists.{all_pushed}
 use Rattle.hx_book.specs.declared.order.Order.{Order}
 use Rattle.hx_book.specs.declared.order.Live.{Live}
 use Rattle.hx_book.specs.Book.{order_of, is_under, has_key, KeysDiffer, reduced, without, with_less, lives}
@@ -12,10 +13,11 @@ use Rattle.hx_book.proofs.Lists.{all_dropped, all_weaker}
 use Rattle.hx_book.proofs.Orders.{none_under}
 use Rattle.hx_match.specs.declared.fills.Fill.{Fill}
 use Rattle.hx_match.specs.Executing.{taken, left_by, left_with}
-use Rattle.hx_members.specs.Chains.{Used, Chain, is_use, is_used, is_chain, index_of, entered_of, executed_by}
+use Rattle.hx_members.specs.Chains.{Used, Chain, is_use, is_used, index_of, entered_of, executed_by}
 use Rattle.hx_members.specs.TokenState.{TokenState}
 use Rattle.hx_members.specs.Tokens.{key_at, facts_of, state_of}
 use Rattle.hx_members.proofs.ChainLaws.{index_of-pushed, index_of-new, slice_get-pushed}
+use Rattle.hx_members.proofs.TokenLaws.{executed_facts}
 use Rattle.hx_rules.specs.Orders.{is_called}
 use Rattle.hx_market_core.specs.OrderKeys.{AreKeyed, AreBefore}
 use Rattle.hx_market_core.specs.Effects.{IsOnly, confirmed}
@@ -96,14 +98,6 @@ index-unused (u ∷ ts) m t h = at (is_use m t u) (index-unused ts m t) h
 pub none_at : (ts : List Used) (ks : List (Option ℕ)) (m : ℕ) (t : Token) → length ks ≡ length ts → is_used ts m t ≡ false → key_at ks (index_of ts m t) ≡ None
 none_at ts ks m t l h = ap (λ o. option_map_or (λ key. key) o None) (slice_get_past ks (index_of ts m t) (let a = index-unused ts m t h in omega arith))
 
-executed_output : (cs : List Chain) (m : ℕ) (e : Token) → (facts_of cs m e).executed ≡ executed_by cs m e
-executed_output [] m e = refl
-executed_output (c ∷ cs) m e = at (is_chain m e c) (executed_output cs m e)
-  where
-    at : (b : Bool) → (facts_of cs m e).executed ≡ executed_by cs m e → (cond b (record { executed = c.executed; displayed = c.displayed; traded = c.traded }) (facts_of cs m e)).executed ≡ cond b c.executed (executed_by cs m e)
-    at true h = refl
-    at false h = h
-
 -- the state of a used token, and that another has none
 pub output_used : (ts : List Used) (cs : List Chain) (ks : List (Option ℕ)) (m : ℕ) (t : Token) (s : TokenState) → Some s ≡ state_of ts cs ks m t
     → (key_at ks (index_of ts m t) ≡ s.key) × (s.facts.executed ≡ executed_by cs m (entered_of ts m t))
@@ -113,7 +107,7 @@ output_used ts cs ks m t s h = at (is_used ts m t) h
         → (key_at ks (index_of ts m t) ≡ s.key) × (s.facts.executed ≡ executed_by cs m (entered_of ts m t))
     at true e =
         let z : s ≡ record { chain = index_of ts m (entered_of ts m t); facts = facts_of cs m (entered_of ts m t); key = key_at ks (index_of ts m t) } = let w : Some s ≡ Some (record { chain = index_of ts m (entered_of ts m t); facts = facts_of cs m (entered_of ts m t); key = key_at ks (index_of ts m t) }) = e in cc in
-        (sym (ap (λ (v : TokenState). v.key) z), ap (λ (v : TokenState). v.facts.executed) z ∙ executed_output cs m (entered_of ts m t))
+        (sym (ap (λ (v : TokenState). v.key) z), ap (λ (v : TokenState). v.facts.executed) z ∙ executed_facts cs m (entered_of ts m t))
     at false e = absurd (let z : Some s ≡ None = e in cc)
 
 pub output_unused : (ts : List Used) (cs : List Chain) (ks : List (Option ℕ)) (m : ℕ) (t : Token) → None ≡ state_of ts cs ks m t → is_used ts m t ≡ false
@@ -259,10 +253,6 @@ length-set : (ks : List (Option ℕ)) (i : ℕ) (v : Option ℕ) → length (sli
 length-set [] i v = refl
 length-set (k ∷ ks) zero v = refl
 length-set (k ∷ ks) (suc i) v = ap (λ n. suc n) (length-set ks i v)
-
-all_pushed : (P : Live → Type 0) (xs : List Live) (x : Live) → AllByRecursion P xs → P x → AllByRecursion P (xs ++ x ∷ [])
-all_pushed P [] x h k = (k, tt)
-all_pushed P (y ∷ xs) x h k = (h.0, all_pushed P xs x h.1 k)
 
 pub index-used : (ts : List Used) (m : ℕ) (t : Token) → is_used ts m t ≡ true → index_of ts m t < length ts
 index-used [] m t h = absurd (let z : false ≡ true = h in cc)

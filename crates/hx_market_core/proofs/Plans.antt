@@ -23,6 +23,7 @@ use Rattle.hx_match.specs.Rules.{AreFills}
 use Rattle.hx_market_core.specs.declared.effect.Replacement.{Replacement}
 use Rattle.hx_rules.specs.Removal.{others, deleted, taken_off}
 use Rattle.hx_rules.specs.Replace.{replaced_of, is_one_display}
+use Rattle.hx_rules.proofs.Feeds.{length-feed_of_executions}
 use Rattle.hx_market_core.specs.Effects.{incoming_of_enter, order_of_enter, accepted_by, IsOnly, open_shares, incoming_of_replacement, replacement_order, replaced_by_effect}
 use Rattle.hx_market_core.proofs.OrdersByToken.{others_lives}
 use Rattle.hx_day.proofs.UsedTokens.{same-name}
@@ -151,10 +152,6 @@ members_accepted m a orders fills left live differ h =
     members_arrived a.time (after_draw m.numbers a.member shown).matches a.member a.enter.token (is_immediate a.enter.time_in_force) (accepted_of x a.time a.enter) orders orders fills left (of m.live) refl
     (of_itself orders differ) h.good (h.done ∙ ap (λ (xs : List Order). (of xs).fills) (sym live)) (h.remains ∙ ap (λ (xs : List Order). (of xs).left) (sym live))
 
-length-feed : (time : ℕ) (stock : Symbol) (number : ℕ) (es : List Execution) → length (feed_of_executions time stock number es) ≡ length es
-length-feed time stock number [] = refl
-length-feed time stock number (e ∷ es) = ap (λ n. suc n) (length-feed time stock (number + 1) es)
-
 length-join : (xs ys : List Feed) → length (xs ++ ys) ≡ length xs + length ys
 length-join [] ys = omega arith
 length-join (x ∷ xs) ys = let h : length (xs ++ ys) ≡ length xs + length ys = length-join xs ys in omega arith
@@ -184,7 +181,7 @@ feed_arrived time stock number x visible imm orders fills left k shown good done
     let rests : ℕ → ℕ = λ n. length (map (published time stock) (shown_of (resting_of x imm n))) in
     let fills_is : length fills ≡ length k.fills = sym (length-done fills orders good) ∙ ap (λ (es : List Execution). length es) done in
     let rest_is : (if ltb 0 left && (visible && not imm) then 1 else 0) ≡ rests k.left = sym (length-rests time stock x (ltb 0 left) visible imm left shown) ∙ ap rests remains in
-    let output_is : length (feed_of_executions time stock number k.fills) ≡ length k.fills = length-feed time stock number k.fills in
+    let output_is : length (feed_of_executions time stock number k.fills) ≡ length k.fills = length-feed_of_executions time stock number k.fills in
     ap (λ n. n + (if ltb 0 left && (visible && not imm) then 1 else 0)) (fills_is ∙ sym output_is)
     ∙ ap (λ n. length (feed_of_executions time stock number k.fills) + n) rest_is
     ∙ sym (length-join (feed_of_executions time stock number k.fills) (map (published time stock) (shown_of (resting_of x imm k.left))))

@@ -1,23 +1,13 @@
 -- What a message has that nothing rejects, and an event that is not refused.
-use Rattle.std.proofs.Common.{◌≡◌, ℕ, ◌<◌, ◌≤◌, Bool, true, false, ◌==◌, ◌||◌, ◌&&◌, not, List, [], ◌∷◌, Some, None, if◌then◌else◌, ◌%◌, refl, nat_lt, nat_le, arith}
+use Rattle.std.proofs.Common.{◌≡◌, ℕ, ◌<◌, ◌≤◌, Bool, true, false, ◌==◌, ◌||◌, ◌&&◌, not, List, [], Some, None, if◌then◌else◌, ◌%◌, refl, nat_lt, nat_le, arith}
 use Rattle.std.specs.Prelude.{is_none, is_some}
-use Rattle.std.specs.List.{AllByRecursion}
-use Rattle.std.proofs.lemmas.Bool.{or_parts, and_parts}
+use Rattle.std.proofs.lemmas.Bool.{or_parts}
 use Rattle.std.proofs.lemmas.Bool.Decides.{nat_tests}
-use Rattle.hx_members.specs.Setups.{Setup, locate_of, member_of}
+use Rattle.hx_members.specs.Setups.{Setup, locate_of}
 use Rattle.hx_members.specs.TokenState.{TokenState}
 use Rattle.hx_ouch.specs.declared.inbound.Enter.{Enter}
-use Rattle.hx_rules.specs.Enter.{Reason, first_reason, reasons, rejection, is_bad_price}
-use Rattle.hx_rules.specs.Refusals.{known_member}
-
--- if there is no letter, no reason applies
-none_applies : (rs : List Reason) → first_reason rs ≡ None → AllByRecursion (λ r. r.applies ≡ false) rs
-none_applies [] h = tt
-none_applies (r ∷ rs) h = at r.applies refl h (none_applies rs)
-  where
-    at : (b : Bool) → r.applies ≡ b → (if b then Some r.letter else first_reason rs) ≡ None → (first_reason rs ≡ None → AllByRecursion (λ r. r.applies ≡ false) rs) → AllByRecursion (λ r. r.applies ≡ false) (r ∷ rs)
-    at true e k ih = absurd (let z : Some r.letter ≡ None = k in cc)
-    at false e k ih = (e, ih k)
+use Rattle.hx_rules.specs.Enter.{reasons, rejection, is_bad_price}
+use Rattle.hx_rules.proofs.Reasons.{none_applies}
 
 price_in_range : (p : ℕ) → is_bad_price p ≡ false → (0 < p) × (p ≤ 1999999900)
 price_in_range p h =
@@ -45,20 +35,6 @@ passes setup phase halted e h =
   where
     most : (n : ℕ) → nat_lt 999999 n ≡ false → n ≤ 999999
     most n h = grind (arith, nat_tests)
-
--- the number of a known member is in range
-pub known_in_range : (setup : Setup) (n : ℕ) → is_none (known_member setup n) ≡ false → (0 < n) × (n ≤ 4095)
-known_in_range setup n h = at (nat_le 1 n && nat_le n 4095) refl h
-  where
-    low : (n : ℕ) → nat_le 1 n ≡ true → 0 < n
-    low n e = grind (arith, nat_tests)
-
-    high : (n : ℕ) → nat_le n 4095 ≡ true → n ≤ 4095
-    high n e = grind (arith, nat_tests)
-
-    at : (b : Bool) → (nat_le 1 n && nat_le n 4095) ≡ b → is_none (if b then member_of setup n else None) ≡ false → (0 < n) × (n ≤ 4095)
-    at true e h = let p = and_parts (nat_le 1 n) (nat_le n 4095) e in (low n p.0, high n p.1)
-    at false e h = absurd (let z : true ≡ false = h in cc)
 
 -- a token that is not used has no state
 pub unused_of : (b : Bool) (s : TokenState) → is_some (if b then Some s else None) ≡ false → b ≡ false

@@ -240,15 +240,3 @@ outcome_of market (Cancel a) = take_off market a.member a.time a.token a.by a.ol
 outcome_of market (End e) = ended_by market e
 outcome_of market (Halt h) = set_state market h.time h.locate h.stock h.state h.reason
 outcome_of market (Break b) = break_execution market b.time b.number b.execution
-
--- how many hours codes are past after it
-abbrev pub hours_after : Effect → (phase : ℕ) → ℕ
-hours_after Nothing phase = phase
-hours_after (Reject r) phase = phase
-hours_after (Accept a) phase = phase
-hours_after (Fail a) phase = phase
-hours_after (Replace a) phase = phase
-hours_after (Cancel a) phase = phase
-hours_after (End e) phase = e.phase
-hours_after (Halt h) phase = phase
-hours_after (Break b) phase = phase

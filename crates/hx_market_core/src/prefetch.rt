@@ -1,7 +1,7 @@
 //! Before any step: coming events are prefetched, so that their memory is in the cache when their turn comes.
 
 use hx_book::{Book, Key};
-use hx_members::{Tokens, name_hint};
+use hx_members::{Tokens, prefetch_hint};
 use hx_rules::Event;
 use hx_units::fields::array_at;
 use hx_units::{MemberNo, Token};
@@ -37,7 +37,7 @@ fn hint_of(event: &Event) -> u64 {
     };
     let bytes = bytes.as_slice();
     match MemberNo::of(*member) {
-        Some(member) if bytes.len() >= 15 => name_hint(member, &Token(array_at(bytes, 1))),
+        Some(member) if bytes.len() >= 15 => prefetch_hint(member, &Token(array_at(bytes, 1))),
         _ => 0,
     }
 }
@@ -68,6 +68,6 @@ pub fn prefetch<B: Book>(tokens: &Tokens, book: &B, events: &[Event]) -> u64 {
     let bytes = sum_of_bytes(events);
     let hints = hints_of(events);
     let first = tokens.prefetch(&hints);
-    let orders = sum_of_orders(book, &tokens.likely_keys(&hints));
+    let orders = sum_of_orders(book, &tokens.prefetched_keys(&hints));
     bytes.wrapping_add(first).wrapping_add(orders)
 }

@@ -16,6 +16,7 @@ use Rattle.hx_match.specs.Rules.{orders_of_matched}
 use Rattle.hx_match.proofs.Steps.{chosen, with_choice, fills_within, steps_of, shares_of}
 use Rattle.hx_match.proofs.First.{some_shares, none_passes}
 use Rattle.hx_match.proofs.Entries.{matched_of_map}
+use Rattle.hx_match.proofs.OnePass.{fills-zero}
 
 abbrev Position : Type 0
 Position = PositionOf Live
@@ -125,10 +126,6 @@ none_first inc (x ∷ xs) =
 nothing : (r : ℕ) (xs : List Live) → Same [] xs (record { fills = []; rest = xs; left = r }) r
 nothing r xs = record { good = tt; done = refl; same = refl; left = refl; shares = omega arith }
 
-none_fills : (n : ℕ) (inc : Incoming) (xs : List Live) → fills_within n inc 0 xs ≡ []
-none_fills zero inc xs = refl
-none_fills (suc n) inc xs = ap (with_choice (fills_within n inc) 0 xs) (sym (choice inc 0 xs) ∙ ap entry_of (none_first inc xs))
-
 none_matched : (m : ℕ) (inc : Incoming) (xs : List Live) → M m inc 0 xs ≡ record { fills = []; rest = xs; left = 0 }
 unfolding matched_entries
 none_matched zero inc xs = refl
@@ -136,7 +133,7 @@ none_matched (suc m) inc xs = ap (matched_by order_in cut_live (M m inc) 0 xs) (
 
 empty : (n m : ℕ) (inc : Incoming) (xs : List Live) → Same (fills_within n inc 0 xs) xs (M m inc 0 xs) 0
 empty n m inc xs =
-    subst (λ fs. Same fs xs (M m inc 0 xs) 0) (sym (none_fills n inc xs)) (subst (λ k. Same [] xs k 0) (sym (none_matched m inc xs)) (nothing 0 xs))
+    subst (λ fs. Same fs xs (M m inc 0 xs) 0) (sym (fills-zero n inc xs)) (subst (λ k. Same [] xs k 0) (sym (none_matched m inc xs)) (nothing 0 xs))
 
 no_orders : (m : ℕ) (inc : Incoming) (r : ℕ) → M m inc r [] ≡ record { fills = []; rest = []; left = r }
 unfolding matched_entries

@@ -6,6 +6,7 @@ use Rattle.std.specs.Option.{option_map}
 use Rattle.std.proofs.lemmas.Bool.{cond-true, cond-false, true≢false, false_from_ne_true, ltb-true}
 use Rattle.std.proofs.lemmas.Bool.Decides.{nat_tests}
 use Rattle.std.proofs.lemmas.List.Sums.{sum_by-append}
+use Rattle.std.proofs.lemmas.Option.{same_Some}
 use Rattle.hx_book.specs.declared.order.Order.{Order}
 use Rattle.hx_book.specs.declared.order.Live.{Live}
 use Rattle.hx_book.specs.declared.order.Key.{Key}
@@ -15,7 +16,7 @@ use Rattle.hx_book.specs.Book.{crosses, is_ahead, is_under, ranked, reduced, wit
 use Rattle.hx_book.proofs.Lists.{found_among, filter-drop_first, once_filtered, once_dropped, length-drop_first, all_filtered}
 use Rattle.hx_book.proofs.Rank.{by_rank-drop_first, first_of-find, first_of-filter, all_ranked}
 use Rattle.hx_book.proofs.Orders.{ahead_asym, ahead_skip, once_under}
-use Rattle.hx_book.proofs.Qualifying.{KeysOnce, ranked_once, Met, met, is_qualifying, walk-shorter, some_same}
+use Rattle.hx_book.proofs.Qualifying.{KeysOnce, ranked_once, Met, met, is_qualifying, walk-shorter}
 use Rattle.hx_match.specs.declared.fills.Incoming.{Incoming}
 use Rattle.hx_match.specs.declared.fills.Fill.{Fill}
 use Rattle.hx_match.specs.Matching.{terms}
@@ -73,7 +74,7 @@ ranked-without incoming key orders o =
     ∙ by_rank-drop_first (is_ahead incoming.side) (ahead_asym incoming.side) (ahead_skip incoming.side) (is_under key) (filter (λ live. crosses (terms incoming) live.order) orders)
     (once_filtered (λ live. crosses (terms incoming) live.order) (is_under key) orders (o key))
 
-fills-zero : (n : ℕ) (incoming : Incoming) (orders : List Live) → fills_within n incoming 0 orders ≡ []
+pub fills-zero : (n : ℕ) (incoming : Incoming) (orders : List Live) → fills_within n incoming 0 orders ≡ []
 fills-zero zero incoming orders = refl
 fills-zero (suc n) incoming orders =
     ap (with_choice (fills_within n incoming) 0 orders) (chosen-find incoming 0 orders ∙ nothing (ranked (terms incoming) orders))
@@ -149,7 +150,7 @@ pub executed : (incoming : Incoming) (after : Option Key) (left : ℕ) (key : Ke
 executed incoming after left key orders o front all f d n g e h =
     let m : Met (terms incoming) after (is_qualifying left incoming.minimum) key orders = met (terms incoming) after (is_qualifying left incoming.minimum) key orders d n in
     let rest = rest_after (Some key) (ranked (terms incoming) orders) in
-    let same : f ≡ fill left m.live = e ∙ fill_is left key o m.live (some_same (sym g ∙ m.order)) m.has in
+    let same : f ≡ fill left m.live = e ∙ fill_is left key o m.live (same_Some _ _ (sym g ∙ m.order)) m.has in
     let shares : f.shares ≡ min left m.live.order.shares = ap (λ (v : Fill). v.shares) same in
     record {
       output = output_taken incoming.minimum left m.live rest front all f

@@ -3,6 +3,7 @@ use Rattle.std.proofs.Common.{◌≡◌, ℕ, zero, suc, ◌-◌, min, Bool, tru
 use Rattle.std.specs.List.{AllByRecursion, filter, find}
 use Rattle.std.specs.Option.{option_map}
 use Rattle.std.proofs.lemmas.Bool.{or_parts, and_parts}
+use Rattle.std.proofs.lemmas.List.Elements.{filter-append}
 use Rattle.hx_book.specs.declared.order.Order.{Order}
 use Rattle.hx_book.specs.declared.order.Live.{Live}
 use Rattle.hx_book.specs.Book.{crosses, outranks, has_key, is_under, order_of, KeysDiffer, without, lives}
@@ -82,14 +83,6 @@ first_retained {X = X} order_of keep inc r (x ∷ xs) h = at (keep x) refl (firs
     at false e ih =
         ih ∙ dropped_first order_of keep inc x xs (first_entry order_of inc r xs) e
         ∙ ap (λ b. option_map (retained_position keep) (first_of_entries order_of inc x xs b (first_entry order_of inc r xs))) (sym (not_passing inc r (order_of x) (h.0 e)))
-
-filter-append : {X : Type 0} (keep : X → Bool) (xs ys : List X) → filter keep (xs ++ ys) ≡ filter keep xs ++ filter keep ys
-filter-append keep [] ys = refl
-filter-append keep (x ∷ xs) ys = at (keep x) (filter-append keep xs ys)
-  where
-    at : (b : Bool) → filter keep (xs ++ ys) ≡ filter keep xs ++ filter keep ys → cond b (x ∷ filter keep (xs ++ ys)) (filter keep (xs ++ ys)) ≡ cond b (x ∷ filter keep xs) (filter keep xs) ++ filter keep ys
-    at true e = ap (λ l. x ∷ l) e
-    at false e = e
 
 -- what an execution leaves of a retained entry is retained
 filter-less : {X : Type 0} (order_of : X → Order) (cut : X → ℕ → X) (keep : X → Bool) → ((x : X) (n : ℕ) → keep (cut x n) ≡ keep x) → (x : X) (f : ℕ) → keep x ≡ true → filter keep (less_of order_of cut x f) ≡ less_of order_of cut x f

@@ -2,4 +2,4 @@
 #![tactic(auto)]
 
 pub use hx_setup::{Member, Setup, SetupError, Stock, laws};
-pub use hx_tokens::{ChainFacts, Name, Seed, TokenState, Tokens, is_same_name, name_hint};
+pub use hx_tokens::{ChainFacts, Name, Seed, TokenState, Tokens, is_same_name, prefetch_hint};

@@ -17,9 +17,9 @@ const HEALTH_TYPE: &str = "text/plain; charset=utf-8";
 
 const METHODS: &str = "GET, HEAD";
 
-/// The page of a venue, as a service.
+/// The metrics and the health of a venue, as a service.
 #[derive(Drop)]
-pub struct Page<'a, W> {
+pub struct MetricsService<'a, W> {
     /// The venue.
     pub watched: &'a W,
     /// Whether a request was answered.
@@ -50,13 +50,13 @@ impl Health {
     }
 }
 
-impl<'a, W: Watched> Page<'a, W> {
-    /// A page that nobody has read.
-    pub fn new(alloc: Global, watched: &'a W) -> Page<'a, W>
+impl<'a, W: Watched> MetricsService<'a, W> {
+    /// Nobody has read it yet.
+    pub fn new(alloc: Global, watched: &'a W) -> MetricsService<'a, W>
         ensures venue { result.watched.now ≡ watched.now }
         ensures unread { result.is_read ≡ false }
     {
-        Page {
+        MetricsService {
             watched,
             is_read: false,
             alloc,
@@ -105,7 +105,7 @@ impl<'a, W: Watched> Page<'a, W> {
     }
 }
 
-impl<'a, W: Watched> Service for Page<'a, W> {
+impl<'a, W: Watched> Service for MetricsService<'a, W> {
     ghost use Rattle.std.specs.Prelude.{◌≡◌, true};
     ghost use Rattle.http.specs.Request.{head_of};
     ghost use Rattle.http_uri.specs.Uri.{uri_path};

@@ -1,6 +1,6 @@
-//! The clients of the metrics page: each has a connection of its own, and none can hold up another.
+//! The clients of the metrics: each has a connection of its own, and none can hold up another.
 
-use crate::answering::Page;
+use crate::answering::MetricsService;
 use crate::watched::Watched;
 use http_server::{Config, Connection};
 use http1::Limits;
@@ -72,12 +72,12 @@ fn has_moved(moving: io::Result<usize>) -> io::Result<bool> {
 
 impl Client {
     // Reads and writes once each, as far as that does not wait. Returns whether anything was moved.
-    fn exchange<W: Watched>(&mut self, page: &mut Page<'_, W>) -> io::Result<bool> {
+    fn exchange<W: Watched>(&mut self, service: &mut MetricsService<'_, W>) -> io::Result<bool> {
         let mut moved = false;
         if self.connection.wants_read() {
             moved = has_moved(self.connection.read_from(&mut self.stream))?;
         }
-        self.connection.advance(page);
+        self.connection.advance(service);
         if self.connection.wants_write() {
             moved |= has_moved(self.connection.write_to(&mut self.stream))?;
         }
@@ -85,9 +85,9 @@ impl Client {
     }
 
     // Reads, answers and writes, until there is nothing to move, or the connection has ended.
-    fn converse<W: Watched>(&mut self, page: &mut Page<'_, W>) -> io::Result<Stage> {
+    fn converse<W: Watched>(&mut self, service: &mut MetricsService<'_, W>) -> io::Result<Stage> {
         for _ in 0..TURNS {
-            let moved = self.exchange(page)?;
+            let moved = self.exchange(service)?;
             if self.connection.is_done() {
                 self.stream.shutdown(Shutdown::Write)?;
                 return Ok(Stage::Leaves);
@@ -114,13 +114,13 @@ impl Client {
 
     // What becomes of it at this time.
     fn attend<W: Watched>(&mut self, alloc: Global, watched: &W, now: Instant) {
-        let mut page = Page::new(alloc, watched);
+        let mut service = MetricsService::new(alloc, watched);
         self.stage = match self.stage {
-            Stage::Asks => self.converse(&mut page).unwrap_or(Stage::IsGone),
+            Stage::Asks => self.converse(&mut service).unwrap_or(Stage::IsGone),
             Stage::Leaves => self.leave(),
             Stage::IsGone => Stage::IsGone,
         };
-        if page.is_read {
+        if service.is_read {
             self.since = now;
         }
         if now.saturating_duration_since(self.since) >= Duration::from_secs(PATIENCE) {

@@ -11,7 +11,7 @@ mod rows;
 mod serving;
 mod watched;
 
-pub use answering::Page;
+pub use answering::MetricsService;
 pub use figures::Figures;
 pub use metrics::write_metrics;
 pub use phase::Hours;

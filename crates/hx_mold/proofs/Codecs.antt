@@ -1,7 +1,7 @@
 -- What is read is spelled so, and what is spelled so is read.
 use Rattle.std.proofs.Common.{◌≡◌, ℕ, ◌+◌, ◌^◌, ◌<◌, ◌≤◌, List, [], ◌++◌, length, drop, Bool, true, false, cond, eqb, leb, Option, Some, None, refl, sym, ap, ◌∙◌, arith, nat_le, eq-eqb}
 use Rattle.std.specs.Prelude.{IfSome}
-use Rattle.std.proofs.lemmas.Bool.{leb-true, le-leb, eqb-true}
+use Rattle.std.proofs.lemmas.Bool.{leb-true, le-leb, eqb-true, ne_eqb}
 use Rattle.std.proofs.lemmas.List.{length-append, length-drop, append-nil, nil_from_length}
 use Rattle.hx_units.specs.Fields.{number_at, text_at, AreBytes}
 use Rattle.hx_mold.specs.declared.packet.MoldPacket.{MoldPacket}
@@ -10,7 +10,7 @@ use Rattle.hx_mold.specs.declared.request.Request.{Request}
 use Rattle.hx_mold.specs.Packets.{blocks, header, packet_bytes, IsPacket, IsHeader, AreMessages, SpellsPacket, request_bytes, IsRequest, SpellsRequest}
 use Rattle.hx_mold.specs.Reading.{packet_of, packet_from, request_of}
 use Rattle.hx_mold.specs.Counting.{is_whole, messages_in}
-use Rattle.hx_mold.proofs.Laws.{header_is, header_spelled, header_again, header_len, blocks_again, blocks_spelled, length-messages_in, messages_in-short, number_at_2-less, AreBytes-drop, is_false}
+use Rattle.hx_mold.proofs.Laws.{header_is, header_spelled, header_again, header_len, blocks_again, blocks_spelled, length-messages_in, messages_in-short, number_at_2-less, AreBytes-drop}
 
 eq_no : (a b : ℕ) → eqb a b ≡ false → a ≡ b → ⊥
 eq_no a b unequal e = let same : eqb a b ≡ true = eq-eqb a b e in cc
@@ -67,9 +67,6 @@ from_parts session rest sequence count len fits few =
     ∙ ap (λ (n : ℕ). packet_from (20 + length rest) session sequence n (drop 20 bytes)) again.2
     ∙ ap (packet_from (20 + length rest) session sequence count) again.3
 
-not_eq : (a b : ℕ) → (a ≡ b → ⊥) → eqb a b ≡ false
-not_eq a b h = is_false (eqb a b) (λ e. h (eqb-true a b e))
-
 pub if_true : {A : Type 0} (b : Bool) (x y : A) → b ≡ true → cond b x y ≡ x
 if_true true x y e = refl
 if_true false x y e = absurd cc
@@ -87,8 +84,8 @@ packet_again (mold.Blocks session sequence messages) fits =
     let again = blocks_again messages fits.1.short in
     from_parts session rest sequence k fits.0.ten fits.0.fits (omega (arith, fits.1.few))
     ∙ if_true (leb 20 (20 + length rest)) _ None (le-leb 20 (20 + length rest) (omega arith))
-    ∙ if_false (eqb k 0) _ _ (not_eq k 0 (λ e. omega (arith, fits.1.some, e)))
-    ∙ if_false (eqb k 65535) _ _ (not_eq k 65535 (λ e. omega (arith, fits.1.few, e)))
+    ∙ if_false (eqb k 0) _ _ (ne_eqb k 0 (λ e. omega (arith, fits.1.some, e)))
+    ∙ if_false (eqb k 65535) _ _ (ne_eqb k 65535 (λ e. omega (arith, fits.1.few, e)))
     ∙ if_true (is_whole k rest) _ None again.0
     ∙ ap (λ (ms : List (List ℕ)). Some (mold.Blocks session sequence ms)) again.1
 

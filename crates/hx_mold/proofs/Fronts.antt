@@ -1,5 +1,5 @@
 -- The longest front of messages that fits.
-use Rattle.std.proofs.Common.{◌≡◌, ℕ, zero, suc, ◌+◌, ◌-◌, ◌*◌, ◌<◌, ◌≤◌, List, [], ◌∷◌, ◌++◌, length, take, drop, get_or, Bool, true, false, Some, None, refl, sym, ap, ◌∙◌, subst, arith, leb, inl, inr, min, append_assoc}
+use Rattle.std.proofs.Common.{◌≡◌, ℕ, zero, suc, ◌+◌, ◌-◌, ◌*◌, ◌<◌, ◌≤◌, List, [], ◌∷◌, ◌++◌, length, take, drop, get_or, Bool, true, false, Some, None, sym, ap, ◌∙◌, subst, arith, leb, inl, inr, min, append_assoc}
 use Rattle.std.proofs.Math.ListN.{get_or-append}
 use Rattle.std.proofs.Math.Seq.{take-append-add}
 use Rattle.arrayvec.specs.ArrayVec.{ArrayVec}
@@ -8,6 +8,7 @@ use Rattle.std.proofs.lemmas.List.{length-append, length-drop, length-take, appe
 use Rattle.std.proofs.lemmas.List.Folds.{length-flat_map-take}
 use Rattle.std.proofs.lemmas.Grind.{flat_map-append}
 use Rattle.std.specs.List.{AllByRecursion}
+use Rattle.std.proofs.lemmas.Option.{same_Some}
 use Rattle.hx_mold.specs.declared.packet.MoldPacket.TheVariants as mold
 use Rattle.hx_mold.specs.Packets.{block, blocks, header, IsShort, IsHeader, SpellsPacket}
 use Rattle.hx_units.specs.Fields.{texts}
@@ -22,9 +23,6 @@ blocks_one ms k h = ap blocks (take_more ms k [] h) ∙ flat_map-append block (t
 pub blocks_most : (ms : List (List ℕ)) → 2 * length ms ≤ length (blocks ms)
 blocks_most [] = omega arith
 blocks_most (m ∷ ms) = omega (arith, length-append (block m) (blocks ms), length-block m, blocks_most ms)
-
-pub holds_none : (ms : List (List ℕ)) → Holds 0 [] ms
-holds_none ms = record { bytes_are = refl; there = omega arith; fits = omega arith }
 
 pub holds_more : (k : ℕ) (bytes new m : List ℕ) (ms : List (List ℕ)) → Holds k bytes ms → k < length ms → m ≡ get_or ms k [] → (new ≡ bytes ++ block m) × (length new ≤ 1380) → Holds (k + 1) new ms
 holds_more k bytes new m ms h some is adds = record {
@@ -65,18 +63,6 @@ fills_full k bytes m ms h some is full first = record {
   some = λ _. above k bytes ms h.bytes_are first;
 }
 
-pub fills_all : (k : ℕ) (bytes : List ℕ) (ms : List (List ℕ)) → Holds k bytes ms → length ms ≤ k → Fills k bytes ms
-fills_all k bytes ms h all = record {
-  holds = h;
-  is_front = record {
-    rest = drop k ms;
-    splits = sym (take-append-drop k ms);
-    fits = rw (← h.bytes_are) h.fits;
-    longest = λ others more is fits. omega (arith, length-take k ms, ap (λ (x : List (List ℕ)). length x) is, length-append others more);
-  };
-  some = λ some. omega arith;
-}
-
 -- ---- what is asked for
 
 pub message_is : (n : ℕ) (ms : List (List ℕ)) → 0 < n → n ≤ length ms → message_at n ms ≡ Some (get_or ms (n - 1) [])
@@ -90,13 +76,10 @@ length-wanted n most ms = length-take most (drop (n - 1) ms) ∙ ap (λ (i : ℕ
 pub wanted_one : (n most k : ℕ) (ms : List (List ℕ)) → 0 < n → k < most → get_or (wanted n most ms) k [] ≡ get_or ms (n + k - 1) []
 wanted_one n most k ms some few = get_or-take most (drop (n - 1) ms) k [] few ∙ get_or-drop (n - 1) ms k [] ∙ ap (λ (i : ℕ). get_or ms i []) (omega arith)
 
-some_same : (a b : List ℕ) → Some a ≡ Some b → a ≡ b
-some_same a b e = cc
-
 -- the message that was got is the next one that is wanted
 pub got : (n most k next : ℕ) (m : List ℕ) (ms : List (List ℕ)) → 0 < n → k < most → next ≡ n + k → next ≤ length ms → Some m ≡ message_at next ms → m ≡ get_or (wanted n most ms) k []
 got n most k next m ms some few is there found =
-    some_same m (get_or ms (next - 1) []) (found ∙ message_is next ms (omega arith) there) ∙ ap (λ (i : ℕ). get_or ms (i - 1) []) is ∙ sym (wanted_one n most k ms some few)
+    same_Some m (get_or ms (next - 1) []) (found ∙ message_is next ms (omega arith) there) ∙ ap (λ (i : ℕ). get_or ms (i - 1) []) is ∙ sym (wanted_one n most k ms some few)
 
 -- ---- one packet more
 
@@ -140,9 +123,6 @@ text_is (y ∷ ys) (suc i) x some is = text_is ys i x (omega arith) is
 
 pub not_first : (bytes : List ℕ) (added : Bool) → added ≡ false → (bytes ≡ [] → added ≡ true) → bytes ≡ [] → ⊥
 not_first bytes added refused first none = absurd (let t : added ≡ true = first none in cc)
-
-pub fills_within : (n most count : ℕ) (bytes : List ℕ) (ms : List (List ℕ)) → 0 < n → 0 < count → Fills count bytes (wanted n most ms) → n + count ≤ length ms + 1
-fills_within n most count bytes ms first some fills = omega (arith, fills.holds.there, length-wanted n most ms)
 
 -- what was filled in is the packet that is asked for
 pub gathers : (session : List ℕ) (n most count : ℕ) (ms : List (List ℕ)) (body bytes : List ℕ) → IsHeader session n → 0 < count → Fills count body (wanted n most ms) → bytes ≡ header session n count ++ body

@@ -1,25 +1,15 @@
 -- What is read is spelled so, and what is spelled so is read.
-use Rattle.std.proofs.Common.{◌≡◌, ℕ, zero, suc, ◌+◌, ◌-◌, ◌^◌, ◌<◌, ◌≤◌, List, [], ◌∷◌, ◌++◌, length, drop, Bool, leb, true, false, ◌&&◌, nat_le, refl, sym, ap, ◌∙◌, append_assoc, add_comm, arith, subst, inl, inr}
-use Rattle.std.proofs.lemmas.Bool.{cases_lt, leb-true, le-leb, eqb-true}
+use Rattle.std.proofs.Common.{◌≡◌, ℕ, zero, suc, ◌+◌, ◌-◌, ◌^◌, ◌<◌, ◌≤◌, List, [], ◌∷◌, ◌++◌, length, drop, Bool, true, false, ◌&&◌, nat_le, refl, sym, ap, ◌∙◌, append_assoc, add_comm, arith, subst}
+use Rattle.std.proofs.lemmas.Bool.{leb-true, le-leb, eqb-true}
 use Rattle.std.specs.List.{AllByRecursion}
-use Rattle.std.proofs.lemmas.List.{length-append, length-drop, length-take, get_or-drop, get_or-take, get_or_past, take-append-drop, nil_from_length, drop-drop}
+use Rattle.std.proofs.lemmas.List.{length-append, length-drop, length-take, get_or-drop, take-append-drop, nil_from_length, drop-drop}
 use Rattle.std.proofs.Math.Seq.{drop-append_seam, take-append_seam}
 use Rattle.hx_units.specs.Fields.{number, number_at, text_at, spelled, AreBytes}
-use Rattle.hx_units.proofs.FieldLaws.{cells-all, by_cells, number_2, number_8, spelled_at_2, spelled_at_8}
+use Rattle.hx_units.proofs.FieldLaws.{cells-all, by_cells, number_2, number_8, spelled_at_2, spelled_at_8, length-text_at, AreBytes-text_at}
 use Rattle.hx_mold.specs.Packets.{block, blocks, header, IsShort, IsHeader}
 use Rattle.hx_mold.specs.Counting.{block_len, is_whole, messages_in}
 
 -- ---- fields
-
-length-text_at : (at n : ℕ) (bytes : List ℕ) → at + n ≤ length bytes → length (text_at at n bytes) ≡ n
-length-text_at at n bytes h = omega (arith, length-take n (drop at bytes), length-drop at bytes)
-
-AreBytes-text_at : (at n : ℕ) (bytes : List ℕ) → AreBytes bytes → AreBytes (text_at at n bytes)
-AreBytes-text_at at n bytes h i =
-    elim (cases_lt i n) [
-      | inl lt ↦ rw (get_or-take n (drop at bytes) i 0 lt, get_or-drop) (h (at + i))
-      | inr le ↦ rw (get_or_past (text_at at n bytes) i 0 (omega (arith, length-take n (drop at bytes)))) (omega arith)
-    ]
 
 less_2 : (a b : ℕ) → a < 256 → b < 256 → number (a ∷ b ∷ []) < 2 ^ 16
 less_2 a b la lb = omega arith
@@ -79,10 +69,6 @@ both true true e = (refl, refl)
 both true false e = absurd cc
 both false b e = absurd cc
 
-pub is_false : (b : Bool) → (b ≡ true → ⊥) → b ≡ false
-is_false true h = absurd (h refl)
-is_false false h = refl
-
 pub AreBytes-drop : (n : ℕ) (bytes : List ℕ) → AreBytes bytes → AreBytes (drop n bytes)
 AreBytes-drop n bytes fits i = rw get_or-drop (fits (n + i))
 
@@ -111,14 +97,6 @@ is_whole_step (suc k) bytes some room =
 
 is_whole_next : (k : ℕ) (bytes : List ℕ) → block_len bytes ≤ length bytes → is_whole (suc k) bytes ≡ is_whole k (drop (block_len bytes) bytes)
 is_whole_next k bytes room = ap (λ (b : Bool). b && is_whole k (drop (block_len bytes) bytes)) (le-leb _ _ room)
-
-not_le : (a b : ℕ) → b < a → leb a b ≡ false
-not_le a b h = is_false (leb a b) (λ e. omega (arith, leb-true a b e))
-
-pub is_whole_cut : (k : ℕ) (bytes : List ℕ) → 0 < k → length bytes < block_len bytes → is_whole k bytes ≡ false
-is_whole_cut zero bytes some room = absurd (omega arith)
-is_whole_cut (suc k) bytes some room =
-    ap (λ (b : Bool). b && is_whole k (drop (block_len bytes) bytes)) (not_le _ _ room)
 
 pub messages_in_step : (k : ℕ) (bytes : List ℕ) → 0 < k → messages_in k bytes ≡ text_at 2 (number_at 0 2 bytes) bytes ∷ messages_in (k - 1) (drop (block_len bytes) bytes)
 messages_in_step zero bytes some = absurd (omega arith)

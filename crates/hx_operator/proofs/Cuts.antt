@@ -1,28 +1,17 @@
 -- Texts that are cut at the first index of a byte.
 use Rattle.std.proofs.Common.{◌≡◌, ◌+◌, ◌<◌, ℕ, suc, List, [], ◌∷◌, ◌++◌, length, drop, get_or, Bool, true, false, eqb, Option, Some, None, Bor, refl, sym, arith}
-use Rattle.std.specs.Prelude.{◌||◌, All, IfSome, IfNone}
+use Rattle.std.specs.Prelude.{All, IfSome, IfNone}
 use Rattle.std.specs.List.{list_any, position_or_len, before_first, after_first}
-use Rattle.std.proofs.lemmas.Bool.{eqb-true, eq-eqb, lt-ltb}
+use Rattle.std.proofs.lemmas.Bool.{eqb-true, eq-eqb, lt-ltb, false_from_ne_true, or_right}
 use Rattle.std.proofs.lemmas.List.{take-append-le, take_all}
 use Rattle.std.proofs.lemmas.List.Elements.{All-head, All-tail}
 use Rattle.std.proofs.lemmas.List.Splits.{slice_split_none, slice_split_at}
-use Rattle.hx_text.specs.Cuts.{Lacks}
+use Rattle.hx_units.specs.Cuts.{Lacks}
 use Rattle.hx_operator.specs.Marks.{is_space, words_of}
-
-is_false : (b : Bool) → (b ≡ true → ⊥) → b ≡ false
-is_false true h = absurd (h refl)
-is_false false h = refl
-
-eqb_same : (b : ℕ) → eqb b b ≡ true
-eqb_same b = eq-eqb b b refl
-
-or_true : (q : Bool) → (q || true) ≡ true
-or_true true = refl
-or_true false = refl
 
 -- no byte of a text that lacks a byte passes the test for it
 pub none_passes : (b : ℕ) (a : List ℕ) → Lacks b a → All (λ x. eqb x b ≡ false) a
-none_passes b a p = λ k d below. is_false (eqb (get_or a k d) b) (λ e. p k d below (eqb-true (get_or a k d) b e))
+none_passes b a p = λ k d below. false_from_ne_true (eqb (get_or a k d) b) (λ e. p k d below (eqb-true (get_or a k d) b e))
 
 -- ---- words
 
@@ -65,7 +54,7 @@ module _ (p : ℕ → Bool) where
 
   pub any_cut : (a : List ℕ) (b : ℕ) (c : List ℕ) → p b ≡ true → list_any p (a ++ b ∷ c) ≡ true
   any_cut [] b c e = rw e refl
-  any_cut (x ∷ a) b c e = rw (any_cut a b c e) (or_true (p x))
+  any_cut (x ∷ a) b c e = rw (any_cut a b c e) (or_right (p x) true refl)
 
   pub any_none : (a : List ℕ) → All (λ x. p x ≡ false) a → list_any p a ≡ false
   any_none [] none = refl
@@ -88,9 +77,9 @@ module _ (b : ℕ) (text : List ℕ) where
   cut_some (Some q) h =
       let none : All (λ x. eqb x b ≡ false) q.0.now = none_passes b q.0.now h.1 in
       rw (h.0) (
-        any_cut (λ x. eqb x b) q.0.now b q.1.now (eqb_same b),
-        sym (before_cut (λ x. eqb x b) q.0.now b q.1.now none (eqb_same b)),
-        sym (after_cut (λ x. eqb x b) q.0.now b q.1.now none (eqb_same b)),
+        any_cut (λ x. eqb x b) q.0.now b q.1.now (eq-eqb b b refl),
+        sym (before_cut (λ x. eqb x b) q.0.now b q.1.now none (eq-eqb b b refl)),
+        sym (after_cut (λ x. eqb x b) q.0.now b q.1.now none (eq-eqb b b refl)),
       )
 
   pub cut_none : (r : Cut) → IfNone r (Lacks b text) → IfNone r (list_any (λ x. eqb x b) text ≡ false)

@@ -4,7 +4,7 @@ use Rattle.std.specs.Prelude.{is_none, is_ok, slice_get, IfNone}
 use Rattle.std.specs.List.{flat_map, list_all}
 use Rattle.std.proofs.lemmas.Bool.{and_parts}
 use Rattle.std.proofs.lemmas.List.Splits.{slice_split_none, slice_split_at}
-use Rattle.hx_text.specs.Cuts.{Lacks}
+use Rattle.hx_units.specs.Cuts.{Lacks}
 use Rattle.hx_operator.specs.declared.entry.Entry.{Entry}
 use Rattle.hx_operator.specs.declared.entry.Wrong.{Wrong}
 use Rattle.hx_operator.specs.Marks.{is_line_feed, lines_of}

@@ -3,7 +3,7 @@
 use Rattle.std.specs.Prelude.{◌≡◌, ℕ, codes, nat_eq, if◌then◌else◌, Bool, true, false, List, [], ◌∷◌, ◌++◌}
 use Rattle.std.specs.List.{ends_with}
 use Rattle.hx_units.specs.Letters.{line_feed}
-use Rattle.hx_text.specs.Cuts.{Lacks}
+use Rattle.hx_units.specs.Cuts.{Lacks}
 
 -- the first line of an answer: whether the command was carried out
 abbrev pub IsFirstLine : (is_ok : Bool) → List ℕ → Type 0

@@ -3,7 +3,7 @@ ghost use Rattle.std.specs.Prelude.{◌≡◌, ◌≢◌, ◌++◌, ◌∷◌, [
 ghost use Rattle.hx_units.specs.Letters.{line_feed};
 ghost use Rattle.hx_operator.specs.Answers.{IsFirstLine, AreAnswer, ended};
 
-use hx_text::split_once;
+use hx_units::split_once;
 use std::alloc::AllocError;
 
 /// An answer that came whole.

@@ -3,7 +3,7 @@ ghost use Rattle.std.specs.Prelude.{◌≡◌, ◌∷◌, [], true, false, IfSom
 ghost use Rattle.std.specs.List.{before_first, after_first};
 ghost use Rattle.hx_operator.specs.Marks.{is_quote, is_hash, has_quote, has_word, words_of};
 
-use hx_text::split_once;
+use hx_units::split_once;
 
 /// The first word of a text, and the text after it.
 pub(crate) fn next_word(text: &[u8]) -> Option<(&[u8], &[u8])>

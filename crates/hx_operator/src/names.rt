@@ -4,8 +4,7 @@ ghost use Rattle.std.specs.List.{list_all};
 ghost use Rattle.hx_members.specs.Setups.{is_visible, is_capital_or_digit};
 ghost use Rattle.hx_operator.specs.Names.{filled, is_short, symbol_of, reason_of, code_of, number_of, member_of};
 
-use hx_text::read_number;
-use hx_units::{MemberNo, Symbol};
+use hx_units::{MemberNo, Symbol, read_number};
 
 fn are_visible(text: &[u8]) -> bool
     ensures { result ≡ list_all is_visible text.now }

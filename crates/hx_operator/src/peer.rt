@@ -1,7 +1,7 @@
 //! One connection of an operator's client.
 
 use crate::answers::end_answer;
-use hx_text::split_once;
+use hx_units::split_once;
 use std::alloc::{AllocError, Global};
 use std::io::{ErrorKind, Read, Write};
 use std::os::unix::net::UnixStream;

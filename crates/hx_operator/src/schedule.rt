@@ -5,7 +5,7 @@ ghost use Rattle.hx_operator.specs.Marks.{lines_of};
 ghost use Rattle.hx_operator.specs.Schedules.{entry_of, said, fault_after, fault_of, due_of, left_of, after_past, AreOfSchedule, IsFault};
 
 use crate::entry::{Entry, Wrong, entry_of, fault_later, index_of};
-use hx_text::split_once;
+use hx_units::split_once;
 use std::alloc::{AllocError, Global};
 use std::marker::Model;
 use thiserror::Error;

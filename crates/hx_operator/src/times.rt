@@ -31,10 +31,10 @@ fn clock_of(text: &[u8]) -> Option<u64>
     if text.len() < 8 || text[2] != b':' || text[5] != b':' {
         return None;
     }
-    let phase = number_at(text, 0, 24)?;
+    let hours = number_at(text, 0, 24)?;
     let minutes = number_at(text, 3, 60)?;
     let seconds = number_at(text, 6, 60)?;
-    Some(3600 * phase + 60 * minutes + seconds)
+    Some(3600 * hours + 60 * minutes + seconds)
 }
 
 // The seconds of +HH:MM or -HH:MM after it.
@@ -46,9 +46,9 @@ fn offset_of(text: &[u8]) -> Option<u64>
     if text.len() != 14 || (text[8] != b'+' && text[8] != b'-') || text[11] != b':' {
         return None;
     }
-    let phase = number_at(text, 9, 24)?;
+    let hours = number_at(text, 9, 24)?;
     let minutes = number_at(text, 12, 60)?;
-    Some(3600 * phase + 60 * minutes)
+    Some(3600 * hours + 60 * minutes)
 }
 
 // The time in UTC of a clock that is ahead of it, or lags it.

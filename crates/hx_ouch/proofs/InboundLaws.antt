@@ -1,8 +1,9 @@
 -- What is read is spelled so, and what is spelled so is read.
-use Rattle.std.proofs.Common.{◌≡◌, ℕ, Bool, true, false, cond, ◌||◌, List, [], ◌∷◌, ◌++◌, length, Option, Some, None, refl, sym, ap, ◌∙◌, arith}
+use Rattle.std.proofs.Common.{◌≡◌, ℕ, List, [], ◌∷◌, ◌++◌, length, Some, None, refl, sym, ap, ◌∙◌, arith}
 use Rattle.std.specs.Prelude.{◌↔◌, IfSome, IsSome, IsTrue, is_some}
 use Rattle.hx_units.specs.Fields.{is_message, byte_at, text_at, spelled, AreBytes}
 use Rattle.hx_units.proofs.FieldLaws.{cells, by_cells, first_message, number_4, spelled_at_4}
+use Rattle.hx_units.proofs.Options.{is_some-next, is_some-last, is_some-first}
 use Rattle.hx_ouch.specs.declared.inbound.Enter.{Enter}
 use Rattle.hx_ouch.specs.declared.inbound.Replace.{Replace}
 use Rattle.hx_ouch.specs.declared.inbound.Cancel.{Cancel}
@@ -93,23 +94,10 @@ inbound_spelled bytes fits =
 
 -- ---- which bytes are a message
 
-some_first : {A : Type 0} (b : Bool) (x : A) (others : Option A) → is_some (cond b (Some x) others) ≡ (b || is_some others)
-some_first true x others = refl
-some_first false x others = refl
-
-some_next : {A : Type 0} (p b : Bool) (x : A) (others : Option A) → (p || is_some (cond b (Some x) others)) ≡ ((p || b) || is_some others)
-some_next true b x others = refl
-some_next false b x others = some_first b x others
-
-some_last : {A : Type 0} (p b : Bool) (x : A) → (p || is_some (cond b (Some x) None)) ≡ (p || b)
-some_last true b x = refl
-some_last false true x = refl
-some_last false false x = refl
-
 pub inbound_readable : (bytes : List ℕ) → IsSome (inbound_of bytes) ↔ IsTrue (is_inbound bytes)
 inbound_readable bytes =
     let same : is_some (inbound_of bytes) ≡ is_inbound bytes =
-    some_first (is_message 49 79 bytes) (variant.Enter (enter_of bytes)) _
-    ∙ some_next _ (is_message 47 85 bytes) (variant.Replace (replace_of bytes)) _
-    ∙ some_last _ (is_message 19 88 bytes) (variant.Cancel (cancel_of bytes)) in
+    is_some-first (is_message 49 79 bytes) (variant.Enter (enter_of bytes)) _
+    ∙ is_some-next _ (is_message 47 85 bytes) (variant.Replace (replace_of bytes)) _
+    ∙ is_some-last _ (is_message 19 88 bytes) (variant.Cancel (cancel_of bytes)) in
     (λ s. sym same ∙ s, λ t. same ∙ t)

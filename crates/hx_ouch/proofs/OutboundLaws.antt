@@ -1,8 +1,9 @@
 -- What is read is spelled so, and what is spelled so is read.
-use Rattle.std.proofs.Common.{◌≡◌, ℕ, Bool, true, false, cond, ◌||◌, List, [], ◌∷◌, ◌++◌, length, Option, Some, None, refl, sym, ap, ◌∙◌, arith}
+use Rattle.std.proofs.Common.{◌≡◌, ℕ, List, [], ◌∷◌, ◌++◌, length, Some, None, refl, sym, ap, ◌∙◌, arith}
 use Rattle.std.specs.Prelude.{◌↔◌, IfSome, IsSome, IsTrue, is_some}
 use Rattle.hx_units.specs.Fields.{is_message, byte_at, text_at, spelled, AreBytes}
 use Rattle.hx_units.proofs.FieldLaws.{cells, by_cells, first_message, number_4, number_8, spelled_at_4, spelled_at_8}
+use Rattle.hx_units.proofs.Options.{is_some-next, is_some-last, is_some-first}
 use Rattle.hx_ouch.specs.declared.outbound.SystemEvent.{SystemEvent}
 use Rattle.hx_ouch.specs.declared.outbound.Accepted.{Accepted}
 use Rattle.hx_ouch.specs.declared.outbound.Replaced.{Replaced}
@@ -194,27 +195,14 @@ outbound_spelled bytes fits =
 
 -- ---- which bytes are a message
 
-some_first : {A : Type 0} (b : Bool) (x : A) (others : Option A) → is_some (cond b (Some x) others) ≡ (b || is_some others)
-some_first true x others = refl
-some_first false x others = refl
-
-some_next : {A : Type 0} (p b : Bool) (x : A) (others : Option A) → (p || is_some (cond b (Some x) others)) ≡ ((p || b) || is_some others)
-some_next true b x others = refl
-some_next false b x others = some_first b x others
-
-some_last : {A : Type 0} (p b : Bool) (x : A) → (p || is_some (cond b (Some x) None)) ≡ (p || b)
-some_last true b x = refl
-some_last false true x = refl
-some_last false false x = refl
-
 pub outbound_readable : (bytes : List ℕ) → IsSome (outbound_of bytes) ↔ IsTrue (is_outbound bytes)
 outbound_readable bytes =
     let same : is_some (outbound_of bytes) ≡ is_outbound bytes =
-    some_first (is_message 10 83 bytes) (variant.SystemEvent (system_event_of bytes)) _
-    ∙ some_next _ (is_message 66 65 bytes) (variant.Accepted (accepted_of bytes)) _
-    ∙ some_next _ (is_message 80 85 bytes) (variant.Replaced (replaced_of bytes)) _
-    ∙ some_next _ (is_message 28 67 bytes) (variant.Canceled (canceled_of bytes)) _
-    ∙ some_next _ (is_message 40 69 bytes) (variant.Executed (executed_of bytes)) _
-    ∙ some_next _ (is_message 24 74 bytes) (variant.Rejected (rejected_of bytes)) _
-    ∙ some_last _ (is_message 32 66 bytes) (variant.BrokenTrade (broken_trade_of bytes)) in
+    is_some-first (is_message 10 83 bytes) (variant.SystemEvent (system_event_of bytes)) _
+    ∙ is_some-next _ (is_message 66 65 bytes) (variant.Accepted (accepted_of bytes)) _
+    ∙ is_some-next _ (is_message 80 85 bytes) (variant.Replaced (replaced_of bytes)) _
+    ∙ is_some-next _ (is_message 28 67 bytes) (variant.Canceled (canceled_of bytes)) _
+    ∙ is_some-next _ (is_message 40 69 bytes) (variant.Executed (executed_of bytes)) _
+    ∙ is_some-next _ (is_message 24 74 bytes) (variant.Rejected (rejected_of bytes)) _
+    ∙ is_some-last _ (is_message 32 66 bytes) (variant.BrokenTrade (broken_trade_of bytes)) in
     (λ s. sym same ∙ s, λ t. same ∙ t)

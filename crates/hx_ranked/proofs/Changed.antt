@@ -1,6 +1,6 @@
 -- What a change in the block of a rank leaves of all entries.
 use Rattle.std.proofs.Common.{◌≡◌, ℕ, suc, ◌+◌, ◌-◌, ◌<◌, ◌≤◌, List, [], ◌∷◌, ◌++◌, length, get_or, set, take, drop, not, cond, nat_lt, Bool, true, false, Option, Some, None, refl, ap, sym, subst, ◌∙◌, arith, add-one}
-use Rattle.std.specs.List.{find, filter, remove}
+use Rattle.std.specs.List.{find, remove}
 use Rattle.std.specs.Option.{option_or, option_to_list, is_some}
 use Rattle.std.proofs.lemmas.List.{map-append, length-map, take-set, drop-set-lt}
 use Rattle.std.proofs.lemmas.List.Elements.{filter-append}
@@ -11,14 +11,11 @@ use Rattle.hx_ranked.specs.Ranked.{Every, IsRising, IsFree, has_rank, inserted, 
 use Rattle.hx_ranked.proofs.Lists.{every-weaker, rising-left, rising-filter, rising-inserted, inserted-left, inserted-right}
 use Rattle.hx_ranked.proofs.AtIndex.{AreOthers, others-before, others-after, find-others, without-others, renewed-others}
 use Rattle.hx_ranked.proofs.Flat.{flat-around, flat-set, flat-append, every-set, every-remove, filled-here, rising-from}
+use Rattle.hx_units.proofs.Lists.{length-filter-le}
 
 pub length-inserted : (e : Entry) (xs : List Entry) → length (inserted e xs) ≡ length xs + 1
 length-inserted e [] = refl
 length-inserted e (x ∷ xs) = elim (nat_lt x.rank e.rank) as (λ b. length (cond b (x ∷ inserted e xs) (e ∷ x ∷ xs)) ≡ length (x ∷ xs) + 1) [ true ↦ omega (arith, length-inserted e xs) | false ↦ omega arith ]
-
-length-filter-le : (p : Entry → Bool) (xs : List Entry) → length (filter p xs) ≤ length xs
-length-filter-le p [] = omega arith
-length-filter-le p (x ∷ xs) = elim (p x) as (λ b. length (cond b (x ∷ filter p xs) (filter p xs)) ≤ length (x ∷ xs)) [ true ↦ omega (arith, length-filter-le p xs) | false ↦ omega (arith, length-filter-le p xs) ]
 
 pub rank-retained : (r least shares : ℕ) (e : Entry) → (with_least r least shares e).rank ≡ e.rank
 rank-retained r least shares e = elim (has_rank r e) as (λ b. (cond b (record e { least = least; shares = shares }) e).rank ≡ e.rank) [ true ↦ refl | false ↦ refl ]

@@ -1,7 +1,7 @@
 -- Blocks of which each two neighbours hold more than half a block's capacity: what preserves that, and how many there
 -- are.
 use Rattle.std.proofs.Common.{◌≡◌, ℕ, suc, ◌+◌, ◌*◌, ◌<◌, ◌≤◌, List, [], ◌∷◌, ◌++◌, length, get_or, set, take, drop, ap, sym, subst, ◌∙◌, arith, add-one}
-use Rattle.std.proofs.lemmas.List.{set_split, drop_more, take_more, length-append, take-append-drop, take_all, length-drop, length-take-le, take_at, drop_at, take-set, drop-set-lt, drop-drop}
+use Rattle.std.proofs.lemmas.List.{set_split, drop_more, take_more, length-append, take-append-drop, take_all, length-drop, length-take-le, take_at, drop_at, drop-set-lt, drop-drop}
 use Rattle.std.specs.List.{remove}
 use Rattle.hx_ranked.specs.declared.entry.Entry.{Entry}
 use Rattle.hx_ranked.specs.Ranked.{Every, flat, IsFilled, AreBlocks, IsLargeWith, IsDense, Mends}
@@ -118,15 +118,8 @@ module _ (bs : List (List Entry)) (i : ℕ) (b k : List Entry) (within : i + 1 <
         closes = λ f r. subst IsDense (sym is) (dense-as_one (take i bs) b k (drop (i + 1 + 1) bs) (subst IsDense take-both f) (subst IsDense drop-both r));
       }
 
--- what stands before and after a block that is written over, or taken out
-pub front-set : (bs : List (List Entry)) (i : ℕ) (c : List Entry) → take i (set bs i c) ≡ take i bs
-front-set bs i c = take-set bs i c
-
 pub rest-set : (bs : List (List Entry)) (i : ℕ) (c : List Entry) → IsDense bs → IsDense (drop (i + 1) (set bs i c))
 rest-set bs i c h = subst IsDense (sym (drop-set-lt (i + 1) bs i c (omega arith))) (dense-drop (i + 1) bs h)
-
-pub front-gone : (bs : List (List Entry)) (i : ℕ) → i < length bs → take i (remove bs i) ≡ take i bs
-front-gone bs i within = take_at (take i bs) (drop (suc i) bs) i (length-take-le i bs (omega arith))
 
 pub rest-gone : (bs : List (List Entry)) (i : ℕ) → i < length bs → IsDense bs → IsDense (drop (i + 1) (remove bs i))
 rest-gone bs i within h =

@@ -1,6 +1,6 @@
 -- Entries in blocks: the position of a rank among them, and what a change of a block leaves.
 use Rattle.std.proofs.Common.{◌≡◌, ℕ, suc, ◌+◌, ◌<◌, ◌≤◌, List, [], ◌∷◌, ◌++◌, length, get_or, set, take, drop, false, Some, None, refl, ap, sym, subst, ◌∙◌, arith, add-one, append_assoc, nat_le, ◌&&◌, Bool, true}
-use Rattle.std.specs.List.{insert, remove}
+use Rattle.std.specs.List.{remove}
 use Rattle.std.proofs.lemmas.List.{append-nil, take-append-drop, drop_more, take_more, set_split}
 use Rattle.std.proofs.lemmas.List.Folds.{find-append}
 use Rattle.std.proofs.lemmas.Bool.Decides.{nat_tests}
@@ -29,9 +29,6 @@ module _ {X : Type 0} (P : X → Type 0) where
 
   pub every-set : (xs : List X) (i : ℕ) (x : X) → i < length xs → Every P xs → P x → Every P (set xs i x)
   every-set xs i x h a p = rw (set_split xs i x h) (every-append P (take i xs) (x ∷ drop (suc i) xs) (every-take i xs a) (p, every-drop (suc i) xs a))
-
-  pub every-insert : (xs : List X) (i : ℕ) (x : X) → Every P xs → P x → Every P (insert xs i x)
-  every-insert xs i x a p = every-append P (take i xs) (x ∷ drop i xs) (every-take i xs a) (p, every-drop i xs a)
 
   pub every-remove : (xs : List X) (i : ℕ) → Every P xs → Every P (remove xs i)
   every-remove xs i a = every-append P (take i xs) (drop (suc i) xs) (every-take i xs a) (every-drop (suc i) xs a)

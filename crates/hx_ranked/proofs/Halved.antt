@@ -12,12 +12,6 @@ abbrev pub halved : List (List Entry) → ℕ → List Entry → List (List Entr
 halved bs i b = insert (set bs i (take 128 b)) (i + 1) (drop 128 b)
 
 module _ (bs : List (List Entry)) (are : AreBlocks bs) (i : ℕ) (b : List Entry) (within : i < length bs) (read : b ≡ get_or bs i b) (full : length b ≡ 256) where
-  front : List Entry
-  front = take 128 b
-
-  back : List Entry
-  back = drop 128 b
-
   pub halved-is : halved bs i b ≡ take i bs ++ take 128 b ∷ drop 128 b ∷ drop (i + 1) bs
   halved-is = rw (take_more_set bs i (take 128 b) within, drop-set-lt (i + 1) bs i (take 128 b) (omega arith)) (append_assoc (take i bs) (take 128 b ∷ []) (drop 128 b ∷ drop (i + 1) bs))
 

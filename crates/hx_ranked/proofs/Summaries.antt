@@ -7,10 +7,9 @@ use Rattle.std.specs.Vec.{with_items}
 use Rattle.std.proofs.lemmas.List.Folds.{find-append}
 use Rattle.std.proofs.lemmas.Bool.Decides.{nat_tests}
 use Rattle.hx_ranked.specs.declared.entry.Entry.{Entry}
-use Rattle.hx_ranked.specs.Ranked.{Every, IsRising, has_rank, is_within, first_within_of, inserted, without, with_least, renewed, first_rank, smallest_least, most_shares}
+use Rattle.hx_ranked.specs.Ranked.{Every, IsRising, has_rank, is_within, first_within_of, inserted, without, with_least, renewed, smallest_least, most_shares}
 use Rattle.hx_ranked.proofs.Lists.{none-every}
 use Rattle.hx_ranked.proofs.AtIndex.{others-after, without-others, renewed-others}
-use Rattle.hx_ranked.proofs.Changed.{rank-retained}
 use Rattle.hx_ranked.proofs.Flat.{none-before}
 
 pub least-inserted : (e : Entry) (xs : List Entry) → smallest_least (inserted e xs) ≡ min (smallest_least xs) e.least
@@ -20,10 +19,6 @@ least-inserted e (x ∷ xs) = elim (nat_lt x.rank e.rank) as (λ b. smallest_lea
 pub most-inserted : (e : Entry) (xs : List Entry) → most_shares (inserted e xs) ≡ max (most_shares xs) e.shares
 most-inserted e [] = omega arith
 most-inserted e (x ∷ xs) = elim (nat_lt x.rank e.rank) as (λ b. most_shares (cond b (x ∷ inserted e xs) (e ∷ x ∷ xs)) ≡ max (most_shares (x ∷ xs)) e.shares) [ true ↦ omega (arith, most-inserted e xs) | false ↦ omega arith ]
-
-pub first-renewed : (r least shares : ℕ) (xs : List Entry) → first_rank (renewed r least shares xs) ≡ first_rank xs
-first-renewed r least shares [] = refl
-first-renewed r least shares (x ∷ xs) = rank-retained r least shares x
 
 -- no entry has the rank
 pub without-none : (r : ℕ) (xs : List Entry) → find (has_rank r) xs ≡ None → without r xs ≡ xs

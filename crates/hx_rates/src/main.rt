@@ -14,9 +14,9 @@
 #![tactic(auto)]
 
 mod alone;
+mod exchange_parts;
 mod failure;
 mod feed_log;
-mod founding;
 mod journal;
 mod passes;
 mod report;
@@ -26,9 +26,9 @@ mod tape;
 mod transport;
 
 use crate::alone::{desk_rate, market_rate};
+use crate::exchange_parts::{Sending, file_rate, memory_rate};
 use crate::failure::Failure;
 use crate::feed_log::log_rates;
-use crate::founding::{Sending, file_rate, memory_rate};
 use crate::journal::{Groups, journal_rate};
 use crate::screen::screen_rate;
 use crate::small::small_rates;

@@ -110,8 +110,8 @@ pub fn hire<V: Venue>(
     }
     let count = senders.len().max(1);
     for event in events {
-        let place = member_of(&event) as usize % count;
-        if let Some(sender) = senders.get_mut(place) {
+        let index = member_of(&event) as usize % count;
+        if let Some(sender) = senders.get_mut(index) {
             add(alloc, &mut sender.calls, event, each)?;
         }
     }

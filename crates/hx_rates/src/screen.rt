@@ -13,7 +13,7 @@ use std::time::{Clock, Instant};
 const SESSION: [u8; 10] = *b"HX00000001";
 
 // The number of messages that the screen stores which came too early.
-const PLACES: usize = 4_096;
+const WINDOW: usize = 4_096;
 
 type Message = ArrayVec<u8, 44>;
 
@@ -121,6 +121,6 @@ pub fn screen_rate<R: Print + Eprint + Clock>(
     resting: u64,
 ) -> Result<(), Failure> {
     let (packets, count) = packets_of(alloc, orders, resting)?;
-    let mut screen = Screen::new(alloc, SESSION, PLACES)?;
+    let mut screen = Screen::new(alloc, SESSION, WINDOW)?;
     show_rate(rt, &mut screen, &packets, count)
 }

@@ -1,9 +1,9 @@
 //! A little of each measurement, so that each of them is run wherever the program is.
 
 use crate::alone::{desk_rate, market_rate};
+use crate::exchange_parts::{Sending, memory_rate};
 use crate::failure::Failure;
 use crate::feed_log::log_rates;
-use crate::founding::{Sending, memory_rate};
 use crate::journal::{Groups, memory_journal_rate};
 use crate::screen::screen_rate;
 use crate::tape::copy_all;

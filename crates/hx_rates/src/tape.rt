@@ -4,8 +4,7 @@ use crate::failure::Failure;
 use hx_market::{Bytes, Event};
 use hx_members::Setup;
 use hx_tape_lines::read_event;
-use hx_text::split_once;
-use hx_units::NoMemory;
+use hx_units::{NoMemory, split_once};
 use std::alloc::Global;
 use std::io::Read;
 

@@ -3,6 +3,7 @@ use Rattle.std.proofs.Common.{◌≡◌, ℕ, ◌+◌, ◌-◌, ◌≤◌, ◌==
 use Rattle.std.specs.Option.{IfSome, IsSome}
 use Rattle.std.specs.Map.{lookup, remove_entry, set_value}
 use Rattle.std.proofs.lemmas.Bool.Decides.{Decides-eqb}
+use Rattle.std.proofs.lemmas.Option.{same_Some}
 use Rattle.hx_itch.specs.declared.shown_order.ShownOrder.{ShownOrder}
 use Rattle.hx_reader.specs.declared.levels.LevelKey.{LevelKey}
 use Rattle.hx_reader.specs.declared.levels.Level.{Level}
@@ -20,9 +21,6 @@ orders_on q book = orders_at q.locate q.side q.price book
 
 abbrev pub shares_on : LevelKey → List ShownOrder → ℕ
 shares_on q book = shares_at q.locate q.side q.price book
-
-some_same : {A : Type 0} (x y : A) → Some x ≡ Some y → x ≡ y
-some_same x y h = cc
 
 both : (a b : Bool) → a && b ≡ true → (a ≡ true) × (b ≡ true)
 both true b h = (refl, h)
@@ -103,7 +101,7 @@ orders_less q p x (e ∷ es) h = at (p e.0) h (orders_less q p x es)
     at : (b : Bool) → cond b (Some e.1) (lookup p es) ≡ Some x
         → (lookup p es ≡ Some x → orders_on q (orders_in es) ≡ cond (stands q x) (suc left) left)
         → orders_on q (orders_in (e ∷ es)) ≡ cond (stands q x) (suc (orders_on q (orders_in (cond b es (e ∷ remove_entry p es))))) (orders_on q (orders_in (cond b es (e ∷ remove_entry p es))))
-    at true z ih = ap (λ (o : ShownOrder). cond (stands q o) (suc (orders_on q (orders_in es))) (orders_on q (orders_in es))) (some_same e.1 x z)
+    at true z ih = ap (λ (o : ShownOrder). cond (stands q o) (suc (orders_on q (orders_in es))) (orders_on q (orders_in es))) (same_Some e.1 x z)
     at false z ih = ap (λ n. cond (stands q e.1) (suc n) n) (ih z) ∙ swapped (stands q e.1) (stands q x) suc suc left refl
 
 shares_less : (q : LevelKey) (p : ℕ → Bool) (x : ShownOrder) (es : Entries) → lookup p es ≡ Some x
@@ -117,7 +115,7 @@ shares_less q p x (e ∷ es) h = at (p e.0) h (shares_less q p x es)
     at : (b : Bool) → cond b (Some e.1) (lookup p es) ≡ Some x
         → (lookup p es ≡ Some x → shares_on q (orders_in es) ≡ cond (stands q x) (x.shares + left) left)
         → shares_on q (orders_in (e ∷ es)) ≡ cond (stands q x) (x.shares + shares_on q (orders_in (cond b es (e ∷ remove_entry p es)))) (shares_on q (orders_in (cond b es (e ∷ remove_entry p es))))
-    at true z ih = ap (λ (o : ShownOrder). cond (stands q o) (o.shares + shares_on q (orders_in es)) (shares_on q (orders_in es))) (some_same e.1 x z)
+    at true z ih = ap (λ (o : ShownOrder). cond (stands q o) (o.shares + shares_on q (orders_in es)) (shares_on q (orders_in es))) (same_Some e.1 x z)
     at false z ih = ap (λ n. cond (stands q e.1) (e.1.shares + n) n) (ih z) ∙ swapped (stands q e.1) (stands q x) (λ n. e.1.shares + n) (λ n. x.shares + n) left (omega arith)
 
 -- one order more, and then less
@@ -169,7 +167,7 @@ orders_same q p n x (e ∷ es) h = at (p e.0) h (orders_same q p n x es)
     at : (b : Bool) → cond b (Some e.1) (lookup p es) ≡ Some x
         → (lookup p es ≡ Some x → orders_on q (orders_in (set_value p es (less n x))) ≡ orders_on q (orders_in es))
         → orders_on q (orders_in (cond b ((e.0, less n x) ∷ es) (e ∷ set_value p es (less n x)))) ≡ orders_on q (orders_in (e ∷ es))
-    at true z ih = ap (λ (o : ShownOrder). orders_on q (o ∷ orders_in es)) (sym (some_same e.1 x z))
+    at true z ih = ap (λ (o : ShownOrder). orders_on q (o ∷ orders_in es)) (sym (same_Some e.1 x z))
     at false z ih = ap (λ m. cond (stands q e.1) (suc m) m) (ih z)
 
 shares_reduced : (q : LevelKey) (p : ℕ → Bool) (n : ℕ) (x : ShownOrder) (es : Entries) → lookup p es ≡ Some x → n ≤ x.shares
@@ -187,7 +185,7 @@ shares_reduced q p n x (e ∷ es) h le = at (p e.0) h (λ z. shares_reduced q p 
     at : (b : Bool) → cond b (Some e.1) (lookup p es) ≡ Some x
         → (lookup p es ≡ Some x → shares_on q (orders_in es) ≡ cond (stands q x) (n + left) left)
         → shares_on q (orders_in (e ∷ es)) ≡ cond (stands q x) (n + shares_on q (orders_in (cond b ((e.0, less n x) ∷ es) (e ∷ set_value p es (less n x))))) (shares_on q (orders_in (cond b ((e.0, less n x) ∷ es) (e ∷ set_value p es (less n x)))))
-    at true z ih = ap (λ (o : ShownOrder). shares_on q (o ∷ orders_in es)) (some_same e.1 x z) ∙ this (stands q x) (shares_on q (orders_in es))
+    at true z ih = ap (λ (o : ShownOrder). shares_on q (o ∷ orders_in es)) (same_Some e.1 x z) ∙ this (stands q x) (shares_on q (orders_in es))
     at false z ih = ap (λ m. cond (stands q e.1) (e.1.shares + m) m) (ih z) ∙ swapped (stands q e.1) (stands q x) (λ m. e.1.shares + m) (λ m. n + m) left (omega arith)
 
 less_there : (i n t : ℕ) → level_with i t ≡ reduced n (level_with i (n + t))

@@ -9,3 +9,4 @@ pub mod Fits
 pub mod PriceLaws
 pub mod Applied
 pub mod Steps
+pub mod Runs

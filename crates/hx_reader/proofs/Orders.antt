@@ -5,6 +5,7 @@ use Rattle.std.proofs.lemmas.Bool.Decides.{nat_tests}
 use Rattle.std.specs.List.{AllByRecursion}
 use Rattle.std.specs.Prelude.{bytes_eq}
 use Rattle.std.proofs.lemmas.Slice.Eq.{bytes_eq-Decides}
+use Rattle.std.proofs.lemmas.Option.{same_Some}
 use Rattle.hx_mold.specs.declared.packet.MoldPacket.{MoldPacket}
 use Rattle.hx_mold.specs.declared.packet.MoldPacket.TheVariants as mold
 use Rattle.hx_mold.specs.Reading.{packet_of}
@@ -27,12 +28,9 @@ pub record Holds (feed : List (List ℕ)) (session : List ℕ) (out : List (List
   pub delivered : r.delivered ≤ length feed + 1
   pub ended : r.ended ≡ true → r.delivered ≡ length feed + 1
 
-some_same : {A : Type 0} (x y : A) → Some x ≡ Some y → x ≡ y
-some_same x y h = cc
-
 fill_cases : (k : ℕ) (m : List ℕ) (w : Window) (i : ℕ) (x : List ℕ) → slice_get (slice_set w k (Some m)) i ≡ Some (Some x) → ((i ≡ k) × (x ≡ m)) ⊎ (slice_get w i ≡ Some (Some x))
 fill_cases k m [] i x h = inr h
-fill_cases zero m (y ∷ w) zero x h = inl (refl, sym (some_same m x (some_same (Some m) (Some x) h)))
+fill_cases zero m (y ∷ w) zero x h = inl (refl, sym (same_Some m x (same_Some (Some m) (Some x) h)))
 fill_cases zero m (y ∷ w) (suc i) x h = inr h
 fill_cases (suc k) m (y ∷ w) zero x h = inr h
 fill_cases (suc k) m (y ∷ w) (suc i) x h = elim (fill_cases k m w i x h) [ inl p ↦ inl (ap suc p.0, p.1) | inr q ↦ inr q ]
@@ -128,7 +126,7 @@ module _ (feed : List (List ℕ)) (session : List ℕ) where
 
   tail_of : (out rest : List (List ℕ)) (m : List ℕ) → slice_get (out ++ rest) (length out) ≡ Some m → (more : List (List ℕ)) × (rest ≡ m ∷ more)
   tail_of [] [] m h = absurd (let e : None ≡ Some m = h in cc)
-  tail_of [] (y ∷ ys) m h = (ys, ap (λ z. z ∷ ys) (some_same y m h))
+  tail_of [] (y ∷ ys) m h = (ys, ap (λ z. z ∷ ys) (same_Some y m h))
   tail_of (o ∷ out) rest m h = tail_of out rest m h
 
   before_vacant : (w : Window) (i : ℕ) (x : List ℕ) → slice_get (w ++ None ∷ []) i ≡ Some (Some x) → slice_get w i ≡ Some (Some x)

@@ -8,6 +8,7 @@ use Rattle.std.specs.BTreeMap.Range.{IsInRange, IsLeBy}
 use Rattle.std.specs.declared.cmp.Ordering.TheVariants.{Less}
 use Rattle.std.specs.declared.ops.Bound.TheVariants.{Included, Excluded}
 use Rattle.std.proofs.lemmas.Bool.Decides.{nat_tests, Decides-eqb}
+use Rattle.std.proofs.lemmas.Option.{same_Some}
 use Rattle.hx_itch.specs.declared.shown_order.ShownOrder.{ShownOrder}
 use Rattle.hx_reader.specs.declared.levels.LevelKey.{LevelKey}
 use Rattle.hx_reader.specs.declared.levels.Level.{Level}
@@ -44,9 +45,6 @@ not_below l s a b h = grind (arith, nat_tests)
 
 -- ---- prices of a book, and its levels
 
-some_same : {A : Type 0} (x y : A) → Some x ≡ Some y → x ≡ y
-some_same x y h = cc
-
 among_there : (l s p : ℕ) (book : List ShownOrder) → IsAmong p (prices l s book) → (n : ℕ) × (orders_at l s p book ≡ suc n)
 among_there l s p [] h = absurd h
 among_there l s p (x ∷ book) h = at (is_on l s x) refl h (among_there l s p book)
@@ -80,7 +78,7 @@ some_level (suc m) s l h = (m, refl)
 
 same_level : (n s : ℕ) (l : Level) → level_with n s ≡ Some l → (s ≡ l.shares) × (n ≡ l.orders)
 same_level zero s l h = absurd (let e : None ≡ Some l = h in cc)
-same_level (suc m) s l h = (ap (λ (v : Level). v.shares) (some_same (record { shares = s; orders = suc m }) l h), ap (λ (v : Level). v.orders) (some_same (record { shares = s; orders = suc m }) l h))
+same_level (suc m) s l h = (ap (λ (v : Level). v.shares) (same_Some (record { shares = s; orders = suc m }) l h), ap (λ (v : Level). v.orders) (same_Some (record { shares = s; orders = suc m }) l h))
 
 -- ---- lists of prices
 

@@ -7,13 +7,11 @@ use Rattle.std.specs.List.{AllByRecursion}
 use Rattle.std.specs.Map.{lookup, remove_entry, set_value}
 use Rattle.std.specs.BTreeMap.{insert_entry}
 use Rattle.std.proofs.lemmas.Bool.Decides.{nat_tests}
+use Rattle.std.proofs.lemmas.Option.{same_Some}
 use Rattle.hx_itch.specs.declared.shown_order.ShownOrder.{ShownOrder}
 use Rattle.hx_itch.specs.Books.{taken_from, without, renewed}
 use Rattle.hx_reader.specs.Faults.{order_of}
 use Rattle.hx_reader.specs.Tables.{Entries, orders_in, is_number, order_at, AreBelow, HasNone, AreSame}
-
-some_same : {A : Type 0} (x y : A) → Some x ≡ Some y → x ≡ y
-some_same x y h = cc
 
 -- ---- numbers
 
@@ -72,7 +70,7 @@ all_set P p n x (e ∷ es) keep there h = at (p e.0) there (λ z. all_set P p n 
   where
     at : (b : Bool) → cond b (Some e.1) (lookup p es) ≡ Some x → (lookup p es ≡ Some x → AllByRecursion P (set_value p es (record x { shares = n })))
         → AllByRecursion P (cond b ((e.0, record x { shares = n }) ∷ es) (e ∷ set_value p es (record x { shares = n })))
-    at true z ih = (keep e.0 (subst (λ (o : ShownOrder). P (e.0, o)) (some_same e.1 x z) h.0), h.1)
+    at true z ih = (keep e.0 (subst (λ (o : ShownOrder). P (e.0, o)) (same_Some e.1 x z) h.0), h.1)
     at false z ih = (h.0, ih z)
 
 -- the one that is found
@@ -81,7 +79,7 @@ all_found P k x [] there h = absurd (let e : None ≡ Some x = there in cc)
 all_found P k x (e ∷ es) there h = at (is_number k e.0) refl there (λ z. all_found P k x es z h.1)
   where
     at : (b : Bool) → is_number k e.0 ≡ b → cond b (Some e.1) (order_at k es) ≡ Some x → (order_at k es ≡ Some x → P (k, x)) → P (k, x)
-    at true t z ih = subst (λ (o : ShownOrder). P (k, o)) (some_same e.1 x z) (subst (λ m. P (m, e.1)) (sym (is_only k e.0 t)) h.0)
+    at true t z ih = subst (λ (o : ShownOrder). P (k, o)) (same_Some e.1 x z) (subst (λ m. P (m, e.1)) (sym (is_only k e.0 t)) h.0)
     at false t z ih = ih z
 
 -- a value that is written as it was
@@ -90,7 +88,7 @@ set_same p x [] h = refl
 set_same p x (e ∷ es) h = at (p e.0) h (set_same p x es)
   where
     at : (b : Bool) → cond b (Some e.1) (lookup p es) ≡ Some x → (lookup p es ≡ Some x → set_value p es x ≡ es) → cond b ((e.0, x) ∷ es) (e ∷ set_value p es x) ≡ e ∷ es
-    at true z ih = ap (λ (o : ShownOrder). (e.0, o) ∷ es) (sym (some_same e.1 x z))
+    at true z ih = ap (λ (o : ShownOrder). (e.0, o) ∷ es) (sym (same_Some e.1 x z))
     at false z ih = ap (λ l. e ∷ l) (ih z)
 
 -- ---- the order of a reference
@@ -124,7 +122,7 @@ taken_some q k n x (e ∷ es) h there lt =
     at : (b : Bool) → cond b (Some e.1) (order_at k es) ≡ Some x
         → (order_at k es ≡ Some x → orders_in (set_value (is_number k) es (record x { shares = x.shares - n })) ≡ taken_from q n (orders_in es))
         → orders_in (cond b ((e.0, record x { shares = x.shares - n }) ∷ es) (e ∷ set_value (is_number k) es (record x { shares = x.shares - n }))) ≡ cond b (left e.1) (e.1 ∷ taken_from q n (orders_in es))
-    at true z ih = ap (λ b. cond b (record x { shares = x.shares - n } ∷ orders_in es) (orders_in es)) (sym lt) ∙ ap left (sym (some_same e.1 x z))
+    at true z ih = ap (λ b. cond b (record x { shares = x.shares - n } ∷ orders_in es) (orders_in es)) (sym lt) ∙ ap left (sym (same_Some e.1 x z))
     at false z ih = ap (λ l. e.1 ∷ l) (ih z)
 
 -- the order that replaces another
@@ -136,7 +134,7 @@ renewed_is k reference shares price x (y ∷ book) there = at (y.reference == k)
     at : (b : Bool) → cond b (Some y) (order_of k book) ≡ Some x
         → (order_of k book ≡ Some x → renewed k reference shares price book ≡ record x { reference = reference; shares = shares; price = price } ∷ [])
         → cond b (record y { reference = reference; shares = shares; price = price } ∷ []) (renewed k reference shares price book) ≡ record x { reference = reference; shares = shares; price = price } ∷ []
-    at true z ih = ap (λ (o : ShownOrder). record o { reference = reference; shares = shares; price = price } ∷ []) (some_same y x z)
+    at true z ih = ap (λ (o : ShownOrder). record o { reference = reference; shares = shares; price = price } ∷ []) (same_Some y x z)
     at false z ih = ih z
 
 -- ---- an order comes last, and another leaves
@@ -165,5 +163,5 @@ taken_is_without q n x (y ∷ book) there lt = at (y.reference == q) there (λ z
   where
     at : (b : Bool) → cond b (Some y) (order_of q book) ≡ Some x → (order_of q book ≡ Some x → taken_from q n book ≡ without q book)
         → cond b (cond (nat_lt n y.shares) (record y { shares = y.shares - n } ∷ book) book) (y ∷ taken_from q n book) ≡ cond b book (y ∷ without q book)
-    at true z ih = ap (λ (o : ShownOrder). cond (nat_lt n o.shares) (record o { shares = o.shares - n } ∷ book) book) (some_same y x z) ∙ ap (λ b. cond b (record x { shares = x.shares - n } ∷ book) book) lt
+    at true z ih = ap (λ (o : ShownOrder). cond (nat_lt n o.shares) (record o { shares = o.shares - n } ∷ book) book) (same_Some y x z) ∙ ap (λ b. cond b (record x { shares = x.shares - n } ∷ book) book) lt
     at false z ih = ap (λ l. y ∷ l) (ih z)

@@ -6,8 +6,9 @@ use Rattle.hx_rules.specs.declared.event.Event.{Event}
 use Rattle.hx_rules.specs.Markets.{Market, opening}
 use Rattle.hx_rules.specs.Outputs.{EventOutput}
 use Rattle.hx_rules.specs.Steps.{run, output, outputs_from, feed, feed_of, step}
-use Rattle.hx_laws.specs.FeedBook.{ShownOrder, shown_book, book_from, book_after, shown_orders}
+use Rattle.hx_laws.specs.FeedBook.{shown_book, book_from, shown_orders}
 use Rattle.hx_laws.proofs.FeedBook.ShownRuns.{feed_is_book}
+use Rattle.hx_laws.proofs.FeedBook.ShownExecutions.{book_from-append}
 use Rattle.hx_reader_laws.specs.Screens.{AtAnEvent, WithinAnEvent, feed_at}
 
 feed_of-append : (ts us : List EventOutput) → feed_of (ts ++ us) ≡ feed_of ts ++ feed_of us
@@ -26,10 +27,6 @@ unfolding outputs_from
 output_from-take setup market zero es = refl
 output_from-take setup market (suc n) [] = refl
 output_from-take setup market (suc n) (e ∷ es) = ap (λ l. (step setup market e).output ∷ l) (output_from-take setup (step setup market e).market n es)
-
-book_from-append : (book : List ShownOrder) (xs ys : List Feed) → book_from book (xs ++ ys) ≡ book_from (book_from book xs) ys
-book_from-append book [] ys = refl
-book_from-append book (x ∷ xs) ys = book_from-append (book_after book x) xs ys
 
 -- two ways to cut a list, one of them no later
 pub data Cut (xs ys us vs : List Feed) : Type 0 where

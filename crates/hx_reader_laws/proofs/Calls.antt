@@ -2,6 +2,7 @@
 use Rattle.std.proofs.Common.{◌≡◌, ℕ, List, [], ◌∷◌, ◌++◌, Option, Some, None, Ok, Err, refl, sym, ap, subst, ◌∙◌}
 use Rattle.std.specs.Option.{option_to_list}
 use Rattle.std.specs.List.{AllByRecursion}
+use Rattle.std.proofs.lemmas.Option.{same_Some}
 use Rattle.hx_itch.specs.declared.message.Feed.{Feed}
 use Rattle.hx_itch.specs.Message.{feed_message_of}
 use Rattle.hx_rules.specs.Steps.{feed}
@@ -18,9 +19,6 @@ use Rattle.hx_reader_laws.specs.Calls.{Call, Receives, Steps, Does, Called, scre
 use Rattle.hx_reader_laws.proofs.Screens.{is_the_book, is_all_of_it}
 use Rattle.hx_reader_laws.proofs.Venues.{packets_carry}
 use Rattle.hx_reader_laws.proofs.Passing.{none_passed, opened}
-
-some_same : {A : Type 0} (x y : A) → Some x ≡ Some y → x ≡ y
-some_same x y h = cc
 
 module _ (s t : Screen) (calls : List Called) (r : Ran t calls) where
   -- the screen is as it was
@@ -101,7 +99,7 @@ shows_the_book M messages_of setup events session indices screen calls f =
     let none = none_passed setup events session indices (λ done tells. (carries.0, tells)) calls [] [] screen (opened setup events session indices screen f.is_new.reader f.is_new.book) f.are_calls carries.1 in
     let b = is_the_book setup events session indices steps carries in
     let out : read (given (opening session indices) steps) ≡ Some (output_by calls) = ap (λ x. read (given x steps)) (sym f.is_new.reader) ∙ ran.reads none in
-    let seen : output_by calls ≡ b.0 = some_same (output_by calls) b.0 (sym out ∙ b.2) in
+    let seen : output_by calls ≡ b.0 = same_Some (output_by calls) b.0 (sym out ∙ b.2) in
     let book : last.book ≡ shown_book (output_by calls) = ran.book ∙ ap (λ k. book_from k (output_by calls)) f.is_new.book in
     record {
       passes_none = none;
@@ -113,6 +111,6 @@ shows_the_book M messages_of setup events session indices screen calls f =
         subst IsUncrossed (ap shown_book (sym seen) ∙ sym book) at.1,
       ));
       whole = λ is. (let all = is_all_of_it setup events session indices steps carries (ap is_whole (ap (λ x. after_all x steps) (sym f.is_new.reader) ∙ sym ran.reader) ∙ is) in
-          let every : output_by calls ≡ feed setup events = some_same (output_by calls) (feed setup events) (sym out ∙ all.0) in
+          let every : output_by calls ≡ feed setup events = same_Some (output_by calls) (feed setup events) (sym out ∙ all.0) in
           (every, book ∙ ap shown_book every ∙ all.1));
     }

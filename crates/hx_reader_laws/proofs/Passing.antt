@@ -1,8 +1,9 @@
 -- That a screen that receives what a venue sends passes no message over.
-use Rattle.std.proofs.Common.{◌≡◌, ℕ, List, [], ◌∷◌, ◌++◌, true, false, Option, Some, None, Ok, Err, refl, sym, ap, subst, ◌∙◌, append_assoc, append-nil}
+use Rattle.std.proofs.Common.{◌≡◌, ℕ, List, [], ◌∷◌, ◌++◌, true, false, Option, Some, None, Ok, Err, refl, sym, ap, subst, ◌∙◌, append-nil}
 use Rattle.std.specs.Prelude.{is_some}
 use Rattle.std.specs.Option.{option_to_list}
 use Rattle.std.specs.List.{AllByRecursion}
+use Rattle.std.proofs.lemmas.Option.{same_Some}
 use Rattle.hx_itch.specs.declared.message.Feed.{Feed}
 use Rattle.hx_itch.specs.Message.{feed_message_of}
 use Rattle.hx_match.proofs.First.{all_append}
@@ -15,30 +16,20 @@ use Rattle.hx_reader.specs.declared.fault.ApplyError.TheVariants as errors
 use Rattle.hx_reader.specs.declared.fault.ScreenError.TheVariants as faults
 use Rattle.hx_reader.specs.declared.screen.Screen.{Screen}
 use Rattle.hx_reader.specs.Faults.{fault_of, AreFaultless}
-use Rattle.hx_reader.specs.Readings.{Reading, opening, ready}
-use Rattle.hx_reader.specs.Runs.{Step, Comes, IsAsked, after, gives, given, after_all, TellsOf}
+use Rattle.hx_reader.specs.Readings.{opening, ready}
+use Rattle.hx_reader.specs.Runs.{Step, Comes, IsAsked, after, given, after_all, TellsOf}
 use Rattle.hx_reader.specs.Screens.{readable, Drops}
+use Rattle.hx_reader.proofs.Runs.{after_all_push, given_push}
 use Rattle.hx_reader_laws.specs.Screens.{read, spelled_feed, CarriesFeed}
 use Rattle.hx_reader_laws.specs.Calls.{Call, Receives, Steps, Does, Called, AreCalls, moves, moved_by, PassesNone}
 use Rattle.hx_reader_laws.proofs.Screens.{is_the_book}
 use Rattle.hx_reader_laws.proofs.FaultlessEvents.{has_no_fault}
 
-some_same : {A : Type 0} (x y : A) → Some x ≡ Some y → x ≡ y
-some_same x y h = cc
-
 -- ---- one step more
-
-after_more : (r : Reading) (done : List Step) (s : Step) → after_all r (done ++ s ∷ []) ≡ after (after_all r done) s
-after_more r [] s = refl
-after_more r (d ∷ done) s = after_more (after r d) done s
-
-given_more : (r : Reading) (done : List Step) (s : Step) → given r (done ++ s ∷ []) ≡ given r done ++ gives (after_all r done) s
-given_more r [] s = append-nil (gives r s)
-given_more r (d ∷ done) s = ap (λ l. gives r d ++ l) (given_more (after r d) done s) ∙ sym (append_assoc (gives r d) (given (after r d) done) (gives (after_all (after r d) done) s))
 
 -- bytes more are read, or are no message
 read_more : (xs : List (List ℕ)) (bytes : List ℕ) (seen : List Feed) (m : Feed) → read xs ≡ Some seen → feed_message_of bytes ≡ Some m → read (xs ++ bytes ∷ []) ≡ Some (seen ++ m ∷ [])
-read_more [] bytes seen m h e = (let none : [] ≡ seen = some_same [] seen h in rw e (ap (λ l. Some (l ++ m ∷ [])) none))
+read_more [] bytes seen m h e = (let none : [] ≡ seen = same_Some [] seen h in rw e (ap (λ l. Some (l ++ m ∷ [])) none))
 read_more (x ∷ xs) bytes seen m h e = choose (feed_message_of x) refl (read xs) refl (λ l q. read_more xs bytes l m q e)
   where
     choose : (o : Option Feed) → feed_message_of x ≡ o → (l : Option (List Feed)) → read xs ≡ l → ((k : List Feed) → read xs ≡ Some k → read (xs ++ bytes ∷ []) ≡ Some (k ++ m ∷ []))
@@ -47,7 +38,7 @@ read_more (x ∷ xs) bytes seen m h e = choose (feed_message_of x) refl (read xs
     choose (Some k) p None q ih = absurd (let z : read (x ∷ xs) ≡ None = rw (p, q) refl in cc)
     choose (Some k) p (Some l) q ih =
         let z : read (x ∷ xs) ≡ Some (k ∷ l) = rw (p, q) refl in
-        let same : k ∷ l ≡ seen = some_same (k ∷ l) seen (sym z ∙ h) in
+        let same : k ∷ l ≡ seen = same_Some (k ∷ l) seen (sym z ∙ h) in
         let more : read (xs ++ bytes ∷ []) ≡ Some (l ++ m ∷ []) = ih l q in
         rw (p, more) (ap (λ s. Some (s ++ m ∷ [])) same)
 
@@ -86,7 +77,7 @@ module _ (setup : Setup) (events : List Event) (session : List ℕ) (indices : �
     -- what the reader has given once the next message is asked for
     out : (bytes : List ℕ) → ready s.reader ≡ Some bytes → given (opening session indices) (done ++ IsAsked ∷ []) ≡ given (opening session indices) done ++ bytes ∷ []
     out bytes e =
-        given_more (opening session indices) done IsAsked
+        given_push (opening session indices) done IsAsked
         ∙ ap (λ o. given (opening session indices) done ++ option_to_list o) (ap ready (sym at.reader) ∙ e)
 
     reads_more : (m : Feed) → readable (ready s.reader) ≡ Some m → read (given (opening session indices) (done ++ IsAsked ∷ [])) ≡ Some (seen ++ m ∷ [])
@@ -102,7 +93,7 @@ module _ (setup : Setup) (events : List Event) (session : List ℕ) (indices : �
     no_fault : (error : ApplyError) (t : Screen) → Drops s t error → ⊥
     no_fault error t d =
         let b = is_the_book setup events session indices (done ++ IsAsked ∷ []) (fits (done ++ IsAsked ∷ []) asked) in
-        let same : seen ++ d.message ∷ [] ≡ b.0 = some_same (seen ++ d.message ∷ []) b.0 (sym (reads_more d.message d.next) ∙ b.2) in
+        let same : seen ++ d.message ∷ [] ≡ b.0 = same_Some (seen ++ d.message ∷ []) b.0 (sym (reads_more d.message d.next) ∙ b.2) in
         let all : AreFaultless [] ((seen ++ d.message ∷ []) ++ b.1) = subst (AreFaultless []) (sym b.3 ∙ ap (λ l. l ++ b.1) (sym same)) (has_no_fault setup events) in
         let none : fault_of s.book d.message ≡ None = ap (λ k. fault_of k d.message) at.book ∙ faultless_at [] seen d.message b.1 all in
         let w : None ≡ Some error = sym none ∙ d.cause in cc
@@ -122,8 +113,8 @@ module _ (setup : Setup) (events : List Event) (session : List ℕ) (indices : �
         ih (done ++ Comes datagram ∷ []) seen
             (record {
               tells = all_append (TellsOf (spelled_feed setup events) session) done (Comes datagram ∷ []) at.tells (more.0, tt);
-              reader = d.0 ∙ ap (λ r. after r (Comes datagram)) at.reader ∙ sym (after_more (opening session indices) done (Comes datagram));
-              reads = ap read (given_more (opening session indices) done (Comes datagram) ∙ append-nil (given (opening session indices) done)) ∙ at.reads;
+              reader = d.0 ∙ ap (λ r. after r (Comes datagram)) at.reader ∙ sym (after_all_push (opening session indices) done (Comes datagram));
+              reads = ap read (given_push (opening session indices) done (Comes datagram) ∙ append-nil (given (opening session indices) done)) ∙ at.reads;
               book = d.1 ∙ at.book;
             })
             more.1,
@@ -134,7 +125,7 @@ module _ (setup : Setup) (events : List Event) (session : List ℕ) (indices : �
         ih (done ++ IsAsked ∷ []) (seen ++ m ∷ [])
             (record {
               tells = asked fits done seen s at;
-              reader = d.reader ∙ ap (λ r. after r IsAsked) at.reader ∙ sym (after_more (opening session indices) done IsAsked);
+              reader = d.reader ∙ ap (λ r. after r IsAsked) at.reader ∙ sym (after_all_push (opening session indices) done IsAsked);
               reads = reads_more fits done seen s at m d.next;
               book = d.book ∙ ap (λ k. book_after k m) at.book ∙ sym (book_from-append [] seen (m ∷ []));
             })

@@ -1,6 +1,7 @@
 -- What a venue sends of its feed says what is so of it.
 use Rattle.std.proofs.Common.{◌≡◌, ℕ, ◌+◌, ◌-◌, ◌<◌, ◌≤◌, List, ◌++◌, length, take, drop, Option, Some, None, sym, ap, subst, ◌∙◌, arith, append_assoc, inl, inr, length-append, length-drop}
 use Rattle.std.proofs.lemmas.List.{length-take-le, take-append-drop}
+use Rattle.std.proofs.lemmas.Option.{same_Some}
 use Rattle.hx_mold.specs.declared.packet.MoldPacket.{MoldPacket}
 use Rattle.hx_mold.specs.declared.packet.MoldPacket.TheVariants as mold
 use Rattle.hx_mold.specs.Packets.{SpellsPacket}
@@ -12,13 +13,10 @@ use Rattle.hx_retransmit.specs.Turns.{SendsMessages, SendsHeartbeat}
 use Rattle.hx_reader.specs.Runs.{Comes, StandsAt, IsSo, TellsOf}
 use Rattle.hx_reader_laws.specs.Venues.{Publishes, IsTurn, StaysPublisher, IsVenues, PacketsCarry}
 
-some_same : {A : Type 0} (x y : A) → Some x ≡ Some y → x ≡ y
-some_same x y h = cc
-
 -- bytes that spell a packet say what the packet says
 tells : (feed : List (List ℕ)) (session bytes : List ℕ) (p : MoldPacket) → SpellsPacket bytes p → IsSo feed p → TellsOf feed session (Comes bytes)
 tells feed session bytes p spelled so q is of_session =
-    subst (IsSo feed) (some_same p q (sym (packet_again p spelled.0) ∙ ap packet_of (sym spelled.1) ∙ is)) so
+    subst (IsSo feed) (same_Some p q (sym (packet_again p spelled.0) ∙ ap packet_of (sym spelled.1) ∙ is)) so
 
 grown : (messages feed : List (List ℕ)) → Grows messages feed → length messages ≤ length feed
 grown messages feed g = omega (arith, ap length g.1, length-append messages g.0)

@@ -5,8 +5,8 @@ use Rattle.std.specs.Fmt.{decimal}
 use Rattle.std.proofs.lemmas.Fmt.{length-decimal-le}
 use Rattle.std.proofs.lemmas.List.Elements.{All-head, All-tail}
 use Rattle.hex.specs.Hex.{encode_lower}
-use Rattle.hx_text.specs.Cuts.{Lacks}
-use Rattle.hx_text.proofs.Splits.{same_split, none_split}
+use Rattle.hx_units.specs.Cuts.{Lacks}
+use Rattle.hx_units.proofs.Splits.{same_split, none_split}
 use Rattle.hx_tape_lines.specs.Text.{Entry as Line, IsEntry, line, tape}
 use Rattle.hx_tape_lines.proofs.Lines.{hex_length}
 use Rattle.hx_tape_lines.proofs.OneLine.{line_same}

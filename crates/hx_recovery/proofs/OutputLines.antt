@@ -5,6 +5,7 @@ use Rattle.hx_itch.specs.declared.message.Feed.{Feed}
 use Rattle.hx_ouch.specs.declared.outbound.Outbound.{Outbound}
 use Rattle.hx_members.specs.Setups.{Setup}
 use Rattle.hx_refs.specs.Numbers.{raised}
+use Rattle.hx_refs.proofs.Numbers.{length-raised, raised-other}
 use Rattle.hx_rules.specs.declared.event.Event.{Event}
 use Rattle.hx_market.specs.Outputs.{Reply, EventOutput}
 use Rattle.hx_market.specs.Steps.{output, feed_of, feed, replies_among, replies_of, replies}
@@ -16,8 +17,8 @@ use Rattle.hx_replay.specs.Output.{reply_line}
 use Rattle.hx_replay.specs.Seen.Numbered.{OfFeed, OfMember}
 use Rattle.hx_replay.specs.Seen.{text_of, texts_of, numbered, output_lines, is_to}
 use Rattle.hx_replay.specs.Quiet.{feed_among}
-use Rattle.hx_replay.proofs.Few.{raised-length}
 use Rattle.hx_recovery.specs.Served.{feed_text, reply_text}
+use Rattle.hx_units.proofs.Lists.{slice_index-zeros}
 
 -- all lines of the output of events
 abbrev all_lines : List EventOutput → List Line
@@ -85,25 +86,18 @@ raised_here [] m lt = absurd (omega (arith, lt))
 raised_here (c ∷ counts) zero lt = refl
 raised_here (c ∷ counts) (suc m) lt = raised_here counts m (omega (arith, lt))
 
-raised_elsewhere : (counts : List ℕ) (i m : ℕ) → (i ≡ m → ⊥) → slice_index (raised counts i) m ≡ slice_index counts m
-raised_elsewhere [] i m ne = refl
-raised_elsewhere (c ∷ counts) zero zero ne = absurd (ne refl)
-raised_elsewhere (c ∷ counts) zero (suc m) ne = refl
-raised_elsewhere (c ∷ counts) (suc i) zero ne = refl
-raised_elsewhere (c ∷ counts) (suc i) (suc m) ne = raised_elsewhere counts i m (λ e. ne (ap (λ k. suc k) e))
-
 his_text : (m n : ℕ) (counts : List ℕ) (lines : List Line) → m < length counts
     → texts_of (filter (λ line. is_to m line) (numbered n counts lines)) ≡ reply_text m (slice_index counts m) (replies_spelled (his m lines))
 unfolding his
 his_text m n counts [] lt = refl
 his_text m n counts (ToFeed message ∷ lines) lt = his_text m (n + 1) counts lines lt
-his_text m n counts (ToMember i reply ∷ lines) lt = at (eqb i m) refl (his_text m n (raised counts i) lines (subst (λ k. m < k) (sym (raised-length counts i)) lt))
+his_text m n counts (ToMember i reply ∷ lines) lt = at (eqb i m) refl (his_text m n (raised counts i) lines (subst (λ k. m < k) (sym (length-raised counts i)) lt))
   where
     at : (b : Bool) → eqb i m ≡ b
         → texts_of (filter (λ line. is_to m line) (numbered n (raised counts i) lines)) ≡ reply_text m (slice_index (raised counts i) m) (replies_spelled (his m lines))
         → texts_of (cond b (OfMember i (slice_index counts i + 1) reply ∷ filter (λ line. is_to m line) (numbered n (raised counts i) lines)) (filter (λ line. is_to m line) (numbered n (raised counts i) lines)))
         ≡ reply_text m (slice_index counts m) (replies_spelled (cond b (reply ∷ his m lines) (his m lines)))
-    at false e h = h ∙ ap (λ k. reply_text m k (replies_spelled (his m lines))) (raised_elsewhere counts i m (λ same. absurd (let z : true ≡ false = sym (eq-eqb i m same) ∙ e in cc)))
+    at false e h = h ∙ ap (λ k. reply_text m k (replies_spelled (his m lines))) (raised-other counts i m (λ same. absurd (let z : true ≡ false = sym (eq-eqb i m same) ∙ e in cc)))
     at true e h =
         let same : i ≡ m = eqb-true i m e in
         let one : slice_index (raised counts i) m ≡ slice_index counts m + 1 = ap (λ k. slice_index (raised counts k) m) same ∙ raised_here counts m lt in
@@ -142,11 +136,6 @@ his_all m (t ∷ ts) =
     ∙ ap (λ (l : List Outbound). l ++ his m (all_lines ts)) (his_replies m t.replies)
     ∙ ap (λ (l : List Outbound). replies_among m t.replies ++ l) (his_all m ts)
 
-none_yet : (k m : ℕ) → slice_index (replicate k 0) m ≡ 0
-none_yet zero m = refl
-none_yet (suc k) zero = refl
-none_yet (suc k) (suc m) = none_yet k m
-
 many : (k : ℕ) → length {A = ℕ} (replicate k 0) ≡ k
 many zero = refl
 many (suc k) = ap (λ n. suc n) (many k)
@@ -156,5 +145,5 @@ pub replies_output : (setup : Setup) (m : ℕ) (events : List Event) → m < 409
 unfolding output_lines replies
 replies_output setup m events lt =
     his_text m 0 (replicate 4096 0) (all_lines (output setup events)) (subst (λ k. m < k) (sym (many 4096)) lt)
-    ∙ ap (λ k. reply_text m k (replies_spelled (his m (all_lines (output setup events))))) (none_yet 4096 m)
+    ∙ ap (λ k. reply_text m k (replies_spelled (his m (all_lines (output setup events))))) (slice_index-zeros 4096 m)
     ∙ ap (λ (l : List Outbound). reply_text m 0 (replies_spelled l)) (his_all m (output setup events))

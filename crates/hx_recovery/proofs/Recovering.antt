@@ -1,24 +1,24 @@
 -- An exchange that resumes from what a crash left.
-use Rattle.std.proofs.Common.{◌≡◌, ℕ, List, [], ◌∷◌, ◌++◌, refl, sym, ap, ◌∙◌, subst}
+use Rattle.std.proofs.Common.{◌≡◌, ℕ, List, [], ◌++◌, sym, ap, ◌∙◌, subst}
 use Rattle.std.proofs.lemmas.List.{map-append}
 use mathlib.Core.List.{IsPrefix}
 use Rattle.hx_blog.specs.Feed.{Entries, feed}
-use Rattle.hx_blog.proofs.Prefixes.{prefix_self, prefix_trans}
-use Rattle.hx_members.specs.Setups.{Setup}
 use Rattle.hx_rules.specs.declared.event.Event.{Event}
-use Rattle.hx_laws.specs.Recorded.{AreAccepted, AreRecorded}
-use Rattle.hx_market.specs.Markets.{Market, opening}
-use Rattle.hx_market.specs.Steps.{step}
+use Rattle.hx_laws.specs.Recorded.{AreRecorded}
+use Rattle.hx_laws.proofs.Accepted.{accepted_front}
+use Rattle.hx_market.specs.Markets.{opening}
 use Rattle.hx_tape_lines.specs.Text.{record_of}
 use Rattle.hx_desk.specs.declared.entry.Entry.{Entry}
 use Rattle.hx_desk.specs.Entries.{events_of, restored, ledger}
 use Rattle.hx_desk.specs.Known.{history_of, known_replies}
-use Rattle.hx_engine.specs.Journals.{lines, unspoken}
-use Rattle.hx_engine.proofs.Places.{history_of_ledger}
+use Rattle.hx_engine.specs.Journals.{lines}
+use Rattle.hx_engine.proofs.Positions.{history_of_ledger}
 use Rattle.hx_recovery.specs.Recovery.{AreReadBack, GoesOnFrom, PublishedAgainAtOnce, PublishedIsPublishedAgain, AtAnyMoment, VouchedIsCovered, LeftIsOfTheHistory, QuietStaysQuiet, NothingAcross}
 use Rattle.hx_engine.proofs.Applying.{events_restored}
+use Rattle.hx_engine.proofs.HeldLaws.{published_of_unspoken}
 use Rattle.hx_recovery.proofs.Records.{events_begin, events_begun, events_prefix}
 use Rattle.hx_recovery.proofs.Telling.{output_again, ledger_whole, no_trace}
+use Rattle.hx_units.proofs.Prefixes.{prefix_self, prefix_trans}
 
 -- what was known is a beginning of what the exchange resumes from
 known_begins : (known : Entries Entry) (before : List Event) → AreReadBack (events_of (history_of known)) → GoesOnFrom known before → IsPrefix (events_of (history_of known)) (events_of (restored before))
@@ -44,21 +44,12 @@ pub at_any_moment : AtAnyMoment
 at_any_moment known output left most knew between =
     prefix_trans (lines record_of (history_of known)) (lines record_of output) left (records_prefix (history_of known) output knew) between.begins
 
-unspoken_history : (history : List Entry) → history_of (unspoken history) ≡ history
-unspoken_history [] = refl
-unspoken_history (e ∷ history) = ap (λ (es : List Entry). e ∷ es) (unspoken_history history)
-
 pub vouched_is_covered : VouchedIsCovered
 vouched_is_covered known before g = record {
   left = g.left;
-  covered = subst (λ (es : List Entry). IsPrefix (lines record_of es) g.left) (unspoken_history (history_of known)) g.covered;
+  covered = subst (λ (es : List Entry). IsPrefix (lines record_of es) g.left) (published_of_unspoken (history_of known)) g.covered;
   read = g.read;
 }
-
--- a beginning of what the market accepts
-accepted_front : (setup : Setup) (a : Market) (xs ys : List Event) → AreAccepted setup a (xs ++ ys) → AreAccepted setup a xs
-accepted_front setup a [] ys h = tt
-accepted_front setup a (x ∷ xs) ys h = (h.0, accepted_front setup (step setup a x).market xs ys h.1)
 
 pub left_is_of_the_history : LeftIsOfTheHistory
 left_is_of_the_history setup durable left before history back between read =

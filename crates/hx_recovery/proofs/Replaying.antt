@@ -12,6 +12,7 @@ use Rattle.hx_desk.specs.Entries.{events_of}
 use Rattle.hx_desk.proofs.Standing.{published_is}
 use Rattle.hx_engine.specs.Journals.{lines}
 use Rattle.hx_tape_lines.specs.declared.fault.Kind.{Kind}
+use Rattle.hx_tape_lines.proofs.Entries.{known_entries}
 use Rattle.hx_replay.specs.declared.fault.TapeError.TheVariants as fault
 use Rattle.hx_replay.specs.Whole.{StopsAt}
 use Rattle.hx_replay.specs.Run.{Progress, start, after, after_all, output_all, AreEvents}
@@ -52,10 +53,6 @@ lines_of (e ∷ history) back =
 are_entries : (p : Progress) (es : List Line) → AreEvents p es → AllByRecursion IsEntry es
 are_entries p [] h = tt
 are_entries p (e ∷ es) h = (h.0.entry, are_entries (after p e) es h.1)
-
-known_entries : (es : List Line) → AllByRecursion IsKnown es → AllByRecursion IsEntry es
-known_entries [] h = tt
-known_entries (e ∷ es) h = (h.0.entry, known_entries es h.1)
 
 -- ---- by the contract of `replay`
 

@@ -17,7 +17,7 @@ use Rattle.hx_desk.specs.Rows.{replies_spelled}
 use Rattle.hx_desk.proofs.Growth.{replies_append}
 use Rattle.hx_desk.proofs.Standing.{published_is}
 use Rattle.hx_desk.proofs.NoSecrets.{feed_without_trace, replies_without_trace}
-use Rattle.hx_engine.proofs.Places.{history_of_ledger}
+use Rattle.hx_engine.proofs.Positions.{history_of_ledger}
 use Rattle.hx_recovery.specs.Recovery.{IsPublishedAgain, HasNoTrace}
 
 feed_append : (setup : Setup) (a : Market) (xs ys : List Event)

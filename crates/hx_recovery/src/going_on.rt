@@ -1,9 +1,7 @@
 //! How a day resumes from its journal.
-ghost use Rattle.std.specs.Prelude.{◌≡◌, map, true, IfOk};
-ghost use Rattle.hx_disk.specs.Calls.{seen_of};
-ghost use Rattle.hx_journal.specs.Files.{stored, appended};
+ghost use Rattle.std.specs.Prelude.{◌≡◌, map, IfOk};
 ghost use Rattle.hx_journal.specs.Lines.{lines_of, text_of};
-ghost use Rattle.hx_journal.specs.Records.{records_of, recovered};
+ghost use Rattle.hx_journal.specs.Records.{recovered};
 ghost use Rattle.hx_tape_lines.specs.Text.{record_of};
 ghost use Rattle.hx_desk.specs.Entries.{restored};
 ghost use Rattle.hx_engine.specs.Journals.{lines};
@@ -12,8 +10,7 @@ use hx_engine::{Journal, JournalError, Recovered};
 use hx_journal::{FileJournal, Head, Noted, OpenError, RawFile};
 use hx_market::{Bytes, Event};
 use hx_tape_lines::read_event;
-use hx_text::split_once;
-use hx_units::NoMemory;
+use hx_units::{NoMemory, split_once};
 use std::alloc::{AllocError, AllocFailed, Global};
 
 /// Why a day does not resume from a journal.
@@ -121,14 +118,6 @@ pub fn recover<F: RawFile + Drop, P: Progress>(
     head: &Head,
     progress: &P,
 ) -> Result<Recovered<FileJournal<Noted<F>>>, RecoveryError>
-    ensures appended { IfOk result (λ r.
-        records_of (appended (λ d. seen_of d.log.events) r.journal)
-        ≡ lines record_of (restored r.events.items)) }
-    ensures durable { IfOk result (λ r.
-        records_of (stored (λ d. seen_of d.log.events) r.journal)
-        ≡ lines record_of (restored r.events.items)) }
-    ensures is_open { IfOk result (λ r. r.journal.is_open ≡ true) }
-
     // The events are those whose records the file holds.
     ensures read { IfOk result (λ r. map record_of r.events.items ≡ recovered bytes.now) }
 {

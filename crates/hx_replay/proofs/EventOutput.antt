@@ -1,13 +1,14 @@
 -- The size of the output of one step of the market.
-use Rattle.std.proofs.Common.{◌≡◌, ℕ, suc, ◌+◌, ◌-◌, ◌*◌, ◌≤◌, ltb, nat_lt, ◌&&◌, ◌||◌, not, if◌then◌else◌, Bool, true, false, cond, List, [], ◌∷◌, ◌++◌, length, map, Option, Some, None, refl, arith}
+use Rattle.std.proofs.Common.{◌≡◌, ℕ, suc, ◌+◌, ◌*◌, ◌≤◌, ltb, nat_lt, ◌&&◌, ◌||◌, not, if◌then◌else◌, Bool, true, false, cond, List, [], ◌∷◌, ◌++◌, length, map, Option, Some, None, refl, arith}
 use Rattle.std.specs.Prelude.{◌==◌}
 use Rattle.std.specs.List.{filter, find}
 use Rattle.std.proofs.lemmas.List.{length-append, length-map}
 use Rattle.std.proofs.lemmas.List.Filters.{length-filter_both}
 use Rattle.hx_units.specs.declared.names.Symbol.{Symbol}
 use Rattle.hx_units.specs.declared.names.Token.{Token}
+use Rattle.hx_units.proofs.Lists.{length-filter-le}
 use Rattle.hx_book.specs.declared.order.Order.{Order}
-use Rattle.hx_match.specs.Matching.{Execution, Matched, matched, with_shares}
+use Rattle.hx_match.specs.Matching.{Execution, Matched, matched}
 use Rattle.hx_members.specs.Setups.{Setup, locate_of, symbol_of}
 use Rattle.hx_members.specs.Chains.{is_used}
 use Rattle.hx_ouch.specs.declared.inbound.Inbound.{Inbound}
@@ -26,24 +27,22 @@ use Rattle.hx_members.specs.Stock.{Stock}
 use Rattle.hx_market.specs.Outputs.{Reply, EventOutput, Outcome, silent}
 use Rattle.hx_market.specs.Hours.{all_deleted, end_orders, directory, to_all, output_by_code, is_over, ends_by_code, hours_by, is_next}
 use Rattle.hx_market.specs.Executions.{feed_of_executions, replies_of_executions, published, shown_of, resting_of, canceled_of, incoming_of, Arrival, arrive, arrival_feed}
-use Rattle.hx_market.specs.Removal.{others, lessened, deleted, taken_off, canceled}
+use Rattle.hx_market.specs.Removal.{others, deleted, taken_off, canceled}
 use Rattle.hx_market.specs.Replace.{executed_of, is_order_halted, replace_fails, handed_over, is_one_display, replacing_order, replace_feed, replace_order, replaced_by}
 use Rattle.hx_market.specs.Cancel.{cancelled_shares, cancelled_by}
 use Rattle.hx_market.specs.Enter.{entered_by, rejection, accept_order, drawn, consumed, entered_order, next_reference}
 use Rattle.hx_market.specs.Halts.{is_trading_state, halted_by}
 use Rattle.hx_market.specs.Breaks.{execution_of, broken_if, broken_by}
 use Rattle.hx_rules.specs.declared.matches.Match.{Match}
+use Rattle.hx_rules.proofs.Feeds.{length-feed_of_executions}
 use Rattle.hx_market.specs.Steps.{receive, step, with_record}
 use Rattle.hx_day.proofs.Counts.{ended}
+use Rattle.hx_day.proofs.AfterReplace.{length-lessened}
 
 -- all messages of an event but few end a live order, or are a code's to all
 pub record TellsFew (live : List Order) (o : Outcome) : Type 0 where
   pub feed : length o.output.feed + length o.market.live ≤ length live + 1004
   pub replies : length o.output.replies + 2 * length o.market.live ≤ 2 * length live + 4101
-
-length-executions : (time : ℕ) (stock : Symbol) (n : ℕ) (es : List Execution) → length (feed_of_executions time stock n es) ≡ length es
-length-executions time stock n [] = refl
-length-executions time stock n (e ∷ es) = let more : length (feed_of_executions time stock (n + 1) es) ≡ length es = length-executions time stock (n + 1) es in omega arith
 
 length-replies : (time member : ℕ) (token : Token) (n : ℕ) (es : List Execution) → length (replies_of_executions time member token n es) ≡ 2 * length es
 length-replies time member token n [] = refl
@@ -77,7 +76,7 @@ accept_order_few market time e x =
     let resting : List Order = resting_of x immediate m.left in
     let ends : length m.fills + length m.rest ≤ length market.live + cond (ltb 0 x.shares) 1 0 = ended x.shares (incoming_of x) x.shares market.live in
     let one = one_at_most (ltb 0 x.shares) in
-    let executions = length-executions time e.stock market.numbers.matches m.fills in
+    let executions = length-feed_of_executions time e.stock market.numbers.matches m.fills in
     let shown = length-published time e.stock resting in
     let rests : length resting ≤ 1 = length-resting (ltb 0 m.left && not immediate) (record x { shares = m.left }) in
     let live = length-append m.rest resting in
@@ -101,13 +100,10 @@ entered_few setup market member time e false None = accept_order_few market time
 
 -- Of a Replace and of a Cancel.
 
-fewer : (keep : Order → Bool) (xs : List Order) → length (filter keep xs) ≤ length xs
-fewer keep xs = let parts = length-filter_both keep (λ x. not (keep x)) (λ x. refl) xs in omega arith
-
 -- one is gone if one is called so
 one_gone : (member : ℕ) (token : Token) (old : Order) (xs : List Order) → find (is_called member token) xs ≡ Some old → length (others member token xs) + 1 ≤ length xs
 one_gone member token old [] h = absurd (let z : None ≡ Some old = h in cc)
-one_gone member token old (x ∷ xs) h = at (is_called member token x) h (fewer (λ y. not (is_called member token y)) xs) (one_gone member token old xs)
+one_gone member token old (x ∷ xs) h = at (is_called member token x) h (length-filter-le (λ y. not (is_called member token y)) xs) (one_gone member token old xs)
   where
     at : (b : Bool) → cond b (Some x) (find (is_called member token) xs) ≡ Some old → length (others member token xs) ≤ length xs
         → (find (is_called member token) xs ≡ Some old → length (others member token xs) + 1 ≤ length xs)
@@ -131,16 +127,6 @@ length-off time by x = at (nat_lt by x.shares) x.shown
     at false true = omega arith
     at false false = omega arith
 
-length-lessened : (member : ℕ) (token : Token) (by : ℕ) (xs : List Order) → length (lessened member token by xs) ≤ length xs
-length-lessened member token by [] = omega arith
-length-lessened member token by (x ∷ xs) = at (is_called member token x) (nat_lt by x.shares) (length-lessened member token by xs)
-  where
-    at : (a b : Bool) → length (lessened member token by xs) ≤ length xs
-        → length (cond a (cond b (with_shares x (x.shares - by) ∷ []) [] ++ xs) (x ∷ lessened member token by xs)) ≤ suc (length xs)
-    at true true h = omega arith
-    at true false h = omega arith
-    at false b h = omega arith
-
 either-most : (b : Bool) (one many : List Feed) (most : ℕ) → length one ≤ most → length many ≤ most → length (if b then one else many) ≤ most
 either-most true one many most h k = h
 either-most false one many most h k = k
@@ -156,7 +142,7 @@ replace_order_few market member time stock r old x gone =
     let resting : List Order = resting_of x immediate m.left in
     let ends : length m.fills + length m.rest ≤ length left + cond (ltb 0 x.shares) 1 0 = ended x.shares (incoming_of x) x.shares left in
     let one = one_at_most (ltb 0 x.shares) in
-    let executions = length-executions time stock market.numbers.matches m.fills in
+    let executions = length-feed_of_executions time stock market.numbers.matches m.fills in
     let shown = length-published time stock resting in
     let rests : length resting ≤ 1 = length-resting (ltb 0 m.left && not immediate) (record x { shares = m.left }) in
     let live = length-append m.rest resting in

@@ -1,7 +1,8 @@
 -- The counts of a replay fit.
-use Rattle.std.proofs.Common.{◌≡◌, ℕ, zero, suc, ◌+◌, ◌≤◌, List, [], ◌∷◌, length, replicate, refl, ap, ◌∙◌, arith, slice_index}
+use Rattle.std.proofs.Common.{◌≡◌, ℕ, zero, suc, ◌+◌, ◌≤◌, List, [], ◌∷◌, length, replicate, refl, ◌∙◌, arith, slice_index}
 use Rattle.hx_members.specs.Setups.{Setup, IsSetup}
 use Rattle.hx_refs.specs.Numbers.{raised}
+use Rattle.hx_refs.proofs.Numbers.{length-raised}
 use Rattle.hx_market.specs.Markets.{Market, opening}
 use Rattle.hx_market.specs.Outputs.{Reply}
 use Rattle.hx_market.specs.Steps.{step}
@@ -10,11 +11,7 @@ use Rattle.hx_replay.specs.Output.{counts_after}
 use Rattle.hx_tape_lines.specs.Events.{event_of}
 use Rattle.hx_replay.specs.Run.{Progress, IsFew, start, after}
 use Rattle.hx_replay.proofs.EventOutput.{output_few}
-
-pub raised-length : (xs : List ℕ) (i : ℕ) → length (raised xs i) ≡ length xs
-raised-length [] i = refl
-raised-length (x ∷ xs) zero = refl
-raised-length (x ∷ xs) (suc i) = ap (λ n. suc n) (raised-length xs i)
+use Rattle.hx_units.proofs.Lists.{slice_index-zeros}
 
 pub raised-most : (xs : List ℕ) (i k : ℕ) → slice_index (raised xs i) k ≤ slice_index xs k + 1
 raised-most [] i k = omega arith
@@ -25,7 +22,7 @@ raised-most (x ∷ xs) (suc i) (suc k) = raised-most xs i k
 
 pub counts-length : (counts : List ℕ) (rs : List Reply) → length (counts_after counts rs) ≡ length counts
 counts-length counts [] = refl
-counts-length counts (r ∷ rs) = counts-length (raised counts r.0) rs ∙ raised-length counts r.0
+counts-length counts (r ∷ rs) = counts-length (raised counts r.0) rs ∙ length-raised counts r.0
 
 counts-most : (counts : List ℕ) (rs : List Reply) (k : ℕ) → slice_index (counts_after counts rs) k ≤ slice_index counts k + length rs
 counts-most counts [] k = omega arith
@@ -46,14 +43,9 @@ few-after p e h =
       each = λ member. omega (arith, h.each member, counts-most p.counts (step p.setup p.market (event_of e)).output.replies member);
     }
 
-zeros : (n k : ℕ) → slice_index (replicate n 0) k ≡ 0
-zeros zero k = refl
-zeros (suc n) zero = refl
-zeros (suc n) (suc k) = zeros n k
-
 pub few-start : (setup : Setup) → IsSetup setup → IsFew (start setup)
 unfolding opening start
-few-start setup h = record { stocks = h.most_stocks; members = h.most_members; feed = omega arith; replies = omega arith; numbered = refl; each = λ member. omega (arith, zeros 4096 member) }
+few-start setup h = record { stocks = h.most_stocks; members = h.most_members; feed = omega arith; replies = omega arith; numbered = refl; each = λ member. omega (arith, slice_index-zeros 4096 member) }
 
 pub started : (setup s : Setup) (m : Market) (counts : List ℕ) → s ≡ setup → m ≡ opening setup → counts ≡ replicate 4096 0
     → (let p : Progress = record { setup = s; market = m; events = 0; feed = 0; replies = 0; counts = counts } in p) ≡ start setup

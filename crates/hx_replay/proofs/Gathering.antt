@@ -4,10 +4,11 @@ use Rattle.std.specs.Io.KnownBytes.{Appends, Keeps}
 use Rattle.std.proofs.KnownBytes.{Appends-nil, Appends-trans, Appends-kept}
 use Rattle.std.proofs.lemmas.List.{append-nil, length-append}
 use Rattle.std.proofs.Math.Seq.{take-append_seam}
-use Rattle.hx_text.specs.Cuts.{Lacks}
+use Rattle.hx_units.specs.Cuts.{Lacks}
 use Rattle.hx_replay.specs.declared.fault.TapeError.{TapeError}
 use Rattle.hx_replay.specs.declared.fault.TapeError.TheVariants as fault
-use Rattle.hx_replay.specs.Run.{Progress, output_all, Applies, Replays, Stops, EndsBy, Faults, Writes, IsFront, IsFew}
+use Rattle.hx_units.specs.Writing.{Writes}
+use Rattle.hx_replay.specs.Run.{Progress, output_all, Applies, Replays, Stops, EndsBy, Faults, IsFront, IsFew}
 use Rattle.hx_tape_lines.specs.Text.{tape}
 use Rattle.hx_replay.specs.Gathering.{Gathers, IsUnwritten}
 use Rattle.hx_replay.proofs.Runs.{grows, stops_at_line, events_counted, few_all, length-tape}

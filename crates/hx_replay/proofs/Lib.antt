@@ -1,6 +1,5 @@
 pub mod After
 pub mod Waiting
-pub mod Writing
 pub mod EventOutput
 pub mod Few
 pub mod Applying

@@ -2,10 +2,12 @@
 use Rattle.std.proofs.Common.{◌≡◌, ℕ, zero, suc, ◌+◌, Bool, true, false, cond, not, ◌&&◌, ◌||◌, List, [], ◌∷◌, ◌++◌, map, length, replicate, refl, sym, ap, ◌∙◌, arith, slice_index, append_assoc}
 use Rattle.std.specs.Prelude.{◌==◌}
 use Rattle.std.specs.List.{filter, list_any}
+use Rattle.std.proofs.lemmas.List.Elements.{filter-append}
 use Rattle.hx_units.specs.Names.{is_token}
 use Rattle.hx_itch.specs.declared.message.Feed.{Feed}
 use Rattle.hx_members.specs.Setups.{Setup}
 use Rattle.hx_refs.specs.Numbers.{raised}
+use Rattle.hx_refs.proofs.Numbers.{length-raised, raised-other}
 use Rattle.hx_rules.specs.declared.event.Event.{Event}
 use Rattle.hx_market.specs.Outputs.{Reply, EventOutput}
 use Rattle.hx_market.specs.Steps.{run, output}
@@ -25,7 +27,6 @@ use Rattle.hx_replay.specs.Seen.Numbered.{OfFeed, OfMember}
 use Rattle.hx_replay.specs.Seen.{texts_of, numbered, output_lines, not_to, is_to, LeavesNoTrace}
 use Rattle.hx_replay.specs.Quiet.{is_of_feed, TellsNothing}
 use Rattle.hx_replay.proofs.OutputIsOfEvents.{output_is_of_events}
-use Rattle.hx_replay.proofs.Few.{raised-length}
 
 -- The text of the lines.
 
@@ -62,13 +63,6 @@ of_output n counts (t ∷ ts) =
 
 -- The lines for the members that may look.
 
-other-raised : (xs : List ℕ) (i k : ℕ) → (i ≡ k → ⊥) → slice_index (raised xs i) k ≡ slice_index xs k
-other-raised [] i k h = refl
-other-raised (x ∷ xs) zero zero h = absurd (h refl)
-other-raised (x ∷ xs) zero (suc k) h = refl
-other-raised (x ∷ xs) (suc i) zero h = refl
-other-raised (x ∷ xs) (suc i) (suc k) h = other-raised xs i k (λ e. h (ap (λ n. suc n) e))
-
 -- counts of the same number of members, equal for those that may look
 record AreLike (look : ℕ → Bool) (cs ds : List ℕ) : Type 0 where
   many : length cs ≡ length ds
@@ -77,8 +71,8 @@ record AreLike (look : ℕ → Bool) (cs ds : List ℕ) : Type 0 where
 -- one more of a member that may not look
 like_left : (look : ℕ → Bool) (i : ℕ) (cs ds : List ℕ) → look i ≡ false → AreLike look cs ds → AreLike look (raised cs i) ds
 like_left look i cs ds e h = record {
-  many = raised-length cs i ∙ h.many;
-  each = λ k f. other-raised cs i k (λ same. absurd (let z : true ≡ false = sym f ∙ ap look (sym same) ∙ e in cc)) ∙ h.each k f;
+  many = length-raised cs i ∙ h.many;
+  each = λ k f. raised-other cs i k (λ same. absurd (let z : true ≡ false = sym f ∙ ap look (sym same) ∙ e in cc)) ∙ h.each k f;
 }
 
 raised-like : (xs ys : List ℕ) (i k : ℕ) → length xs ≡ length ys → slice_index xs i ≡ slice_index ys i → slice_index xs k ≡ slice_index ys k → slice_index (raised xs i) k ≡ slice_index (raised ys i) k
@@ -93,7 +87,7 @@ raised-like (x ∷ xs) (y ∷ ys) (suc i) (suc k) l h g = raised-like xs ys i k 
 -- one more of a member that may look, in both
 like_both : (look : ℕ → Bool) (i : ℕ) (cs ds : List ℕ) → look i ≡ true → AreLike look cs ds → AreLike look (raised cs i) (raised ds i)
 like_both look i cs ds e h = record {
-  many = raised-length cs i ∙ h.many ∙ sym (raised-length ds i);
+  many = length-raised cs i ∙ h.many ∙ sym (length-raised ds i);
   each = λ k f. raised-like cs ds i k h.many (h.each i e) (h.each k f);
 }
 
@@ -120,14 +114,6 @@ visible_numbered look n cs ds (ToMember i reply ∷ lines) h = at (look i) refl 
     at true e ih =
         ap (λ k. OfMember i (k + 1) reply ∷ filter (visible look) (numbered n (raised cs i) lines)) (h.each i e)
         ∙ ap (λ (x : List Numbered). OfMember i (slice_index ds i + 1) reply ∷ x) (ih (raised ds i) (like_both look i cs ds e h))
-
-filter-append : {X : Type 0} (p : X → Bool) (xs ys : List X) → filter p (xs ++ ys) ≡ filter p xs ++ filter p ys
-filter-append p [] ys = refl
-filter-append p (x ∷ xs) ys = at (p x) (filter-append p xs ys)
-  where
-    at : (b : Bool) → filter p (xs ++ ys) ≡ filter p xs ++ filter p ys → cond b (x ∷ filter p (xs ++ ys)) (filter p (xs ++ ys)) ≡ cond b (x ∷ filter p xs) (filter p xs) ++ filter p ys
-    at true h = ap (λ (l : List _). x ∷ l) h
-    at false h = h
 
 see_feed : (look : ℕ → Bool) (feed : List Feed) → filter (may_see look) (map ToFeed feed) ≡ map ToFeed feed
 see_feed look [] = refl

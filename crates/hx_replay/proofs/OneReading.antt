@@ -8,10 +8,10 @@ use Rattle.std.proofs.lemmas.List.Concat.{flat_map-cons}
 use Rattle.std.proofs.lemmas.List.Elements.{All-append, All-cons}
 use Rattle.hex.specs.Hex.{encode_lower, is_hex_digit, IsBytes}
 use Rattle.hex.proofs.HexLemmas.{decode_of-encode_lower, decode_of-ok}
-use Rattle.hx_text.specs.Cuts.{Lacks}
+use Rattle.hx_units.specs.Cuts.{Lacks}
 use Rattle.hx_tape_lines.specs.Text.{Entry, IsEntry, line, tape}
-use Rattle.hx_text.proofs.Splits.{same_split}
-use Rattle.hx_text.proofs.Numbers.{lacks-decimal}
+use Rattle.hx_units.proofs.Splits.{same_split}
+use Rattle.hx_units.proofs.Decimals.{lacks-decimal}
 use Rattle.hx_tape_lines.proofs.Lines.{after_time}
 use Rattle.hx_tape_lines.proofs.OneLine.{line_same}
 

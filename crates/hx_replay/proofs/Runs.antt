@@ -6,7 +6,7 @@ use Rattle.std.proofs.lemmas.List.Concat.{flat_map-cons, flat_map-append}
 use Rattle.hx_replay.specs.declared.fault.TapeError.{TapeError}
 use Rattle.hx_replay.specs.declared.fault.TapeError.TheVariants as fault
 use Rattle.hx_tape_lines.specs.declared.fault.Kind.TheVariants as kinds
-use Rattle.hx_text.specs.Cuts.{Lacks}
+use Rattle.hx_units.specs.Cuts.{Lacks}
 use Rattle.hx_tape_lines.specs.Text.{Entry, line, tape}
 use Rattle.hx_replay.specs.Run.{Progress, output_of, after, IsEvent, AreEvents, after_all, output_all, Applies, Replays, Stops, EndsBy, Faults, FailsAs, IsFew}
 use Rattle.hx_replay.proofs.Few.{few-after}

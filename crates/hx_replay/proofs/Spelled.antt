@@ -8,7 +8,7 @@ use Rattle.hx_market.specs.Outputs.{Reply}
 use Rattle.hx_replay.specs.declared.unwritten.Mark.{Mark}
 use Rattle.hx_replay.specs.Marks.{lines_of}
 use Rattle.hx_replay.specs.Seen.{texts_of}
-use Rattle.hx_replay.specs.Run.{Writes}
+use Rattle.hx_units.specs.Writing.{Writes}
 
 pub writes_then : (a b c : Option (List ℕ)) (bytes rest left : List ℕ) → Writes a b bytes rest → Writes b c rest left → Writes a c bytes left
 writes_then a b c bytes rest left h k = record {

@@ -53,7 +53,7 @@ passes_of p e h = at (is_unknown e) refl h
     at true is h = absurd (let z : Some kind.Bad ≡ None = h in cc)
     at false is h = record { known = is; accepted = accepted_of (refusal p.setup p.market.recorded (event_of e)) (never_memory p.setup p.market.recorded (event_of e)) h }
 
-all_known : (p : Progress) (es : List Entry) → AreEvents p es → AllByRecursion IsKnown es
+pub all_known : (p : Progress) (es : List Entry) → AreEvents p es → AllByRecursion IsKnown es
 all_known p [] h = tt
 all_known p (e ∷ es) h = (record { entry = h.0.entry; known = (passes_of p e h.0.passes).known }, all_known (after p e) es h.1)
 

@@ -15,7 +15,7 @@ use Rattle.hx_tape_lines.specs.declared.fault.Kind.TheVariants as kind
 use Rattle.hx_replay.specs.declared.fault.TapeError.{TapeError}
 use Rattle.hx_replay.specs.declared.fault.TapeError.TheVariants as fault
 use Rattle.hx_replay.specs.declared.run.Counts.{Counts}
-use Rattle.hx_text.specs.Cuts.{Lacks}
+use Rattle.hx_units.specs.Cuts.{Lacks}
 use Rattle.hx_tape_lines.specs.Text.{Entry, IsEntry, line, longest_line, tape}
 use Rattle.hx_tape_lines.specs.Events.{event_of, is_unknown}
 use Rattle.hx_replay.specs.Output.{feed_lines, reply_lines, counts_after}
@@ -135,12 +135,6 @@ AreEvents p (e ∷ events) = IsEvent p e × AreEvents (after p e) events
 
 abbrev pub IsFront : List ℕ → List ℕ → Type 0
 IsFront front xs = (rest : List ℕ) × (xs ≡ front ++ rest)
-
--- a writer took a front of the bytes, and the rest is left
-pub record Writes (old new : Option (List ℕ)) (bytes rest : List ℕ) : Type 0 where
-  pub front : List ℕ
-  pub bytes_are : bytes ≡ front ++ rest
-  pub wrote : Appends old new front
 
 -- the text is that of events and a rest, and the output text of the events was written
 pub record Replays (old new : Progress) (text : List ℕ) (w v : Option (List ℕ))

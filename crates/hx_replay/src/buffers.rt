@@ -12,7 +12,7 @@ use std::mem::replace;
 
 /// Buffers for the digits of a line, for the bytes of a message, and for the output lines of events. Later ones take
 /// memory only if they are longer than all before them, or more.
-pub struct Room {
+pub struct LineBuffers {
     // What the digits of a line say.
     digits: Vec<u8>,
     // The buffer for the bytes of an event, between two lines.
@@ -24,9 +24,9 @@ pub struct Room {
 }
 
 // By hand, so that when a value is dropped its owner's proof sees one call.
-impl Drop for Room {
+impl Drop for LineBuffers {
     fn drop(self) {
-        let Room {
+        let LineBuffers {
             digits: _,
             buffer: _,
             lines: _,
@@ -35,12 +35,12 @@ impl Drop for Room {
     }
 }
 
-impl Room {
+impl LineBuffers {
     /// None yet.
-    pub fn new(alloc: Global) -> Room
+    pub fn new(alloc: Global) -> LineBuffers
         ensures { result.lines ≡ [] }
     {
-        Room {
+        LineBuffers {
             digits: Vec::new(alloc),
             buffer: Bytes::none(),
             lines: Unwritten::new(alloc),

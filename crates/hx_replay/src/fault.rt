@@ -1,9 +1,9 @@
 //! Why a tape was not replayed to its end.
 ghost use Rattle.std.specs.Prelude.{◌≡◌};
-ghost use Rattle.hx_replay.specs.declared.fault.TapeError.TheVariants.{NoMemory as OutOfMemory};
+ghost use Rattle.hx_replay.specs.declared.fault.TapeError.TheVariants.{NoMemory as OutOfMemory, Write as NotWritten};
 
 use hx_tape_lines::Kind;
-use hx_units::NoMemory;
+use hx_units::{NoMemory, WriteFailed};
 use std::alloc::{AllocError, AllocFailed};
 use thiserror::Error;
 
@@ -53,5 +53,13 @@ impl From<NoMemory> for TapeError {
 
     fn from(_error: NoMemory) -> TapeError {
         TapeError::NoMemory
+    }
+}
+
+impl From<WriteFailed> for TapeError {
+    ghost from_gives = { λ _ e. e ≡ NotWritten };
+
+    fn from(_error: WriteFailed) -> TapeError {
+        TapeError::Write
     }
 }

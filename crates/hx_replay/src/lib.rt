@@ -18,11 +18,11 @@ pub use replaying::{replay, replay_on};
 pub use run::Counts;
 
 // What a replay is made of, for those that share its work among threads, or read a tape in another way.
-pub use buffers::Room;
+pub use buffers::LineBuffers;
 pub use output_text::OutputText;
 pub use pending::Pending;
 pub use pieces::{MOST_LINES, MOST_READS, finish, keep_rest};
-pub use replaying::{apply_lines, write_whole};
+pub use replaying::apply_lines;
 pub use run::{Run, fault_of};
 pub use unwritten::Unwritten;
 pub use write_output::{spell_output, write_before, write_outcome};

@@ -1,13 +1,14 @@
 //! A tape from its lines to its output lines.
 ghost use Rattle.std.specs.Prelude.{List, ℕ, ◌≡◌, ◌<◌, ◌^◌, ◌+◌, [], OnOk, OnErr, IfOk, IfErr, length};
-ghost use Rattle.std.specs.Io.KnownBytes.{Appends, Keeps};
+ghost use Rattle.std.specs.Io.KnownBytes.{Keeps};
 ghost use Rattle.hx_units.specs.Letters.{line_feed};
-ghost use Rattle.hx_text.specs.Cuts.{Lacks};
-ghost use Rattle.hx_replay.specs.Run.{Writes, Replays, Stops, IsFew};
+ghost use Rattle.hx_units.specs.Cuts.{Lacks};
+ghost use Rattle.hx_units.specs.Writing.{Writes};
+ghost use Rattle.hx_replay.specs.Run.{Replays, Stops, IsFew};
 ghost use Rattle.hx_replay.specs.Whole.{ReplaysAll, StopsAt};
 ghost use Rattle.hx_replay.specs.declared.fault.TapeError.TheVariants as fault;
 
-use crate::buffers::Room;
+use crate::buffers::LineBuffers;
 use crate::fault::TapeError;
 use crate::output_text::OutputText;
 use crate::pending::Pending;
@@ -17,34 +18,9 @@ use crate::write_output::{write_before, write_outcome};
 use hx_book::Book;
 use hx_levels::LevelBook;
 use hx_members::Setup;
-use hx_text::split_once;
+use hx_units::{split_once, write_whole};
 use std::alloc::Global;
 use std::io::{ErrorKind, Read, Write};
-
-/// Writes the bytes. If it fails, a front of them was written.
-pub fn write_whole<W: Write>(writer: &mut W, bytes: &[u8]) -> Result<(), TapeError>
-    ensures ok { OnOk result (Appends (W.contents writer.old) (W.contents writer.new) bytes.now) }
-    ensures write { IfErr result (λ e. e ≡ fault.Write) }
-    ensures err { OnErr result (
-        (rest : List ℕ) × Writes (W.contents writer.old) (W.contents writer.new) bytes.now rest) }
-{
-    let mut rest = bytes;
-    for _ in 0..u64::MAX {
-        if rest.is_empty() {
-            return Ok(());
-        }
-        match writer.write(rest) {
-            Ok(0) => return Err(TapeError::Write),
-            Ok(count) => rest = &rest[count..],
-            Err(e) => {
-                if e.kind() != ErrorKind::Interrupted {
-                    return Err(TapeError::Write);
-                }
-            }
-        }
-    }
-    Err(TapeError::Write)
-}
 
 // Has the writer send out what it holds back.
 fn send_out<W: Write>(writer: &mut W) -> Result<(), TapeError>
@@ -86,7 +62,7 @@ pub fn write_many<W: Write>(writer: &mut W, lines: &mut OutputText) -> Result<()
 /// them. If a line fails, the output before it is written.
 pub fn apply_lines<'a, B: Book + Drop, W: Write>(
     run: &mut Run<B>,
-    room: &mut Room,
+    buffers: &mut LineBuffers,
     writer: &mut W,
     text: &'a [u8],
 ) -> Result<&'a [u8], TapeError>
@@ -98,15 +74,15 @@ pub fn apply_lines<'a, B: Book + Drop, W: Write>(
     ensures err { IfErr result
         (Stops ⊥ run.old text.now (W.contents writer.old) (W.contents writer.new)) }
 {
-    room.lines.clear();
+    buffers.lines.clear();
     let mut rest = text;
     while let Some((line, others)) = split_once(rest, b'\n') {
-        if let Err(error) = run.apply(line, room) {
-            return Err(write_before(error, &room.lines, &mut room.spelled, writer));
+        if let Err(error) = run.apply(line, buffers) {
+            return Err(write_before(error, &buffers.lines, &mut buffers.spelled, writer));
         }
         rest = others;
     }
-    write_outcome(&room.lines, &mut room.spelled, writer)?;
+    write_outcome(&buffers.lines, &mut buffers.spelled, writer)?;
     send_out(writer)?;
     Ok(rest)
 }
@@ -153,7 +129,7 @@ pub fn replay_on<B: Book + Drop, R: Read, W: Write>(
 {
     let mut run = Run::new(alloc, setup.copy(alloc)?, book)?;
     let mut pending = Pending::new(alloc, PIECE)?;
-    let mut room = Room::new(alloc);
+    let mut buffers = LineBuffers::new(alloc);
     for _ in 0..MOST_READS {
         if run.counts().events > MOST_LINES {
             return Err(TapeError::Turns);
@@ -161,7 +137,7 @@ pub fn replay_on<B: Book + Drop, R: Read, W: Write>(
         if !pending.read(reader)? {
             return finish(run.counts(), pending.text());
         }
-        let rest = apply_lines(&mut run, &mut room, writer, pending.text())?.len();
+        let rest = apply_lines(&mut run, &mut buffers, writer, pending.text())?.len();
         keep_rest(&mut pending, rest, run.counts())?;
     }
     Err(TapeError::Turns)

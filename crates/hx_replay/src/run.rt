@@ -5,7 +5,7 @@ ghost use Rattle.hx_tape_lines.specs.Events.{IsKnown, event_of};
 ghost use Rattle.hx_tape_lines.specs.Text.{Entry, line};
 ghost use Rattle.hx_replay.specs.Run.{fault_of, counts_of, start, Applies, Faults, IsFew};
 
-use crate::buffers::Room;
+use crate::buffers::LineBuffers;
 use crate::fault::TapeError;
 use crate::unwritten::{OutputCounts, Unwritten};
 use hx_book::Book;
@@ -141,26 +141,26 @@ impl<B: Book + Drop> Run<B> {
 
     /// Applies the next line, and appends its output lines to those in the buffers. If the line fails, those before it
     /// stay.
-    pub(crate) fn apply(&mut self, text: &[u8], room: &mut Room) -> Result<(), TapeError>
+    pub(crate) fn apply(&mut self, text: &[u8], buffers: &mut LineBuffers) -> Result<(), TapeError>
         requires events { self.old.events < 2 ^ 48 }
         requires few { IsFew self.old }
         ensures ok { OnOk result ((written : List ℕ)
             × Applies self.old self.new text.now written
-            × (room.new.lines ≡ room.old.lines ++ written)) }
+            × (buffers.new.lines ≡ buffers.old.lines ++ written)) }
         ensures faults { IfErr result (Faults self.old text.now) }
         ensures retained { IfErr result (λ e. (e ≡ fault.NoMemory → ⊥)
-            → room.new.lines ≡ room.old.lines) }
+            → buffers.new.lines ≡ buffers.old.lines) }
     {
         let line = self.counts.events + 1;
         let bad = TapeError::Line {
             line,
             kind: Kind::Bad,
         };
-        let Some(event) = room.read(self.alloc, text)? else {
+        let Some(event) = buffers.read(self.alloc, text)? else {
             return Err(bad);
         };
-        self.apply_event(&event, &mut room.lines)?;
-        room.keep_index(event);
+        self.apply_event(&event, &mut buffers.lines)?;
+        buffers.keep_index(event);
         Ok(())
     }
 

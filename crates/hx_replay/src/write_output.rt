@@ -1,8 +1,9 @@
 //! Output, spelled and written.
 ghost use Rattle.std.specs.Prelude.{◌≡◌, ◌++◌, ◌∷◌, ℕ, List, Option, OnOk, OnErr, IfOk, IfErr};
 ghost use Rattle.std.specs.Io.KnownBytes.{Appends};
-ghost use Rattle.hx_text.specs.Cuts.{Lacks};
-ghost use Rattle.hx_replay.specs.Run.{Progress, Writes, Faults, Stops};
+ghost use Rattle.hx_units.specs.Cuts.{Lacks};
+ghost use Rattle.hx_units.specs.Writing.{Writes};
+ghost use Rattle.hx_replay.specs.Run.{Progress, Faults, Stops};
 ghost use Rattle.hx_replay.specs.Gathering.{Gathers, IsUnwritten};
 ghost use Rattle.hx_replay.specs.Marks.{lines_of, HaveRoomForTimes};
 ghost use Rattle.hx_replay.specs.Seen.{texts_of};
@@ -11,11 +12,11 @@ ghost use Rattle.hx_replay.specs.declared.fault.TapeError.TheVariants as fault;
 
 use crate::fault::TapeError;
 use crate::output_text::OutputText;
-use crate::replaying::{write_many, write_whole};
+use crate::replaying::write_many;
 use crate::unwritten::{Mark, Marked, Unwritten};
 use hx_itch::Feed;
 use hx_ouch::Outbound;
-use hx_units::MemberNo;
+use hx_units::{MemberNo, write_whole};
 use std::alloc::AllocError;
 use std::io::Write;
 

@@ -1,9 +1,9 @@
 -- Lines that are read before they are applied.
 use Rattle.std.proofs.Common.{◌≡◌, ℕ, List, [], ◌∷◌, ◌++◌, map, refl, sym, ap, ◌∙◌, append_assoc}
-use Rattle.std.proofs.lemmas.List.{append-nil}
+use Rattle.std.proofs.lemmas.List.{append-nil, map-append}
 use Rattle.hx_rules.specs.declared.event.Event.{Event}
 use Rattle.hx_match.proofs.First.{all_append}
-use Rattle.hx_tape_lines.specs.Text.{Entry, tape}
+use Rattle.hx_tape_lines.specs.Text.{tape}
 use Rattle.hx_tape_lines.specs.Events.{event_of, IsKnown, IsLineOf}
 use Rattle.hx_replay_parallel.specs.Ahead.{IsAhead, TakesLines}
 use Rattle.hx_replay.proofs.OneReading.{tape-cons}
@@ -12,10 +12,6 @@ use Rattle.hx_replay.proofs.Runs.{tape-append}
 -- nothing is read
 pub ahead_none : (text : List ℕ) → IsAhead text [] text
 ahead_none text = record { entries = []; are = record { are_known = tt; events_are = refl }; text_is = refl }
-
-map_append : (es fs : List Entry) → map event_of (es ++ fs) ≡ map event_of es ++ map event_of fs
-map_append [] fs = refl
-map_append (e ∷ es) fs = ap (λ (l : List Event). event_of e ∷ l) (map_append es fs)
 
 -- one line more
 pub ahead_more : (text : List ℕ) (events : List Event) (rest l others : List ℕ) (event : Event) → IsAhead text events rest → rest ≡ l ++ 10 ∷ others → IsLineOf l event
@@ -28,7 +24,7 @@ ahead_more text events rest l others event h cut one =
       entries = h.entries ++ e ∷ [];
       are = record {
         are_known = all_append IsKnown h.entries (e ∷ []) h.are.are_known (one.is_known, tt);
-        events_are = ap (λ (es : List Event). es ++ event ∷ []) h.are.events_are ∙ ap (λ (x : Event). map event_of h.entries ++ x ∷ []) one.event_is ∙ sym (map_append h.entries (e ∷ []));
+        events_are = ap (λ (es : List Event). es ++ event ∷ []) h.are.events_are ∙ ap (λ (x : Event). map event_of h.entries ++ x ∷ []) one.event_is ∙ sym (map-append event_of h.entries (e ∷ []));
       };
       text_is = h.text_is ∙ ap (λ (x : List ℕ). tape h.entries ++ x) (sym tail) ∙ sym (append_assoc (tape h.entries) (tape (e ∷ [])) others) ∙ ap (λ (x : List ℕ). x ++ others) (sym (tape-append h.entries (e ∷ [])));
     }
@@ -64,7 +60,7 @@ ahead_then whole text old new rest h t =
       entries = es ++ fs;
       are = record {
         are_known = all_append IsKnown es fs h.are.are_known t.ahead.are.are_known;
-        events_are = t.new_is ∙ ap (λ (l : List Event). l ++ t.events) h.are.events_are ∙ ap (λ (l : List Event). map event_of es ++ l) t.ahead.are.events_are ∙ sym (map_append es fs);
+        events_are = t.new_is ∙ ap (λ (l : List Event). l ++ t.events) h.are.events_are ∙ ap (λ (l : List Event). map event_of es ++ l) t.ahead.are.events_are ∙ sym (map-append event_of es fs);
       };
       text_is = h.text_is ∙ ap (λ (x : List ℕ). tape es ++ x) t.ahead.text_is ∙ sym (append_assoc (tape es) (tape fs) rest) ∙ ap (λ (x : List ℕ). x ++ rest) (sym (tape-append es fs));
     }

@@ -4,7 +4,7 @@ use Rattle.std.proofs.KnownBytes.{Appends-nil}
 use Rattle.std.proofs.lemmas.List.{append-nil, length-append, nil_from_length}
 use Rattle.hx_rules.specs.declared.event.Event.{Event}
 use Rattle.hx_replay_parallel.specs.declared.batch.Batch.{Batch}
-use Rattle.hx_replay.specs.Run.{Writes}
+use Rattle.hx_units.specs.Writing.{Writes}
 use Rattle.hx_replay_parallel.specs.Ahead.{IsAhead, TakesLines}
 use Rattle.hx_replay_parallel.specs.Turns.{events_of, output_of, MayFollow}
 use Rattle.hx_replay_parallel.proofs.TurnLists.{events_with, output_with}

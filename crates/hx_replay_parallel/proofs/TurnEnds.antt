@@ -10,7 +10,8 @@ use Rattle.hx_replay.specs.declared.fault.TapeError.TheVariants as fault
 use Rattle.hx_replay_parallel.specs.declared.batch.Batch.{Batch}
 use Rattle.hx_tape_lines.specs.Text.{Entry, tape}
 use Rattle.hx_tape_lines.specs.Events.{event_of}
-use Rattle.hx_replay.specs.Run.{Progress, output_all, Replays, Stops, Writes, IsFew}
+use Rattle.hx_units.specs.Writing.{Writes}
+use Rattle.hx_replay.specs.Run.{Progress, output_all, Replays, Stops, IsFew}
 use Rattle.hx_replay_parallel.specs.Ahead.{AreOf, IsAhead, AppliesAll, FailsAmong, IsAtTurn}
 use Rattle.hx_replay.specs.Gathering.{IsUnwritten}
 use Rattle.hx_replay_parallel.specs.Turns.{events_of, output_of, AppliesTurns, FailsInTurns}

@@ -1,7 +1,7 @@
 -- Lists of turns, and of the entries of their events.
 use Rattle.std.proofs.Common.{◌≡◌, ℕ, List, [], ◌∷◌, ◌++◌, map, length, get_or, refl, sym, ap, ◌∙◌, arith}
 use Rattle.std.specs.List.{AllByRecursion}
-use Rattle.std.proofs.lemmas.List.{append-nil}
+use Rattle.std.proofs.lemmas.List.{append-nil, map-append}
 use Rattle.std.proofs.lemmas.List.Concat.{flat_map-append}
 use Rattle.rtrb.specs.Ring.{SameConsumer, SameProducer}
 use Rattle.rtrb.specs.declared.consumer.Consumer.{Consumer}
@@ -43,14 +43,10 @@ known_joined : (es fs : List Entry) → AllByRecursion IsKnown es → AllByRecur
 known_joined [] fs p q = q
 known_joined (e ∷ es) fs p q = (p.0, known_joined es fs p.1 q)
 
-map_joined : (es fs : List Entry) → map event_of (es ++ fs) ≡ map event_of es ++ map event_of fs
-map_joined [] fs = refl
-map_joined (e ∷ es) fs = ap (λ (l : List Event). event_of e ∷ l) (map_joined es fs)
-
 pub are_joined : (es fs : List Entry) (xs ys : List Event) → AreOf es xs → AreOf fs ys → AreOf (es ++ fs) (xs ++ ys)
 are_joined es fs xs ys p q = record {
   are_known = known_joined es fs p.are_known q.are_known;
-  events_are = ap (λ (l : List Event). l ++ ys) p.events_are ∙ ap (λ (l : List Event). map event_of es ++ l) q.events_are ∙ sym (map_joined es fs);
+  events_are = ap (λ (l : List Event). l ++ ys) p.events_are ∙ ap (λ (l : List Event). map event_of es ++ l) q.events_are ∙ sym (map-append event_of es fs);
 }
 
 -- the entries of events in two parts

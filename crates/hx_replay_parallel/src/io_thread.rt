@@ -3,13 +3,14 @@
 ghost use Rattle.std.specs.Prelude.{◌≡◌, ◌≤◌, ◌^◌, [], ℕ, List, OnOk, OnErr, IfErr, length};
 ghost use Rattle.std.specs.Io.KnownBytes.{Appends};
 ghost use Rattle.rtrb.specs.Ring.{received, sent, SameConsumer, SameProducer};
-ghost use Rattle.hx_replay.specs.Run.{Writes};
+ghost use Rattle.hx_units.specs.Writing.{Writes};
 ghost use Rattle.hx_replay_parallel.specs.Ahead.{IsAhead};
 ghost use Rattle.hx_replay.specs.Gathering.{IsUnwritten};
 ghost use Rattle.hx_replay_parallel.specs.Turns.{events_of, output_of};
 
 use crate::batch::{Batch, OfLines, TURNS, wait_next};
-use hx_replay::{OutputText, Pending, TapeError, spell_output, write_whole};
+use hx_replay::{OutputText, Pending, TapeError, spell_output};
+use hx_units::write_whole;
 use rtrb::{Consumer, Producer};
 use std::alloc::Global;
 use std::io::Write;

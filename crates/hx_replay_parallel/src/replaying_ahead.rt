@@ -9,7 +9,8 @@ use hx_book::Book;
 use hx_levels::LevelBook;
 use hx_members::Setup;
 use hx_replay::{
-    Counts, MOST_LINES, MOST_READS, Pending, Room, Run, TapeError, apply_lines, finish, keep_rest,
+    Counts, LineBuffers, MOST_LINES, MOST_READS, Pending, Run, TapeError, apply_lines, finish,
+    keep_rest,
 };
 use std::alloc::Global;
 use std::io::{Read, Write};
@@ -25,7 +26,7 @@ const PIECE: usize = 4_198_400;
 fn apply_many<B: Book + Drop, W: Write + Send, T: Threads>(
     rt: &T,
     run: &mut Run<B>,
-    room: &mut Room,
+    buffers: &mut LineBuffers,
     turns: &mut Turns,
     pending: &mut Pending,
     writer: &mut W,
@@ -39,7 +40,7 @@ fn apply_many<B: Book + Drop, W: Write + Send, T: Threads>(
         (W.contents writer.old) (W.contents writer.new)) }
 {
     if pending.text().len() > FEW {
-        apply_turns(rt, run, turns, &mut room.spelled, pending, writer)?;
+        apply_turns(rt, run, turns, &mut buffers.spelled, pending, writer)?;
     }
     Ok(())
 }
@@ -67,7 +68,7 @@ pub fn replay_ahead<T: Threads, R: Read, W: Write + Send>(
 {
     let mut run = Run::new(alloc, setup.copy(alloc)?, LevelBook::new(alloc))?;
     let mut pending = Pending::new(alloc, PIECE)?;
-    let (mut room, mut turns) = (Room::new(alloc), Turns::new(alloc));
+    let (mut buffers, mut turns) = (LineBuffers::new(alloc), Turns::new(alloc));
     for _ in 0..MOST_READS {
         if run.counts().events > MOST_LINES {
             return Err(TapeError::Turns);
@@ -75,8 +76,8 @@ pub fn replay_ahead<T: Threads, R: Read, W: Write + Send>(
         if !pending.read(reader)? {
             return finish(run.counts(), pending.text());
         }
-        apply_many(rt, &mut run, &mut room, &mut turns, &mut pending, writer)?;
-        let rest = apply_lines(&mut run, &mut room, writer, pending.text())?.len();
+        apply_many(rt, &mut run, &mut buffers, &mut turns, &mut pending, writer)?;
+        let rest = apply_lines(&mut run, &mut buffers, writer, pending.text())?.len();
         keep_rest(&mut pending, rest, run.counts())?;
     }
     Err(TapeError::Turns)

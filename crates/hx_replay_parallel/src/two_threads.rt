@@ -4,7 +4,8 @@ ghost use Rattle.std.specs.Prelude.{◌≡◌, ◌≤◌, ◌<◌, ◌+◌, ◌^
 ghost use Rattle.std.specs.Io.KnownBytes.{Appends};
 ghost use Rattle.rtrb.specs.Ring.{received, known_items, sent, SameConsumer, SameProducer};
 ghost use Rattle.hx_tape_lines.specs.Text.{Entry};
-ghost use Rattle.hx_replay.specs.Run.{Progress, Writes, Replays, Stops, IsFew};
+ghost use Rattle.hx_units.specs.Writing.{Writes};
+ghost use Rattle.hx_replay.specs.Run.{Progress, Replays, Stops, IsFew};
 ghost use Rattle.hx_replay_parallel.specs.Ahead.{AreOf, IsAhead, IsAtTurn};
 ghost use Rattle.hx_replay.specs.Gathering.{IsUnwritten};
 ghost use Rattle.hx_replay_parallel.specs.Turns.{events_of, output_of, AppliesTurns, FailsInTurns};
@@ -58,7 +59,7 @@ impl Turns {
 #[derive(Drop)]
 struct Rings {
     to_apply: Producer<Batch, Global, OfLines>,
-    unplayed: Consumer<Batch, Global, OfLines>,
+    unapplied: Consumer<Batch, Global, OfLines>,
     to_write: Producer<Batch>,
     unwritten: Consumer<Batch>,
 }
@@ -94,11 +95,11 @@ fn apply_and_write<B: Book + Drop, W: Write + Send, T: Threads>(
     requires events { run.old.events + 2 ^ 46 < 2 ^ 48 }
     requires few { IsFew run.old }
     requires fits { length pending.old ≤ 16777216 }
-    requires unplayed { received rings.old.unplayed ≡ [] }
+    requires unapplied { received rings.old.unapplied ≡ [] }
     requires unwritten { received rings.old.unwritten ≡ [] }
     requires to_apply { sent rings.old.to_apply ≡ [] }
     requires to_write { output_of (sent rings.old.to_write) ≡ [] }
-    ensures unplayed { SameConsumer rings.old.unplayed rings.new.unplayed }
+    ensures unapplied { SameConsumer rings.old.unapplied rings.new.unapplied }
     ensures unwritten { SameConsumer rings.old.unwritten rings.new.unwritten }
     ensures to_apply { SameProducer rings.old.to_apply rings.new.to_apply }
     ensures to_write { SameProducer rings.old.to_write rings.new.to_write }
@@ -112,9 +113,9 @@ fn apply_and_write<B: Book + Drop, W: Write + Send, T: Threads>(
         × IsAhead pending.old (events_of (sent rings.new.to_apply)) rest) }
     ensures fault { IfErr result.0 IsUnwritten }
     ensures applied { OnOk result.1
-        (AppliesTurns run.old run.new (received rings.new.unplayed) (sent rings.new.to_write)) }
+        (AppliesTurns run.old run.new (received rings.new.unapplied) (sent rings.new.to_write)) }
     ensures failed { IfErr result.1 (FailsInTurns
-        run.old (received rings.new.unplayed) (sent rings.new.to_write) turns.new.telling) }
+        run.old (received rings.new.unapplied) (sent rings.new.to_write) turns.new.telling) }
 {
     let Turns {
         alloc,
@@ -124,7 +125,7 @@ fn apply_and_write<B: Book + Drop, W: Write + Send, T: Threads>(
     } = turns;
     let Rings {
         to_apply,
-        unplayed,
+        unapplied,
         to_write,
         unwritten,
     } = rings;
@@ -154,15 +155,15 @@ fn apply_and_write<B: Book + Drop, W: Write + Send, T: Threads>(
     let mut apply = || -> Result<(), TapeError>
         requires events { run.now.events + 2 ^ 46 < 2 ^ 48 }
         requires few { IsFew run.now }
-        requires first { received unplayed.now ≡ [] }
+        requires first { received unapplied.now ≡ [] }
         requires outputs { output_of (sent to_write.now) ≡ [] }
-        ensures coming { SameConsumer unplayed.entry.now unplayed.exit.now }
+        ensures coming { SameConsumer unapplied.entry.now unapplied.exit.now }
         ensures going { SameProducer to_write.entry.now to_write.exit.now }
         ensures ok { OnOk result (AppliesTurns run.entry.now run.exit.now
-            (received unplayed.exit.now) (sent to_write.exit.now)) }
+            (received unapplied.exit.now) (sent to_write.exit.now)) }
         ensures err { IfErr result (FailsInTurns run.entry.now
-            (received unplayed.exit.now) (sent to_write.exit.now) telling.exit.now) }
-    { apply_coming(run, recent, telling, unplayed, to_write) };
+            (received unapplied.exit.now) (sent to_write.exit.now) telling.exit.now) }
+    { apply_coming(run, recent, telling, unapplied, to_write) };
     join_mut(rt, &mut write, &mut apply)
 }
 
@@ -226,25 +227,25 @@ fn apply_rest<B: Book + Drop, W: Write>(
     turns: &mut Turns,
     spelled: &mut OutputText,
     writer: &mut W,
-    unplayed: &mut Consumer<Batch, Global, OfLines>,
+    unapplied: &mut Consumer<Batch, Global, OfLines>,
     count: usize,
 ) -> Result<(), TapeError>
-    requires count { count ≡ length (known_items unplayed.old) }
-    requires events { run.old.events + length (events_of (known_items unplayed.old)) < 2 ^ 48 }
+    requires count { count ≡ length (known_items unapplied.old) }
+    requires events { run.old.events + length (events_of (known_items unapplied.old)) < 2 ^ 48 }
     requires few { IsFew run.old }
     requires read { (entries : List Entry)
-        × AreOf entries (events_of (known_items unplayed.old)) }
+        × AreOf entries (events_of (known_items unapplied.old)) }
     ensures ok { OnOk result ((old : Progress) (all text : List ℕ) (w : Option (List ℕ))
         → IsAtTurn old run.old all w (W.contents writer.old) []
-        (events_of (known_items unplayed.old)) text
+        (events_of (known_items unapplied.old)) text
         → IsAtTurn old run.new all w (W.contents writer.new) [] [] text) }
     ensures err { IfErr result (λ e. (old : Progress) (all text : List ℕ) (w : Option (List ℕ))
         → IsAtTurn old run.old all w (W.contents writer.old) []
-        (events_of (known_items unplayed.old)) text
+        (events_of (known_items unapplied.old)) text
         → Stops ⊥ old all w (W.contents writer.new) e) }
 {
     for _ in 0..count {
-        let turn = unplayed.pop_known();
+        let turn = unapplied.pop_known();
         apply_now(
             run,
             &mut turns.recent,
@@ -277,24 +278,24 @@ pub(crate) fn apply_turns<B: Book + Drop, W: Write + Send, T: Threads>(
         (W.contents writer.old) (W.contents writer.new)) }
 {
     let alloc = turns.alloc;
-    let (to_apply, unplayed) = RingBuffer::with_protocol::<Global, OfLines>(alloc, TURNS + 1)?;
+    let (to_apply, unapplied) = RingBuffer::with_protocol::<Global, OfLines>(alloc, TURNS + 1)?;
     let (mut to_write, unwritten) = RingBuffer::new(alloc, TURNS)?;
     send_all(alloc, &mut turns.retained, &mut to_write);
     let mut rings = Rings {
         to_apply,
-        unplayed,
+        unapplied,
         to_write,
         unwritten,
     };
     let (wrote, applied) = apply_and_write(rt, run, turns, spelled, pending, writer, &mut rings);
     let Rings {
         mut to_apply,
-        mut unplayed,
+        mut unapplied,
         mut to_write,
         mut unwritten,
     } = rings;
     let unwritten_count = unwritten.slots_beside(&mut to_write);
-    let unplayed_count = unplayed.slots_beside(&mut to_apply);
+    let unapplied_count = unapplied.slots_beside(&mut to_apply);
     wrote?;
     write_rest(
         spelled,
@@ -306,5 +307,5 @@ pub(crate) fn apply_turns<B: Book + Drop, W: Write + Send, T: Threads>(
     if let Err(error) = applied {
         return Err(write_before(error, &turns.telling, spelled, writer));
     }
-    apply_rest(run, turns, spelled, writer, &mut unplayed, unplayed_count)
+    apply_rest(run, turns, spelled, writer, &mut unapplied, unapplied_count)
 }

@@ -1,12 +1,11 @@
 -- The chains that a day begins are those that are listed of its market.
-use Rattle.std.proofs.Common.{◌≡◌, ℕ, Bool, true, false, cond, eqb, not, ◌||◌, refl, sym, ap, ◌∙◌, subst, List, [], ◌∷◌, ◌++◌, map, append-nil, Option, Some, None, is_some}
+use Rattle.std.proofs.Common.{◌≡◌, ℕ, Bool, true, false, cond, eqb, ◌||◌, refl, sym, ap, ◌∙◌, subst, List, [], ◌∷◌, ◌++◌, map, append-nil, Option, Some, None, is_some}
 use Rattle.std.specs.Prelude.{IfSome, IfNone}
-use Rattle.std.specs.List.{filter, find, list_any, cons_option, AllByRecursion}
+use Rattle.std.specs.List.{find, list_any, cons_option, AllByRecursion}
 use Rattle.std.specs.Map.{lookup}
 use Rattle.std.proofs.lemmas.Bool.{true≢false}
 use Rattle.std.proofs.lemmas.Bool.Decides.{Decides-eqb}
 use Rattle.std.proofs.lemmas.List.{map-append}
-use Rattle.std.proofs.lemmas.List.Elements.{filter-append}
 use Rattle.hx_units.specs.Names.{is_token}
 use Rattle.hx_units.specs.Ranges.{IsMember}
 use Rattle.hx_units.specs.declared.names.Token.{Token}
@@ -33,45 +32,11 @@ use Rattle.hx_audit.specs.Finding.{named_by, AreOutput}
 use Rattle.hx_audit.specs.Listing.{Use, use_of, uses_of, tokens_in, each_once, grouped}
 use Rattle.hx_audit.proofs.Goes.{joined_if, event_uses, step_goes}
 use Rattle.hx_audit.proofs.Uses.{Lists, step_lists, lookup_uses, some_output}
+use Rattle.hx_audit.proofs.Grouping.{any_once, once_push}
 use Rattle.hx_report.specs.declared.census.Begun.{Begun}
 use Rattle.hx_report.specs.Noted.{entered_by, begun_by, begun_by_message, entered_among}
 
 -- ---- tokens of which each stands once
-
-once_push : (ns : List Token) (e : Token) → each_once (ns ++ e ∷ []) ≡ each_once ns ++ cond (list_any (is_token e) ns) [] (e ∷ [])
-once_push [] e = refl
-once_push (x ∷ ns) e =
-    ap (λ (l : List Token). x ∷ filter (λ u. not (is_token u x)) l) (once_push ns e) ∙ at (is_token e x) refl (list_any (is_token e) ns)
-  where
-    at : (b : Bool) → is_token e x ≡ b → (a : Bool)
-        → x ∷ filter (λ u. not (is_token u x)) (each_once ns ++ cond a [] (e ∷ [])) ≡ (x ∷ filter (λ u. not (is_token u x)) (each_once ns)) ++ cond (b || a) [] (e ∷ [])
-    at true h true = ap (λ (l : List Token). x ∷ filter (λ u. not (is_token u x)) l) (append-nil (each_once ns)) ∙ sym (append-nil _)
-    at false h true = ap (λ (l : List Token). x ∷ filter (λ u. not (is_token u x)) l) (append-nil (each_once ns)) ∙ sym (append-nil _)
-    at true h false =
-        ap (λ (l : List Token). x ∷ l) (filter-append (λ u. not (is_token u x)) (each_once ns) (e ∷ []) ∙ ap (λ (c : Bool). filter (λ u. not (is_token u x)) (each_once ns) ++ cond (not c) (e ∷ []) []) h)
-    at false h false =
-        ap (λ (l : List Token). x ∷ l) (filter-append (λ u. not (is_token u x)) (each_once ns) (e ∷ []) ∙ ap (λ (c : Bool). filter (λ u. not (is_token u x)) (each_once ns) ++ cond (not c) (e ∷ []) []) h)
-
-any_filter : (e x : Token) → is_token e x ≡ false → (l : List Token) → list_any (is_token e) (filter (λ u. not (is_token u x)) l) ≡ list_any (is_token e) l
-any_filter e x h [] = refl
-any_filter e x h (y ∷ l) = at (is_token y x) refl (any_filter e x h l)
-  where
-    other : is_token y x ≡ true → is_token e y ≡ false
-    other p = ap (λ (z : Token). is_token e z) (same_token y x p) ∙ h
-
-    at : (b : Bool) → is_token y x ≡ b → list_any (is_token e) (filter (λ u. not (is_token u x)) l) ≡ list_any (is_token e) l
-        → list_any (is_token e) (cond (not b) (y ∷ filter (λ u. not (is_token u x)) l) (filter (λ u. not (is_token u x)) l)) ≡ (is_token e y || list_any (is_token e) l)
-    at true p ih = ih ∙ sym (ap (λ (c : Bool). c || list_any (is_token e) l) (other p))
-    at false p ih = ap (λ (c : Bool). is_token e y || c) ih
-
-any_once : (e : Token) (ns : List Token) → list_any (is_token e) (each_once ns) ≡ list_any (is_token e) ns
-any_once e [] = refl
-any_once e (x ∷ ns) = at (is_token e x) refl (any_once e ns)
-  where
-    at : (b : Bool) → is_token e x ≡ b → list_any (is_token e) (each_once ns) ≡ list_any (is_token e) ns
-        → (b || list_any (is_token e) (filter (λ u. not (is_token u x)) (each_once ns))) ≡ (b || list_any (is_token e) ns)
-    at true h ih = refl
-    at false h ih = any_filter e x h (each_once ns) ∙ ih
 
 -- ---- the entered tokens of the uses
 

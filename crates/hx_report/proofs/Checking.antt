@@ -1,23 +1,17 @@
 -- What a replay of a known tape writes.
-use Rattle.std.proofs.Common.{◌≡◌, ℕ, true, false, List, [], ◌∷◌, ◌++◌, Some, Result, Ok, Err, sym, ap, ◌∙◌, subst, append-nil}
+use Rattle.std.proofs.Common.{◌≡◌, ℕ, true, false, List, [], ◌++◌, Some, Result, Ok, Err, sym, ap, ◌∙◌, subst, append-nil}
 use Rattle.std.specs.Prelude.{IfOk, is_err}
-use Rattle.std.specs.List.{AllByRecursion}
 use Rattle.hx_members.specs.Setups.{Setup}
 use Rattle.hx_audit.specs.declared.auditor.Whose.{Whose}
 use Rattle.hx_audit.specs.declared.auditor.Whose.TheVariants.{Of, OfAll}
-use Rattle.hx_tape_lines.specs.Text.{Entry, IsEntry, tape}
-use Rattle.hx_tape_lines.specs.Events.{IsKnown}
+use Rattle.hx_tape_lines.specs.Text.{Entry, tape}
+use Rattle.hx_tape_lines.proofs.Entries.{known_entries}
 use Rattle.hx_replay.specs.Run.{start, output_all, AreEvents}
 use Rattle.hx_replay.specs.Struck.{struck, struck_all, left_by}
 use Rattle.hx_replay.specs.Whole.{ReplaysAll}
 use Rattle.hx_replay.specs.declared.run.Counts.{Counts}
 use Rattle.hx_replay.proofs.OneReading.{tape_same}
-use Rattle.hx_replay.proofs.StruckTapes.{texts_tell_nothing}
-use Rattle.hx_report.proofs.Tapes.{all_known}
-
-entries : (es : List Entry) → AllByRecursion IsKnown es → AllByRecursion IsEntry es
-entries [] h = tt
-entries (e ∷ es) h = (h.0.entry, entries es h.1)
+use Rattle.hx_replay.proofs.StruckTapes.{texts_tell_nothing, all_known}
 
 -- it is the text of the output of the tape's events
 pub replayed : (setup : Setup) (counts : Counts) (text rest output : List ℕ) (es : List Entry) → ReplaysAll setup counts (Some text) (Some rest) (Some []) (Some output) → AreEvents (start setup) es → text ≡ tape es
@@ -25,7 +19,7 @@ pub replayed : (setup : Setup) (counts : Counts) (text rest output : List ℕ) (
 replayed setup counts text rest output es r h is =
     let whole : text ≡ tape r.events = r.read ∙ ap (λ (x : List ℕ). tape r.events ++ x) r.at_end ∙ append-nil (tape r.events) in
     let same : r.events ≡ es =
-    tape_same r.events es (entries r.events (all_known (start setup) r.events r.are_events)) (entries es (all_known (start setup) es h)) (sym whole ∙ is) in
+    tape_same r.events es (known_entries r.events (all_known (start setup) r.events r.are_events)) (known_entries es (all_known (start setup) es h)) (sym whole ∙ is) in
     r.wrote ∙ ap (output_all (start setup)) same
 
 -- the same if the replay gave no error

@@ -13,6 +13,7 @@ use Rattle.hx_replay.specs.declared.fault.TapeError.TheVariants as fault
 use Rattle.hx_replay.specs.Run.{start, output_all, AreEvents}
 use Rattle.hx_replay.specs.Struck.{left_by}
 use Rattle.hx_replay.specs.Whole.{StopsAt}
+use Rattle.hx_replay.proofs.StruckTapes.{all_known}
 use Rattle.hx_report.specs.declared.check.Check.{Check}
 use Rattle.hx_report.specs.declared.day.Day.{Day}
 use Rattle.hx_report.specs.declared.marks.Mark.{Mark}
@@ -23,7 +24,6 @@ use Rattle.hx_report.specs.Marks.{mark_of}
 use Rattle.hx_report.specs.Struck.{HasStruck}
 use Rattle.hx_report.specs.Sums.{Compares}
 use Rattle.hx_report.proofs.Checking.{left_events}
-use Rattle.hx_report.proofs.Tapes.{all_known}
 
 -- ---- a text that is no day
 

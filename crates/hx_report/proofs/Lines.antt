@@ -5,8 +5,8 @@ use Rattle.std.specs.Cmp.Lexicographic.{pointwise}
 use Rattle.std.proofs.lemmas.Bool.{eqb-true}
 use Rattle.std.proofs.lemmas.List.Elements.{All-head, All-tail}
 use Rattle.std.proofs.lemmas.Slice.Eq.{bytes_eq-Decides}
-use Rattle.hx_text.specs.Cuts.{Lacks}
-use Rattle.hx_text.proofs.Splits.{same_split, none_split}
+use Rattle.hx_units.specs.Cuts.{Lacks}
+use Rattle.hx_units.proofs.Splits.{same_split, none_split}
 use Rattle.hx_replay.specs.Grep.{lines_in, begins_with}
 use Rattle.hx_report.specs.Looks.{Pick, seen_lines, seen_text}
 use Rattle.hx_report.specs.Comparing.{Ends, EndsSo, FirstLine, NextLine}

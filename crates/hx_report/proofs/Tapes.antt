@@ -1,16 +1,16 @@
 -- The lines of a tape, taken one after the other.
-use Rattle.std.proofs.Common.{◌≡◌, ℕ, Bool, true, false, cond, List, [], ◌∷◌, ◌++◌, map, Some, None, Result, Ok, Err, OnOk, is_err, refl, sym, ap, ◌∙◌, subst, append-nil, append_assoc}
+use Rattle.std.proofs.Common.{◌≡◌, ℕ, true, false, List, [], ◌∷◌, ◌++◌, map, Result, Ok, Err, OnOk, is_err, refl, sym, ap, ◌∙◌, subst, append-nil, append_assoc}
 use Rattle.std.specs.List.{AllByRecursion}
 use Rattle.std.proofs.lemmas.List.{map-append}
-use Rattle.hx_text.specs.Cuts.{Lacks}
-use Rattle.hx_text.proofs.Splits.{same_split, none_split}
+use Rattle.hx_units.specs.Cuts.{Lacks}
+use Rattle.hx_units.proofs.Splits.{same_split, none_split}
 use Rattle.hx_rules.specs.declared.event.Event.{Event}
-use Rattle.hx_market.specs.Refusals.{refusal}
-use Rattle.hx_tape_lines.specs.Text.{Entry, IsEntry, line, tape}
-use Rattle.hx_tape_lines.specs.Events.{event_of, is_unknown, IsKnown, IsLineOf}
+use Rattle.hx_tape_lines.specs.Text.{Entry, line, tape}
+use Rattle.hx_tape_lines.specs.Events.{event_of, IsKnown, IsLineOf}
 use Rattle.hx_tape_lines.specs.declared.fault.Kind.TheVariants as kind
-use Rattle.hx_replay.specs.Run.{Progress, kind_of, check_of, after, IsEvent, AreEvents}
-use Rattle.hx_replay.proofs.OneReading.{tape_same, tape-cons, line_no_feed}
+use Rattle.hx_tape_lines.proofs.OneLine.{line_same}
+use Rattle.hx_replay.proofs.OneReading.{tape-cons, line_no_feed}
+use Rattle.hx_units.proofs.Lists.{line_feed-not_nil}
 
 -- what holds if there was no error
 
@@ -20,29 +20,11 @@ on_ok (Err e) P f h = absurd (let z : true ≡ false = f in cc)
 
 -- ---- what a line says
 
-one_entry : (e f : Entry) → IsEntry e → IsEntry f → line e ≡ line f → e ≡ f
-one_entry e f p q h =
-    let same : e ∷ [] ≡ f ∷ [] =
-    tape_same (e ∷ []) (f ∷ []) (p, tt) (q, tt) (tape-cons e [] ∙ ap (λ (x : List ℕ). x ++ 10 ∷ tape []) h ∙ sym (tape-cons f [])) in
-    cc
-
 -- the event of a line is that of the entry whose line it is
 pub event_is : (text : List ℕ) (event : Event) (e : Entry) → IsLineOf text event → IsKnown e → text ≡ line e → event ≡ event_of e
-event_is text event e l k h = l.event_is ∙ ap event_of (one_entry l.entry e l.is_known.entry k.entry (sym l.is_line ∙ h))
+event_is text event e l k h = l.event_is ∙ ap event_of (line_same l.entry e l.is_known.entry k.entry (sym l.is_line ∙ h))
 
 -- ---- entries that are taken say something
-
-known_of : (p : Progress) (e : Entry) → IsEvent p e → IsKnown e
-unfolding check_of
-known_of p e h = record { entry = h.entry; known = at (is_unknown e) h.passes }
-  where
-    at : (b : Bool) → cond b (Some kind.Bad) (kind_of (refusal p.setup p.market.recorded (event_of e))) ≡ None → b ≡ false
-    at true h = absurd (let z : Some kind.Bad ≡ None = h in cc)
-    at false h = refl
-
-pub all_known : (p : Progress) (es : List Entry) → AreEvents p es → AllByRecursion IsKnown es
-all_known p [] h = tt
-all_known p (e ∷ es) h = (known_of p e h.0, all_known (after p e) es h.1)
 
 -- ---- so far
 
@@ -57,10 +39,6 @@ pub record GoesOn (es : List Entry) (rest : List ℕ) (Holds : List Entry → Ty
 pub begins : (es : List Entry) (text : List ℕ) (Holds : List Entry → Type 0) → text ≡ tape es → Holds [] → GoesOn es text Holds
 begins es text Holds is h = record { done = []; others = es; all = refl; rest_is = is; so_far = h }
 
-not_cut : (a b : List ℕ) → a ++ 10 ∷ b ≡ [] → ⊥
-not_cut [] b e = absurd (let z : 10 ∷ b ≡ [] = e in cc)
-not_cut (x ∷ a) b e = absurd (let z : x ∷ (a ++ 10 ∷ b) ≡ [] = e in cc)
-
 known_there : (xs : List Entry) (e : Entry) (ys : List Entry) → AllByRecursion IsKnown (xs ++ e ∷ ys) → IsKnown e
 known_there [] e ys k = k.0
 known_there (x ∷ xs) e ys k = known_there xs e ys k.1
@@ -71,7 +49,7 @@ pub goes_on : (es : List Entry) (rest text others : List ℕ) (Before After : Li
 goes_on es rest text others Before After known g cut lacks step = at g.others g.all g.rest_is
   where
     at : (left : List Entry) → es ≡ g.done ++ left → rest ≡ tape left → GoesOn es others After
-    at [] all is = absurd (not_cut text others (sym cut ∙ is))
+    at [] all is = absurd (line_feed-not_nil text others (sym cut ∙ is))
     at (e ∷ left) all is =
         let k : IsKnown e = known_there g.done e left (subst (λ (l : List Entry). AllByRecursion IsKnown l) all known) in
         let same = same_split 10 text others (line e) (tape left) lacks (line_no_feed e k.entry) (sym cut ∙ is ∙ tape-cons e left) in

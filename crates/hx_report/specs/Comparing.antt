@@ -1,7 +1,7 @@
 -- Lines of a text that come one by one.
 use Rattle.std.specs.Prelude.{◌≡◌, ◌≢◌, ℕ, List, [], ◌∷◌, ◌++◌}
 use Rattle.hx_units.specs.Letters.{line_feed}
-use Rattle.hx_text.specs.Cuts.{Lacks}
+use Rattle.hx_units.specs.Cuts.{Lacks}
 use Rattle.hx_replay.specs.Grep.{lines_in}
 use Rattle.hx_report.specs.Looks.{Pick, seen_lines}
 

@@ -17,8 +17,7 @@ use hx_market::{Bytes, Event, Market, Output};
 use hx_members::Setup;
 use hx_ouch::{Inbound, Outbound, decode_in};
 use hx_tape_lines::read_event;
-use hx_text::split_once;
-use hx_units::{MemberNo, NoMemory, Token};
+use hx_units::{MemberNo, NoMemory, Token, split_once};
 use std::alloc::Global;
 
 // A chain: whose it is, and its entered token.

@@ -11,8 +11,7 @@ use hx_audit::{Auditor, Bearing, Whose};
 use hx_market::{Bytes, Event};
 use hx_members::Setup;
 use hx_tape_lines::read_event;
-use hx_text::split_once;
-use hx_units::NoMemory;
+use hx_units::{NoMemory, split_once};
 use std::alloc::Global;
 
 /// A line of a tape as a strike sees it.

@@ -14,8 +14,7 @@ ghost use Rattle.hx_report.specs.Struck.{HasStruck};
 
 use crate::marks::Mark;
 use hx_audit::Whose;
-use hx_text::split_once;
-use hx_units::NoMemory;
+use hx_units::{NoMemory, split_once};
 use std::alloc::Global;
 
 /// A tape without the messages of quiet chains.

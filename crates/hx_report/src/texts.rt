@@ -5,7 +5,7 @@ ghost use Rattle.hx_report.specs.Sums.{IsSumOf, Compares};
 ghost use Rattle.hx_report.specs.Comparing.{FirstLine, NextLine};
 
 use crate::looks::Sieve;
-use hx_text::split_once;
+use hx_units::split_once;
 use sha2::{Digest, Sha256};
 
 /// By what anybody can know a text again.

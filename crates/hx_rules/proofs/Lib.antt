@@ -1,1 +1,3 @@
 pub mod Lessened
+pub mod Reasons
+pub mod Feeds

@@ -1,6 +1,6 @@
 -- Passes that come back from their slots.
-use Rattle.std.proofs.Common.{◌≡◌, ◌<◌, ℕ, suc, List, [], ◌∷◌, ◌++◌, length, map, take, drop, Option, Some, filter_map, refl, sym, ap, ◌∙◌, arith, append-nil, slice_index_or}
-use Rattle.std.proofs.lemmas.List.{map-append, take_all, drop_all}
+use Rattle.std.proofs.Common.{◌≡◌, ◌<◌, ℕ, suc, List, [], ◌∷◌, ◌++◌, length, map, Option, Some, filter_map, refl, sym, ap, ◌∙◌, arith, slice_index_or}
+use Rattle.std.proofs.lemmas.List.{map-append}
 use Rattle.std.proofs.lemmas.List.Elements.{filter_map-append}
 use Rattle.std.specs.List.{cons_option}
 
@@ -28,8 +28,3 @@ one_more f number slots s done p is so_far =
     ∙ ap (λ o. filter_map f slots ++ cons_option o []) is
     ∙ ap (λ l. l ++ number p ∷ []) so_far
     ∙ sym (map-append number done (p ∷ []))
-
--- what a list has if all of it was written
-pub all_written : {S : Type 0} (n : ℕ) (news items : List S) → length news ≡ length items → n ≡ length news → take n (news ++ drop (length news) items) ≡ news
-all_written n news items len is =
-    ap (λ l. take n (news ++ l)) (drop_all (length news) items (omega (arith, len))) ∙ ap (take n) (append-nil news) ∙ take_all n news (omega (arith, is))

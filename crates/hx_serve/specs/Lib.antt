@@ -1,6 +1,6 @@
 pub mod Days
 pub mod Faults
-pub mod Fittings
+pub mod DayServices
 pub mod LastLine
 pub mod Operator
 pub mod Applied

@@ -7,13 +7,13 @@ ghost use Rattle.hx_serve.specs.Days.{IsServed};
 ghost use Rattle.hx_serve.specs.LastLine.{last_line};
 
 use crate::beginning::Day;
+use crate::day_services::DayServices;
 use crate::ending::{fault_of_day, write_last_line};
 use crate::fault::ServeError;
-use crate::fittings::Fittings;
 use crate::open_day::{Closed, Desk, Page, Staff, work_open};
 use crate::parts::{dismiss, hire};
-use crate::places::{Hall, make_places};
 use crate::publishing::Publishing;
+use crate::slot_workers::{SlotContext, make_slot_workers};
 use crate::watching::Viewer;
 use crate::workers::{Writers, work};
 use hx_blog::{Log, Reader};
@@ -68,7 +68,7 @@ pub struct Crew<V: Venue> {
     /// A reader of the feed.
     pub reader: Reader<Entry>,
     /// What an open day has besides its acceptors.
-    pub fittings: Fittings,
+    pub day_services: DayServices,
     /// The trading status so far.
     pub trading_status: TradingStatus,
     pub ghost belongs: { reader.log ≡ V.log },
@@ -81,7 +81,7 @@ impl<V: Venue> Drop for Crew<V> {
             own: _,
             passes: _,
             reader: _,
-            fittings: _,
+            day_services: _,
             trading_status: _,
         } = self;
     }
@@ -126,7 +126,7 @@ impl<V: Venue + Send + Sync> Crew<V> {
             own: pass,
             mut passes,
             mut reader,
-            fittings: _,
+            day_services: _,
             trading_status: _,
         } = self;
         let parts = hire(
@@ -188,15 +188,15 @@ impl<V: Venue> Crew<V> {
             own: pass,
             mut passes,
             mut reader,
-            fittings,
+            day_services,
             trading_status,
         } = self;
-        let (duties, metrics) = fittings.into_both();
+        let (duties, metrics) = day_services.into_both();
         let Some(other) = passes.pop() else {
             return Err(ServeError::NoMemory);
         };
         let session_slots = SessionSlots::new(alloc, passes.len())?;
-        let places = make_places(alloc, log, passes, &mut reader)?;
+        let slot_workers = make_slot_workers(alloc, log, passes, &mut reader)?;
         let second = reader.split(log);
         let viewer = Viewer::new(reader.split(log));
         let desk = Desk {
@@ -207,7 +207,7 @@ impl<V: Venue> Crew<V> {
         };
         Ok(Opening {
             staff: Staff {
-                places,
+                slot_workers,
                 listener,
                 desk,
                 page: Page { metrics, viewer },
@@ -314,13 +314,19 @@ pub fn attend_open<
         turns: hosting.args.turns,
         stays_open: duties.socket.is_some() || duties.schedule.is_some(),
     };
-    let hall = Hall {
+    let slot_context = SlotContext {
         hosting,
         day_context: &day_context,
         pending_logins: &PendingLogins::new(alloc),
     };
     let (mut publishing, closed) = work_open(
-        rt, alloc, exchange, &hall, &socket, publishing, staff,
+        rt,
+        alloc,
+        exchange,
+        &slot_context,
+        &socket,
+        publishing,
+        staff,
     );
     Ok(settle(
         rt,

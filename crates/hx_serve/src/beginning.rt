@@ -1,15 +1,17 @@
 //! What a day begins with, and what it leaves.
-ghost use Rattle.std.specs.Prelude.{◌≡◌, [], IfOk};
-ghost use Rattle.hx_journal.specs.Unkept.{appended_in, durable_in};
-ghost use Rattle.hx_serve.specs.Fittings.{endless, AreNone};
+ghost use Rattle.std.specs.Prelude.{◌≡◌, [], true, IfOk};
+ghost use Rattle.hx_tape_lines.specs.Text.{record_of};
+ghost use Rattle.hx_desk.specs.Entries.{restored};
+ghost use Rattle.hx_engine.specs.Journals.{lines};
+ghost use Rattle.hx_serve.specs.DayServices.{endless, AreNone};
 
 use crate::applied_day::AppliedDay;
+use crate::day_services::DayServices;
 use crate::ending::fault_of_resume;
 use crate::fault::ServeError;
-use crate::fittings::Fittings;
 use hx_day_context::ServeArgs;
 use hx_engine::{Entry, Journal, Recovered, apply_all};
-use hx_journal::Unkept;
+use hx_journal::NullJournal;
 use hx_members::{Seed, Setup};
 use hx_operator::OperatorSocket;
 use std::alloc::Global;
@@ -23,7 +25,7 @@ pub struct Beginning<J: Journal> {
     /// How many events may wait for the journal, at least one: if that number waits, no event is recorded.
     pub ahead: u64,
     /// What an open day has besides its acceptors.
-    pub fittings: Fittings,
+    pub day_services: DayServices,
 }
 
 // By hand, so that when a value is dropped its owner's proof sees one call.
@@ -33,7 +35,7 @@ impl<J: Journal + Drop> Drop for Beginning<J> {
             seed: _,
             recovered: _,
             ahead: _,
-            fittings: _,
+            day_services: _,
         } = self;
     }
 }
@@ -51,13 +53,14 @@ impl<J: Journal + Drop> Beginning<J> {
             applied.day.events ≡ self.recovered.events.items) }
         ensures journal { IfOk result (λ applied. applied.journal ≡ self.recovered.journal) }
         ensures ahead { IfOk result (λ applied. applied.ahead ≡ self.ahead) }
-        ensures fittings { IfOk result (λ applied. applied.fittings ≡ self.fittings) }
+        ensures day_services { IfOk result (λ applied.
+            applied.day_services ≡ self.day_services) }
     {
         let Beginning {
             seed,
             recovered,
             ahead,
-            fittings,
+            day_services,
         } = self;
         let Recovered { journal, events } = recovered;
         let mut day = AppliedDay::new(alloc, setup, args, seed)?;
@@ -68,30 +71,28 @@ impl<J: Journal + Drop> Beginning<J> {
             day,
             journal,
             ahead,
-            fittings,
+            day_services,
         })
     }
 }
 
-impl Beginning<Unkept> {
+impl Beginning<NullJournal> {
     /// The beginning of a new day without a journal.
-    pub fn unkept(alloc: Global, seed: Seed) -> Beginning<Unkept>
+    pub fn without_journal(alloc: Global, seed: Seed) -> Beginning<NullJournal>
         ensures seed { result.seed ≡ seed }
         ensures ahead { result.ahead ≡ endless }
-        ensures fittings { AreNone result.fittings }
+        ensures day_services { AreNone result.day_services }
         ensures events { result.recovered.events.items ≡ [] }
-        ensures appended { appended_in result.recovered.journal.log.events ≡ [] }
-        ensures durable { durable_in result.recovered.journal.log.events ≡ [] }
     {
         let recovered = Recovered {
-            journal: Unkept::new(),
+            journal: NullJournal::new(),
             events: Vec::new(alloc),
         };
         Beginning {
             seed,
             recovered,
             ahead: u64::MAX,
-            fittings: Fittings::none(),
+            day_services: DayServices::none(),
         }
     }
 }
@@ -105,7 +106,10 @@ pub struct AppliedBeginning<'a, J: Journal> {
     /// How many events may wait for the journal, at least one: if that number waits, no event is recorded.
     pub ahead: u64,
     /// What an open day has besides its acceptors.
-    pub fittings: Fittings,
+    pub day_services: DayServices,
+    pub ghost appended: { J.appended journal ≡ lines record_of (restored day.events) },
+    pub ghost durable: { J.durable journal ≡ J.appended journal },
+    pub ghost opened: { J.is_open journal ≡ true },
 }
 
 // By hand, so that when a value is dropped its owner's proof sees one call.
@@ -115,26 +119,29 @@ impl<J: Journal + Drop> Drop for AppliedBeginning<'_, J> {
             day: _,
             journal: _,
             ahead: _,
-            fittings: _,
+            day_services: _,
         } = self;
     }
 }
 
 impl<'a, J: Journal + Drop> AppliedBeginning<'a, J> {
     /// The day, its journal, how many events may wait for the journal, and what the day has besides its acceptors.
-    pub fn into_parts(self) -> (AppliedDay<'a>, J, u64, Fittings)
+    pub fn into_parts(self) -> (AppliedDay<'a>, J, u64, DayServices)
         ensures day { result.0 ≡ self.entry.day }
         ensures journal { result.1 ≡ self.entry.journal }
+        ensures appended { J.appended result.1 ≡ lines record_of (restored result.0.events) }
+        ensures durable { J.durable result.1 ≡ J.appended result.1 }
+        ensures opened { J.is_open result.1 ≡ true }
         ensures ahead { result.2 ≡ self.entry.ahead }
-        ensures fittings { result.3 ≡ self.entry.fittings }
+        ensures day_services { result.3 ≡ self.entry.day_services }
     {
         let AppliedBeginning {
             day,
             journal,
             ahead,
-            fittings,
+            day_services,
         } = self;
-        (day, journal, ahead, fittings)
+        (day, journal, ahead, day_services)
     }
 }
 

@@ -1,10 +1,8 @@
 //! A day, from its first connection to its last line.
-ghost use Rattle.std.specs.Prelude.{◌≡◌, ◌+◌, [], length, None, true, IfOk};
+ghost use Rattle.std.specs.Prelude.{◌≡◌, ◌+◌, length, None, IfOk};
 ghost use mathlib.Core.List.{IsPrefix};
 ghost use Rattle.std.specs.Io.KnownBytes.{Appends};
-ghost use Rattle.hx_tape_lines.specs.Text.{record_of};
 ghost use Rattle.hx_desk.specs.Entries.{restored};
-ghost use Rattle.hx_engine.specs.Journals.{lines};
 ghost use Rattle.hx_engine.specs.Opening.{IsNewLog};
 ghost use Rattle.hx_serve.specs.Days.{IsServed};
 ghost use Rattle.hx_serve.specs.LastLine.{last_line};
@@ -29,7 +27,7 @@ use std::thread::Threads;
 use std::time::Clock;
 
 // The parts of an exchange: its logs of admitted and of durable events, its ledger, and what it goes on from.
-struct Founding<'a, J: Journal> {
+struct ExchangeParts<'a, J: Journal> {
     admitted: (Log<Entry>, Writer<Entry>),
     durable: (Log<Entry>, Writer<Entry>),
     blank: Blank,
@@ -37,9 +35,9 @@ struct Founding<'a, J: Journal> {
 }
 
 // By hand, so that when a value is dropped its owner's proof sees one call.
-impl<J: Journal + Drop> Drop for Founding<'_, J> {
+impl<J: Journal + Drop> Drop for ExchangeParts<'_, J> {
     fn drop(self) {
-        let Founding {
+        let ExchangeParts {
             admitted: _,
             durable: _,
             blank: _,
@@ -62,12 +60,12 @@ fn new_ends(alloc: Global, sessions: u16) -> Result<Ends, ServeError>
     ensures parts { IfOk result (λ ends. sessions + 2 ≡ ends.2.parts) }
 {
     let (admitted, register, _) = Log::<Entry>::new(alloc, 1)?;
-    let (durable, keeper, _) = Log::<Entry>::new(alloc, 1)?;
+    let (durable, durable_writer, _) = Log::<Entry>::new(alloc, 1)?;
     let blank = Blank::new(u64::from(sessions) + 2);
-    Ok(((admitted, register), (durable, keeper), blank))
+    Ok(((admitted, register), (durable, durable_writer), blank))
 }
 
-impl<J: Journal + Drop> Founding<'_, J> {
+impl<J: Journal + Drop> ExchangeParts<'_, J> {
     // Opens the exchange, and makes the crew that submits to it and reads it. If the day goes on, a notice says so.
     fn open<V: Venue, G: Gate, B: NoticeSink>(
         self,
@@ -79,20 +77,16 @@ impl<J: Journal + Drop> Founding<'_, J> {
         requires durable { IsNewLog V.durable self.durable }
         requires of_setup { self.beginning.day.setup ≡ V.setup }
         requires before { self.beginning.day.events ≡ V.before }
-        requires journal { J.appended self.beginning.journal
-            ≡ lines record_of (restored V.before) }
-        requires safe { (J.durable self.beginning.journal ≡ J.appended self.beginning.journal)
-            × (J.is_open self.beginning.journal ≡ true) }
         requires blank { (self.blank.name ≡ V.name) × (self.blank.parts ≡ V.parts) }
         requires passes { hosting.now.args.now.sessions + 2 ≡ V.parts }
     {
-        let Founding {
+        let ExchangeParts {
             admitted,
             durable,
             blank,
             beginning,
         } = self;
-        let (day, journal, ahead, fittings) = beginning.into_parts();
+        let (day, journal, ahead, day_services) = beginning.into_parts();
         let events = day.count();
         let (applied, mut reader, trading_status) = day.into_parts();
         let count = hosting.args.sessions + 2;
@@ -113,7 +107,7 @@ impl<J: Journal + Drop> Founding<'_, J> {
             own,
             passes,
             reader,
-            fittings,
+            day_services,
             trading_status,
         };
         Ok((exchange, crew))
@@ -135,20 +129,16 @@ fn run<
     alloc: Global,
     hosting: &Hosting<'_, G, B>,
     acceptors: Acceptors<D>,
-    founding: Founding<'_, J>,
+    exchange_parts: ExchangeParts<'_, J>,
     input: R,
     output: &mut W,
 ) -> Result<Day, ServeError>
-    requires feed { founding.beginning.day.log ≡ V.log }
-    requires admitted { IsNewLog V.admitted founding.admitted }
-    requires durable { IsNewLog V.durable founding.durable }
-    requires of_setup { founding.beginning.day.setup ≡ V.setup }
-    requires before { founding.beginning.day.events ≡ V.before }
-    requires journal { J.appended founding.beginning.journal
-        ≡ lines record_of (restored V.before) }
-    requires safe { (J.durable founding.beginning.journal ≡ J.appended founding.beginning.journal)
-        × (J.is_open founding.beginning.journal ≡ true) }
-    requires blank { (founding.blank.name ≡ V.name) × (founding.blank.parts ≡ V.parts) }
+    requires feed { exchange_parts.beginning.day.log ≡ V.log }
+    requires admitted { IsNewLog V.admitted exchange_parts.admitted }
+    requires durable { IsNewLog V.durable exchange_parts.durable }
+    requires of_setup { exchange_parts.beginning.day.setup ≡ V.setup }
+    requires before { exchange_parts.beginning.day.events ≡ V.before }
+    requires blank { (exchange_parts.blank.name ≡ V.name) × (exchange_parts.blank.parts ≡ V.parts) }
     requires passes { hosting.now.args.now.sessions + 2 ≡ V.parts }
     ensures served { IfOk result (λ day. IsServed V.setup day.history.items day.feed) }
     ensures begins { IfOk result (λ day. IsPrefix (restored V.before) day.history.items) }
@@ -156,7 +146,7 @@ fn run<
         → Appends (W.contents output.old) (W.contents output.new)
         (last_line (length day.history.items) day.feed)) }
 {
-    let (exchange, crew) = founding.open::<V, G, B>(alloc, hosting)?;
+    let (exchange, crew) = exchange_parts.open::<V, G, B>(alloc, hosting)?;
     let outcome = attend_open(rt, alloc, &exchange, hosting, acceptors, crew, input)?;
     outcome.conclude(alloc, exchange, output)
 }
@@ -183,10 +173,6 @@ pub fn serve_applied_from<
     output: &mut W,
 ) -> Result<Day, ServeError>
     requires of_setup { beginning.day.setup ≡ hosting.now.setup.now }
-    requires journal { J.appended beginning.journal
-        ≡ lines record_of (restored beginning.day.events) }
-    requires safe { (J.durable beginning.journal ≡ J.appended beginning.journal)
-        × (J.is_open beginning.journal ≡ true) }
     ensures served { IfOk result
         (λ day. IsServed hosting.now.setup.now day.history.items day.feed) }
     ensures begins { IfOk result (λ day.
@@ -196,13 +182,13 @@ pub fn serve_applied_from<
         (last_line (length day.history.items) day.feed)) }
 {
     let (admitted, durable, blank) = new_ends(alloc, hosting.args.sessions)?;
-    let founding = Founding {
+    let exchange_parts = ExchangeParts {
         admitted,
         durable,
         blank,
         beginning,
     };
-    run::<Brand, J, G, B, D, T, R, W>(rt, alloc, hosting, acceptors, founding, input, output)
+    run::<Brand, J, G, B, D, T, R, W>(rt, alloc, hosting, acceptors, exchange_parts, input, output)
 }
 
 /// Serves a day through these acceptors, on from the events in its journal, and returns what the day leaves; or why its
@@ -226,10 +212,6 @@ pub fn serve_from<
     input: R,
     output: &mut W,
 ) -> Result<Day, ServeError>
-    requires journal { J.appended beginning.recovered.journal
-        ≡ lines record_of (restored beginning.recovered.events.items) }
-    requires safe { (J.durable beginning.recovered.journal ≡ J.appended beginning.recovered.journal)
-        × (J.is_open beginning.recovered.journal ≡ true) }
     ensures served { IfOk result
         (λ day. IsServed hosting.now.setup.now day.history.items day.feed) }
     ensures begins { IfOk result (λ day.
@@ -265,7 +247,7 @@ pub fn serve_day<
         → Appends (W.contents output.old) (W.contents output.new)
         (last_line (length day.history.items) day.feed)) }
 {
-    let beginning = Beginning::unkept(alloc, seed);
+    let beginning = Beginning::without_journal(alloc, seed);
     serve_from(rt, alloc, hosting, acceptors, beginning, input, output)
 }
 

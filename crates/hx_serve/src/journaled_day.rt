@@ -1,8 +1,5 @@
 //! A day whose history goes to a file.
-ghost use Rattle.std.specs.Prelude.{◌≡◌, true};
-ghost use Rattle.hx_tape_lines.specs.Text.{record_of};
-ghost use Rattle.hx_desk.specs.Entries.{restored};
-ghost use Rattle.hx_engine.specs.Journals.{lines};
+ghost use Rattle.std.specs.Prelude.{◌≡◌};
 
 use crate::beginning::{AppliedBeginning, Beginning, Day};
 use crate::day::{serve_applied_from, serve_from};
@@ -124,12 +121,7 @@ pub fn serve_durable<
     input: R,
     output: &mut W,
     history: Option<&str>,
-) -> Result<(), ServeError>
-    requires journal { J.appended beginning.recovered.journal
-        ≡ lines record_of (restored beginning.recovered.events.items) }
-    requires safe { (J.durable beginning.recovered.journal ≡ J.appended beginning.recovered.journal)
-        × (J.is_open beginning.recovered.journal ≡ true) }
-{
+) -> Result<(), ServeError> {
     let (acceptors, file) = open_up(rt, hosting, history)?;
     let day = serve_from(rt, alloc, hosting, acceptors, beginning, input, output)?;
     close_up(rt, alloc, day, file)
@@ -159,10 +151,6 @@ pub fn serve_applied<
     history: Option<&str>,
 ) -> Result<(), ServeError>
     requires of_setup { beginning.day.setup ≡ hosting.now.setup.now }
-    requires journal { J.appended beginning.journal
-        ≡ lines record_of (restored beginning.day.events) }
-    requires safe { (J.durable beginning.journal ≡ J.appended beginning.journal)
-        × (J.is_open beginning.journal ≡ true) }
 {
     let (acceptors, file) = open_up(rt, hosting, history)?;
     let day = serve_applied_from(rt, alloc, hosting, acceptors, beginning, input, output)?;

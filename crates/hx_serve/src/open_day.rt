@@ -1,12 +1,12 @@
 //! The workers of an open day, all at once: the publisher, the acceptor, the session slots, and the operator.
 ghost use Rattle.std.specs.Prelude.{◌≡◌};
 
+use crate::day_services::Metrics;
 use crate::director::{Director, Duties};
 use crate::fault::ServeError;
-use crate::fittings::Metrics;
 use crate::operating::conduct;
-use crate::places::{Hall, Places, serve_places};
 use crate::publishing::Publishing;
+use crate::slot_workers::{SlotContext, SlotWorkers, serve_slot_workers};
 use crate::watching::{Viewer, Watch};
 use hx_day_context::{AcceptorNotices, DayClock, DayContext, NoticeSink, OpenArgs, Times};
 use hx_engine::{Exchange, Journal, Pass, Venue};
@@ -48,7 +48,7 @@ pub struct Desk<V: Venue, R> {
 #[derive(Drop)]
 pub struct Staff<V: Venue, R> {
     /// The session slots.
-    pub places: Places<V>,
+    pub slot_workers: SlotWorkers<V>,
     /// The socket that members connect to.
     pub listener: TcpListener,
     /// The operator's desk.
@@ -136,16 +136,16 @@ fn attend<
     rt: &'x T,
     alloc: Global,
     exchange: &'x Exchange<V, J>,
-    hall: &'x Hall<'x, G, B>,
-    places: Places<V>,
+    slot_context: &'x SlotContext<'x, G, B>,
+    slot_workers: SlotWorkers<V>,
     desk: Desk<V, R>,
 ) -> Closed<V> {
     let gone = AtomicBool::new(false);
-    let (flag, day_context, times) = (&gone, hall.day_context, hall.hosting.times);
+    let (flag, day_context, times) = (&gone, slot_context.day_context, slot_context.hosting.times);
     join(
         rt,
         move || {
-            let passes = serve_places(rt, alloc, exchange, hall, places);
+            let passes = serve_slot_workers(rt, alloc, exchange, slot_context, slot_workers);
             flag.store(true, Ordering::SeqCst);
             passes
         },
@@ -166,12 +166,12 @@ fn trade<
     rt: &'x T,
     alloc: Global,
     exchange: &'x Exchange<V, J>,
-    hall: &'x Hall<'x, G, B>,
+    slot_context: &'x SlotContext<'x, G, B>,
     open: OpenArgs,
-    writers: (TcpListener, Places<V>, Desk<V, R>),
+    writers: (TcpListener, SlotWorkers<V>, Desk<V, R>),
 ) -> Closed<V> {
-    let (listener, places, desk) = writers;
-    let (hosting, pending_logins) = (hall.hosting, hall.pending_logins);
+    let (listener, slot_workers, desk) = writers;
+    let (hosting, pending_logins) = (slot_context.hosting, slot_context.pending_logins);
     let rules = AcceptorRules {
         setup: hosting.setup,
         login_limit: open.login_limit,
@@ -193,7 +193,7 @@ fn trade<
             rules,
             &notice_sink,
         ),
-        move || attend(rt, alloc, exchange, hall, places, desk),
+        move || attend(rt, alloc, exchange, slot_context, slot_workers, desk),
     );
     closed
 }
@@ -219,9 +219,9 @@ fn trade_shown<
     rt: &'x T,
     alloc: Global,
     exchange: &'x Exchange<V, J>,
-    hall: &'x Hall<'x, G, B>,
+    slot_context: &'x SlotContext<'x, G, B>,
     open: OpenArgs,
-    writers: (TcpListener, Places<V>, Desk<V, R>),
+    writers: (TcpListener, SlotWorkers<V>, Desk<V, R>),
     shown: Shown<'_, W>,
 ) -> Closed<V> {
     let Shown {
@@ -234,7 +234,7 @@ fn trade_shown<
         rt,
         move || serve_metrics(rt, alloc, listener, watch, keys),
         move || {
-            let closed = trade(rt, alloc, exchange, hall, open, writers);
+            let closed = trade(rt, alloc, exchange, slot_context, open, writers);
             over.store(true, Ordering::SeqCst);
             closed
         },
@@ -255,27 +255,27 @@ fn trade_watched<
     rt: &'x T,
     alloc: Global,
     exchange: &'x Exchange<V, J>,
-    hall: &'x Hall<'x, G, B>,
+    slot_context: &'x SlotContext<'x, G, B>,
     staff: Staff<V, R>,
 ) -> Closed<V> {
     let Staff {
-        places,
+        slot_workers,
         listener,
         desk,
         page,
         open,
     } = staff;
-    let writers = (listener, places, desk);
+    let writers = (listener, slot_workers, desk);
     let Page { metrics, viewer } = page;
     let Some(metrics) = metrics else {
-        return trade(rt, alloc, exchange, hall, open, writers);
+        return trade(rt, alloc, exchange, slot_context, open, writers);
     };
     let over = AtomicBool::new(false);
     let watch = Watch {
         rt,
         exchange,
-        day_context: hall.day_context,
-        tally: hall.hosting.tally,
+        day_context: slot_context.day_context,
+        tally: slot_context.hosting.tally,
         viewer: Mutex::new(viewer),
         over: &over,
     };
@@ -284,7 +284,7 @@ fn trade_watched<
         watch: &watch,
         over: &over,
     };
-    trade_shown(rt, alloc, exchange, hall, open, writers, shown)
+    trade_shown(rt, alloc, exchange, slot_context, open, writers, shown)
 }
 
 /// Publishes while the operator and the sessions last, and until all that they sent is published.
@@ -302,18 +302,18 @@ pub fn work_open<
     rt: &'x T,
     alloc: Global,
     exchange: &'x Exchange<V, J>,
-    hall: &'x Hall<'x, G, B>,
+    slot_context: &'x SlotContext<'x, G, B>,
     socket: &D,
     publishing: Publishing<'a, V>,
     staff: Staff<V, R>,
 ) -> (Publishing<'a, V>, Closed<V>) {
     let ended = AtomicBool::new(false);
-    let (flag, notice_sink) = (&ended, hall.hosting.notice_sink);
+    let (flag, notice_sink) = (&ended, slot_context.hosting.notice_sink);
     join(
         rt,
         move || publishing.work(rt, socket, notice_sink, exchange.feed_waker(), flag),
         move || {
-            let closed = trade_watched(rt, alloc, exchange, hall, staff);
+            let closed = trade_watched(rt, alloc, exchange, slot_context, staff);
             flag.store(true, Ordering::SeqCst);
             exchange.feed_waker().wake();
             closed

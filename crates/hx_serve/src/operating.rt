@@ -5,7 +5,7 @@ use hx_day_context::{DayClock, DayContext, Notice, NoticeSink, Refusal, Times};
 use hx_engine::{DeskError, Exchange, Journal, Pass, SubmitError, Venue};
 use hx_market::Event;
 use hx_tape_lines::{LONGEST_LINE, read_operator_line};
-use hx_text::split_once;
+use hx_units::split_once;
 use std::alloc::Global;
 use std::io::{ErrorKind, Read};
 use std::sync::Wait;

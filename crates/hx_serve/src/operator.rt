@@ -8,7 +8,7 @@ ghost use Rattle.hx_serve.specs.Operator.{SendsAll, Conducts, ConductsOn, Breaks
 use crate::fault::ServeError;
 use hx_engine::{DeskError, Exchange, Journal, Pass, SubmitError, Venue};
 use hx_tape_lines::{Kind, LONGEST_LINE, read_operator_line};
-use hx_text::split_once;
+use hx_units::split_once;
 use std::alloc::Global;
 use std::io::{ErrorKind, Read};
 use std::sync::Wait;

@@ -17,7 +17,9 @@ use Rattle.hx_sessions.specs.declared.ending.Fault.TheVariants as fault
 use Rattle.hx_sessions.specs.declared.ending.Stop.{Stop}
 use Rattle.hx_sessions.specs.declared.ending.Stop.TheVariants as stop
 use Rattle.hx_sessions.specs.Asked.{HasLogout, asked, CarriesOn}
-use Rattle.hx_sessions.specs.Frames.{day_over, Writes, Delivers, Sent, SentSome}
+use Rattle.hx_units.specs.Writing.{Writes}
+use Rattle.hx_units.proofs.Fronts.{writes_retained}
+use Rattle.hx_sessions.specs.Frames.{day_over, Delivers, Sent, SentSome}
 use Rattle.hx_sessions.specs.Workers.{Received, Why, SentUntil, both_of}
 use Rattle.hx_sessions.specs.Logins.{NoLogin}
 use Rattle.hx_sessions.specs.declared.copies.DropCopy.{DropCopy}
@@ -26,11 +28,11 @@ use Rattle.hx_sessions.specs.Served.{Side, Brings, Wrote, WroteSome, EndsAs, Con
 use Rattle.hx_sessions.specs.declared.beginning.Start.{Start}
 use Rattle.hx_engine.specs.Passes.{PassState}
 use Rattle.hx_blog.specs.Ends.{ReaderState}
-use Rattle.hx_blog.proofs.Prefixes.{prefix_self, prefix_trans}
 use Rattle.hx_sessions.proofs.Taking.{submits_none}
 use Rattle.hx_sessions.proofs.Going.{until_join, sent_join, known_grows}
 use Rattle.hx_sessions.proofs.Logging.{opens_within}
 use Rattle.hx_sessions.proofs.Passes.{carries_none, carries_more, carries_true}
+use Rattle.hx_units.proofs.Prefixes.{prefix_self, prefix_trans}
 
 -- ---- what was written
 
@@ -240,9 +242,6 @@ answered setup member first next answer input output out pass reader before new 
 retained_wrote : (past : Bool) (answer : List ℕ) (first : ℕ) (replies rest : List (List ℕ)) (over : Bool) (a b c : Option (List ℕ)) → Keeps b c → Wrote past answer first replies rest over a b → Wrote past answer first replies rest over a c
 retained_wrote past answer first replies rest over a b c k w = record { frames = w.frames; brings = w.brings; wrote = Appends-kept a b c (answer ++ concat w.frames) w.wrote k }
 
-pub writes_stay : (a b c : Option (List ℕ)) (bytes rest : List ℕ) → Keeps b c → Writes a b bytes rest → Writes a c bytes rest
-writes_stay a b c bytes rest k w = record { front = w.front; bytes_are = w.bytes_are; wrote = Appends-kept a b c w.front w.wrote k }
-
 retained_some : (past : Bool) (answer : List ℕ) (first : ℕ) (replies : List (List ℕ)) (a b c : Option (List ℕ)) → Keeps b c → WroteSome past answer first replies a b → WroteSome past answer first replies a c
 retained_some past answer first replies a b c k w = record {
   rest = w.rest;
@@ -250,7 +249,7 @@ retained_some past answer first replies a b c k w = record {
   frames = w.frames;
   brings = w.brings;
   unwritten = w.unwritten;
-  wrote = writes_stay a b c (answer ++ concat w.frames) w.unwritten k w.wrote;
+  wrote = writes_retained a b c (answer ++ concat w.frames) w.unwritten w.wrote k;
 }
 
 retained_end : (past : Bool) (answer : List ℕ) (first : ℕ) (replies : List (List ℕ)) (packets : List SoupPacket) (done : List (List ℕ)) (left a b c : Option (List ℕ)) (r : Result Ended Fault) → Keeps b c
@@ -321,7 +320,7 @@ broken setup own copies input output answered out pass before reader first_input
             ends = λ e. absurd (cc e);
           };
           unwritten = b.unwritten;
-          wrote = subst (λ l. Writes output out l b.unwritten) (sym (append-nil answer)) (writes_stay output answered out answer b.unwritten k b.wrote);
+          wrote = subst (λ l. Writes output out l b.unwritten) (sym (append-nil answer)) (writes_retained output answered out answer b.unwritten b.wrote k);
         },
       );
     }
@@ -338,7 +337,7 @@ went_dismissed setup own copies input left output answered out pass before reade
     is = j.is;
     ends = elim j.ends [
       | inl h ↦ inl (h.0, Appends-kept output answered out (rejection j.reason) h.1 k)
-      | inr h ↦ inr (h.0, h.1, writes_stay output answered out (rejection j.reason) h.1 k h.2)
+      | inr h ↦ inr (h.0, h.1, writes_retained output answered out (rejection j.reason) h.1 h.2 k)
     ];
   },
   refl,

@@ -10,6 +10,7 @@ use mathlib.Core.List.{IsPrefix}
 use Rattle.arrayvec.specs.ArrayVec.{ArrayVec}
 use Rattle.hx_sessions.specs.declared.delivery.Turn.TheVariants as turn
 use Rattle.hx_units.specs.Fields.{texts}
+use Rattle.hx_units.proofs.Prefixes.{prefix_length}
 use Rattle.hx_sessions.specs.Deliveries.{Delivery, TurnGives, Goes}
 use Rattle.std.proofs.lemmas.List.{take_all, drop-drop, drop_all}
 use Rattle.hx_blog.specs.Feed.{Entries}
@@ -21,7 +22,8 @@ use Rattle.hx_sessions.specs.declared.ending.Stop.{Stop}
 use Rattle.hx_sessions.specs.declared.ending.Stop.TheVariants as stop
 use Rattle.hx_sessions.specs.Workers.{SendsMore, StopsIn, SentUntil}
 use Rattle.hx_sessions.specs.declared.ending.Fault.TheVariants as fault
-use Rattle.hx_sessions.specs.Frames.{day_over, Writes, WritesAll, WritesSome, AreFrames, Sends, Delivers, Sent, SentSome}
+use Rattle.hx_units.specs.Writing.{Writes}
+use Rattle.hx_sessions.specs.Frames.{day_over, WritesAll, WritesSome, AreFrames, Sends, Delivers, Sent, SentSome}
 
 drop_one : (all : List (List ℕ)) (i : ℕ) → drop 1 (drop i all) ≡ drop (i + 1) all
 drop_one all i = drop-drop 1 i all ∙ ap (λ n. drop n all) (omega arith)
@@ -146,11 +148,8 @@ pub rows_from : (xs : List (ArrayVec ℕ)) (i : ℕ) → texts (take (length xs 
 rows_from xs i =
     ap texts (take_all (length xs - i) (drop i xs) (omega (arith, length-drop i xs))) ∙ rows_drop xs i
 
-prefix_len : {A : Type 0} (xs ys : List A) → IsPrefix xs ys → length xs ≤ length ys
-prefix_len xs ys p = omega (arith, sym (ap length p.1) ∙ length-append xs p.0)
-
 pub still_there : (setup : Setup) (member n : ℕ) (known new : Entries Entry) → IsPrefix known new → n ≤ length (known_replies setup member known) + 1 → n ≤ length (known_replies setup member new) + 1
-still_there setup member n known new p h = omega (arith, h, prefix_len (known_replies setup member known) (known_replies setup member new) (replies_grow setup member known new p))
+still_there setup member n known new p h = omega (arith, h, prefix_length (known_replies setup member known) (known_replies setup member new) (replies_grow setup member known new p))
 
 -- ---- one delivery after another
 

@@ -5,6 +5,7 @@ use Rattle.std.specs.Io.KnownBytes.{Consumes}
 use Rattle.std.proofs.KnownBytes.{Consumes-trans, Consumes-nil}
 use Rattle.std.proofs.lemmas.Bool.Decides.{nat_tests}
 use Rattle.std.proofs.lemmas.List.{nil_from_length}
+use Rattle.std.proofs.lemmas.Option.{same_Some}
 use Rattle.hx_soup.specs.Kinds.{login_request}
 use Rattle.hx_soup.specs.Logins.{IsLogin}
 use Rattle.hx_soup.specs.Packets.{framed, packet_bytes, stream_of, Cuts}
@@ -90,9 +91,6 @@ logs_in a b c bytes piece rest p ps login first next cuts most kind size is =
 
 -- ---- the first packet
 
-same_bytes : (a b : List ℕ) → Some a ≡ Some b → a ≡ b
-same_bytes a b e = cc
-
 login_size : (payload : List ℕ) (login : LoginRequest) → IsLogin payload login → length payload ≡ 46
 login_size payload login l =
     let two = login.user ++ login.password in
@@ -129,7 +127,7 @@ awaits_more a b c f g n room m w r = elim r.gives [
   | inr h ↦
       let retained = h.0 in
       let rest = h.1 in
-      let same : retained ≡ w.bytes = same_bytes retained w.bytes (sym h.2 ∙ w.retained) in
+      let same : retained ≡ w.bytes = same_Some retained w.bytes (sym h.2 ∙ w.retained) in
       let cuts : Cuts (w.bytes ++ r.piece) [] rest = subst (λ k. Cuts (k ++ r.piece) [] rest) same h.4 in
       let whole : w.bytes ++ r.piece ≡ rest = nothing_cut (w.bytes ++ r.piece) rest cuts in record {
         bytes = w.bytes ++ r.piece;
@@ -143,7 +141,7 @@ awaits_more a b c f g n room m w r = elim r.gives [
 pub awaits_login : (a b c f g : Option (List ℕ)) (n room m : ℕ) (login : LoginRequest) → AwaitsLogin a b f n → n + room ≤ 49 → ReadsFirst b c f g room (Some login) m → LogsIn a c login
 awaits_login a b c f g n room m login w most r =
     let h = r.gives in
-    let same : h.0 ≡ w.bytes = same_bytes h.0 w.bytes (sym h.4 ∙ w.retained) in
+    let same : h.0 ≡ w.bytes = same_Some h.0 w.bytes (sym h.4 ∙ w.retained) in
     let cuts : Cuts (w.bytes ++ r.piece) (h.2 ∷ h.3) h.1 = subst (λ k. Cuts (k ++ r.piece) (h.2 ∷ h.3) h.1) same h.5 in
     logs_in a b c w.bytes r.piece h.1 h.2 h.3 login w.read r.read cuts (omega (arith, w.size, r.size, r.fits, most)) h.6 (login_size h.2.payload.items login h.7) h.7
 

@@ -1,32 +1,17 @@
 -- What stays of a pass.
-use Rattle.std.proofs.Common.{◌≡◌, ℕ, zero, suc, List, [], ◌∷◌, ◌++◌, ◌+◌, length, take, Bool, true, false, refl, ap, sym, ◌∙◌, subst, append_assoc}
+use Rattle.std.proofs.Common.{◌≡◌, ℕ, zero, suc, List, [], ◌++◌, ◌+◌, length, take, Bool, true, false, refl, ap, sym, ◌∙◌, subst, append_assoc}
 use Rattle.std.proofs.Math.Seq.{take-append-add}
 use mathlib.Core.List.{IsPrefix}
 use Rattle.hx_members.specs.Setups.{Setup}
 use Rattle.hx_rules.specs.declared.event.Event.{Event}
-use Rattle.hx_rules.specs.Markets.{Market, opening}
-use Rattle.hx_rules.specs.Steps.{step}
-use Rattle.hx_blog.specs.Feed.{Entries}
-use Rattle.hx_blog.proofs.Prefixes.{prefix_self, prefix_trans}
-use Rattle.hx_desk.specs.declared.entry.Entry.{Entry}
 use Rattle.hx_desk.specs.declared.entry.Done.{Done}
-use Rattle.hx_desk.specs.Entries.{feed_spelled, ledger_from, ledger}
+use Rattle.hx_desk.specs.Entries.{ledger}
 use Rattle.hx_engine.specs.Passes.{PassState, sent_by}
 use Rattle.hx_engine.specs.Exchanges.{SendsAll, SendsFirst, SendsTurn, Stays}
+use Rattle.hx_engine.proofs.PassLaws.{ledger_more}
 use Rattle.hx_sessions.specs.Asked.{CarriesOn, SendsOn, SendsSome}
 use Rattle.hx_sessions.proofs.Taking.{sends_none, sends_placed, sends_join}
-
--- the ledger of a longer history begins with that of a shorter
-ledger_more : (setup : Setup) (a : Market) (xs ys : List Entry) → IsPrefix (ledger_from setup a xs) (ledger_from setup a (xs ++ ys))
-unfolding ledger_from
-ledger_more setup a [] ys = (ledger_from setup a ys, refl)
-ledger_more setup a (x ∷ xs) ys =
-    let rest = ledger_more setup (step setup a x.event).market xs ys in
-    (rest.0, ap (λ (l : Entries Entry). (x, feed_spelled (step setup a x.event).output.feed) ∷ l) rest.1)
-
-ledger_begins : (setup : Setup) (xs ys : List Entry) → IsPrefix (ledger setup xs) (ledger setup (xs ++ ys))
-unfolding ledger
-ledger_begins setup xs ys = ledger_more setup (opening setup) xs ys
+use Rattle.hx_units.proofs.Prefixes.{prefix_self, prefix_trans}
 
 pub carries_none : (may : Bool) (p : PassState) → CarriesOn may p p
 carries_none may p = record { number = refl; known = prefix_self p.known; silent = λ e. refl }
@@ -46,7 +31,7 @@ pub carries_all : (setup : Setup) (may : Bool) (old new : PassState) (events : L
 carries_all setup may old new events done some s =
     let others = sent_by old.number events ++ s.after in
     let more : IsPrefix old.known (ledger setup (s.before ++ others)) =
-    prefix_trans old.known (ledger setup s.before) (ledger setup (s.before ++ others)) s.knew (ledger_begins setup s.before others) in
+    prefix_trans old.known (ledger setup s.before) (ledger setup (s.before ++ others)) s.knew (ledger_more setup s.before others) in
     record { number = s.number; known = subst (IsPrefix old.known) (sym s.knows) more; silent = λ e. absurd (some e) }
 
 pub carries_stays : (may : Bool) (old new : PassState) → Stays old new → CarriesOn may old new

@@ -85,8 +85,8 @@ none_between replies n m e = let none : m - n ≡ 0 = omega arith in ap (λ (k :
 first_between : (replies rest : List (List ℕ)) (row : List ℕ) (n m : ℕ) → 0 < n → n + 1 ≤ m → drop (n - 1) replies ≡ row ∷ rest → between_of replies n m ≡ row ∷ between_of replies (n + 1) m
 first_between replies rest row n m some room is =
     let count : m - n ≡ suc (m - (n + 1)) = omega arith in
-    let place : (n + 1) - 1 ≡ (n - 1) + 1 = omega arith in
-    let rest_after : drop ((n + 1) - 1) replies ≡ rest = ap (λ (k : ℕ). drop k replies) place ∙ sym (drop-drop 1 (n - 1) replies) ∙ ap (λ (xs : List (List ℕ)). drop 1 xs) is in
+    let shifted : (n + 1) - 1 ≡ (n - 1) + 1 = omega arith in
+    let rest_after : drop ((n + 1) - 1) replies ≡ rest = ap (λ (k : ℕ). drop k replies) shifted ∙ sym (drop-drop 1 (n - 1) replies) ∙ ap (λ (xs : List (List ℕ)). drop 1 xs) is in
     ap (λ (k : ℕ). take k (drop (n - 1) replies)) count ∙ ap (take (suc (m - (n + 1)))) is ∙ ap (λ (xs : List (List ℕ)). row ∷ take (m - (n + 1)) xs) (sym rest_after)
 
 run : (replies : List (List ℕ)) (old new : Delivery) (asked : List Asked) (turns : List Turn) → 0 < old.next → Runs replies old new asked turns

@@ -1,6 +1,5 @@
 -- Sessions that were served each in its slot are all served.
-use Rattle.std.proofs.Common.{◌≡◌, ◌<◌, ℕ, suc, List, [], ◌∷◌, ◌++◌, length, map, take, drop, Option, Some, None, Result, sym, ap, ◌∙◌, subst, arith, append-nil, slice_index_or, filter_map, option_map}
-use Rattle.std.proofs.lemmas.List.{take_all, drop_all}
+use Rattle.std.proofs.Common.{◌≡◌, ◌<◌, ℕ, suc, List, [], ◌∷◌, length, map, Option, Some, None, Result, sym, subst, arith, slice_index_or, filter_map, option_map}
 use Rattle.std.specs.List.{cons_option}
 use Rattle.hx_members.specs.Setups.{Setup}
 use Rattle.hx_sessions.specs.declared.ending.Ended.{Ended}
@@ -38,11 +37,6 @@ served_all {S = S} {E = E} side out make waiting served setup own copies parts o
     subst (λ (l : List E). ServesAll setup own copies (map side parts) (map out l)) (sym taken)
     (served_each side out make waiting served setup own copies parts news made len
     (subst (λ (l : List S). (i : ℕ) (d : S) → i < length l → ServesWaiting setup own copies (option_map side (waiting (slice_index_or l i d))) (option_map out (served (slice_index_or news i d)))) filled each))
-
--- what a list has if all of it was written
-pub all_written : {S : Type 0} (n : ℕ) (news items : List S) → length news ≡ length items → n ≡ length news → take n (news ++ drop (length news) items) ≡ news
-all_written n news items len is =
-    ap (λ l. take n (news ++ l)) (drop_all (length news) items (omega (arith, len))) ∙ ap (take n) (append-nil news) ∙ take_all n news (omega (arith, is))
 
 -- what a call that was made with what stands in a slot, and left what stands there then, says of the slot
 pub served_there : {S P E : Type 0} (side : P → Side) (out : E → Side × Result Ended Fault) (waiting : S → Option P) (served : S → Option E) (setup own : Setup) (copies : List DropCopy) {given left old new : S} → given ≡ old → left ≡ new

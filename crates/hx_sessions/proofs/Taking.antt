@@ -3,19 +3,19 @@ use Rattle.std.proofs.Common.{◌≡◌, ℕ, ◌+◌, ◌<◌, ◌≤◌, zero,
 use Rattle.std.specs.Io.KnownBytes.{Consumes, Keeps, IsAtEnd}
 use Rattle.hx_soup.specs.Framers.{Takes as Gives, StopsAt}
 use Rattle.std.proofs.KnownBytes.{Consumes-trans, Consumes-nil, Consumes-kept}
-use Rattle.std.proofs.lemmas.Grind.{flat_map-append}
 use Rattle.std.proofs.lemmas.List.Elements.{All-append}
 use Rattle.std.proofs.lemmas.List.{drop_more, drop_all, map-append}
+use Rattle.std.proofs.lemmas.Option.{same_Some}
 use mathlib.Core.List.{IsPrefix}
 use Rattle.hx_soup.specs.declared.packet.SoupPacket.{SoupPacket}
-use Rattle.hx_soup.specs.Packets.{packet_bytes, stream_of, IsPacket, Cuts, HasFault}
+use Rattle.hx_soup.specs.Packets.{IsPacket, Cuts, HasFault}
+use Rattle.hx_soup.proofs.Pieces.{whole_join}
 use Rattle.hx_sessions.specs.Intakes.{later_action}
 use Rattle.hx_sessions.specs.declared.intake.Action.{Action}
 use Rattle.hx_sessions.specs.declared.intake.Action.TheVariants as action
 use Rattle.hx_rules.specs.declared.event.Event.{Event}
 use Rattle.hx_rules.specs.declared.event.Event.TheVariants.{Message}
 use Rattle.hx_engine.specs.Passes.{placed}
-use Rattle.hx_blog.proofs.Prefixes.{prefix_trans}
 use Rattle.hx_sessions.specs.Asked.{HasLogout, asked, asked_by, AreMessages, SendsOn, SendsSome, Submits, IsStream}
 use Rattle.hx_sessions.specs.declared.ending.Ended.TheVariants as ended
 use Rattle.hx_sessions.specs.declared.ending.Fault.{Fault}
@@ -23,6 +23,7 @@ use Rattle.hx_sessions.specs.declared.ending.Fault.TheVariants as fault
 use Rattle.hx_sessions.specs.declared.ending.Stop.{Stop}
 use Rattle.hx_sessions.specs.declared.ending.Stop.TheVariants as stop
 use Rattle.hx_sessions.specs.Workers.{Acting, Closed, Cut, ActedUntil, AsksUntil, Gathers, Receiving, Received, Why, Takes, TakesMore, Acted}
+use Rattle.hx_units.proofs.Prefixes.{prefix_trans}
 
 -- ---- what was sent
 
@@ -128,11 +129,6 @@ acted_some member old new packets events w f (texts, are, asks) (n, s) =
 
 -- ---- pieces of a stream
 
-whole_join : (stream x rest tail : List ℕ) (ps qs : List SoupPacket) → stream ≡ stream_of ps ++ rest → rest ++ x ≡ stream_of qs ++ tail → stream ++ x ≡ stream_of (ps ++ qs) ++ tail
-whole_join stream x rest tail ps qs first next =
-    ap (λ (s : List ℕ). s ++ x) first ∙ append_assoc (stream_of ps) rest x ∙ ap (λ (s : List ℕ). stream_of ps ++ s) next
-    ∙ sym (append_assoc (stream_of ps) (stream_of qs) tail) ∙ ap (λ (s : List ℕ). s ++ tail) (sym (flat_map-append packet_bytes ps qs))
-
 pub cuts_join : (stream x rest tail : List ℕ) (ps qs : List SoupPacket) → Cuts stream ps rest → Cuts (rest ++ x) qs tail → Cuts (stream ++ x) (ps ++ qs) tail
 cuts_join stream x rest tail ps qs c d = record {
   whole = whole_join stream x rest tail ps qs c.whole d.whole;
@@ -199,12 +195,9 @@ receiving_none member a sent = record {
   acting = record { asks = λ later. refl };
 }
 
-same_retained : (a b : List ℕ) → Some a ≡ Some b → a ≡ b
-same_retained a b e = cc
-
 pub receiving_more : (member : ℕ) (a b c f g : Option (List ℕ)) (piece : List ℕ) (s t u : List (ℕ × Event)) (x : Unit {0}) → Receiving member a b f s t → Consumes b c piece → Takes member f g piece t u (Ok x) → Receiving member a c g s u
 receiving_more member a b c f g piece s t u x r read (retained, rest, packets, done, was, is, cuts, submits, acting) =
-    let same : retained ≡ r.rest = same_retained retained r.rest (sym was ∙ r.retained) in record {
+    let same : retained ≡ r.rest = same_Some retained r.rest (sym was ∙ r.retained) in record {
       bytes = r.bytes ++ piece;
       packets = r.packets ++ packets;
       rest = rest;
@@ -232,7 +225,7 @@ received_here member a b f s t w r why = record {
 
 pub received_stop : (member : ℕ) (a b c f g : Option (List ℕ)) (piece : List ℕ) (s t u : List (ℕ × Event)) (w : Stop) → Receiving member a b f s t → Consumes b c piece → Takes member f g piece t u (Err w) → Received member a c s u w
 received_stop member a b c f g piece s t u w r read (retained, was, inl (packets, done, stream, submits, until)) =
-    let same : retained ≡ r.rest = same_retained retained r.rest (sym was ∙ r.retained) in record {
+    let same : retained ≡ r.rest = same_Some retained r.rest (sym was ∙ r.retained) in record {
       bytes = r.bytes ++ piece;
       lost = [];
       packets = r.packets ++ packets;

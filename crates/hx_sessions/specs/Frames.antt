@@ -2,6 +2,7 @@
 use Rattle.std.specs.Prelude.{ℕ, ◌≡◌, ◌⊎◌, ◌+◌, ◌≤◌, List, [], ◌∷◌, ◌++◌, length, Option, Bool, true, false}
 use Rattle.std.specs.List.{concat}
 use Rattle.std.specs.Io.KnownBytes.{Appends}
+use Rattle.hx_units.specs.Writing.{Writes}
 use Rattle.hx_soup.specs.Kinds.{sequenced_data, server_heartbeat, end_of_session}
 use Rattle.hx_soup.specs.Packets.{framed}
 use Rattle.hx_sessions.specs.Deliveries.{Delivery}
@@ -12,12 +13,6 @@ use Rattle.hx_desk.specs.Desks.{is_over}
 use Rattle.hx_desk.specs.Known.{known_market}
 
 -- ---- writers
-
--- A writer took a front of the bytes, and the rest is left.
-pub record Writes (old new : Option (List ℕ)) (bytes rest : List ℕ) : Type 0 where
-  pub front : List ℕ
-  pub bytes_are : bytes ≡ front ++ rest
-  pub wrote : Appends old new front
 
 -- A writer took all these frames.
 abbrev pub WritesAll : Option (List ℕ) → Option (List ℕ) → List (List ℕ) → Type 0

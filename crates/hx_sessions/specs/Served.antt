@@ -23,7 +23,8 @@ use Rattle.hx_sessions.specs.declared.ending.Fault.TheVariants as fault
 use Rattle.hx_sessions.specs.Asked.{asked, HasLogout, IsStream, Submits, CarriesOn}
 use Rattle.hx_sessions.specs.declared.copies.DropCopy.{DropCopy}
 use Rattle.hx_sessions.specs.Copies.{read_by, may_send}
-use Rattle.hx_sessions.specs.Frames.{Writes, day_over, AreFrames}
+use Rattle.hx_units.specs.Writing.{Writes}
+use Rattle.hx_sessions.specs.Frames.{day_over, AreFrames}
 use Rattle.hx_sessions.specs.Logins.{LogsIn, Opens}
 
 -- What contracts see of a part: the bytes that its input still has and those that its output has taken, if these are

@@ -1,7 +1,7 @@
 -- The answer to a login (SoupBinTCP 3.00, Login Request Packet).
 use Rattle.std.specs.Prelude.{ℕ, ◌+◌, ◌&&◌, ◌||◌, nat_lt, nat_le, Bool, true, false, if◌then◌else◌, List, [], bytes_eq, Option, Some, None, Result, Ok, Err}
 use Rattle.hx_members.specs.Setups.{Setup, login_of}
-use Rattle.hx_text.specs.Spaces.{trimmed}
+use Rattle.hx_units.specs.Spaces.{trimmed}
 use Rattle.hx_soup.specs.declared.login.LoginRequest.{LoginRequest}
 use Rattle.hx_soup.specs.Kinds.{not_authorized, session_not_available}
 use Rattle.hx_sessions.specs.declared.beginning.Start.{Start}

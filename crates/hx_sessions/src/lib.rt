@@ -18,7 +18,6 @@ mod part;
 mod serving;
 mod session;
 mod workers;
-mod writing;
 
 pub use beginning::Start;
 pub use clock_and_gate::{Clock, Gate};

@@ -13,10 +13,10 @@ use crate::ending::{Ended, Fault, Stop};
 use crate::inbound::is_passing;
 use crate::intake::{Action, Intake};
 use crate::login::start;
-use crate::writing::{Broken, write_whole};
 use hx_blog::Reader;
 use hx_engine::{Entry, Exchange, Journal, Venue};
 use hx_soup::{Framer, FramerError, LoginRequest, accepted, rejected};
+use hx_units::{WriteFailed, write_whole};
 use std::alloc::Global;
 use std::io::{Read, Write};
 use std::sync::Wait;
@@ -174,14 +174,14 @@ pub fn admit<V: Venue, J: Journal + Drop, R: Read, W: Write, T: Wait>(
             let frame = accepted(*logins.setup.session(), begun.first);
             match write_whole(&mut line.output, frame.as_slice()) {
                 Ok(()) => Ok((begun, left)),
-                Err(Broken) => Err(Err(Fault::Write)),
+                Err(WriteFailed) => Err(Err(Fault::Write)),
             }
         }
         Err(reason) => {
             let frame = rejected(reason);
             match write_whole(&mut line.output, frame.as_slice()) {
                 Ok(()) => Err(Err(Fault::NotAuthorized { reason })),
-                Err(Broken) => Err(Err(Fault::Write)),
+                Err(WriteFailed) => Err(Err(Fault::Write)),
             }
         }
     }

@@ -9,11 +9,10 @@ ghost use Rattle.hx_sessions.specs.Workers.{SendsMore, StopsIn, SentRound, SentU
 use crate::clock_and_gate::Clock;
 use crate::delivery::{Delivery, Turn};
 use crate::ending::{Ended, Fault, Stop};
-use crate::writing::{Broken, write_whole};
 use arrayvec::ArrayVec;
 use hx_blog::{Reader, Receipt};
 use hx_engine::{Entry, Exchange, Journal, Venue};
-use hx_units::MemberNo;
+use hx_units::{MemberNo, WriteFailed, write_whole};
 use std::io::Write;
 use std::sync::Wait;
 
@@ -39,7 +38,7 @@ fn send<W: Write>(
     rows: &[ArrayVec<u8, 80>],
     ended: bool,
     now: u64,
-) -> Result<(), Broken>
+) -> Result<(), WriteFailed>
     requires live { delivery.old.over ≡ false }
     requires room { delivery.old.next + length rows.now < 2 ^ 64 }
     ensures ok { OnOk result (
@@ -56,7 +55,7 @@ fn send<W: Write>(
             let bytes = frame.as_slice();
             match write_whole(output, bytes) {
                 Ok(()) => Ok(()),
-                Err(Broken) => Err(Broken),
+                Err(WriteFailed) => Err(WriteFailed),
             }
         }
         Turn::Idle | Turn::Over => Ok(()),
@@ -88,7 +87,7 @@ fn fill<C: Clock>(
         let next = &rows[i..];
         match send(batch, delivery, next, false, now) {
             Ok(()) => {}
-            Err(Broken) => return Err(Stop::Faulted(Fault::Write)),
+            Err(WriteFailed) => return Err(Stop::Faulted(Fault::Write)),
         }
     }
     Ok(())
@@ -138,7 +137,7 @@ impl<W: Write, C: Clock> Outbox<W, C> {
                     }
                     return Ok(false);
                 }
-                Err(Broken) => return Err(Stop::Faulted(Fault::Write)),
+                Err(WriteFailed) => return Err(Stop::Faulted(Fault::Write)),
             }
         }
         let mut batch = ArrayVec::<u8, BATCH>::new();
@@ -146,7 +145,7 @@ impl<W: Write, C: Clock> Outbox<W, C> {
         let filled = fill(clock, &mut self.delivery, &rows, left, &mut batch);
         match write_whole(&mut self.output, batch.as_slice()) {
             Ok(()) => {}
-            Err(Broken) => return Err(Stop::Faulted(Fault::Write)),
+            Err(WriteFailed) => return Err(Stop::Faulted(Fault::Write)),
         }
         match filled {
             Ok(()) => Ok(ended || rows.len() as u64 == PAGE),

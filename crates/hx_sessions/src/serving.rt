@@ -107,7 +107,7 @@ fn serve_slots<
         )) (slice_index_or slots.new i d).served) }
 {
     let count = slots.len();
-    let each = |_place: usize, slot: &mut Slot<V, R, W, C>|
+    let each = |_index: usize, slot: &mut Slot<V, R, W, C>|
         requires { IsSend V.row × IsSend J.row × IsSend R.row × IsSend W.row × IsSend C.row
             × IsSync V.row × IsSync G.row × IsSync T.row }
         ensures { ServesWaiting V.setup

@@ -9,7 +9,7 @@ use Rattle.hx_setup.specs.declared.stock.Member.{Member}
 use Rattle.hx_setup.specs.Setups.{Setup}
 use Rattle.hx_setup.specs.SetupText.{text_of, session_line, start_line, stock_line, member_line, setup_lines, setup_text, HasText, Begins, IsBadLine}
 use Rattle.hx_setup.specs.Reading.{IsSession, IsNext, AreStocks, AreMembers, IsLongest}
-use Rattle.hx_text.specs.Cuts.{Lacks}
+use Rattle.hx_units.specs.Cuts.{Lacks}
 use Rattle.hx_setup.proofs.Spelling.{session_feed}
 use Rattle.hx_setup.proofs.Growing.{each_front}
 use Rattle.hx_setup.proofs.WholeSetups.{has_text, stocks_front, members_front, a_stock, a_member, one_stock, one_member, a_session, is_session, no_members}

@@ -1,5 +1,5 @@
 -- Lists of stocks and of members that one more line makes longer.
-use Rattle.std.proofs.Common.{◌≡◌, ℕ, ◌+◌, ◌<◌, ◌≤◌, ◌&&◌, ◌||◌, zero, suc, Bool, true, false, not, cond, nat_lt, List, [], ◌∷◌, ◌++◌, length, map, refl, sym, ap, ◌∙◌, subst, arith, length-append, ltb-true, lt-ltb, le-ltb, get_or, inl, inr}
+use Rattle.std.proofs.Common.{◌≡◌, ℕ, ◌+◌, ◌<◌, ◌&&◌, ◌||◌, zero, suc, Bool, true, false, not, cond, nat_lt, List, [], ◌∷◌, ◌++◌, length, map, refl, sym, ap, ◌∙◌, subst, arith, length-append, ltb-true, lt-ltb, le-ltb, get_or, inl, inr}
 use Rattle.std.specs.Prelude.{◌≢◌, bytes_eq}
 use Rattle.std.specs.List.{AllByRecursion, list_all, list_any}
 use Rattle.std.specs.Char.{to_ascii_lowercase}
@@ -17,6 +17,7 @@ use Rattle.hx_setup.specs.SetupText.{text_of, stock_line, member_line, HasStockL
 use Rattle.hx_setup.specs.Reading.{IsNext, AreStocks, AreMembers, IsLongest}
 use Rattle.std.proofs.lemmas.Bool.{and_from, and_parts}
 use Rattle.hx_units.proofs.Booleans.{same_bools}
+use Rattle.hx_units.proofs.Lists.{all_pushed}
 use Rattle.hx_setup.proofs.SetupLaws.{is_login-same, symbol-flip}
 use Rattle.hx_setup.proofs.Spelling.{next_same, stock_feed, member_feed, stock_same, member_same}
 
@@ -29,10 +30,6 @@ each_front P (x ∷ xs) ys h = (h.0, each_front P xs ys h.1)
 pub each_item : {A : Type 0} (P : A → Type 0) (xs : List A) (y : A) (ys : List A) → AllByRecursion P (xs ++ y ∷ ys) → P y
 each_item P [] y ys h = h.0
 each_item P (x ∷ xs) y ys h = each_item P xs y ys h.1
-
-pub each_more : {A : Type 0} (P : A → Type 0) (xs : List A) (y : A) → AllByRecursion P xs → P y → AllByRecursion P (xs ++ y ∷ [])
-each_more P [] y h p = (p, tt)
-each_more P (x ∷ xs) y h p = (h.0, each_more P xs y h.1 p)
 
 -- ---- what holds of each pair, in order
 
@@ -140,7 +137,7 @@ text_more line text rest after items x e next =
 
 pub stocks_more : (stocks : List Stock) (s : Stock) → AreStocks stocks → HasStockLine s → list_all (λ (t : Stock). not (is_symbol t.symbol s.symbol)) stocks ≡ true → length stocks < 1000 → AreStocks (stocks ++ s ∷ [])
 stocks_more stocks s are has fresh few = record {
-  each = each_more HasStockLine stocks s are.each has;
+  each = all_pushed HasStockLine stocks s are.each has;
   names = names_are (stocks ++ s ∷ []) ∙ pairwise-more other_name stocks s
       ∙ and_from (pairwise other_name stocks) (list_all (λ t. other_name t s) stocks) (sym (names_are stocks) ∙ are.names) fresh;
   few = omega (arith, few, length-append stocks (s ∷ []));
@@ -150,7 +147,7 @@ pub members_more : (members : List Member) (m : Member) → AreMembers members �
     → list_all (λ (n : Member). nat_lt n.number m.number) members ≡ true → list_all (λ (n : Member). not (is_login n.user m.user)) members ≡ true
     → length members < 4095 → AreMembers (members ++ m ∷ [])
 members_more members m are has above fresh few = record {
-  each = each_more HasMemberLine members m are.each has;
+  each = all_pushed HasMemberLine members m are.each has;
   numbers = numbers_are (members ++ m ∷ []) ∙ pairwise-more lower_number members m
       ∙ and_from (pairwise lower_number members) (list_all (λ n. lower_number n m) members) (sym (numbers_are members) ∙ are.numbers) above;
   users = users_are (members ++ m ∷ []) ∙ pairwise-more other_user members m
@@ -159,11 +156,6 @@ members_more members m are has above fresh few = record {
 }
 
 -- ---- why no line follows
-
--- none of such a form
-pub no_line : {A : Type 0} (line : A → List ℕ) (Has : A → Type 0) (items : List A) (rest : List ℕ) → ((x : A) (after : List ℕ) → IsNext line Has rest x after → ⊥)
-    → (x : A) (after : List ℕ) → AllByRecursion Has (items ++ x ∷ []) → rest ≢ line x ++ 10 ∷ after
-no_line line Has items rest none x after each e = none x after (record { has = each_item Has items x [] each; of_text = e })
 
 -- the name is taken
 pub name_taken : (stocks : List Stock) (s : Stock) (rest later : List ℕ) → IsNext stock_line HasStockLine rest s later → list_all (λ (t : Stock). not (is_symbol t.symbol s.symbol)) stocks ≡ false
@@ -183,10 +175,6 @@ member_refused members m rest later next refused item after are e =
     let users = and_parts (pairwise other_user members) (list_all (λ n. other_user n item) members) (sym (pairwise-more other_user members item) ∙ sym (users_are (members ++ item ∷ [])) ∙ are.users) in
     true≢false (sym (and_from (list_all (λ n. lower_number n item) members) (list_all (λ n. other_user n item) members) numbers.1 users.1)
     ∙ ap (λ (i : Member). list_all (λ (n : Member). nat_lt n.number i.number) members && list_all (λ (n : Member). not (is_login n.user i.user)) members) same.0 ∙ refused)
-
--- the list has the largest length
-pub too_many : {A : Type 0} (items : List A) (x : A) (most : ℕ) → most ≤ length items → length (items ++ x ∷ []) ≤ most → ⊥
-too_many items x most full few = omega (arith, full, few, length-append items (x ∷ []))
 
 -- ---- the last number is the greatest
 

@@ -1,18 +1,18 @@
 -- Indexes of lists with keys that differ, and logins.
-use Rattle.std.proofs.Common.{◌≡◌, ℕ, ◌+◌, ◌<◌, ◌∷◌, [], List, Bool, true, false, cond, not, ◌==◌, ◌&&◌, ◌||◌, nat_lt, zero, suc, length, map, take, drop, Option, Some, None, slice_get, refl, ap, sym, ◌∙◌, inl, inr, arith, ltb-true, ltb-false, get_or, Bor, is_some}
+use Rattle.std.proofs.Common.{◌≡◌, ℕ, ◌+◌, ◌<◌, ◌∷◌, [], List, Bool, true, false, cond, not, ◌==◌, ◌&&◌, ◌||◌, nat_lt, zero, suc, length, map, take, Option, Some, None, slice_get, refl, ap, sym, ◌∙◌, inl, inr, arith, ltb-true, ltb-false, get_or, Bor, is_some}
 use Rattle.std.specs.List.{find, list_any, list_all}
 use Rattle.std.specs.Map.{lookup}
 use Rattle.std.specs.Option.{option_map, option_map_or, IfSome}
 use Rattle.std.proofs.lemmas.Option.{same_Some, slice_get_past, slice_get-get_or}
 use Rattle.std.specs.Prelude.{bytes_eq}
-use Rattle.std.proofs.lemmas.Bool.{true≢false, cases_Bool}
+use Rattle.std.proofs.lemmas.Bool.{true≢false, cases_Bool, not-true}
 use Rattle.std.proofs.lemmas.Bool.Decides.{Decides-eqb}
 use Rattle.std.proofs.lemmas.Slice.Eq.{bytes_eq-Decides}
 use Rattle.hx_units.specs.Names.{is_symbol}
 use Rattle.hx_units.specs.declared.names.Symbol.{Symbol}
 use Rattle.hx_setup.specs.declared.stock.Stock.{Stock}
 use Rattle.hx_setup.specs.declared.stock.Member.{Member}
-use Rattle.hx_text.specs.Spaces.{without_back}
+use Rattle.hx_units.specs.Spaces.{without_back}
 use Rattle.hx_setup.specs.Setups.{Setup, indices_by, locate_from, locate_of, stock_at, names_differ, numbers_rise}
 use Rattle.std.proofs.lemmas.Bool.{and_parts}
 use Rattle.hx_units.proofs.Booleans.{same_bools}
@@ -58,10 +58,6 @@ pub lookup-locates_of : (n : ℕ) (stocks : List Stock) (symbol : Symbol) → lo
 lookup-locates_of n [] symbol = refl
 lookup-locates_of n (s ∷ stocks) symbol = ap (λ o. cond (is_symbol symbol s.symbol) (Some n) o) (lookup-locates_of (n + 1) stocks symbol)
 
-not_true : (b : Bool) → not b ≡ true → b ≡ false
-not_true true h = absurd (true≢false (sym h))
-not_true false h = refl
-
 -- what a list has passes no test that none passes, and each that all pass
 any-at : {A : Type 0} (p : A → Bool) (xs : List A) (i : ℕ) (x : A) → slice_get xs i ≡ Some x → list_any p xs ≡ false → p x ≡ false
 any-at p [] i x h n = absurd cc
@@ -88,7 +84,7 @@ pub apart-names : (stocks : List Stock) → names_differ stocks ≡ true → Are
 apart-names [] h = tt
 apart-names (s ∷ ss) h =
     let p = and_parts (not (list_any (λ (o : Stock). is_symbol s.symbol o.symbol) ss)) (names_differ ss) h in
-    (λ i y g. symbol-flip y.symbol s.symbol ∙ any-at (λ (o : Stock). is_symbol s.symbol o.symbol) ss i y g (not_true (list_any (λ (o : Stock). is_symbol s.symbol o.symbol) ss) p.0), apart-names ss p.1)
+    (λ i y g. symbol-flip y.symbol s.symbol ∙ any-at (λ (o : Stock). is_symbol s.symbol o.symbol) ss i y g (not-true (list_any (λ (o : Stock). is_symbol s.symbol o.symbol) ss) p.0), apart-names ss p.1)
 
 pub apart-numbers : (members : List Member) → numbers_rise members ≡ true → AreApart (λ a b. a == b) (λ (m : Member). m.number) members
 apart-numbers [] h = tt
@@ -128,11 +124,6 @@ pub locate-at : (setup : Setup) (locate : ℕ) (s : Stock) (symbol : Symbol) →
     → locate_of setup symbol ≡ Some locate
 locate-at setup zero s symbol d h e = absurd cc
 locate-at setup (suc index) s symbol d h e = locate_from-at 1 setup.stocks index (suc index) s symbol (apart-names setup.stocks d) h e (omega arith)
-
-pub drop-next : {A : Type 0} (xs : List A) (i : ℕ) (x : A) → slice_get xs i ≡ Some x → drop i xs ≡ x ∷ drop (suc i) xs
-drop-next [] i x h = absurd cc
-drop-next (y ∷ ys) zero x h = λ j. same_Some y x h j ∷ ys
-drop-next (y ∷ ys) (suc i) x h = drop-next ys i x h
 
 -- texts of the same length are the same, if they are so without the spaces on their right
 pub without_back-same : (a b : List ℕ) → length a ≡ length b → without_back a ≡ without_back b → a ≡ b

@@ -8,9 +8,10 @@ use Rattle.hx_setup.specs.declared.stock.Member.{Member}
 use Rattle.hx_setup.specs.Setups.{Setup}
 use Rattle.hx_setup.specs.SetupText.{text_of, session_line, start_line, stock_line, member_line, setup_lines, HasStockLine, HasMemberLine, HasText}
 use Rattle.hx_setup.specs.Reading.{IsSession, IsNext}
-use Rattle.hx_text.specs.Cuts.{Lacks}
-use Rattle.hx_text.proofs.Splits.{same_split}
+use Rattle.hx_units.specs.Cuts.{Lacks}
+use Rattle.hx_units.proofs.Splits.{same_split}
 use Rattle.hx_setup.proofs.Spelling.{session_feed, start_feed, stock_feed, member_feed, stock_same, member_same, stock_not_member}
+use Rattle.hx_units.proofs.Lists.{line_feed-not_nil}
 
 -- ---- lines have no line feed in them
 
@@ -61,13 +62,9 @@ goes (x ∷ xs) (y ∷ ys) rest after p q fits e =
     let cut = same_split 10 x (text_of xs ++ rest) y (text_of ys ++ after) p.0 q.0 (sym (first_line x xs rest) ∙ e ∙ first_line y ys after) in
     goes_more x y xs ys rest after cut.0 (goes xs ys rest after p.1 q.1 (omega (arith, fits)) cut.1)
 
-pub some_byte : (x ys : List ℕ) → x ++ 10 ∷ ys ≡ [] → ⊥
-some_byte [] ys e = absurd cc
-some_byte (b ∷ x) ys e = absurd cc
-
 pub goes_whole : (xs ys : List (List ℕ)) (rest : List ℕ) → AllByRecursion (Lacks 10) xs → AllByRecursion (Lacks 10) ys → text_of xs ++ rest ≡ text_of ys → Goes xs ys rest []
 goes_whole [] ys rest p q e = record { more = ys; lines_are = refl; rest_is = e ∙ sym (append-nil (text_of ys)) }
-goes_whole (x ∷ xs) [] rest p q e = absurd (some_byte x (text_of xs ++ rest) (sym (first_line x xs rest) ∙ e))
+goes_whole (x ∷ xs) [] rest p q e = absurd (line_feed-not_nil x (text_of xs ++ rest) (sym (first_line x xs rest) ∙ e))
 goes_whole (x ∷ xs) (y ∷ ys) rest p q e =
     let cut = same_split 10 x (text_of xs ++ rest) y (text_of ys) p.0 q.0 (sym (first_line x xs rest) ∙ e ∙ append_assoc y (10 ∷ []) (text_of ys)) in
     goes_more x y xs ys rest [] cut.0 (goes_whole xs ys rest p.1 q.1 cut.1)

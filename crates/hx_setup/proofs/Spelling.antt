@@ -9,16 +9,16 @@ use Rattle.std.proofs.lemmas.List.Elements.{All-cons, All-append}
 use Rattle.hex.specs.Hex.{encode_lower}
 use Rattle.hx_setup.specs.declared.stock.Stock.{Stock}
 use Rattle.hx_setup.specs.declared.stock.Member.{Member}
-use Rattle.hx_text.specs.Spaces.{without_back}
+use Rattle.hx_units.specs.Spaces.{without_back}
 use Rattle.hx_setup.specs.Setups.{is_filled, is_visible, is_capital_or_digit, is_member}
 use Rattle.hx_setup.specs.SetupText.{session_line, start_line, stock_line, member_fields, member_line, HasStockLine, HasMemberLine}
 use Rattle.hx_setup.specs.Reading.{IsSession, AreFields, IsNext}
-use Rattle.hx_text.specs.Cuts.{Lacks}
+use Rattle.hx_units.specs.Cuts.{Lacks}
 use Rattle.std.proofs.lemmas.Bool.{and_from, and_parts}
 use Rattle.hx_setup.proofs.SetupLaws.{without_back-same}
 use Rattle.hx_setup.proofs.Words.{lacks, lacks-hex, hex-same, decimal-same}
-use Rattle.hx_text.proofs.Splits.{same_split, none_split}
-use Rattle.hx_text.proofs.Numbers.{lacks-decimal}
+use Rattle.hx_units.proofs.Splits.{same_split, none_split}
+use Rattle.hx_units.proofs.Decimals.{lacks-decimal}
 
 -- ---- what the fields of a line are
 

@@ -8,7 +8,8 @@ use Rattle.hx_setup.specs.declared.stock.Stock.{Stock}
 use Rattle.hx_setup.specs.declared.stock.Member.{Member}
 use Rattle.hx_setup.specs.Setups.{Setup}
 use Rattle.hx_setup.specs.SetupText.{text_of, session_line, start_line, setup_lines, setup_text, HasText, Begins, IsBadLine}
-use Rattle.hx_setup.proofs.SetupLines.{setup_feeds, first_line, goes_whole, some_byte, same_head, same_tail, same_lines}
+use Rattle.hx_setup.proofs.SetupLines.{setup_feeds, first_line, goes_whole, same_head, same_tail, same_lines}
+use Rattle.hx_units.proofs.Lists.{line_feed-not_nil}
 
 begins_less : (m n : ℕ) (text : List ℕ) → m ≤ n → Begins n text → Begins m text
 begins_less m n text less b = record {
@@ -65,4 +66,4 @@ one_text a b p q e =
   where
     at : (more : List (List ℕ)) → setup_lines b ≡ setup_lines a ++ more → [] ≡ text_of more ++ [] → a ≡ b
     at [] same r = same_setup a b p q (same ∙ append-nil (setup_lines a))
-    at (z ∷ more) same r = absurd (some_byte z (text_of more ++ []) (sym (r ∙ first_line z more [])))
+    at (z ∷ more) same r = absurd (line_feed-not_nil z (text_of more ++ []) (sym (r ∙ first_line z more [])))

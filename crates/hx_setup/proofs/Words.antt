@@ -11,7 +11,7 @@ use Rattle.std.proofs.lemmas.Fmt.{decimal_injective}
 use Rattle.std.proofs.lemmas.List.Elements.{All-nil, All-cons, All-weaker}
 use Rattle.hex.specs.Hex.{encode_lower, lower_digits, decode_of, decode_sized, is_hex_digit, IsBytes}
 use Rattle.hex.proofs.HexLemmas.{decode_of-encode_lower, decode_of-ok, decode_sized-twice, decode_sized-ok, length-encode_with}
-use Rattle.hx_text.specs.Spaces.{without_back}
+use Rattle.hx_units.specs.Spaces.{without_back}
 use Rattle.hx_setup.specs.Setups.{is_filled}
 use Rattle.std.proofs.lemmas.Bool.{and_parts, and_from}
 

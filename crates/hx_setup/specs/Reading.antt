@@ -3,7 +3,7 @@ use Rattle.std.specs.Prelude.{◌≡◌, ◌≢◌, ℕ, ◌≤◌, true, List, 
 use Rattle.std.specs.List.{AllByRecursion}
 use Rattle.hx_units.specs.Letters.{space, line_feed}
 use Rattle.hx_units.specs.Limits.{greatest_member}
-use Rattle.hx_text.specs.Cuts.{Lacks}
+use Rattle.hx_units.specs.Cuts.{Lacks}
 use Rattle.hx_setup.specs.declared.stock.Stock.{Stock}
 use Rattle.hx_setup.specs.declared.stock.Member.{Member}
 use Rattle.hx_setup.specs.Setups.{most_stocks, is_session, names_differ, numbers_rise, users_differ}

@@ -9,7 +9,7 @@ use Rattle.hx_setup.specs.declared.stock.Stock.{Stock}
 use Rattle.hx_setup.specs.declared.stock.Member.{Member}
 use Rattle.hx_setup.specs.declared.fault.SetupError.{SetupError}
 use Rattle.hx_setup.specs.declared.fault.SetupError.TheVariants as fault
-use Rattle.hx_text.specs.Spaces.{without_back}
+use Rattle.hx_units.specs.Spaces.{without_back}
 use Rattle.hx_setup.specs.Setups.{Setup, IsSetup, is_stock, is_member}
 
 -- ---- the lines, without their line feeds

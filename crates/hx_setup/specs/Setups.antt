@@ -3,7 +3,7 @@ use Rattle.std.specs.Prelude.{◌≡◌, ℕ, ◌+◌, ◌==◌, ◌&&◌, ◌||
 use Rattle.std.specs.List.{find, list_any, list_all}
 use Rattle.std.specs.Option.{option_map, option_map_or}
 use Rattle.std.specs.Char.{to_ascii_lowercase, is_ascii_alphanumeric}
-use Rattle.hx_text.specs.Spaces.{without_back}
+use Rattle.hx_units.specs.Spaces.{without_back}
 use Rattle.hx_units.specs.Letters.{letter, space}
 use Rattle.hx_units.specs.Limits.{greatest_member}
 use Rattle.hx_units.specs.Names.{is_symbol}

@@ -5,12 +5,11 @@ ghost use Rattle.std.specs.Char.{is_ascii_alphanumeric};
 ghost use Rattle.std.specs.Fmt.{decimal};
 ghost use Rattle.hex.specs.Hex.{encode_lower, IsBytes};
 ghost use Rattle.hx_units.specs.Ranges.{IsMember};
-ghost use Rattle.hx_text.specs.Spaces.{without_back};
+ghost use Rattle.hx_units.specs.Spaces.{without_back};
 ghost use Rattle.hx_setup.specs.Setups.{is_filled, is_visible, is_capital_or_digit};
 
 use hex::FromHex;
-use hx_text::read_number;
-use hx_units::MemberNo;
+use hx_units::{MemberNo, read_number};
 
 /// The text after this front.
 pub(crate) fn later<'a>(text: &'a [u8], front: &[u8]) -> Option<&'a [u8]>

@@ -7,8 +7,7 @@ ghost use Rattle.hx_setup.specs.Reading.{IsSession, AreFields, IsNext};
 
 use crate::fields::{firm, later, limit, login_name, member_number, name, session, tail};
 use crate::stock::{Member, Stock};
-use hx_text::split_once;
-use hx_units::{Firm, Symbol};
+use hx_units::{Firm, Symbol, split_once};
 
 /// The fields of a member's line, as they are spelled.
 #[derive(Clone, Copy)]

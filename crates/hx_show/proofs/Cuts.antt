@@ -11,7 +11,7 @@ use Rattle.std.proofs.lemmas.Slice.Eq.{bytes_eq-Decides}
 use Rattle.std.proofs.lemmas.List.Elements.{All-head, All-tail}
 use Rattle.std.proofs.lemmas.Fmt.{decimal_is_IsNumeral}
 use Rattle.hex.specs.Hex.{decode_of}
-use Rattle.hx_text.specs.Cuts.{Lacks}
+use Rattle.hx_units.specs.Cuts.{Lacks}
 use Rattle.hx_show.specs.Lines.{cut, number_of, is_digit, bytes_of}
 
 bytes_same : (xs ys : List ℕ) → xs ≡ ys → bytes_eq xs ys ≡ true

@@ -1,4 +1,3 @@
 pub mod Cuts
-pub mod Writes
 pub mod Texts
 pub mod Spelled

@@ -9,7 +9,7 @@ use Rattle.std.proofs.lemmas.Fmt.{decimal_is_IsNumeral, decimal_nonempty}
 use Rattle.std.proofs.lemmas.Str.Parse.{digit_at}
 use Rattle.hex.specs.Hex.{encode_lower, encode_with, lower_digits, IsBytes}
 use Rattle.hex.proofs.HexLemmas.{length-encode_with, decode_of-encode_lower}
-use Rattle.hx_text.proofs.Numbers.{lacks-decimal}
+use Rattle.hx_units.proofs.Decimals.{lacks-decimal}
 use Rattle.hx_show.specs.declared.choice.Choice.{Choice}
 use Rattle.hx_show.specs.declared.line.Head.{Head}
 use Rattle.hx_show.specs.declared.line.Head.TheVariants as head

@@ -8,10 +8,11 @@ use Rattle.std.proofs.KnownBytes.{Consumes-trans, Appends-trans, Appends-nil}
 use Rattle.std.proofs.lemmas.Bool.{ne_eqb, eqb-true, cond-true, cond-false, cases_Bool}
 use Rattle.std.proofs.lemmas.List.{append-nil, nil_from_length, length-append, take-append-le, take_all}
 use Rattle.std.proofs.lemmas.List.Elements.{All-nil, All-head, All-tail, All-push}
-use Rattle.hx_text.specs.Cuts.{Lacks}
+use Rattle.hx_units.specs.Cuts.{Lacks}
 use Rattle.hx_show.specs.declared.choice.Choice.{Choice}
 use Rattle.hx_show.specs.Lines.{shown_line}
-use Rattle.hx_show.specs.Showing.{lines_in, shown, IsAllOf, ReadsLine, IsCut, Writes, ShowsAll, ShowsSome}
+use Rattle.hx_units.specs.Writing.{Writes}
+use Rattle.hx_show.specs.Showing.{lines_in, shown, IsAllOf, ReadsLine, IsCut, ShowsAll, ShowsSome}
 
 -- ---- the lines of a text
 

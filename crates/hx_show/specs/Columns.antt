@@ -1,6 +1,6 @@
 -- Columns of a line of words.
 use Rattle.std.specs.Prelude.{ℕ, ◌-◌, List, ◌++◌, length, codes}
-use Rattle.hx_text.specs.Spaces.{spaces}
+use Rattle.hx_units.specs.Spaces.{spaces}
 
 -- what stands between two columns: two spaces
 abbrev pub gap : List ℕ

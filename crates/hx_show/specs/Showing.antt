@@ -5,7 +5,7 @@ use Rattle.std.specs.Io.{StopsAt}
 use Rattle.std.specs.Io.BufRead.{take_through}
 use Rattle.std.specs.Io.KnownBytes.{Consumes, Appends}
 use Rattle.hx_units.specs.Letters.{line_feed}
-use Rattle.hx_text.specs.Cuts.{Lacks}
+use Rattle.hx_units.specs.Cuts.{Lacks}
 use Rattle.hx_show.specs.declared.choice.Choice.{Choice}
 use Rattle.hx_show.specs.Lines.{shown_line}
 
@@ -53,9 +53,3 @@ pub record ShowsSome (choice : Choice) (r s w v : Option (List ℕ)) : Type 0 wh
   pub rest : List ℕ
   pub is_front : shown choice text ≡ front ++ rest
   pub wrote : Appends w v front
-
--- a writer took a front of the bytes, and the rest is left
-pub record Writes (old new : Option (List ℕ)) (bytes rest : List ℕ) : Type 0 where
-  pub front : List ℕ
-  pub bytes_are : bytes ≡ front ++ rest
-  pub wrote : Appends old new front

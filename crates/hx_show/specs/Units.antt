@@ -2,7 +2,7 @@
 use Rattle.std.specs.Prelude.{ℕ, ◌-◌, ◌/◌, ◌%◌, ◌==◌, ◌&&◌, nat_le, if◌then◌else◌, List, ◌++◌, length, map, replicate, codes}
 use Rattle.std.specs.Fmt.{decimal}
 use Rattle.hx_units.specs.Letters.{letter}
-use Rattle.hx_text.specs.Spaces.{trimmed}
+use Rattle.hx_units.specs.Spaces.{trimmed}
 
 -- a number in decimal with at least `width` digits, filled with noughts in front
 abbrev pub zero_filled : (width number : ℕ) → List ℕ

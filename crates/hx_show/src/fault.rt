@@ -1,6 +1,6 @@
 //! Why a text was not shown to its end.
 
-use hx_units::NoMemory;
+use hx_units::{NoMemory, WriteFailed};
 use std::alloc::{AllocError, AllocFailed};
 use thiserror::Error;
 
@@ -33,5 +33,11 @@ impl<T: Drop> From<AllocFailed<T>> for ShowError {
 impl From<NoMemory> for ShowError {
     fn from(_error: NoMemory) -> ShowError {
         ShowError::NoMemory
+    }
+}
+
+impl From<WriteFailed> for ShowError {
+    fn from(_error: WriteFailed) -> ShowError {
+        ShowError::Write
     }
 }

@@ -17,7 +17,6 @@ mod reading;
 mod row;
 mod showing;
 mod units;
-mod writing;
 
 pub use choice::Choice;
 pub use fault::ShowError;

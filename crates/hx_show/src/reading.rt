@@ -4,8 +4,7 @@ ghost use Rattle.std.specs.List.{list_all};
 ghost use Rattle.hx_show.specs.Lines.{cut, number_of, is_digit, bytes_of};
 
 use hex::FromHexError;
-use hx_text::{read_number, split_once};
-use hx_units::NoMemory;
+use hx_units::{NoMemory, read_number, split_once};
 use std::alloc::Global;
 
 // The most digits of a message: those of 1,023 bytes.

@@ -7,7 +7,7 @@ ghost use Rattle.hx_show.specs.Showing.{ReadsLine, IsCut, ShowsAll, ShowsSome};
 use crate::choice::Choice;
 use crate::fault::ShowError;
 use crate::row::show_line;
-use crate::writing::write_whole;
+use hx_units::write_whole;
 use std::alloc::Global;
 use std::io::{BufRead, ErrorKind, Write};
 

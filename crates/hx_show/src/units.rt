@@ -4,7 +4,7 @@ ghost use Rattle.std.specs.Fmt.{decimal};
 ghost use Rattle.hx_show.specs.Units.{zero_filled, time_of_day, shares_words, dollars_words, printable, name_words};
 
 use crate::columns::put_repeated;
-use hx_text::trimmed;
+use hx_units::trimmed;
 use itoa::Buffer;
 use std::alloc::AllocError;
 

@@ -1,17 +1,13 @@
 -- A login is read from its payload exactly if the payload is its fields.
-use Rattle.std.proofs.Common.{◌≡◌, ℕ, ◌+◌, ◌≤◌, List, ◌++◌, length, drop, refl, sym, ap, ◌∙◌, subst, arith}
-use Rattle.std.proofs.lemmas.List.{length-take, length-drop}
+use Rattle.std.proofs.Common.{◌≡◌, ℕ, List, ◌++◌, length, refl, sym, ap, ◌∙◌, subst, arith}
 use Rattle.hx_units.specs.Fields.{text_at}
-use Rattle.hx_units.proofs.FieldLaws.{cells, by_cells}
+use Rattle.hx_units.proofs.FieldLaws.{cells, by_cells, length-text_at}
 use Rattle.hx_soup.specs.declared.login.LoginRequest.{LoginRequest}
 use Rattle.hx_soup.specs.Logins.{SpellsNumber, IsLogin}
 
 -- the fields of a login at their offsets
 abbrev pub fields : List ℕ → ℕ → LoginRequest
 fields payload n = record { user = text_at 0 6 payload; password = text_at 6 10 payload; session = text_at 16 10 payload; sequence = n }
-
-length-text_at : (at n : ℕ) (bytes : List ℕ) → at + n ≤ length bytes → length (text_at at n bytes) ≡ n
-length-text_at at n bytes h = omega (arith, length-take n (drop at bytes), length-drop at bytes)
 
 pub fields-found : (payload : List ℕ) (n : ℕ) → length payload ≡ 46 → SpellsNumber (text_at 26 20 payload) n → IsLogin payload (fields payload n)
 fields-found payload n len spells = record {
@@ -42,9 +38,6 @@ parts_of : (payload : List ℕ) (login : LoginRequest) (is : IsLogin payload log
 parts_of payload login is =
     let P : List ℕ → Type 0 = λ bytes. Parts bytes login.user login.password login.session is.text in
     subst P (sym is.whole) (parts login.user login.password login.session is.text is.user is.password is.session is.text_len)
-
-pub login_len : (payload : List ℕ) (login : LoginRequest) → IsLogin payload login → length payload ≡ 46
-login_len payload login is = (parts_of payload login is).len
 
 pub login_number : (payload : List ℕ) (login : LoginRequest) → IsLogin payload login → SpellsNumber (text_at 26 20 payload) login.sequence
 login_number payload login is = let P : List ℕ → Type 0 = λ text. SpellsNumber text login.sequence in subst P (sym (parts_of payload login is).text_is) is.sequence

@@ -3,9 +3,9 @@ use Rattle.std.proofs.Common.{◌≡◌, ℕ, ◌^◌, ◌<◌, List, Option, So
 use Rattle.std.specs.Prelude.{IfSome}
 use Rattle.std.specs.Option.{SomeIff}
 use Rattle.std.specs.Str.Parse.{AllDigits, digits_value}
-use Rattle.hx_text.specs.Spaces.{trimmed}
+use Rattle.hx_units.specs.Spaces.{trimmed}
 use Rattle.hx_soup.specs.Logins.{SpellsNumber}
-use Rattle.hx_text.proofs.Trimming.{trimmed-digits, trimmed_spaces}
+use Rattle.hx_units.proofs.Trimming.{trimmed-digits, trimmed_spaces}
 
 -- what is read of the digits, and of the text that has spaces round them
 abbrev pub IsRead : List ℕ → Option ℕ → Type 0

@@ -4,6 +4,7 @@ use Rattle.std.specs.List.{concat}
 use Rattle.std.proofs.lemmas.List.{append-nil}
 use Rattle.std.proofs.lemmas.Grind.{flat_map-append}
 use Rattle.std.proofs.lemmas.List.Elements.{All-append}
+use Rattle.std.proofs.lemmas.Option.{same_Some}
 use Rattle.hx_soup.specs.declared.packet.SoupPacket.{SoupPacket}
 use Rattle.hx_soup.specs.Packets.{packet_bytes, stream_of, IsPacket, IsUnfinished, Cuts, HasFault}
 use Rattle.hx_soup.specs.Framers.{GivesAll}
@@ -17,7 +18,7 @@ Reads stream packets None = (bad : ℕ) × HasFault stream packets bad
 
 -- ---- two parts of a stream
 
-whole_join : (stream x rest tail : List ℕ) (ps qs : List SoupPacket) → stream ≡ stream_of ps ++ rest → rest ++ x ≡ stream_of qs ++ tail → stream ++ x ≡ stream_of (ps ++ qs) ++ tail
+pub whole_join : (stream x rest tail : List ℕ) (ps qs : List SoupPacket) → stream ≡ stream_of ps ++ rest → rest ++ x ≡ stream_of qs ++ tail → stream ++ x ≡ stream_of (ps ++ qs) ++ tail
 whole_join stream x rest tail ps qs first next =
     ap (λ (s : List ℕ). s ++ x) first ∙ append_assoc (stream_of ps) rest x ∙ ap (λ (s : List ℕ). stream_of ps ++ s) next
     ∙ sym (append_assoc (stream_of ps) (stream_of qs) tail) ∙ ap (λ (s : List ℕ). s ++ tail) (sym (flat_map-append packet_bytes ps qs))
@@ -54,9 +55,6 @@ fault_join stream x ps bad f = record {
 
 -- ---- the pieces
 
-same_retained : (a b : List ℕ) → Some a ≡ Some b → a ≡ b
-same_retained a b e = cc
-
 not_failed : (a : List ℕ) → Some a ≡ None → ⊥
 not_failed a e = cc
 
@@ -85,13 +83,13 @@ reads_all retained [] packets new u (is, none) =
 reads_all retained (piece ∷ pieces) packets new u (between, first, others, g, rest, is) =
     subst (λ (ps : List SoupPacket). Reads (retained ++ (piece ++ concat pieces)) ps new) (sym is) (first_piece retained piece (concat pieces) (first ++ others) new (elim g [
       | inl t ↦
-          let cut : Cuts (retained ++ piece) first t.rest = subst (λ (k : List ℕ). Cuts (k ++ piece) first t.rest) (same_retained t.retained retained (sym t.was)) t.cuts in
+          let cut : Cuts (retained ++ piece) first t.rest = subst (λ (k : List ℕ). Cuts (k ++ piece) first t.rest) (same_Some t.retained retained (sym t.was)) t.cuts in
           reads_join (retained ++ piece) (concat pieces) t.rest first others new cut
           (reads_all t.rest pieces others new cut.unfinished (subst (λ (o : Option (List ℕ)). GivesAll o new pieces others) t.is rest))
       | inr i ↦ elim i [
         | inl s ↦
             let none = none_after pieces others new (subst (λ (o : Option (List ℕ)). GivesAll o new pieces others) s.1.is rest) in
-            let f : HasFault (retained ++ piece) first s.0 = subst (λ (k : List ℕ). HasFault (k ++ piece) first s.0) (same_retained s.1.retained retained (sym s.1.was)) s.1.fault in
+            let f : HasFault (retained ++ piece) first s.0 = subst (λ (k : List ℕ). HasFault (k ++ piece) first s.0) (same_Some s.1.retained retained (sym s.1.was)) s.1.fault in
             let r : Reads ((retained ++ piece) ++ concat pieces) first None = (s.0, fault_join (retained ++ piece) (concat pieces) first s.0 f) in
             subst (λ (o : Option (List ℕ)). Reads ((retained ++ piece) ++ concat pieces) (first ++ others) o) (sym none.1)
             (subst (λ (ps : List SoupPacket). Reads ((retained ++ piece) ++ concat pieces) ps None) (sym (ap (λ (ps : List SoupPacket). first ++ ps) none.0 ∙ append-nil first)) r)

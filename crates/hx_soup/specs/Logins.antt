@@ -1,7 +1,7 @@
 -- Logins and the answers to them (SoupBinTCP 3.00, Login Request Packet and Login Accepted Packet).
 use Rattle.std.specs.Prelude.{ℕ, ◌≡◌, ◌-◌, ◌^◌, ◌<◌, List, ◌++◌, length, decimal}
 use Rattle.std.specs.Str.Parse.{AllDigits, digits_value}
-use Rattle.hx_text.specs.Spaces.{spaces}
+use Rattle.hx_units.specs.Spaces.{spaces}
 use Rattle.hx_soup.specs.declared.login.LoginRequest.{LoginRequest}
 
 -- A number as a client may write it: spaces, decimal digits, spaces. No digit at all is 0.

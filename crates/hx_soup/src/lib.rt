@@ -13,6 +13,6 @@ mod step;
 
 pub use answer::{NOT_AUTHORIZED, SESSION_NOT_AVAILABLE, accepted, rejected};
 pub use framer::{Framer, FramerError};
-pub use hx_text::trimmed;
+pub use hx_units::trimmed;
 pub use login::{LoginRequest, decode_login};
 pub use packet::{SoupPacket, frame};

@@ -7,8 +7,8 @@ ghost use Rattle.std.specs.Str.Parse.{AllDigits, digits_value};
 ghost use Rattle.hx_soup.specs.Logins.{SpellsNumber, IsLogin};
 ghost use Rattle.hx_soup.specs.declared.login.LoginRequest.{LoginRequest};
 
-use hx_text::trimmed;
 use hx_units::fields::array_at;
+use hx_units::trimmed;
 use std::fmt::{self, Debug, Formatter, Write};
 use std::str;
 

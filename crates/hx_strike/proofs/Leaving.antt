@@ -14,8 +14,8 @@ use Rattle.hx_audit.specs.declared.auditor.Whose.{Whose}
 use Rattle.hx_audit.specs.Recording.{AreRecorded}
 use Rattle.hx_audit.specs.Auditing.{Audit, HasTaken, IsStranger, choice_of, is_borne}
 use Rattle.hx_audit.specs.declared.bearing.Bearing.{Bearing}
-use Rattle.hx_text.specs.Cuts.{Lacks}
-use Rattle.hx_text.proofs.Splits.{same_split, none_split}
+use Rattle.hx_units.specs.Cuts.{Lacks}
+use Rattle.hx_units.proofs.Splits.{same_split, none_split}
 use Rattle.hx_tape_lines.specs.Text.{Entry, line, tape}
 use Rattle.hx_tape_lines.specs.Events.{event_of, IsKnown}
 use Rattle.hx_replay.specs.Run.{IsFront}

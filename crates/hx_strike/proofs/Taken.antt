@@ -1,6 +1,6 @@
 -- A tape whose lines are taken as they are read: one line more, and the first line that fails a check.
 use Rattle.std.proofs.Common.{◌≡◌, ℕ, ◌+◌, ◌≤◌, ◌<◌, List, [], ◌∷◌, ◌++◌, map, length, take, drop, ◌-◌, Option, Some, None, refl, sym, ap, ◌∙◌, subst, append_assoc, inl, inr, arith}
-use Rattle.std.proofs.lemmas.List.{length-map, map-append, length-append, length-drop, drop-append-le, take_all, drop_all}
+use Rattle.std.proofs.lemmas.List.{length-map, map-append, length-append, length-drop, drop-append-le, drop_all}
 use Rattle.std.specs.Io.KnownBytes.{Consumes, IsAtEnd}
 use Rattle.std.proofs.KnownBytes.{Appends-nil, Consumes-trans}
 use Rattle.hx_replay.proofs.PieceByPiece.{read_on}
@@ -13,7 +13,7 @@ use Rattle.hx_market.specs.Refusals.{refusal, or_no_memory}
 use Rattle.hx_market.specs.QuietChains.{Choice, bears}
 use Rattle.hx_audit.specs.Auditing.{Audit, HasTaken, is_borne}
 use Rattle.hx_audit.specs.declared.bearing.Bearing.{Bearing}
-use Rattle.hx_text.specs.Cuts.{Lacks}
+use Rattle.hx_units.specs.Cuts.{Lacks}
 use Rattle.hx_tape_lines.specs.declared.fault.Kind.{Kind}
 use Rattle.hx_tape_lines.specs.declared.fault.Kind.TheVariants as kind
 use Rattle.hx_replay.specs.declared.fault.TapeError.{TapeError}
@@ -28,6 +28,7 @@ use Rattle.hx_replay.proofs.Applying.{unknown_is_bad}
 use Rattle.hx_replay.proofs.OneReading.{tape-cons}
 use Rattle.hx_replay.proofs.Runs.{tape-append}
 use Rattle.hx_replay.proofs.Strikes.{recorded, refused_then, all_more}
+use Rattle.hx_units.proofs.Lists.{take-rest}
 
 -- ---- one line more
 
@@ -164,13 +165,9 @@ stops_so setup all fault.Read r s read h = absurd h
 stops_so setup all fault.Write r s read h = absurd h
 stops_so setup all fault.Turns r s read h = absurd h
 
--- what was taken of a text that is read on
-tail_is : (n : ℕ) (xs : List ℕ) → take (length xs - n) (drop n xs) ≡ drop n xs
-tail_is n xs = take_all (length xs - n) (drop n xs) (omega (arith, length-drop n xs))
-
 pub taken_on : (a : Audit) (bs : List Bearing) (text piece more : List ℕ) (n : ℕ) → Takes a bs text (drop n text) → n ≤ length text → more ≡ text ++ piece → Takes a bs (text ++ piece) (take (length more - n) (drop n more))
 taken_on a bs text piece more n t within is =
-    subst (Takes a bs (text ++ piece)) (sym (drop-append-le n text piece within) ∙ ap (λ (x : List ℕ). drop n x) (sym is) ∙ sym (tail_is n more))
+    subst (Takes a bs (text ++ piece)) (sym (drop-append-le n text piece within) ∙ ap (λ (x : List ℕ). drop n x) (sym is) ∙ sym (take-rest n more))
     (takes_on a bs text (drop n text) piece t)
 
 pub piece_taken : (a : Audit) (bs : List Bearing) (all text rest : List ℕ) (n : ℕ) → Takes a bs all rest → text ≡ all → n + length rest ≡ length text → Takes a bs text (drop n text)

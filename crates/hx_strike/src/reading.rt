@@ -4,7 +4,7 @@ ghost use Rattle.hx_replay.specs.declared.fault.TapeError.TheVariants as fault;
 ghost use Rattle.hx_tape_lines.specs.declared.fault.Kind.TheVariants as kinds;
 ghost use Rattle.std.specs.Io.KnownBytes.{Consumes, IsAtEnd};
 ghost use Rattle.hx_units.specs.Letters.{line_feed};
-ghost use Rattle.hx_text.specs.Cuts.{Lacks};
+ghost use Rattle.hx_units.specs.Cuts.{Lacks};
 ghost use Rattle.hx_tape_lines.specs.Events.{IsLineOf, IsNoLine};
 ghost use Rattle.hx_strike.specs.Taking.{Takes, IsFaultOf, StopsReading};
 
@@ -13,7 +13,7 @@ use hx_market::{Bytes, Event};
 use hx_members::Setup;
 use hx_replay::{Kind, MOST_READS, TapeError, fault_of};
 use hx_tape_lines::{LONGEST_LINE, read_event};
-use hx_text::split_once;
+use hx_units::split_once;
 use std::alloc::{AllocError, Global};
 use std::io::{ErrorKind, Read};
 

@@ -14,9 +14,8 @@ ghost use Rattle.hx_replay.specs.declared.fault.TapeError.TheVariants as fault;
 use crate::reading::read_tape;
 use hx_audit::{Auditor, Bearing, Whose};
 use hx_members::Setup;
-use hx_replay::{Counts, TapeError, write_whole};
-use hx_text::split_once;
-use hx_units::MemberNo;
+use hx_replay::{Counts, TapeError};
+use hx_units::{MemberNo, split_once, write_whole};
 use std::alloc::Global;
 use std::io::{Read, Write};
 

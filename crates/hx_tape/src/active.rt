@@ -1,15 +1,12 @@
 //! A day that is served over its log.
 ghost use Rattle.std.specs.Prelude.{◌≡◌, [], true, IfOk};
-ghost use Rattle.hx_disk.specs.Calls.{seen_of};
-ghost use Rattle.hx_journal.specs.Files.{stored, appended};
-ghost use Rattle.hx_journal.specs.Records.{records_of};
 ghost use Rattle.hx_tape_lines.specs.Text.{record_of};
 ghost use Rattle.hx_desk.specs.Entries.{restored};
 ghost use Rattle.hx_engine.specs.Journals.{lines};
 
+use crate::day_services::day_services_of;
 use crate::failure::Failure;
-use crate::fittings::fittings_of;
-use crate::hosting::{host_filed, host_logged};
+use crate::hosting::{host_logged, host_mirrored};
 use crate::input::WakingInput;
 use crate::logged::{take_mirrored, take_over};
 use crate::plan::{Plan, open_file};
@@ -20,7 +17,7 @@ use hx_engine::{Journal, Recovered};
 use hx_etcd_log::TcpNodes;
 use hx_log_commands::{Contender, Heartbeat, heartbeats_of, is_deposed, nodes_of};
 use hx_members::Seed;
-use hx_serve::{AppliedBeginning, AppliedDay, Fittings, Hosting, NoticeSink, ServeError};
+use hx_serve::{AppliedBeginning, AppliedDay, DayServices, Hosting, NoticeSink, ServeError};
 use hx_sessions::Gate;
 use log::Log;
 use std::fs;
@@ -48,7 +45,7 @@ fn contender_of<'m, 'y>(matches: &ArgMatches<'m>, has_left: &'y AtomicBool) -> C
 }
 
 // The connections of an open day, unless it stands by: a standby opens its own only once it is active.
-fn early_fittings<
+fn early_day_services<
     R: AllocGlobal
         + Files<File = fs::File>
         + Net<Listener = TcpListener, Stream = TcpStream>
@@ -57,9 +54,9 @@ fn early_fittings<
     rt: &R,
     matches: &ArgMatches<'_>,
     contender: Contender<'_, '_>,
-) -> Result<Option<Fittings>, Failure> {
+) -> Result<Option<DayServices>, Failure> {
     match contender.patience {
-        None => Ok(Some(fittings_of(rt, matches)?)),
+        None => Ok(Some(day_services_of(rt, matches)?)),
         Some(_) => Ok(None),
     }
 }
@@ -76,23 +73,26 @@ fn beginning_of<
     rt: &R,
     matches: &ArgMatches<'_>,
     plan: Plan<'_>,
-    early: Option<Fittings>,
+    early: Option<DayServices>,
     day: AppliedDay<'a>,
     journal: J,
 ) -> Result<AppliedBeginning<'a, J>, Failure>
+    requires appended { J.appended journal ≡ lines record_of (restored day.events) }
+    requires durable { J.durable journal ≡ J.appended journal }
+    requires opened { J.is_open journal ≡ true }
     ensures day { IfOk result (λ b. b.day ≡ day.entry) }
     ensures journal { IfOk result (λ b. b.journal ≡ journal) }
 {
-    let fittings = match early {
-        Some(fittings) => fittings,
-        None => fittings_of(rt, matches)?,
+    let day_services = match early {
+        Some(day_services) => day_services,
+        None => day_services_of(rt, matches)?,
     };
     plan.last.fetch_max(day.last_time(), Ordering::SeqCst);
     Ok(AppliedBeginning {
         day,
         journal,
         ahead: matches.get_one::<u64>("ahead").unwrap_or(u64::MAX),
-        fittings,
+        day_services,
     })
 }
 
@@ -138,7 +138,7 @@ impl<'n, 'y, 'm> ActiveWriter<'n, 'y, 'm> {
 #[derive(Drop)]
 struct Waiting<'a, 'y, N, I> {
     day: AppliedDay<'a>,
-    early: Option<Fittings>,
+    early: Option<DayServices>,
     input: I,
     heartbeat: Heartbeat<'y, N>,
 }
@@ -210,11 +210,6 @@ fn serve_mirrored<
 ) -> Result<(), Failure>
     requires new { waiting.day.events ≡ [] }
     requires of_setup { waiting.day.setup ≡ hosting.now.setup.now }
-    requires appended { records_of (appended (λ d. seen_of d.log.events) beside.journal)
-        ≡ lines record_of (restored beside.events.items) }
-    requires durable { records_of (stored (λ d. seen_of d.log.events) beside.journal)
-        ≡ lines record_of (restored beside.events.items) }
-    requires is_open { beside.journal.is_open ≡ true }
 {
     let Waiting {
         day,
@@ -233,7 +228,7 @@ fn serve_mirrored<
     )?;
     let beginning = beginning_of(rt, matches, plan, early, day, journal)?;
     let path = matches.get_str("history");
-    host_filed(rt, path, hosting, beginning, mirror, input, heartbeat)
+    host_mirrored(rt, path, hosting, beginning, mirror, input, heartbeat)
 }
 
 // Serves a day over its log, and over a journal in a file beside it, if the command line names one.
@@ -308,7 +303,7 @@ where
         contender,
     };
     let waiting = Waiting {
-        early: early_fittings(rt, matches, contender)?,
+        early: early_day_services(rt, matches, contender)?,
         day: AppliedDay::new(rt.alloc(), hosting.setup, hosting.args, seed)?,
         heartbeat: active.heartbeat(rt)?,
         input: WakingInput::new(rt.reader()),

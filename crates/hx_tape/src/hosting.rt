@@ -1,20 +1,14 @@
 //! A day that is served from what it begins with: without a journal, over a journal in a file, or over a log.
-ghost use Rattle.std.specs.Prelude.{◌≡◌, true};
-ghost use Rattle.hx_disk.specs.Calls.{seen_of};
-ghost use Rattle.hx_journal.specs.Files.{stored, appended};
-ghost use Rattle.hx_journal.specs.Records.{records_of};
+ghost use Rattle.std.specs.Prelude.{◌≡◌};
 ghost use Rattle.hx_tape_lines.specs.Text.{record_of};
 ghost use Rattle.hx_desk.specs.Entries.{restored};
 ghost use Rattle.hx_engine.specs.Journals.{lines};
-ghost use Rattle.hx_etcd_log.specs.Copied.{records_of as reported_of};
-ghost use Rattle.hx_fenced_log.specs.JournalStates.{durable, is_open, appended as logged};
 ghost use Rattle.hx_fenced_log.specs.Mirrors.{Mirrors};
 
 use crate::failure::Failure;
 use hx_engine::Journal;
 use hx_etcd_log::{CopiedLog, Nodes, Pages};
 use hx_fenced_log::{LogJournal, MirroredJournal};
-use hx_journal::{FileJournal, Noted, RawFile};
 use hx_log_commands::Heartbeat;
 use hx_serve::{
     AppliedBeginning, Beginning, Hosting, NoticeSink, ServeError, serve_applied, serve_durable,
@@ -62,12 +56,7 @@ pub(crate) fn host<
     hosting: &Hosting<'_, G, B>,
     beginning: Beginning<J>,
     input: I,
-) -> Result<(), Failure>
-    requires journal { J.appended beginning.recovered.journal
-        ≡ lines record_of (restored beginning.recovered.events.items) }
-    requires safe { (J.durable beginning.recovered.journal ≡ J.appended beginning.recovered.journal)
-        × (J.is_open beginning.recovered.journal ≡ true) }
-{
+) -> Result<(), Failure> {
     let alloc = rt.alloc();
     let mut output = io::writer(rt);
     let served = serve_durable(rt, alloc, hosting, beginning, input, &mut output, path);
@@ -97,46 +86,11 @@ fn host_applied<
     input: I,
 ) -> Result<(), Failure>
     requires of_setup { beginning.day.setup ≡ hosting.now.setup.now }
-    requires journal { J.appended beginning.journal
-        ≡ lines record_of (restored beginning.day.events) }
-    requires safe { (J.durable beginning.journal ≡ J.appended beginning.journal)
-        × (J.is_open beginning.journal ≡ true) }
 {
     let alloc = rt.alloc();
     let mut output = io::writer(rt);
     let served = serve_applied(rt, alloc, hosting, beginning, input, &mut output, path);
     ended(alloc, path, served)
-}
-
-// Serves a day on from the events of its journal in a file.
-pub(crate) fn host_durable<
-    R: AllocGlobal
-        + Print
-        + Files
-        + Log
-        + Net<Listener = TcpListener, Stream = TcpStream>
-        + Clock
-        + Threads
-        + Wait
-        + Sync,
-    G: Gate + Sync,
-    B: NoticeSink + Sync,
-    F: RawFile + Drop + Send,
-    I: Read + Send + Drop,
->(
-    rt: &R,
-    path: Option<&str>,
-    hosting: &Hosting<'_, G, B>,
-    beginning: Beginning<FileJournal<Noted<F>>>,
-    input: I,
-) -> Result<(), Failure>
-    requires journal { records_of (appended (λ d. seen_of d.log.events) beginning.recovered.journal)
-        ≡ lines record_of (restored beginning.recovered.events.items) }
-    requires durable { records_of (stored (λ d. seen_of d.log.events) beginning.recovered.journal)
-        ≡ lines record_of (restored beginning.recovered.events.items) }
-    requires is_open { beginning.recovered.journal.is_open ≡ true }
-{
-    host(rt, path, hosting, beginning, input)
 }
 
 // Serves an applied day, and meanwhile writes the heartbeat of its active writer.
@@ -164,21 +118,14 @@ fn host_shown<
     heartbeat: Heartbeat<'_, N>,
 ) -> Result<(), Failure>
     requires of_setup { beginning.day.setup ≡ hosting.now.setup.now }
-    requires journal { J.appended beginning.journal
-        ≡ lines record_of (restored beginning.day.events) }
-    requires safe { (J.durable beginning.journal ≡ J.appended beginning.journal)
-        × (J.is_open beginning.journal ≡ true) }
 {
     let is_over = AtomicBool::new(false);
     let flag = &is_over;
     let ((), served) = join(
         rt,
-        move || heartbeat.shine(rt, flag),
+        move || heartbeat.run(rt, flag),
         move ||
-            requires { (beginning.day.setup ≡ hosting.now.setup.now)
-                × (J.appended beginning.journal ≡ lines record_of (restored beginning.day.events))
-                × (J.durable beginning.journal ≡ J.appended beginning.journal)
-                × (J.is_open beginning.journal ≡ true) }
+            requires { beginning.day.setup ≡ hosting.now.setup.now }
         {
             let served = host_applied(rt, path, hosting, beginning, input);
             flag.store(true, Ordering::SeqCst);
@@ -215,17 +162,12 @@ pub(crate) fn host_logged<
     heartbeat: Heartbeat<'_, S>,
 ) -> Result<(), Failure>
     requires of_setup { beginning.day.setup ≡ hosting.now.setup.now }
-    requires journal { logged reported_of beginning.journal
-        ≡ lines record_of (restored beginning.day.events) }
-    requires durable { durable reported_of beginning.journal
-        ≡ lines record_of (restored beginning.day.events) }
-    requires is_open { is_open beginning.journal.fault ≡ true }
 {
     host_shown(rt, path, hosting, beginning, input, heartbeat)
 }
 
 // The same, with a mirror beside the log, which has the same records.
-fn host_mirrored<
+pub(crate) fn host_mirrored<
     R: AllocGlobal
         + Print
         + Files
@@ -252,60 +194,15 @@ fn host_mirrored<
     heartbeat: Heartbeat<'_, S>,
 ) -> Result<(), Failure>
     requires of_setup { beginning.day.setup ≡ hosting.now.setup.now }
-    requires journal { logged reported_of beginning.journal
-        ≡ lines record_of (restored beginning.day.events) }
-    requires durable { durable reported_of beginning.journal
-        ≡ lines record_of (restored beginning.day.events) }
-    requires is_open { is_open beginning.journal.fault ≡ true }
     requires mirror { Mirrors M.appended M.durable M.is_open mirror
         (lines record_of (restored beginning.day.events)) }
 {
-    let (day, journal, ahead, fittings) = beginning.into_parts();
+    let (day, journal, ahead, day_services) = beginning.into_parts();
     let beginning = AppliedBeginning {
         day,
         journal: MirroredJournal::new(rt.alloc(), journal, mirror),
         ahead,
-        fittings,
+        day_services,
     };
     host_shown(rt, path, hosting, beginning, input, heartbeat)
-}
-
-// The same, if the mirror is a journal in a file.
-pub(crate) fn host_filed<
-    R: AllocGlobal
-        + Print
-        + Files
-        + Log
-        + Net<Listener = TcpListener, Stream = TcpStream>
-        + Clock
-        + Threads
-        + Wait
-        + Sync,
-    G: Gate + Sync,
-    B: NoticeSink + Sync,
-    P: Pages + Drop + Send,
-    N: Nodes + Drop + Send,
-    F: RawFile + Drop + Send,
-    S: Nodes + Drop + Send,
-    I: Read + Send + Drop,
->(
-    rt: &R,
-    path: Option<&str>,
-    hosting: &Hosting<'_, G, B>,
-    beginning: AppliedBeginning<'_, LogJournal<CopiedLog<P, N>>>,
-    mirror: FileJournal<Noted<F>>,
-    input: I,
-    heartbeat: Heartbeat<'_, S>,
-) -> Result<(), Failure>
-    requires of_setup { beginning.day.setup ≡ hosting.now.setup.now }
-    requires journal { logged reported_of beginning.journal
-        ≡ lines record_of (restored beginning.day.events) }
-    requires durable { durable reported_of beginning.journal
-        ≡ lines record_of (restored beginning.day.events) }
-    requires is_open { is_open beginning.journal.fault ≡ true }
-    requires mirror { Mirrors (λ j. records_of (appended (λ d. seen_of d.log.events) j))
-        (λ j. records_of (stored (λ d. seen_of d.log.events) j)) (λ j. j.is_open) mirror
-        (lines record_of (restored beginning.day.events)) }
-{
-    host_mirrored(rt, path, hosting, beginning, mirror, input, heartbeat)
 }

@@ -76,10 +76,6 @@ pub fn take_mirrored<
     beside: Recovered<M>,
 ) -> Result<(D, M, ActiveJournal<'x, R>), Failure>
     requires new { D.applied day ≡ [] }
-    requires beside { M.appended beside.journal
-        ≡ lines record_of (restored beside.events.items) }
-    requires safe { (M.durable beside.journal ≡ M.appended beside.journal)
-        × (M.is_open beside.journal ≡ true) }
     ensures mirror { IfOk result (λ r. Mirrors M.appended M.durable M.is_open r.1
         (lines record_of (restored (D.applied r.0)))) }
     ensures appended { IfOk result (λ r. appended records_of r.2

@@ -4,8 +4,8 @@
 
 mod active;
 mod addresses;
+mod day_services;
 mod failure;
-mod fittings;
 mod hosting;
 mod input;
 mod journal;

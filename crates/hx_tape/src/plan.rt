@@ -1,12 +1,4 @@
 //! What the command line asks of a day, and the file of its journal.
-ghost use Rattle.std.specs.Prelude.{◌≡◌, true, IfOk};
-ghost use Rattle.hx_disk.specs.Calls.{seen_of};
-ghost use Rattle.hx_journal.specs.Files.{stored, appended};
-ghost use Rattle.hx_journal.specs.Records.{records_of};
-ghost use Rattle.hx_tape_lines.specs.Text.{record_of};
-ghost use Rattle.hx_desk.specs.Entries.{restored};
-ghost use Rattle.hx_engine.specs.Journals.{lines};
-
 use crate::failure::Failure;
 use clap::ArgMatches;
 use hx_day_journal::{DayFile, Syncs, Wanted, digest_of, open_journal};
@@ -50,15 +42,7 @@ pub(crate) fn open_file<'x, R: AllocGlobal + Files<File = fs::File> + Clock, B: 
     plan: Plan<'_>,
     notice_sink: &'x B,
     path: &str,
-) -> Result<Recovered<DayFile<'x, B, R>>, Failure>
-    ensures appended { IfOk result (λ r.
-        records_of (appended (λ d. seen_of d.log.events) r.journal)
-        ≡ lines record_of (restored r.events.items)) }
-    ensures durable { IfOk result (λ r.
-        records_of (stored (λ d. seen_of d.log.events) r.journal)
-        ≡ lines record_of (restored r.events.items)) }
-    ensures is_open { IfOk result (λ r. r.journal.is_open ≡ true) }
-{
+) -> Result<Recovered<DayFile<'x, B, R>>, Failure> {
     let setup = digest_of(rt.alloc(), plan.text)?;
     let wanted = Wanted {
         session: plan.setup.session(),

@@ -2,9 +2,9 @@
 
 use crate::active::begin_logged;
 use crate::addresses::addresses_of;
+use crate::day_services::{copies_of, day_services_of};
 use crate::failure::Failure;
-use crate::fittings::{copies_of, fittings_of};
-use crate::hosting::{host, host_durable};
+use crate::hosting::host;
 use crate::input::WakingInput;
 use crate::plan::{Plan, open_file};
 use clap::ArgMatches;
@@ -12,8 +12,8 @@ use hx_cli::{read_setup_text, setup_of};
 use hx_day_journal::{day_of, last_time};
 use hx_members::Seed;
 use hx_serve::{
-    Addresses, Beginning, Counted, Counters, Fittings, Hosting, JsonNotices, NoticeSink, Notices,
-    OpenArgs, ServeArgs, ServeError, Silent, Tally, Times, today,
+    Addresses, Beginning, Counted, Counters, DayServices, Hosting, JsonNotices, NoticeSink,
+    Notices, OpenArgs, ServeArgs, ServeError, Silent, Tally, Times, today,
 };
 use hx_sessions::Gate;
 use log::Log;
@@ -73,11 +73,11 @@ fn day_asked<R: Clock>(rt: &R, matches: &ArgMatches<'_>) -> Result<u64, Failure>
 #[derive(Drop)]
 struct Start {
     seed: Seed,
-    fittings: Fittings,
+    day_services: DayServices,
 }
 
 // Serves a day without a journal.
-fn begin_unkept<
+fn begin_without_journal<
     R: AllocGlobal
         + Input
         + Print
@@ -99,10 +99,10 @@ fn begin_unkept<
 where
     R::Reader: Send,
 {
-    let Start { seed, fittings } = start;
+    let Start { seed, day_services } = start;
     let path = matches.get_str("history");
-    let mut beginning = Beginning::unkept(rt.alloc(), seed);
-    beginning.fittings = fittings;
+    let mut beginning = Beginning::without_journal(rt.alloc(), seed);
+    beginning.day_services = day_services;
     if hosting.open.is_none() {
         return host(rt, path, hosting, beginning, rt.reader());
     }
@@ -138,7 +138,7 @@ fn begin_durable<
 where
     R::Reader: Send,
 {
-    let Start { seed, fittings } = start;
+    let Start { seed, day_services } = start;
     let recovered = open_file(rt, matches, plan, notice_sink, path)?;
     plan.last
         .fetch_max(last_time(&recovered.events), Ordering::SeqCst);
@@ -147,10 +147,10 @@ where
         seed,
         recovered,
         ahead: matches.get_one::<u64>("ahead").unwrap_or(u64::MAX),
-        fittings,
+        day_services,
     };
     let path = matches.get_str("history");
-    host_durable(rt, path, hosting, beginning, input)
+    host(rt, path, hosting, beginning, input)
 }
 
 // The times of a day: those of one that is open, or durable, never fall.
@@ -190,11 +190,11 @@ fn begin_here<
 where
     R::Reader: Send,
 {
-    let fittings = fittings_of(rt, matches)?;
-    let start = Start { seed, fittings };
+    let day_services = day_services_of(rt, matches)?;
+    let start = Start { seed, day_services };
     match matches.get_str("journal") {
         Some(path) => begin_durable(rt, matches, plan, hosting, notice_sink, path, start),
-        None => begin_unkept(rt, matches, hosting, start),
+        None => begin_without_journal(rt, matches, hosting, start),
     }
 }
 

@@ -4,12 +4,9 @@ use Rattle.std.specs.Prelude.{◌≢◌, ◌%◌}
 use Rattle.std.proofs.lemmas.List.{length-take-le}
 use Rattle.std.proofs.Math.Seq.{take_at, drop_at, drop-drop, drop-length, take_all}
 use Rattle.std.proofs.lemmas.List.{get_or-drop, drop_all, drop-append-le, length-drop}
-use Rattle.hex.specs.Hex.{encode_lower, encode_with, lower_digits, IsBytes}
-use Rattle.hex.proofs.HexLemmas.{length-encode_with}
+use Rattle.hex.specs.Hex.{encode_lower, encode_with, IsBytes}
 use Rattle.hx_tape_lines.specs.Digits.{AreWritten, AreRead}
-
-pub digits_length : (xs : List ℕ) → length (encode_lower xs) ≡ 2 * length xs
-digits_length xs = length-encode_with lower_digits xs
+use Rattle.hx_tape_lines.proofs.Lines.{hex_length}
 
 pub encode-append : (xs ys : List ℕ) → encode_lower (xs ++ ys) ≡ encode_lower xs ++ encode_lower ys
 unfolding encode_with
@@ -63,7 +60,7 @@ pub written_later : (bytes text rest_after : List ℕ) (start index later : ℕ)
 written_later bytes text rest_after start index later le within written =
     let on : start + 2 * later ≡ start + 2 * index + 2 * (later - index) = omega arith in
     let whole : index + (later - index) ≡ later = omega arith in
-    let long : 2 * (later - index) ≤ length (encode_lower (drop index bytes)) = omega (arith, digits_length (drop index bytes), length-drop index bytes) in
+    let long : 2 * (later - index) ≤ length (encode_lower (drop index bytes)) = omega (arith, hex_length (drop index bytes), length-drop index bytes) in
     ap (λ (n : ℕ). drop n text) on ∙ sym (drop-drop (2 * (later - index)) (start + 2 * index) text)
     ∙ ap (λ (l : List ℕ). drop (2 * (later - index)) l) written
     ∙ drop-append-le (2 * (later - index)) (encode_lower (drop index bytes)) rest_after long
@@ -153,4 +150,4 @@ none_written bytes was = ap (λ (l : List ℕ). encode_lower l ++ was) (sym (dro
 
 -- an odd number of digits is none
 pub odd_none : (text others : List ℕ) → 0 < length text % 2 → text ≢ encode_lower others
-odd_none text others odd is = let size : length text ≡ 2 * length others = ap length is ∙ digits_length others in omega (arith, odd, size)
+odd_none text others odd is = let size : length text ≡ 2 * length others = ap length is ∙ hex_length others in omega (arith, odd, size)

@@ -4,7 +4,7 @@ use Rattle.std.specs.Int.{from_le_bytes}
 use Rattle.std.specs.Str.Parse.{digits_value, AllDigits}
 use Rattle.std.specs.Char.{digit_value}
 use Rattle.hx_tape_lines.proofs.Lanes.{all_lanes}
-use Rattle.hx_text.proofs.Numbers.{is_digit, digit_value_of}
+use Rattle.hx_units.proofs.Decimals.{is_digit, digit_value_of}
 
 -- eight lanes of a word
 abbrev pub word : (a b c d e f g h : ℕ) → ℕ

@@ -9,7 +9,7 @@ use Rattle.std.proofs.lemmas.List.{get_or_append_left, get_or-take, length-take,
 use Rattle.std.proofs.Math.Seq.{get_or-append_seam}
 use Rattle.std.proofs.lemmas.Fmt.{decimal_is_IsNumeral}
 use Rattle.std.proofs.lemmas.Str.Parse.{digit_at}
-use Rattle.hx_text.proofs.Numbers.{is_digit, is_decimal, value_small}
+use Rattle.hx_units.proofs.Decimals.{is_digit, is_decimal, value_small}
 
 -- what stands at the end of a number
 pub space_after : (text rest : List ℕ) (n : ℕ) → text ≡ decimal n ++ 32 ∷ rest → get_or text (length (decimal n)) 0 ≡ 32

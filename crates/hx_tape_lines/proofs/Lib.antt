@@ -12,3 +12,4 @@ pub mod OneLine
 pub mod Operators
 pub mod Sent
 pub mod Back
+pub mod Entries

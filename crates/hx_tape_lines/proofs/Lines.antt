@@ -5,10 +5,10 @@ use Rattle.std.specs.Fmt.{decimal}
 use Rattle.std.proofs.lemmas.Fmt.{length-decimal-le}
 use Rattle.hex.specs.Hex.{encode_lower, IsBytes}
 use Rattle.hex.proofs.HexLemmas.{length-encode_with}
-use Rattle.hx_text.specs.Cuts.{Lacks}
+use Rattle.hx_units.specs.Cuts.{Lacks}
 use Rattle.hx_tape_lines.specs.Text.{Entry, IsEntry, line, HasParts}
-use Rattle.hx_text.proofs.Numbers.{lacks-decimal}
-use Rattle.hx_text.proofs.Splits.{same_split}
+use Rattle.hx_units.proofs.Decimals.{lacks-decimal}
+use Rattle.hx_units.proofs.Splits.{same_split}
 
 -- the text after the time
 abbrev pub after_time : Entry → List ℕ

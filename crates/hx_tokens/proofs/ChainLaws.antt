@@ -7,7 +7,7 @@ use Rattle.std.proofs.lemmas.Bool.Decides.{Decides-eqb}
 use Rattle.std.proofs.lemmas.Slice.Eq.{bytes_eq-Decides}
 use Rattle.hx_units.specs.Names.{is_token}
 use Rattle.hx_units.specs.declared.names.Token.{Token}
-use Rattle.hx_tokens.specs.Chains.{Used, Chain, is_use, is_used, entered_of, index_of, is_chain, has_chain, is_loud, executed_by, note, replacing_used, IsEnteredAt}
+use Rattle.hx_tokens.specs.Chains.{Used, Chain, is_use, is_used, entered_of, index_of, is_chain, has_chain, is_loud, note, replacing_used}
 
 -- whether two names are the same
 abbrev pub is_same : ℕ → Token → ℕ → Token → Bool
@@ -96,10 +96,6 @@ slice_get-index_of (v ∷ vs) m t h = at (is_use m t v) (slice_get-index_of vs m
     at true ih e h = let p = is_same-parts v.member v.token m t e in λ j. Some (replacing_used (p.0 j) (p.1 j) v.entered)
     at false ih e h = next (index_of vs m t) ∙ ih h
 
--- a used token that is its own entered token is at its index
-pub entered-at-index : (tokens : List Used) (m : ℕ) (e : Token) → is_used tokens m e ≡ true → entered_of tokens m e ≡ e → IsEnteredAt tokens m e (index_of tokens m e)
-entered-at-index tokens m e used own = slice_get-index_of tokens m e used ∙ ap (λ t. Some (replacing_used m e t)) own
-
 -- the token at an index is used
 pub is_used-at : (tokens : List Used) (i : ℕ) (u : Used) → slice_get tokens i ≡ Some u → is_used tokens u.member u.token ≡ true
 is_used-at [] i u h = absurd cc
@@ -124,24 +120,6 @@ pub has_chain-pushed : (chains : List Chain) (c : Chain) (m : ℕ) (e : Token) �
 has_chain-pushed [] c m e = or-false (is_chain m e c)
 has_chain-pushed (d ∷ ds) c m e = ap (λ b. is_chain m e d || b) (has_chain-pushed ds c m e) ∙ sym (or_assoc (is_chain m e d) (has_chain ds m e) (is_chain m e c))
 
-pub executed_by-pushed : (chains : List Chain) (c : Chain) (m : ℕ) (e : Token) → has_chain chains m e ≡ true → executed_by (chains ++ c ∷ []) m e ≡ executed_by chains m e
-executed_by-pushed [] c m e h = absurd (true≢false (sym h))
-executed_by-pushed (d ∷ ds) c m e h = at (is_chain m e d) (executed_by-pushed ds c m e) h
-  where
-    at : (b : Bool) → (has_chain ds m e ≡ true → executed_by (ds ++ c ∷ []) m e ≡ executed_by ds m e) → (b || has_chain ds m e) ≡ true
-        → cond b d.executed (executed_by (ds ++ c ∷ []) m e) ≡ cond b d.executed (executed_by ds m e)
-    at true ih h = refl
-    at false ih h = ih h
-
-pub executed_by-new : (chains : List Chain) (c : Chain) (m : ℕ) (e : Token) → has_chain chains m e ≡ false → executed_by (chains ++ c ∷ []) m e ≡ (if is_chain m e c then c.executed else 0)
-executed_by-new [] c m e h = refl
-executed_by-new (d ∷ ds) c m e h = at (is_chain m e d) (executed_by-new ds c m e) h
-  where
-    at : (b : Bool) → (has_chain ds m e ≡ false → executed_by (ds ++ c ∷ []) m e ≡ (if is_chain m e c then c.executed else 0)) → (b || has_chain ds m e) ≡ false
-        → cond b d.executed (executed_by (ds ++ c ∷ []) m e) ≡ (if is_chain m e c then c.executed else 0)
-    at true ih h = absurd (true≢false h)
-    at false ih h = ih h
-
 -- after a chain is noted
 
 pub has_chain-note : (m : ℕ) (e : Token) (n : ℕ) (d : Bool) (chains : List Chain) (k : ℕ) (f : Token) → has_chain (note m e n d chains) k f ≡ has_chain chains k f
@@ -152,30 +130,6 @@ has_chain-note m e n d (c ∷ cs) k f = at (is_chain m e c) ∙ ap (λ b. is_cha
         ≡ (is_chain k f c || has_chain (note m e n d cs) k f)
     at true = refl
     at false = refl
-
-pub executed_by-note : (m : ℕ) (e : Token) (n : ℕ) (d : Bool) (chains : List Chain) → has_chain chains m e ≡ true → executed_by (note m e n d chains) m e ≡ executed_by chains m e + n
-executed_by-note m e n d [] h = absurd (true≢false (sym h))
-executed_by-note m e n d (c ∷ cs) h = at (is_chain m e c) (executed_by-note m e n d cs) refl h
-  where
-    at : (b : Bool) → (has_chain cs m e ≡ true → executed_by (note m e n d cs) m e ≡ executed_by cs m e + n) → is_chain m e c ≡ b → (b || has_chain cs m e) ≡ true
-        → (let x = cond b (record c { executed = c.executed + n; displayed = c.displayed || d; traded = c.traded || nat_lt 0 n }) c in
-        cond (is_chain m e x) x.executed (executed_by (note m e n d cs) m e)) ≡ cond b c.executed (executed_by cs m e) + n
-    at true ih p h = ap (λ b. cond b (c.executed + n) (executed_by (note m e n d cs) m e)) p
-    at false ih p h = ap (λ b. cond b c.executed (executed_by (note m e n d cs) m e)) p ∙ ih h
-
--- another chain stays as it is
-pub executed_by-note-other : (m : ℕ) (e : Token) (n : ℕ) (d : Bool) (chains : List Chain) (k : ℕ) (f : Token) → is_same m e k f ≡ false → executed_by (note m e n d chains) k f ≡ executed_by chains k f
-executed_by-note-other m e n d [] k f o = refl
-executed_by-note-other m e n d (c ∷ cs) k f o = at (is_chain m e c) (executed_by-note-other m e n d cs k f o) refl
-  where
-    other : is_chain m e c ≡ true → is_chain k f c ≡ false
-    other p = let q = is_same-parts c.member c.entered m e p in (λ j. is_same (q.0 j) (q.1 j) k f) ∙ o
-
-    at : (b : Bool) → executed_by (note m e n d cs) k f ≡ executed_by cs k f → is_chain m e c ≡ b
-        → (let x = cond b (record c { executed = c.executed + n; displayed = c.displayed || d; traded = c.traded || nat_lt 0 n }) c in
-        cond (is_chain k f x) x.executed (executed_by (note m e n d cs) k f)) ≡ cond (is_chain k f c) c.executed (executed_by cs k f)
-    at true rest p = ap (λ b. cond b (c.executed + n) (executed_by (note m e n d cs) k f)) (other p) ∙ rest ∙ sym (ap (λ b. cond b c.executed (executed_by cs k f)) (other p))
-    at false rest p = ap (λ r. cond (is_chain k f c) c.executed r) rest
 
 pub is_loud-note-other : (m : ℕ) (e : Token) (n : ℕ) (d : Bool) (chains : List Chain) (k : ℕ) (f : Token) → is_same m e k f ≡ false → is_loud (note m e n d chains) k f ≡ is_loud chains k f
 is_loud-note-other m e n d [] k f o = refl

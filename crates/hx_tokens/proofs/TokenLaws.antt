@@ -95,7 +95,7 @@ row_index-at n rows i r d h e =
 
 -- the state of a token
 
-executed_facts : (chains : List Chain) (m : ℕ) (e : Token) → (facts_of chains m e).executed ≡ executed_by chains m e
+pub executed_facts : (chains : List Chain) (m : ℕ) (e : Token) → (facts_of chains m e).executed ≡ executed_by chains m e
 executed_facts [] m e = refl
 executed_facts (c ∷ cs) m e = at (is_chain m e c) (executed_facts cs m e)
   where

@@ -10,4 +10,4 @@ mod tokens;
 
 pub use name::{ChainFacts, Name, TokenState};
 pub use seed::Seed;
-pub use tokens::{Tokens, is_same_name, name_hint};
+pub use tokens::{Tokens, is_same_name, prefetch_hint};

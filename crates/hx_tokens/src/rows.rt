@@ -355,7 +355,7 @@ impl Rows {
 
     // For each hint the content of the cell to which it leads: one more than an index, or 0.
     #[inline(always)]
-    fn likely_indices(&self, hints: &[u64]) -> [usize; 16] {
+    fn prefetched_indices(&self, hints: &[u64]) -> [usize; 16] {
         let mut indices = [0; 16];
         for (index, hint) in indices.iter_mut().zip(hints) {
             *index = self.series.guess(*hint) as usize;
@@ -366,8 +366,8 @@ impl Rows {
     /// For each of up to sixteen hints the key of the row to which it probably leads, and that of the first row if
     /// there is none. The keys are unspecified: the call prefetches cells and rows before their turn.
     #[inline(always)]
-    pub(crate) fn likely_keys(&self, hints: &[u64]) -> [usize; 16] {
-        let indices = self.likely_indices(hints);
+    pub(crate) fn prefetched_keys(&self, hints: &[u64]) -> [usize; 16] {
+        let indices = self.prefetched_indices(hints);
         let mut keys = [usize::MAX; 16];
         for (key, index) in keys.iter_mut().zip(&indices) {
             *key = self.key_before(*index);

@@ -129,7 +129,7 @@ impl AllSeries {
         }
     }
 
-    /// The content of the cell to which a hint leads, as `name_hint` makes it, or 0.
+    /// The content of the cell to which a hint leads, as `prefetch_hint` makes it, or 0.
     #[inline(always)]
     pub(crate) fn guess(&self, hint: u64) -> u32 {
         match self.members.get((hint / 0x1_0000_0000) as usize) {

@@ -161,19 +161,19 @@ impl Tokens {
         self.retained.note(chain as usize, shares, displayed);
     }
 
-    /// Reads the cells to which these hints lead, as `name_hint` makes them. The result is unspecified: called with the
+    /// Reads the cells to which these hints lead, as `prefetch_hint` makes them. The result is unspecified: called with the
     /// tokens of coming orders, it prefetches that memory, for all of them at once.
     #[inline(always)]
     pub fn prefetch(&self, hints: &[u64]) -> u64 {
         self.retained.sum_of_cells(hints)
     }
 
-    /// For each of up to sixteen hints, as `name_hint` makes them, the key of the used token that probably has it, and
+    /// For each of up to sixteen hints, as `prefetch_hint` makes them, the key of the used token that probably has it, and
     /// some key if there is none, or `usize::MAX` if no token is used. The keys are unspecified: called with the tokens
     /// of coming orders, it prefetches their rows.
     #[inline(always)]
-    pub fn likely_keys(&self, hints: &[u64]) -> [usize; 16] {
-        self.retained.likely_keys(hints)
+    pub fn prefetched_keys(&self, hints: &[u64]) -> [usize; 16] {
+        self.retained.prefetched_keys(hints)
     }
 }
 
@@ -186,10 +186,10 @@ pub fn is_same_name(member: MemberNo, token: &Token, other: MemberNo, other_toke
     PackedName::of(member, token) == PackedName::of(other, other_token)
 }
 
-/// The hint at which a member's token is probably found, for `prefetch` and `likely_keys`: the member's number in the
+/// The hint at which a member's token is probably found, for `prefetch` and `prefetched_keys`: the member's number in the
 /// upper half, and in the lower the number that the token's last letters spell. The result is unspecified.
 #[inline(always)]
-pub fn name_hint(member: MemberNo, token: &Token) -> u64 {
+pub fn prefetch_hint(member: MemberNo, token: &Token) -> u64 {
     let number = PackedName::of(member, token).number();
     u64::from(member.get()) * 0x1_0000_0000 + number % 0x1_0000_0000
 }

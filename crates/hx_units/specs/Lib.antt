@@ -5,3 +5,6 @@ pub mod Side
 pub mod Fields
 pub mod Names
 pub mod Heartbeats
+pub mod Cuts
+pub mod Spaces
+pub mod Writing

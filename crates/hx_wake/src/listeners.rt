@@ -46,8 +46,8 @@ impl Listeners {
 
     // Puts a slot after another.
     fn set_after(&mut self, slot: u16, after: u16) {
-        if let Some(place) = self.after.get_mut(slot as usize) {
-            *place = after;
+        if let Some(next) = self.after.get_mut(slot as usize) {
+            *next = after;
         }
     }
 

@@ -10,7 +10,7 @@ use Rattle.hx_web.specs.declared.asked.Asked.{Asked}
 use Rattle.hx_web.specs.declared.asked.Asked.TheVariants as asked
 use Rattle.hx_market_view.specs.declared.market_view.MarketView.{MarketView}
 use Rattle.hx_market_view.specs.declared.market_view.Sheet.{Sheet}
-use Rattle.hx_web.specs.declared.assets.page.TheConstants.{PAGE}
+use Rattle.hx_web.specs.declared.assets.document.TheConstants.{DOCUMENT}
 use Rattle.hx_web.specs.declared.assets.style.TheConstants.{STYLE}
 use Rattle.hx_web.specs.declared.assets.script.TheConstants.{SCRIPT}
 use Rattle.hx_web.specs.declared.assets.chart.TheConstants.{CHART}
@@ -22,7 +22,7 @@ use Rattle.hx_web.specs.Handshakes.{Headers, Accepts, is_local}
 -- what is read at a path
 abbrev pub read_by : (path : List ℕ) → Asked
 read_by path =
-    if bytes_eq path (codes "/") then asked.Page
+    if bytes_eq path (codes "/") then asked.Document
     else (if bytes_eq path (codes "/page.css") then asked.Style
     else (if bytes_eq path (codes "/page.js") then asked.Script
     else (if bytes_eq path (codes "/chart.js") then asked.ChartScript
@@ -134,7 +134,7 @@ GoesOver headers response =
 
 -- the answer to what is asked of a market view
 abbrev pub Answers : MarketView → (path : List ℕ) → Headers → Asked → Response → Type 0
-Answers market_view path headers asked.Page response = Gives html PAGE.now response
+Answers market_view path headers asked.Document response = Gives html DOCUMENT.now response
 Answers market_view path headers asked.Style response = Gives css STYLE.now response
 Answers market_view path headers asked.Script response = Gives javascript SCRIPT.now response
 Answers market_view path headers asked.ChartScript response = Gives javascript CHART.now response

@@ -7,7 +7,7 @@ ghost use Rattle.hx_web.specs.Answers.{closed, discreet, safe, upgrade, Gives, R
 ghost use Rattle.hx_market_view.specs.Texts.{Adds, array_member};
 
 use crate::asked::Asked;
-use crate::assets::{CHART, PAGE, SCRIPT, STYLE};
+use crate::assets::{CHART, DOCUMENT, SCRIPT, STYLE};
 use crate::handshake::{accepted, is_local};
 use bytes::{BufMut, Bytes};
 use http::header::{HeaderMap, HeaderName};
@@ -31,7 +31,7 @@ const POLICY: &str = "default-src 'none'; script-src 'self'; style-src 'self'; c
 
 /// The web pages of a market view, as a service.
 #[derive(Drop)]
-pub struct Page<'a> {
+pub struct WebService<'a> {
     /// The market view.
     pub market_view: &'a MarketView,
     /// Whether a request was answered.
@@ -189,13 +189,13 @@ fn charted<'a>(
     Ok(None)
 }
 
-impl<'a> Page<'a> {
+impl<'a> WebService<'a> {
     /// A web page that nobody has read.
-    pub fn new(alloc: Global, market_view: &'a MarketView) -> Page<'a>
+    pub fn new(alloc: Global, market_view: &'a MarketView) -> WebService<'a>
         ensures market_view { result.market_view.now ≡ market_view.now }
         ensures unread { result.is_read ≡ false }
     {
-        Page {
+        WebService {
             market_view,
             is_read: false,
             alloc,
@@ -249,7 +249,7 @@ impl<'a> Page<'a> {
             (Answers self.now.market_view.now path.now headers.now asked response.new) }
     {
         match asked {
-            Asked::Page => give(response, HTML, PAGE.as_bytes()),
+            Asked::Document => give(response, HTML, DOCUMENT.as_bytes()),
             Asked::Style => give(response, CSS, STYLE.as_bytes()),
             Asked::Script => give(response, JAVASCRIPT, SCRIPT.as_bytes()),
             Asked::ChartScript => give(response, JAVASCRIPT, CHART.as_bytes()),
@@ -265,7 +265,7 @@ impl<'a> Page<'a> {
     }
 }
 
-impl<'a> Service for Page<'a> {
+impl<'a> Service for WebService<'a> {
     ghost use Rattle.std.specs.Prelude.{◌≡◌, true};
     ghost use Rattle.http.specs.Request.{head_of};
     ghost use Rattle.http_uri.specs.Uri.{uri_path};

@@ -5,8 +5,8 @@ ghost use Rattle.hx_web.specs.Answers.{asked_by, read_by};
 /// What a request asks, by its method and the path of its target.
 #[derive(Clone, Copy, Debug, PartialEq, Eq)]
 pub enum Asked {
-    /// The web page.
-    Page,
+    /// The document of the web page.
+    Document,
     /// Its style.
     Style,
     /// Its script.
@@ -41,7 +41,7 @@ impl Asked {
         ensures { result ≡ read_by path.now }
     {
         if path == "/" {
-            Asked::Page
+            Asked::Document
         } else if path == "/page.css" {
             Asked::Style
         } else if path == "/page.js" {

@@ -1,11 +1,11 @@
 //! The web page, its style and its scripts.
 
 mod chart;
-mod page;
+mod document;
 mod script;
 mod style;
 
 pub use chart::CHART;
-pub use page::PAGE;
+pub use document::DOCUMENT;
 pub use script::SCRIPT;
 pub use style::STYLE;

@@ -1,6 +1,6 @@
 //! The clients that read the web page: each has a connection of its own, and none can hold up another.
 
-use crate::answering::Page;
+use crate::answering::WebService;
 use crate::browser::Browser;
 use http_server::{Config, Connection, State};
 use http1::Limits;
@@ -84,13 +84,13 @@ fn has_moved(moving: io::Result<usize>) -> io::Result<bool> {
 fn exchange(
     stream: &mut TcpStream,
     connection: &mut Connection,
-    page: &mut Page<'_>,
+    service: &mut WebService<'_>,
 ) -> io::Result<bool> {
     let mut moved = false;
     if connection.wants_read() {
         moved = has_moved(connection.read_from(stream))?;
     }
-    connection.advance(page);
+    connection.advance(service);
     if connection.wants_write() {
         moved |= has_moved(connection.write_to(stream))?;
     }
@@ -101,10 +101,10 @@ fn exchange(
 fn converse(
     stream: &mut TcpStream,
     connection: &mut Connection,
-    page: &mut Page<'_>,
+    service: &mut WebService<'_>,
 ) -> io::Result<()> {
     for _ in 0..TURNS {
-        let moved = exchange(stream, connection, page)?;
+        let moved = exchange(stream, connection, service)?;
         if !moved || connection.state() != State::Open {
             break;
         }
@@ -149,11 +149,11 @@ impl Client {
     }
 
     // Reads, answers and writes for a client that asks, and returns its next stage.
-    fn reply(&mut self, page: &mut Page<'_>) -> Stage {
+    fn reply(&mut self, service: &mut WebService<'_>) -> Stage {
         let Some(connection) = &mut self.connection else {
             return Stage::IsGone;
         };
-        match converse(&mut self.stream, connection, page) {
+        match converse(&mut self.stream, connection, service) {
             Ok(()) => after(&mut self.stream, connection),
             Err(_) => Stage::IsGone,
         }
@@ -169,13 +169,13 @@ impl Client {
 
     // Answers a client that asks.
     fn answer(&mut self, alloc: Global, market_view: &MarketView, now: Instant) {
-        let mut page = Page::new(alloc, market_view);
+        let mut service = WebService::new(alloc, market_view);
         self.stage = match self.stage {
-            Stage::Asks => self.reply(&mut page),
+            Stage::Asks => self.reply(&mut service),
             Stage::Leaves => leave(&mut self.stream),
             other => other,
         };
-        if page.is_read {
+        if service.is_read {
             self.since = now;
         }
         if self.is_browser() {

@@ -74,8 +74,8 @@ fn asks_websocket(headers: &HeaderMap<HeaderValue>) -> bool
         && is_same_origin(headers)
 }
 
-/// The value of `Sec-WebSocket-Accept`, if the headers are those of a request for a WebSocket of version 13 from a web
-/// page of the same address; else none. It takes no memory.
+/// The value of `Sec-WebSocket-Accept`, if the headers ask for a WebSocket of version 13, from a web page of the same
+/// address; else none. It takes no memory.
 pub fn accepted(headers: &HeaderMap<HeaderValue>) -> Option<[u8; 28]>
     ensures some { IfSome result (Accepts headers.now) }
     ensures none { IfNone result ((key : List ℕ) → ¬ (Accepts headers.now key)) }

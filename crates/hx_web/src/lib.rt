@@ -10,5 +10,5 @@ mod clients;
 mod handshake;
 mod serving;
 
-pub use answering::Page;
-pub use serving::serve_page;
+pub use answering::WebService;
+pub use serving::serve_web;

@@ -60,7 +60,7 @@ fn rest<T: Clock>(
 ///
 /// Errors: those of the listener and of memory before anybody was answered, and those of the clock
 /// and of memory for what is new. What is wrong with a connection ends that one alone.
-pub fn serve_page<T: Wait + Clock>(
+pub fn serve_web<T: Wait + Clock>(
     rt: &T,
     alloc: Global,
     listener: TcpListener,

@@ -1,8 +1,5 @@
 //! A day over the journal's file, from its beginning or from what the file has of it.
-ghost use Rattle.std.specs.Prelude.{◌≡◌, true};
-ghost use Rattle.hx_tape_lines.specs.Text.{record_of};
-ghost use Rattle.hx_desk.specs.Entries.{restored};
-ghost use Rattle.hx_engine.specs.Journals.{lines};
+ghost use Rattle.std.specs.Prelude.{◌≡◌};
 ghost use Rattle.hx_engine.specs.Opening.{IsNewLog};
 
 use super::output::{EventOutput, hear};
@@ -84,9 +81,6 @@ pub fn go_on<V: Venue, J: Journal + Drop, R: Wait + Abort>(
     requires durable { IsNewLog V.durable ground.logs.durable }
     requires of_setup { ground.setup ≡ V.setup }
     requires before { recovered.events.items ≡ V.before }
-    requires journal { J.appended recovered.journal ≡ lines record_of (restored V.before) }
-    requires safe { (J.durable recovered.journal ≡ J.appended recovered.journal)
-        × (J.is_open recovered.journal ≡ true) }
     requires reader { ground.reader.log ≡ V.log }
     requires blank { (ground.blank.name ≡ V.name) × (ground.blank.parts ≡ V.parts) × (V.parts ≡ 1) }
 {

@@ -64,7 +64,7 @@ fn a_day_is_a_text(rt: HostRuntime) {
     equal(&rt, tape.len(), 0);
     equal(&rt, write_day(&mut journal), 24);
     equal(&rt, journal.device().file().bytes(), DAY);
-    equal(&rt, write_day(&mut Unkept::new()), 24);
+    equal(&rt, write_day(&mut NullJournal::new()), 24);
     let (journal, tape) = opened(&rt, alloc, DAY, 99).expect(&rt, "the day");
     equal(&rt, tape.as_slice(), TAPE);
     equal(&rt, journal.count(), 5);
@@ -237,11 +237,11 @@ fn a_second_open_of_a_file_is_refused(rt: HostRuntime) {
 #[test]
 fn another_thread_may_write_the_day(rt: HostRuntime) {
     let (mut journal, _tape) = opened(&rt, rt.alloc(), b"", 99).expect(&rt, "a new day");
-    let mut unkept = Unkept::new();
+    let mut volatile = NullJournal::new();
     let (output, other) = thread::join(
         &rt,
         move || write_day(&mut journal),
-        move || write_day(&mut unkept),
+        move || write_day(&mut volatile),
     );
     equal(&rt, output, 24);
     equal(&rt, other, 24);

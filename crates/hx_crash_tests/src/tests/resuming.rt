@@ -96,10 +96,6 @@ fn go_on<V: Venue, R: Wait + Abort>(
     requires durable { IsNewLog V.durable logs.durable }
     requires of_setup { setup ≡ V.setup }
     requires before { recovered.events.items ≡ V.before }
-    requires records { record_texts recovered.journal.records.items
-        ≡ lines record_of (restored V.before) }
-    requires safe { take recovered.journal.synced (record_texts recovered.journal.records.items)
-        ≡ record_texts recovered.journal.records.items }
     requires reader { reader.log ≡ V.log }
     requires blank { (blank.name ≡ V.name) × (blank.parts ≡ V.parts) × (V.parts ≡ 1) }
 {

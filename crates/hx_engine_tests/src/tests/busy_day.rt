@@ -75,7 +75,7 @@ fn read_on(
     ensures { reader.new.log ≡ reader.old.log }
 {
     let count = reader.look(log);
-    for _place in reader.read_so_far()..count {
+    for _index in reader.read_so_far()..count {
         let Some(message) = reader.next(log) else {
             return Ok(());
         };

@@ -82,9 +82,9 @@ fn apply<R: Abort>(
 fn expect_replies<R: Abort>(rt: &R, desk: &Desk, member: u16, wanted: &[Reply]) {
     let member = member_of(rt, member);
     expect_all_replies(rt, desk, member, wanted);
-    for (place, want) in wanted.iter().enumerate() {
+    for (index, want) in wanted.iter().enumerate() {
         let page = desk
-            .replies_page(member, place as u64 + 1, 1)
+            .replies_page(member, index as u64 + 1, 1)
             .expect(rt, "a page");
         let reply = page.first().expect(rt, "a reply");
         equal(rt, read_reply(reply.as_slice()), *want);

@@ -43,11 +43,11 @@ fn submit<V: Venue, R: Wait + Abort>(
     exchange.submit(rt, pass, &event)
 }
 
-// The pass sent events with these places in the history, in this order.
-fn expect_sent<V: Venue, R: Abort>(rt: &R, pass: &Pass<V>, places: &[u64]) {
-    equal(rt, pass.sent().len(), places.len());
-    for ((place, event), wanted) in pass.sent().iter().zip(places) {
-        equal(rt, *place, *wanted);
+// The pass sent events with these positions in the history, in this order.
+fn expect_sent<V: Venue, R: Abort>(rt: &R, pass: &Pass<V>, positions: &[u64]) {
+    equal(rt, pass.sent().len(), positions.len());
+    for ((position, event), wanted) in pass.sent().iter().zip(positions) {
+        equal(rt, *position, *wanted);
         holds(rt, matches!(event, Event::Message { .. }));
     }
 }
@@ -105,16 +105,16 @@ impl Scenario for LacksMemory {
         _reader: Reader<Entry>,
     ) {
         let mut pass = passes.pop().expect(rt, "a pass");
-        let places = [1, 2, 3];
+        let positions = [1, 2, 3];
         for (before, token) in [*b"T1", *b"T2", *b"T3"].into_iter().enumerate() {
             let mut done = submit(rt, alloc, &exchange, &mut pass, 1, token);
             if done == Err(SubmitError::Refused(DeskError::NoMemory)) {
-                expect_sent(rt, &pass, places.get(..before).expect(rt, "a front"));
+                expect_sent(rt, &pass, positions.get(..before).expect(rt, "a front"));
                 done = submit(rt, alloc, &exchange, &mut pass, 1, token);
             }
             holds(rt, done.is_ok());
         }
-        expect_sent(rt, &pass, &places);
+        expect_sent(rt, &pass, &positions);
         passes.push(pass).expect(rt, "a place");
         ends(rt, exchange, passes, 3, 3);
     }

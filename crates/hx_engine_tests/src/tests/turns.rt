@@ -64,8 +64,8 @@ const AT_ONCE: Hidden = Hidden {
 fn token_of(number: u32) -> Token {
     let mut token = *b"T0000000000000";
     let mut left = number;
-    for place in 0..6 {
-        token[13 - place] = b'0' + (left % 10) as u8;
+    for index in 0..6 {
+        token[13 - index] = b'0' + (left % 10) as u8;
         left /= 10;
     }
     Token(token)

@@ -8,7 +8,7 @@ use hx_blog::{Log, Reader};
 use hx_engine::{Entry, Exchange, Journal, Logs, Pass, Venue};
 use hx_engine_testing::ground::logs_of;
 use hx_engine_testing::memory::Memory;
-use hx_journal::Unkept;
+use hx_journal::NullJournal;
 use hx_members::Setup;
 use hx_testing::sending::{BUY, Order, SELL};
 use hx_wake::Waker;
@@ -195,5 +195,5 @@ fn only_who_has_news_is_woken(rt: HostRuntime) -> Result<(), Fail> {
 
 #[test]
 fn the_publisher_is_woken_last(rt: HostRuntime) -> Result<(), Fail> {
-    wake_at(&rt, rt.alloc(), Unkept::new())
+    wake_at(&rt, rt.alloc(), NullJournal::new())
 }

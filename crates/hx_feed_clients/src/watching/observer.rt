@@ -53,7 +53,7 @@ impl Observer for Nobody {
 
 /// The web page observes.
 #[derive(Drop)]
-pub struct OnPage<'a, R> {
+pub struct WebObserver<'a, R> {
     /// The runtime.
     pub rt: &'a R,
     /// The post by which the web page gets its news.
@@ -77,7 +77,7 @@ fn status_of(screen: &Screen, progress: Progress) -> Status {
     }
 }
 
-impl<'a, R: Wait + Clock> Observer for OnPage<'a, R> {
+impl<'a, R: Wait + Clock> Observer for WebObserver<'a, R> {
     fn look(&mut self, screen: &Screen) {
         if let Some(bytes) = screen.reader.peek() {
             if let Some(message) = decode(bytes.as_slice()) {

@@ -10,8 +10,8 @@ ghost use Rattle.hx_fenced_log.specs.JournalStates.{HasRead, durable, appended, 
 ghost use Rattle.hx_fenced_log.specs.Stops.{IsLeftSince};
 
 use crate::{Follower, KeepError, Log, LogError, LogWriter};
-use hx_journal::{Journal, JournalError};
-use std::alloc::{AllocError, Global};
+use hx_journal::{Journal, JournalError, push_line};
+use std::alloc::Global;
 use std::marker::Model;
 
 /// The journal of an exchange over a log that several append to. The lines of a sync are one record, which all readers
@@ -201,15 +201,4 @@ impl<L: Log> LogJournal<L> {
         } = self;
         Follower::at(log, writer)
     }
-}
-
-// Adds a line, or nothing.
-fn push_line(lines: &mut Vec<u8>, line: &[u8]) -> Result<(), AllocError>
-    ensures ok { OnOk result (lines.new.items ≡ lines.old.items ++ line.now ++ 10 ∷ []) }
-    ensures err { OnErr result (lines.new.items ≡ lines.old.items) }
-{
-    lines.reserve(line.len() + 1)?;
-    lines.extend_from_slice(line)?;
-    lines.push(b'\n')?;
-    Ok(())
 }

@@ -1,12 +1,12 @@
 //! A journal with a mirror.
-ghost use Rattle.std.specs.Prelude.{◌≡◌, ◌≢◌, ◌+◌, ◌++◌, [], ◌∷◌, true, false, OnOk, OnErr};
+ghost use Rattle.std.specs.Prelude.{◌≡◌, ◌≢◌, ◌+◌, true, false};
 ghost use Rattle.hx_journal.specs.Lines.{lines_of};
 ghost use Rattle.hx_journal.specs.Records.{IsRecord};
 ghost use Rattle.hx_fenced_log.specs.Mirrors.{Mirrors, both_open};
 
 use crate::mirror::writing::write_records;
-use hx_journal::{CallLog, Journal, JournalError};
-use std::alloc::{AllocError, Global};
+use hx_journal::{CallLog, Journal, JournalError, push_line};
+use std::alloc::Global;
 use std::marker::Model;
 
 /// A journal and its mirror, another journal with the same records: what is synced is durable in both. The mirror is
@@ -162,15 +162,4 @@ fn reported_as(error: JournalError) -> JournalError
         JournalError::Closed => JournalError::Failed,
         other => other,
     }
-}
-
-// Adds a line, or nothing.
-fn push_line(lines: &mut Vec<u8>, line: &[u8]) -> Result<(), AllocError>
-    ensures ok { OnOk result (lines.new.items ≡ lines.old.items ++ line.now ++ 10 ∷ []) }
-    ensures err { OnErr result (lines.new.items ≡ lines.old.items) }
-{
-    lines.reserve(line.len() + 1)?;
-    lines.extend_from_slice(line)?;
-    lines.push(b'\n')?;
-    Ok(())
 }

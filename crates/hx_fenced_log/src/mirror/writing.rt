@@ -4,7 +4,7 @@ ghost use Rattle.hx_journal.specs.Lines.{lines_of};
 ghost use Rattle.hx_fenced_log.specs.Mirrors.{IsOfRecords};
 
 use hx_journal::{Journal, JournalError};
-use hx_text::split_once;
+use hx_units::split_once;
 
 /// Appends the records of a text, each with a line feed after it, and syncs them.
 pub(crate) fn write_records<M: Journal>(mirror: &mut M, text: &[u8]) -> Result<(), JournalError>

@@ -6,7 +6,7 @@ ghost use Rattle.hx_fenced_log.specs.declared.terms.copy.RecordsError.TheVariant
 
 use crate::terms::lines::is_mark;
 use crate::{LogRecord, TextError, read_record};
-use hx_text::split_once;
+use hx_units::split_once;
 use std::alloc::{AllocError, AllocFailed, Global};
 
 /// The records in front of a text that are known to be whole, since another begins after each.

@@ -1,11 +1,11 @@
 //! The lines of records.
 ghost use Rattle.std.specs.Prelude.{◌≡◌, ◌↔◌, IsTrue, IfOk, IfErr};
-ghost use Rattle.hx_text.specs.Cuts.{Lacks};
+ghost use Rattle.hx_units.specs.Cuts.{Lacks};
 ghost use Rattle.hx_journal.specs.Records.{IsRecord, is_mark};
 ghost use Rattle.hx_fenced_log.specs.Lines.{AreTheLines, IsLineFault};
 
 use crate::RecordError;
-use hx_text::split_once;
+use hx_units::split_once;
 
 // How many lines a text has.
 pub(crate) fn count_lines(text: &[u8]) -> Result<u64, RecordError>

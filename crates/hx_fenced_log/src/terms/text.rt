@@ -8,8 +8,7 @@ ghost use Rattle.hx_fenced_log.specs.declared.terms.text.TextError.TheVariants.{
 ghost use Rattle.hx_fenced_log.specs.Texts.{mark, head_line, spelled, IsTextFault, IsReadAs};
 
 use crate::{Head, LogRecord, RecordError};
-use hx_text::{read_number, split_once};
-use hx_units::NoMemory;
+use hx_units::{NoMemory, read_number, split_once};
 use itoa::Buffer;
 use std::alloc::{AllocError, Global};
 

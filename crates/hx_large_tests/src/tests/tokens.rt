@@ -2,7 +2,7 @@
 //! index, and no other.
 
 use super::{equal, holds};
-use hx_members::{Seed, Tokens, name_hint};
+use hx_members::{Seed, Tokens, prefetch_hint};
 use hx_units::{MemberNo, Token};
 use std::hash::RandomState;
 use std::process::Abort;
@@ -75,10 +75,10 @@ fn expect_tokens<R: Abort>(rt: &R, tokens: &Tokens, form: Form, number: u16, fir
     let member = member_of(rt, number);
     for number in 0..COUNT {
         let token = numbered(form, number);
-        let outputs = tokens.state(member, &token).expect(rt, "a used token");
+        let state = tokens.state(member, &token).expect(rt, "a used token");
         let index = first.wrapping_add(u64::from(number));
-        equal(rt, outputs.chain, index);
-        equal(rt, outputs.key, Some(index as usize));
+        equal(rt, state.chain, index);
+        equal(rt, state.key, Some(index as usize));
         let other = numbered(form, number + COUNT);
         holds(rt, tokens.state(member, &other).is_none());
     }
@@ -125,9 +125,9 @@ fn count_likely<R: Abort>(rt: &R, tokens: &Tokens, member: MemberNo) -> u32 {
     let mut found: u32 = 0;
     for number in 0..COUNT {
         let token = numbered(Form::AtTheEnd, number);
-        let outputs = tokens.state(member, &token).expect(rt, "a used token");
-        let [key, ..] = tokens.likely_keys(&[name_hint(member, &token)]);
-        if outputs.key == Some(key) {
+        let state = tokens.state(member, &token).expect(rt, "a used token");
+        let [key, ..] = tokens.prefetched_keys(&[prefetch_hint(member, &token)]);
+        if state.key == Some(key) {
             found = found.wrapping_add(1);
         }
     }
@@ -141,7 +141,7 @@ fn most_keys_are_likely_ones(rt: HostRuntime) -> Result<(), Fail> {
     let found = count_likely(&rt, &tokens, member_of(&rt, 1));
     holds(&rt, found > COUNT / 2);
     let none = Tokens::new(rt.alloc());
-    let [first, .., last] = none.likely_keys(&[]);
+    let [first, .., last] = none.prefetched_keys(&[]);
     equal(&rt, first, usize::MAX);
     equal(&rt, last, usize::MAX);
     Ok(())

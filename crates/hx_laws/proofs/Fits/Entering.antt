@@ -1,15 +1,13 @@
 -- What a readable message asks for, if it is accepted, fits its fields.
-use Rattle.std.proofs.Common.{◌≡◌, ℕ, zero, suc, ◌+◌, ◌-◌, ◌<◌, ◌≤◌, ◌^◌, Bool, false, ltb, ltb-false, refl, arith, ◌||◌, List, [], ◌∷◌, length, drop, length-drop, Some, None, Option, slice_get}
+use Rattle.std.proofs.Common.{◌≡◌, ℕ, zero, suc, ◌+◌, ◌-◌, ◌<◌, ◌≤◌, ◌^◌, Bool, false, ltb, ltb-false, refl, arith, ◌||◌, List, [], ◌∷◌, length, Some, None, Option, slice_get}
 use Rattle.std.specs.Prelude.{unwrap_or}
 use Rattle.std.specs.List.{AllByRecursion}
 use Rattle.std.specs.Option.{option_map_or, IfSome}
 use Rattle.std.proofs.lemmas.Bool.{cond_both, or_parts}
-use Rattle.std.proofs.lemmas.List.{length-take-le}
 use Rattle.hx_units.specs.Names.{is_symbol, is_firm}
-use Rattle.hx_units.specs.Fields.{text_at}
 use Rattle.hx_units.specs.declared.names.Symbol.{Symbol}
 use Rattle.hx_units.specs.declared.names.Firm.{Firm}
-use Rattle.hx_units.proofs.FieldLaws.{is_message-true}
+use Rattle.hx_units.proofs.FieldLaws.{is_message-true, length-text_at}
 use Rattle.hx_book.proofs.Lists.{find-all}
 use Rattle.hx_members.specs.Setups.{Setup, locate_from, locate_of, symbol_of, no_symbol, no_firm, firm_of, member_of}
 use Rattle.hx_members.specs.Stock.{Stock}
@@ -21,8 +19,8 @@ use Rattle.hx_ouch.specs.declared.inbound.Inbound.TheVariants as inbound
 use Rattle.hx_ouch.specs.Inbound.{inbound_of, is_enter, is_replace, is_cancel, enter_of, replace_of, cancel_of}
 use Rattle.hx_rules.specs.Enter.{reasons, rejection, is_bad_shares, is_bad_price, is_between_cents, resolved_firm}
 use Rattle.hx_rules.specs.Replace.{replace_fails}
+use Rattle.hx_rules.proofs.Reasons.{none_applies}
 use Rattle.hx_laws.specs.FeedFits.{FitsStock, FitsMember, FitsSetup}
-use Rattle.hx_laws.proofs.History.Rejections.{no_reason}
 
 -- ---- a setup
 
@@ -63,9 +61,6 @@ firm_fits setup member firm fits four =
 
 -- ---- a message
 
-pub text_len : (at n : ℕ) (bytes : List ℕ) → at + n ≤ length bytes → length (text_at at n bytes) ≡ n
-text_len at n bytes le = length-take-le n (drop at bytes) (omega (arith, length-drop at bytes))
-
 -- the names of an Enter have their lengths
 abbrev pub IsNamed : Option Inbound → Type 0
 IsNamed None = Unit {0}
@@ -76,7 +71,7 @@ IsNamed (Some (inbound.Cancel c)) = Unit {0}
 pub is_named : (bytes : List ℕ) → IsNamed (inbound_of bytes)
 is_named bytes =
     cond_both (is_enter bytes) (Some (inbound.Enter (enter_of bytes))) _ IsNamed
-    (λ e. let len : length bytes ≡ 49 = (is_message-true 49 79 bytes e).0 in (text_len 20 8 bytes (omega arith), text_len 36 4 bytes (omega arith)))
+    (λ e. let len : length bytes ≡ 49 = (is_message-true 49 79 bytes e).0 in (length-text_at 20 8 bytes (omega arith), length-text_at 36 4 bytes (omega arith)))
     (λ _. cond_both (is_replace bytes) (Some (inbound.Replace (replace_of bytes))) _ IsNamed (λ _. tt)
     (λ _. cond_both (is_cancel bytes) (Some (inbound.Cancel (cancel_of bytes))) None IsNamed (λ _. tt) (λ _. tt)))
 
@@ -92,7 +87,7 @@ good_price n h =
 
 pub accepted_fits : (setup : Setup) (phase : ℕ) (halted : List Bool) (e : Enter) → rejection setup phase halted e ≡ None → (e.shares ≤ 999999) × (e.price < 2 ^ 32)
 accepted_fits setup phase halted e h =
-    let none = no_reason (reasons setup phase halted e) h in
+    let none = none_applies (reasons setup phase halted e) h in
     (good_shares e.shares none.1.1.1.1.1.0, good_price e.price none.1.1.1.1.1.1.0)
 
 pub replaced_fits : (phase n : ℕ) (r : Replace) → replace_fails phase n r ≡ false → (r.shares - n ≤ 999999) × (r.price < 2 ^ 32)

@@ -1,14 +1,14 @@
 -- The feed of a whole recorded history fits its fields.
-use Rattle.std.proofs.Common.{◌≡◌, ℕ, zero, suc, ◌+◌, ◌*◌, ◌<◌, ◌≤◌, Bool, true, false, cond, leb, refl, sym, ap, ◌∙◌, subst, arith, ◌&&◌, List, [], ◌∷◌, length, replicate, Some, None, Option, slice_index}
+use Rattle.std.proofs.Common.{◌≡◌, ℕ, zero, suc, ◌+◌, ◌*◌, ◌<◌, ◌≤◌, Bool, true, false, cond, leb, refl, sym, ◌∙◌, subst, arith, ◌&&◌, List, [], ◌∷◌, length, replicate, Some, None, Option, slice_index}
 use Rattle.std.specs.Prelude.{is_none}
 use Rattle.std.specs.List.{AllByRecursion}
 use Rattle.std.specs.Option.{IfSome, option_map_or}
-use Rattle.std.proofs.lemmas.Bool.{and_parts, leb-true}
-use Rattle.std.proofs.lemmas.Bool.Decides.{nat_tests}
+use Rattle.std.proofs.lemmas.Bool.{and_parts, leb-true, leb-false}
 use Rattle.hx_book.proofs.Lists.{find-all}
 use Rattle.hx_members.specs.Setups.{Setup, member_of}
 use Rattle.hx_members.specs.Member.{Member}
 use Rattle.hx_refs.specs.Numbers.{raised}
+use Rattle.hx_refs.proofs.Numbers.{length-raised}
 use Rattle.hx_rules.specs.declared.event.Event.{Event}
 use Rattle.hx_rules.specs.declared.event.Event.TheVariants.{Message, Tick, Hours, Halt, Break}
 use Rattle.hx_rules.specs.declared.fault.PrepareError.{PrepareError}
@@ -35,11 +35,6 @@ total_within : (xs : List ℕ) → ((i : ℕ) → slice_index xs i ≤ 429496729
 total_within [] h = omega arith
 total_within (x ∷ xs) h = let a = h 0 in let k : total xs ≤ 4294967295 * length xs = total_within xs (λ i. h (suc i)) in omega arith
 
-length_raised : (xs : List ℕ) (i : ℕ) → length (raised xs i) ≡ length xs
-length_raised [] i = refl
-length_raised (x ∷ xs) zero = refl
-length_raised (x ∷ xs) (suc i) = ap (λ n. suc n) (length_raised xs i)
-
 limited_raised : (xs : List ℕ) (i : ℕ) → ((k : ℕ) → slice_index xs k ≤ 4294967295) → slice_index xs i < 4294967295 → (k : ℕ) → slice_index (raised xs i) k ≤ 4294967295
 limited_raised [] i all l k = all k
 limited_raised (x ∷ xs) zero all l zero = omega arith
@@ -58,7 +53,7 @@ one_more n counts i c l room =
     let numbered = c.numbered in
     let is = c.total_is in
     let up = total_raised counts i (omega arith) in
-    record { numbered = length_raised counts i ∙ numbered; limited = limited_raised counts i c.limited room; total_is = omega arith }
+    record { numbered = length-raised counts i ∙ numbered; limited = limited_raised counts i c.limited room; total_is = omega arith }
 
 -- no day has more events
 few_of : (n : ℕ) (counts : List ℕ) → Counted (n + 1) counts → n < 17592186040320
@@ -75,9 +70,6 @@ no_total (suc n) = let k : total (replicate n 0) ≡ 0 = no_total n in omega ari
 
 -- ---- an event that is accepted
 
-above : (m n : ℕ) → leb m n ≡ false → n < m
-above m n h = grind (arith, nat_tests)
-
 record Passes (time : ℕ) (stranger : Bool) (limit count : ℕ) : Type 0 where
   early : time < 86400000000000
   known : stranger ≡ false
@@ -91,7 +83,7 @@ passes time stranger limit count x y z h = choose (leb 86400000000000 time) stra
     choose true b c d e f h = absurd (cc h)
     choose false true c d e f h = absurd (cc h)
     choose false false true d e f h = absurd (cc h)
-    choose false false false d e f h = record { early = above 86400000000000 time d; known = e; room = above limit count f }
+    choose false false false d e f h = record { early = leb-false 86400000000000 time d; known = e; room = leb-false limit count f }
 
 known_fits : (setup : Setup) (m : ℕ) → FitsSetup setup → is_none (known_member setup m) ≡ false → (m < 4096) × (option_map_or (λ k. k.limit) (known_member setup m) 0 ≤ 4294967295)
 known_fits setup m fits h = choose (leb 1 m && leb m 4095) refl h

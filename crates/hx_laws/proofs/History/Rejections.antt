@@ -1,9 +1,8 @@
 -- What is known of an order that is accepted, or that replaces another.
 use Rattle.std.proofs.Common.{◌≡◌, ℕ, suc, ◌+◌, ◌-◌, min, Bool, true, false, cond, ltb, leb, refl, ap, sym, ◌∙◌, arith, ◌||◌, ◌&&◌, not, List, [], ◌∷◌, Option, Some, None, slice_get}
 use Rattle.std.specs.Prelude.{is_none, unwrap_or}
-use Rattle.std.specs.List.{AllByRecursion}
 use Rattle.std.specs.Option.{option_map, option_map_or}
-use Rattle.std.proofs.lemmas.Bool.{and_parts, or_parts}
+use Rattle.std.proofs.lemmas.Bool.{and_parts, or_parts, not-true}
 use Rattle.std.proofs.lemmas.Bool.Decides.{nat_tests}
 use Rattle.std.proofs.lemmas.Slice.Eq.{bytes_eq-Decides}
 use Rattle.hx_units.specs.Names.{is_symbol}
@@ -13,28 +12,19 @@ use Rattle.hx_members.specs.Stock.{Stock}
 use Rattle.hx_ouch.specs.declared.inbound.Enter.{Enter}
 use Rattle.hx_ouch.specs.declared.inbound.Replace.{Replace}
 use Rattle.hx_rules.specs.Orders.{is_display, is_immediate, is_shown, is_visible}
-use Rattle.hx_rules.specs.Enter.{Reason, first_reason, reasons, rejection, is_bad_shares, is_bad_price, is_late}
+use Rattle.hx_rules.specs.Enter.{reasons, rejection, is_bad_shares, is_bad_price, is_late}
 use Rattle.hx_rules.specs.Replace.{replace_fails}
-use Rattle.hx_laws.proofs.Quiet.QuietBefore.{not_true}
+use Rattle.hx_rules.proofs.Reasons.{none_applies}
 
 pub shown_not_immediate : (d t : ℕ) → is_shown d t ≡ true → is_immediate t ≡ false
-shown_not_immediate d t h = not_true (is_immediate t) (and_parts (is_visible d) (not (is_immediate t)) h).1
-
-pub no_reason : (rs : List Reason) → first_reason rs ≡ None → AllByRecursion (λ r. r.applies ≡ false) rs
-no_reason [] h = tt
-no_reason (r ∷ rs) h = choose r.applies refl (no_reason rs) h
-  where
-    choose : (b : Bool) → r.applies ≡ b → (first_reason rs ≡ None → AllByRecursion (λ r. r.applies ≡ false) rs) → cond b (Some r.letter) (first_reason rs) ≡ None
-        → (r.applies ≡ false) × AllByRecursion (λ r. r.applies ≡ false) rs
-    choose true e ih h = absurd (cc h)
-    choose false e ih h = (e, ih h)
+shown_not_immediate d t h = not-true (is_immediate t) (and_parts (is_visible d) (not (is_immediate t)) h).1
 
 some_shares : (n : ℕ) → is_bad_shares n ≡ false → ltb 0 n ≡ true
 some_shares n h = grind (arith, nat_tests)
 
 -- a message of no shares is rejected
 pub accepted_shares : (setup : Setup) (phase : ℕ) (halted : List Bool) (e : Enter) → rejection setup phase halted e ≡ None → ltb 0 e.shares ≡ true
-accepted_shares setup phase halted e h = some_shares e.shares (no_reason (reasons setup phase halted e) h).1.1.1.1.1.0
+accepted_shares setup phase halted e h = some_shares e.shares (none_applies (reasons setup phase halted e) h).1.1.1.1.1.0
 
 no_minimum : (n : ℕ) (a b : Bool) → (a || (ltb 0 n && b)) ≡ false → b ≡ true → n ≡ 0
 no_minimum n a b h e = grind (arith, nat_tests)
@@ -42,7 +32,7 @@ no_minimum n a b h e = grind (arith, nat_tests)
 -- an accepted order that is shown has no minimum
 pub accepted_minimum : (setup : Setup) (phase : ℕ) (halted : List Bool) (e : Enter) → rejection setup phase halted e ≡ None → is_shown e.display e.time_in_force ≡ true → e.minimum_quantity ≡ 0
 accepted_minimum setup phase halted e h s =
-    no_minimum e.minimum_quantity (ltb e.shares e.minimum_quantity) (is_shown e.display e.time_in_force) (no_reason (reasons setup phase halted e) h).1.1.1.1.1.1.1.0 s
+    no_minimum e.minimum_quantity (ltb e.shares e.minimum_quantity) (is_shown e.display e.time_in_force) (none_applies (reasons setup phase halted e) h).1.1.1.1.1.1.1.0 s
 
 -- the stock of an accepted order is one of the setup, at its index
 record StandsAt (stocks : List Stock) (symbol : Symbol) (n k : ℕ) : Type 0 where
@@ -79,7 +69,7 @@ symbol_at setup symbol k h =
     found (Some s) g = let same : s.symbol ≡ symbol = cc in same
 
 pub accepted_stock : (setup : Setup) (phase : ℕ) (halted : List Bool) (e : Enter) → rejection setup phase halted e ≡ None → symbol_of setup (unwrap_or (locate_of setup e.stock) 0) ≡ e.stock
-accepted_stock setup phase halted e h = choose (locate_of setup e.stock) refl (no_reason (reasons setup phase halted e) h).1.0
+accepted_stock setup phase halted e h = choose (locate_of setup e.stock) refl (none_applies (reasons setup phase halted e) h).1.0
   where
     choose : (o : Option ℕ) → locate_of setup e.stock ≡ o → is_none o ≡ false → symbol_of setup (unwrap_or o 0) ≡ e.stock
     choose None g f = absurd (let z : true ≡ false = f in cc)

@@ -1,10 +1,11 @@
 -- Two markets that are alike except for the chosen chains, and how each part of a step preserves that.
-use Rattle.std.proofs.Common.{◌≡◌, ℕ, zero, suc, ◌+◌, Bool, true, false, refl, ap, sym, ◌∙◌, arith, not, List, [], ◌∷◌, length, get_or, get_or-set_other, length-set}
+use Rattle.std.proofs.Common.{◌≡◌, ℕ, zero, suc, ◌+◌, Bool, true, false, refl, ap, sym, ◌∙◌, arith, not, List, [], ◌∷◌, length, get_or, get_or-set_other}
 use Rattle.std.specs.Prelude.{slice_index}
 use Rattle.std.specs.List.{filter}
 use Rattle.std.proofs.lemmas.List.{append-nil}
 use Rattle.hx_members.specs.Chains.{is_used, entered_of}
 use Rattle.hx_refs.specs.Numbers.{raised}
+use Rattle.hx_refs.proofs.Numbers.{length-raised}
 use Rattle.hx_rules.specs.Orders.{Order, Token, is_called}
 use Rattle.hx_rules.specs.Markets.{Market}
 use Rattle.hx_rules.specs.Enter.{consumed, drawn}
@@ -116,9 +117,6 @@ raised_same (x ∷ xs) (y ∷ ys) zero zero l h = ap (λ n. n + 1) h
 raised_same (x ∷ xs) (y ∷ ys) zero (suc p) l h = h
 raised_same (x ∷ xs) (y ∷ ys) (suc m) zero l h = h
 raised_same (x ∷ xs) (y ∷ ys) (suc m) (suc p) l h = raised_same xs ys m p (omega arith) h
-
-length-raised : (xs : List ℕ) (m : ℕ) → length (raised xs m) ≡ length xs
-length-raised xs m = length-set xs m _
 
 pub alike_drawn : (s : Choice) (a b : Market) → IsAlike s a b → (m : ℕ) (d : Bool) → IsAlike s (drawn a m d) (drawn b m d)
 alike_drawn s a b r m true =

@@ -1,6 +1,6 @@
 -- What is quiet in the end was quiet before.
 use Rattle.std.proofs.Common.{◌≡◌, ℕ, Bool, true, false, refl, ap, sym, ◌∙◌, not, List, [], ◌∷◌, ◌++◌}
-use Rattle.std.proofs.lemmas.Bool.{and_parts}
+use Rattle.std.proofs.lemmas.Bool.{and_parts, not-true}
 use Rattle.hx_members.specs.Setups.{Setup}
 use Rattle.hx_members.specs.Chains.{is_used, entered_of, is_loud}
 use Rattle.hx_rules.specs.declared.event.Event.{Event}
@@ -16,10 +16,6 @@ pub not_both : {X : Type 0} (b : Bool) → b ≡ true → b ≡ false → X
 not_both true h e = absurd (let z : true ≡ false = e in cc)
 not_both false h e = absurd (let z : false ≡ true = h in cc)
 
-pub not_true : (b : Bool) → not b ≡ true → b ≡ false
-not_true true h = absurd (let z : false ≡ true = h in cc)
-not_true false h = refl
-
 market_append : (setup : Setup) (xs ys : List Event) (a : Market) → market_after setup a (xs ++ ys) ≡ market_after setup (market_after setup a xs) ys
 unfolding market_after
 market_append setup [] ys a = refl
@@ -27,7 +23,7 @@ market_append setup (x ∷ xs) ys a = market_append setup xs ys (step setup a x)
 
 pub quiet_loud : (a : Market) (m : ℕ) (t : Token) → is_quiet a m t ≡ true → is_loud a.chains m (entered_of a.tokens m t) ≡ false
 unfolding is_quiet
-quiet_loud a m t h = not_true _ (and_parts (is_used a.tokens m t) _ h).1
+quiet_loud a m t h = not-true _ (and_parts (is_used a.tokens m t) _ h).1
 
 still_quiet : (a b : Market) → Moves a b → (m : ℕ) (t : Token) → is_used a.tokens m t ≡ true → is_quiet b m t ≡ true → is_quiet a m t ≡ true
 unfolding is_quiet

@@ -2,7 +2,7 @@
 use Rattle.std.proofs.Common.{◌≡◌, ℕ, Bool, true, false, refl, ap, sym, ◌∙◌, eqb-true, eq-eqb, ◌||◌, ◌&&◌, List, [], ◌∷◌}
 use Rattle.std.specs.Prelude.{◌==◌}
 use Rattle.std.specs.List.{AllByRecursion, list_any}
-use Rattle.std.proofs.lemmas.Bool.{and_parts, and_from}
+use Rattle.std.proofs.lemmas.Bool.{and_parts, and_from, not-true}
 use Rattle.hx_units.specs.Names.{is_token}
 use Rattle.hx_members.specs.Setups.{Setup}
 use Rattle.hx_members.specs.Chains.{is_used, is_loud, entered_of}
@@ -14,7 +14,7 @@ use Rattle.hx_rules.specs.Markets.{Market}
 use Rattle.hx_rules.specs.Steps.{run}
 use Rattle.hx_laws.specs.QuietChains.{Choice, is_quiet, quiet_of_one, strike, strike_one, all_but, seen}
 use Rattle.hx_laws.specs.Laws.{AreQuietChains, IsUnknownTo, OneMember, listed, AreWholeQuietChains, ListedIsChoice, QuietIsChoice, AnyPart, chained_with, ChainsOfAny}
-use Rattle.hx_laws.proofs.Quiet.QuietBefore.{not_true, quiet_loud}
+use Rattle.hx_laws.proofs.Quiet.QuietBefore.{quiet_loud}
 use Rattle.hx_laws.proofs.History.CoherentSteps.{Coherent}
 use Rattle.hx_laws.proofs.History.EventMoves.{coherent_run}
 use Rattle.hx_laws.proofs.Quiet.StruckRuns.{quiet_chains}
@@ -37,7 +37,7 @@ abbrev of_one : ℕ → Choice → Choice
 of_one m s member token = member == m && s member token
 
 unknown_to_others : (m : ℕ) (s : Choice) → IsUnknownTo (all_but m) (of_one m s)
-unknown_to_others m s p h t = ap (λ b. b && s p t) (not_true (p == m) h)
+unknown_to_others m s p h t = ap (λ b. b && s p t) (not-true (p == m) h)
 
 pub one_member : OneMember
 unfolding strike_one quiet_of_one seen

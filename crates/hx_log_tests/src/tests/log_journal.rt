@@ -40,7 +40,7 @@ fn write_day<J: Journal>(journal: &mut J) -> Result<(), JournalError> {
 }
 
 #[test]
-fn the_next_in_office_reads_what_is_synced(rt: HostRuntime) {
+fn the_next_active_writer_reads_what_is_synced(rt: HostRuntime) {
     let alloc = rt.alloc();
     let (mut journal, tape) = opened(&rt, alloc, MemoryLog::new(alloc), 1);
     equal(&rt, tape.len(), 0);

@@ -101,31 +101,31 @@ fn entered(alloc: Global, member: MemberNo, first: &Token) -> Result<Tokens, Fai
 
 // A token joins the chain of another.
 fn join(tokens: &mut Tokens, member: MemberNo, first: &Token, second: &Token) -> Result<(), Fail> {
-    let Some(outputs) = tokens.state(member, first) else {
+    let Some(state) = tokens.state(member, first) else {
         return Err(Fail::new("unused"));
     };
     if tokens.state(member, second).is_some() {
         return Err(Fail::new("used"));
     }
     tokens.reserve(member, second)?;
-    tokens.join_chain(member, second, outputs.chain);
+    tokens.join_chain(member, second, state.chain);
     Ok(())
 }
 
-fn output_of(rt: &impl Abort, tokens: &Tokens, member: MemberNo, token: &Token) -> TokenState {
+fn state_of(rt: &impl Abort, tokens: &Tokens, member: MemberNo, token: &Token) -> TokenState {
     tokens
         .state(member, token)
         .expect(rt, "a token that is used")
 }
 
-fn expect_facts<R: Abort>(rt: &R, outputs: TokenState, key: Option<usize>) {
+fn expect_facts<R: Abort>(rt: &R, state: TokenState, key: Option<usize>) {
     let facts = ChainFacts {
         executed: 100,
         displayed: true,
         traded: true,
     };
     let chain = 0;
-    equal(rt, outputs, TokenState { chain, facts, key });
+    equal(rt, state, TokenState { chain, facts, key });
 }
 
 #[test]
@@ -147,7 +147,7 @@ fn a_chain_of_two_tokens(rt: HostRuntime) -> Result<(), Fail> {
     let mut tokens = entered(rt.alloc(), member, &first)?;
     join(&mut tokens, member, &first, &second)?;
     equal(&rt, tokens.count(), 2);
-    expect_facts(&rt, output_of(&rt, &tokens, member, &first), Some(7));
-    expect_facts(&rt, output_of(&rt, &tokens, member, &second), None);
+    expect_facts(&rt, state_of(&rt, &tokens, member, &first), Some(7));
+    expect_facts(&rt, state_of(&rt, &tokens, member, &second), None);
     Ok(())
 }

@@ -254,7 +254,7 @@ fn warns<
         counters: &stage.counters,
         copies: &[],
     };
-    let beginning = Beginning::unkept(alloc, Seed::Fixed);
+    let beginning = Beginning::without_journal(alloc, Seed::Fixed);
     let mut output = Vec::new(alloc);
     let served = serve_durable(rt, alloc, &hosting, beginning, CLOSING, &mut output, None);
     equal(rt, served, Ok(()));

@@ -4,7 +4,7 @@ use super::days::standard;
 use super::{equal, holds};
 use hx_market::Event;
 use hx_members::Setup;
-use hx_serve::{SessionSlots, Sitter, Stage, TradingStatus};
+use hx_serve::{ActiveSession, SessionSlots, Stage, TradingStatus};
 use hx_units::{MemberNo, Symbol};
 use std::alloc::Global;
 use std::net::{Ipv4Addr, SocketAddr};
@@ -111,13 +111,15 @@ fn a_session_slot_is_taken_called_off_and_free_again(rt: HostRuntime) {
     let from = SocketAddr::from((Ipv4Addr::new(127, 0, 0, 1), 9001));
     equal(&rt, (session_slots.len(), session_slots.taken(&rt)), (3, 0));
     for (session_slot, member) in [(0, first), (2, second)] {
-        session_slots.sit(&rt, session_slot, Sitter { member, from });
+        session_slots.occupy(&rt, session_slot, ActiveSession { member, from });
     }
     equal(&rt, session_slots.taken(&rt), 2);
-    equal(&rt, session_slots.sitter(&rt, 1), None);
+    equal(&rt, session_slots.active_session(&rt, 1), None);
     equal(
         &rt,
-        session_slots.sitter(&rt, 2).map(|sitter| sitter.member),
+        session_slots
+            .active_session(&rt, 2)
+            .map(|active_session| active_session.member),
         Some(second),
     );
     equal(&rt, session_slots.call_off(&rt, second), 1);
@@ -127,7 +129,7 @@ fn a_session_slot_is_taken_called_off_and_free_again(rt: HostRuntime) {
     );
     holds(
         &rt,
-        session_slots.rise(&rt, 2) && !session_slots.rise(&rt, 0),
+        session_slots.vacate(&rt, 2) && !session_slots.vacate(&rt, 0),
     );
     equal(
         &rt,

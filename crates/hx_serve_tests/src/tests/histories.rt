@@ -3,11 +3,11 @@
 use super::days::{Fixture, standard};
 use super::notice_sinks::Counting;
 use super::{equal, holds};
-use hx_journal::Unkept;
+use hx_journal::NullJournal;
 use hx_members::Seed;
 use hx_serve::{
-    Acceptors, AppliedBeginning, AppliedDay, Counters, Day, Fittings, Hosting, OpenArgs, ServeArgs,
-    ServeError, Silent, Tally, Times, serve_applied, serve_day, today, write_history,
+    Acceptors, AppliedBeginning, AppliedDay, Counters, Day, DayServices, Hosting, OpenArgs,
+    ServeArgs, ServeError, Silent, Tally, Times, serve_applied, serve_day, today, write_history,
 };
 use log::Log;
 use std::alloc::Global;
@@ -77,9 +77,9 @@ fn serve_hours<
     let path = Some(path);
     let beginning = AppliedBeginning {
         day: AppliedDay::new(alloc, &setup, args, Seed::Fixed)?,
-        journal: Unkept::new(),
+        journal: NullJournal::new(),
         ahead: u64::MAX,
-        fittings: Fittings::none(),
+        day_services: DayServices::none(),
     };
     serve_applied(rt, alloc, &hosting, beginning, HOURS, output, path)
 }

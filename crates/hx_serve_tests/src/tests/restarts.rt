@@ -1,9 +1,5 @@
 //! A day whose journal fails, and that goes on from its file: its member and its vendor go on with the numbers they
 //! had.
-ghost use Rattle.std.specs.Prelude.{◌≡◌, true};
-ghost use Rattle.hx_tape_lines.specs.Text.{record_of};
-ghost use Rattle.hx_desk.specs.Entries.{restored};
-ghost use Rattle.hx_engine.specs.Journals.{lines};
 
 use super::client::{ALPHA, BOUGHT, BUY};
 use super::days::{log_in, send_order, standard};
@@ -17,7 +13,7 @@ use hx_journal::{DeviceError, Head, HostFile, RawFile};
 use hx_members::Seed;
 use hx_recovery::{Unwatched, recover};
 use hx_serve::{
-    Acceptors, Beginning, Day, Fittings, Hosting, ServeError, Silent, Times, serve_from,
+    Acceptors, Beginning, Day, DayServices, Hosting, ServeError, Silent, Times, serve_from,
 };
 use log::Log;
 use std::alloc::Global;
@@ -101,12 +97,7 @@ fn serve_over<
     last: u64,
     beginning: Beginning<J>,
     pieces: &'x [&'x [u8]],
-) -> Result<Day, ServeError>
-    requires journal { J.appended beginning.recovered.journal
-        ≡ lines record_of (restored beginning.recovered.events.items) }
-    requires safe { (J.durable beginning.recovered.journal ≡ J.appended beginning.recovered.journal)
-        × (J.is_open beginning.recovered.journal ≡ true) }
-{
+) -> Result<Day, ServeError> {
     let alloc = rt.alloc();
     let setup = standard(rt, alloc);
     let last = AtomicU64::new(last);
@@ -167,7 +158,7 @@ fn serve_file<
         seed: Seed::Fixed,
         recovered,
         ahead: u64::MAX,
-        fittings: Fittings::none(),
+        day_services: DayServices::none(),
     };
     serve_over(rt, stage, last, beginning, &[CLOSING])
 }

@@ -8,7 +8,7 @@ use super::vendor::ADDED;
 use super::{equal, holds};
 use hx_blog::{Log, Reader};
 use hx_engine::{Entry, Exchange, Logs, Pass, Venue};
-use hx_journal::Unkept;
+use hx_journal::NullJournal;
 use hx_members::Setup;
 use hx_serve::Silent;
 use hx_sessions::{Clock as Day, Ended, Fault, Logins, Part, serve_all};
@@ -37,7 +37,7 @@ type OverTcp<V> = Part<V, TcpStream, TcpStream, Standing>;
 
 // What an exchange with two passes is made of.
 #[derive(Drop)]
-struct Founding {
+struct ExchangeParts {
     own: Setup,
     logs: Logs,
     reader: Reader<Entry>,
@@ -55,7 +55,7 @@ struct SessionSlot<V: Venue> {
 // A pass and a reader for each of two sessions: the reader splits in two.
 fn session_slot_both<V: Venue, R: Abort>(
     rt: &R,
-    exchange: &Exchange<V, Unkept>,
+    exchange: &Exchange<V, NullJournal>,
     mut passes: Vec<Pass<V>>,
     mut reader: Reader<Entry>,
 ) -> (SessionSlot<V>, SessionSlot<V>)
@@ -132,7 +132,7 @@ fn last_session_slot<V: Venue, R: Abort>(
 fn serve_two<V: Venue + Send + Sync, R: Threads + Wait + Clock + Abort + Sync>(
     rt: &R,
     alloc: Global,
-    exchange: &Exchange<V, Unkept>,
+    exchange: &Exchange<V, NullJournal>,
     listener: &TcpListener,
     session_slots: (SessionSlot<V>, SessionSlot<V>),
 ) -> (SessionSlot<V>, SessionSlot<V>) {
@@ -172,7 +172,7 @@ fn apply_two<
 >(
     rt: &R,
     alloc: Global,
-    exchange: &Exchange<V, Unkept>,
+    exchange: &Exchange<V, NullJournal>,
     session_slots: (SessionSlot<V>, SessionSlot<V>),
 ) -> (SessionSlot<V>, SessionSlot<V>) {
     let any = (Ipv4Addr::new(127, 0, 0, 1), 0);
@@ -211,7 +211,7 @@ impl<V: Venue> SessionSlot<V> {
     fn reads_all<R: Wait + Abort>(
         &mut self,
         rt: &R,
-        exchange: &Exchange<V, Unkept>,
+        exchange: &Exchange<V, NullJournal>,
         other: &mut Pass<V>,
     ) {
         let log = exchange.feed_log();
@@ -232,24 +232,25 @@ impl<V: Venue> SessionSlot<V> {
 fn apply_day<
     V: Venue + Send + Sync,
     R: Net<Listener = TcpListener, Stream = TcpStream> + Threads + Wait + Clock + Abort + Sync,
->(rt: &R, alloc: Global, founding: Founding)
-    requires feed { IsNewLog V.log founding.logs.feed }
-    requires admitted { IsNewLog V.admitted founding.logs.admitted }
-    requires durable { IsNewLog V.durable founding.logs.durable }
-    requires of_setup { founding.own ≡ V.setup }
+>(rt: &R, alloc: Global, exchange_parts: ExchangeParts)
+    requires feed { IsNewLog V.log exchange_parts.logs.feed }
+    requires admitted { IsNewLog V.admitted exchange_parts.logs.admitted }
+    requires durable { IsNewLog V.durable exchange_parts.logs.durable }
+    requires of_setup { exchange_parts.own ≡ V.setup }
     requires before { V.before ≡ [] }
-    requires reader { founding.reader.log ≡ V.log }
-    requires blank { (founding.blank.name ≡ V.name) × (founding.blank.parts ≡ V.parts)
+    requires reader { exchange_parts.reader.log ≡ V.log }
+    requires blank { (exchange_parts.blank.name ≡ V.name)
+        × (exchange_parts.blank.parts ≡ V.parts)
         × (V.parts ≡ 2) }
 {
-    let Founding {
+    let ExchangeParts {
         own,
         logs,
         reader,
         blank,
-    } = founding;
-    let journal = Unkept::new();
-    let opened = Exchange::<V, Unkept>::new(alloc, own, logs, journal, blank, 2);
+    } = exchange_parts;
+    let journal = NullJournal::new();
+    let opened = Exchange::<V, NullJournal>::new(alloc, own, logs, journal, blank, 2);
     let (exchange, passes) = opened.expect(rt, "an exchange");
     let session_slots = session_slot_both(rt, &exchange, passes, reader);
     let (mut first, mut second) = apply_two(rt, alloc, &exchange, session_slots);
@@ -267,17 +268,17 @@ fn two_parts_at_once(rt: HostRuntime) -> Result<(), Fail> {
     let alloc = rt.alloc();
     let (log, pen, reader) = Log::<Entry>::new(alloc, 100)?;
     let (admitted, register, _) = Log::<Entry>::new(alloc, 1)?;
-    let (durable, keeper, _) = Log::<Entry>::new(alloc, 1)?;
-    let founding = Founding {
+    let (durable, durable_writer, _) = Log::<Entry>::new(alloc, 1)?;
+    let exchange_parts = ExchangeParts {
         own: Setup::standard(alloc)?,
         logs: Logs {
             feed: (log, pen),
             admitted: (admitted, register),
-            durable: (durable, keeper),
+            durable: (durable, durable_writer),
         },
         reader,
         blank: Blank::new(2),
     };
-    apply_day::<Brand, HostRuntime>(&rt, alloc, founding);
+    apply_day::<Brand, HostRuntime>(&rt, alloc, exchange_parts);
     Ok(())
 }

@@ -8,7 +8,7 @@ use super::packets::{Order, enter};
 use super::{equal, holds};
 use hx_blog::{Log, Reader};
 use hx_engine::{Entry, Exchange, FinishError, Logs, Pass, Venue};
-use hx_journal::Unkept;
+use hx_journal::NullJournal;
 use hx_market::{Bytes, Event};
 use hx_members::Setup;
 use hx_sessions::{Clock, DropCopy, Logins, Part, serve_all};
@@ -132,7 +132,7 @@ type OwnPart<'a, V> = Part<V, Line<'a>, Output<'a>, Still<'a>>;
 struct Stage<V: Venue> {
     alloc: Global,
     setup: Setup,
-    exchange: Exchange<V, Unkept>,
+    exchange: Exchange<V, NullJournal>,
     passes: Vec<Pass<V>>,
     reader: Reader<Entry>,
     ghost belongs: { reader.log ≡ V.log },
@@ -307,8 +307,8 @@ fn apply_at<V: Venue + Send + Sync, R: Threads + Wait + Timer + Abort + Sync>(
         left,
     } = day;
     let own = setup.copy(alloc).expect(rt, "a setup");
-    let journal = Unkept::new();
-    let (exchange, passes) = Exchange::<V, Unkept>::new(
+    let journal = NullJournal::new();
+    let (exchange, passes) = Exchange::<V, NullJournal>::new(
         alloc, setup, logs, journal, blank, 3,
     ).expect(rt, "an exchange");
     let mut stage = Stage {
@@ -346,12 +346,12 @@ pub fn apply_by<R: Threads + Wait + Timer + Abort + Sync>(
 ) {
     let (log, writer, reader) = Log::<Entry>::new(alloc, 5000).expect(rt, "a log");
     let (admitted, register, _) = Log::<Entry>::new(alloc, 1).expect(rt, "a log");
-    let (durable, keeper, _) = Log::<Entry>::new(alloc, 1).expect(rt, "a log");
+    let (durable, durable_writer, _) = Log::<Entry>::new(alloc, 1).expect(rt, "a log");
     let ends = Ends {
         logs: Logs {
             feed: (log, writer),
             admitted: (admitted, register),
-            durable: (durable, keeper),
+            durable: (durable, durable_writer),
         },
         reader,
         blank: Blank::new(3),

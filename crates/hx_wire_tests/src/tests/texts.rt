@@ -1,6 +1,6 @@
 //! Texts that are cut at a byte, and numbers in decimal.
 use super::equal;
-use hx_text::{read_number, split_once};
+use hx_units::{read_number, split_once};
 
 #[test]
 fn cut_at_the_first_space(rt: HostRuntime) {

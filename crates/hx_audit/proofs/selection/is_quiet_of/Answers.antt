@@ -1,5 +1,6 @@
 use Rattle.std.proofs.Common.{sym, ◌∙◌, eq-eqb}
-use Rattle.hx_audit.proofs.QuietTokens.{differs, quiet_of_another, quiet_of_himself}
+use Rattle.std.proofs.lemmas.Bool.{ne_eqb}
+use Rattle.hx_audit.proofs.QuietTokens.{quiet_of_another, quiet_of_himself}
 use Rattle.hx_audit.proofs.selection.is_quiet_of.Goals as goal
 
 pub returns-then-member-get : goal.returns-then-member-get
@@ -13,5 +14,5 @@ pub returns-else-member-get : goal.returns-else-member-get
 returns-else-member-get c =
     let one = c.in-Of.one in
     rw c.in-Of.is
-    (differs c.args.member c.get.result c.if-member-get.false
-    ∙ sym (quiet_of_another one c.args.member c.args.market.now.market c.args.token.now (differs c.args.member one (λ e. c.if-member-get.false (e ∙ sym c.get.ensures.value)))))
+    (ne_eqb c.args.member c.get.result c.if-member-get.false
+    ∙ sym (quiet_of_another one c.args.member c.args.market.now.market c.args.token.now (ne_eqb c.args.member one (λ e. c.if-member-get.false (e ∙ sym c.get.ensures.value)))))

@@ -30,11 +30,11 @@ loop-k-preserved g c =
     let i = c.loop-k.invariant in
     let s = c.load.ensures in
     let known = feed c.args.seat.now.me.0.known in
-    let index : 6 * c.args.place + 1 + c.loop-k.k - 1 ≡ 6 * c.args.place + c.loop-k.k = omega arith in
-    let word : c.load.result ≡ get_or (packed (get_or known c.args.place [])) c.loop-k.k 0 =
-    s.2.1.0 ∙ ((λ q. get_or (words_of (feed (i.1 q).0.known)) (index q) 0) ∙ word_of known c.args.place c.loop-k.k c.requires.known (omega (arith, c.loop-k-test.true))) in (
+    let word_index : 6 * c.args.index + 1 + c.loop-k.k - 1 ≡ 6 * c.args.index + c.loop-k.k = omega arith in
+    let word : c.load.result ≡ get_or (packed (get_or known c.args.index [])) c.loop-k.k 0 =
+    s.2.1.0 ∙ ((λ q. get_or (words_of (feed (i.1 q).0.known)) (word_index q) 0) ∙ word_of known c.args.index c.loop-k.k c.requires.known (omega (arith, c.loop-k-test.true))) in (
       s.0 ∙ i.0,
       s.2.0 ∙ i.1,
-      one_more c.loop-k.words (packed (get_or known c.args.place [])) c.loop-k.k c.load.result (omega (arith, i.3, c.loop-k-test.true)) word i.2,
+      one_more c.loop-k.words (packed (get_or known c.args.index [])) c.loop-k.k c.load.result (omega (arith, i.3, c.loop-k-test.true)) word i.2,
       length-set c.loop-k.words c.loop-k.k c.load.result ∙ i.3,
     )

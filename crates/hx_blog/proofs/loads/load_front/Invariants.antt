@@ -8,5 +8,5 @@ abbrev pub invariant-loop-k : goal.invariant-loop-k
 invariant-loop-k g l =
     (l.seat.table_id ≡ l.initial.seat.table_id)
     × (l.seat.me ≡ l.initial.seat.me)
-    × ((j : ℕ) → j < l.k → get_or l.words j 0 ≡ get_or (packed (get_or (feed l.initial.seat.me.0.known) l.place [])) j 0)
+    × ((j : ℕ) → j < l.k → get_or l.words j 0 ≡ get_or (packed (get_or (feed l.initial.seat.me.0.known) l.index [])) j 0)
     × (length l.words ≡ 6)

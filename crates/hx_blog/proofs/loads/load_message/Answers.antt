@@ -22,6 +22,6 @@ returns-clause-message g c =
     let s = c.load_front-words.ensures in
     let word = c.load.ensures.2.1 in
     let known = feed c.args.seat.now.me.0.known in
-    message_loaded known c.args.place c.load_front-words.result c.load.result _ c.requires.known (subst (λ (m : SeatState g.row.E.Denot). All IsMessage (feed m.0.known)) s.same.1 word.1) s.length s.words
-    (word.0 ∙ ap (λ (m : SeatState g.row.E.Denot). get_or (words_of (feed m.0.known)) (6 * c.args.place + 6 - 1) 0) s.same.1)
+    message_loaded known c.args.index c.load_front-words.result c.load.result _ c.requires.known (subst (λ (m : SeatState g.row.E.Denot). All IsMessage (feed m.0.known)) s.same.1 word.1) s.length s.words
+    (word.0 ∙ ap (λ (m : SeatState g.row.E.Denot). get_or (words_of (feed m.0.known)) (6 * c.args.index + 6 - 1) 0) s.same.1)
     c.unpack.ensures

@@ -6,4 +6,4 @@ pub store-requires : goal.store-requires
 store-requires g c =
     let r = c.requires in
     let me = r.writing in
-    (r.log, omega (arith, r.sized), stores_count _ _ _ _ _ _ _ (ap (λ m. m.0.gone) me) (ap (λ m. m.0.writes) me) (ap (λ m. m.0.told) me) (ap (λ m. m.0.read) me) r.entries r.count)
+    (r.log, omega (arith, r.sized), stores_count _ _ _ _ _ _ _ (ap (λ m. m.0.gone) me) (ap (λ m. m.0.writes) me) (ap (λ m. m.0.received) me) (ap (λ m. m.0.read) me) r.entries r.count)

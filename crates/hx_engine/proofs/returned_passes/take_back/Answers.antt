@@ -1,7 +1,7 @@
 use Rattle.std.proofs.Common.{take, drop, subst}
 use Rattle.hx_engine.specs.Passes.{PassState}
 use Rattle.hx_engine.specs.Finish.{IsReturned}
-use Rattle.hx_engine.proofs.Places.{more_known}
+use Rattle.hx_engine.proofs.Positions.{more_known}
 use Rattle.hx_engine.proofs.returned_passes.take_back.Goals as goal
 
 pub returns-clause-returned : goal.returns-clause-returned

@@ -1,11 +1,12 @@
 use Rattle.std.proofs.Common.{◌≡◌, ℕ, ◌+◌, ◌-◌, List, ◌++◌, length, take, drop, ap, ◌∙◌, arith, append_assoc, length-drop}
-use Rattle.hx_etcd.proofs.Pieces.{from_there, part_goes_further, part_pauses, part_comes_to_end}
+use Rattle.hx_etcd.proofs.Pieces.{part_goes_further, part_pauses, part_comes_to_end}
 use Rattle.hx_etcd.proofs.response.read_piece.Goals as goal
+use Rattle.hx_units.proofs.Lists.{take-rest}
 
 pub parts-preserved : goal.parts-preserved
 parts-preserved c =
     let before = c.parts.invariant in
-    let there = from_there c.parts.at c.args.input.now in
+    let there = take-rest c.parts.at c.args.input.now in
     let step = rw c.in-Data.is at c.in_ok-len.ensures.ok in (
       omega (arith, step.1.within, before.0, ap length there, length-drop c.parts.at c.args.input.now),
       (
@@ -18,7 +19,7 @@ parts-preserved c =
 pub returns-in-NeedMore-clause-ok : goal.returns-in-NeedMore-clause-ok
 returns-in-NeedMore-clause-ok c =
     let before = c.parts.invariant in
-    let there = from_there c.parts.at c.args.input.now in
+    let there = take-rest c.parts.at c.args.input.now in
     let step = rw c.in-NeedMore.is at c.in_ok-len.ensures.ok in
     record {
       within = omega (arith, step.continues.within, before.0, ap length there, length-drop c.parts.at c.args.input.now);
@@ -30,7 +31,7 @@ returns-in-NeedMore-clause-ok c =
 pub returns-in-End-clause-ok : goal.returns-in-End-clause-ok
 returns-in-End-clause-ok c =
     let before = c.parts.invariant in
-    let there = from_there c.parts.at c.args.input.now in
+    let there = take-rest c.parts.at c.args.input.now in
     let step = rw c.in-End.is at c.in_ok-len.ensures.ok in
     record {
       within = omega (arith, step.within.len_fits, before.0, ap length there, length-drop c.parts.at c.args.input.now);

@@ -7,6 +7,6 @@ use Rattle.hx_journal.proofs.mark.spell_mark.Goals as goal
 
 pub returns-clause-is_line : goal.returns-clause-is_line
 returns-clause-is_line c =
-    let line : c.extend_from_slice-4.new.self.items ≡ mark_of c.args.offset (length c.args.lines.now) c.args.previous c.crc32-sum.result = grind (arith, common_steps) in
-    subst IsLine (sym line) (line-mark c.args.offset (length c.args.lines.now) c.args.previous c.crc32-sum.result
+    let line : c.extend_from_slice-4.new.self.items ≡ mark_of c.args.first_number (length c.args.lines.now) c.args.previous c.crc32-sum.result = grind (arith, common_steps) in
+    subst IsLine (sym line) (line-mark c.args.first_number (length c.args.lines.now) c.args.previous c.crc32-sum.result
     (search rules) (search rules) (omega (arith, c.ranges.previous.fits)) (omega (arith, c.crc32-sum.type_inv)))

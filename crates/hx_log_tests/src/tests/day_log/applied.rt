@@ -14,7 +14,7 @@ use std::alloc::Global;
 use std::process::Abort;
 
 // The standard day, without an applied event.
-fn unplayed<R: Abort>(rt: &R, alloc: Global) -> Alone<Applied>
+fn unapplied<R: Abort>(rt: &R, alloc: Global) -> Alone<Applied>
     ensures { result.day.events ≡ [] }
 {
     let setup = Setup::standard(alloc).expect(rt, "memory");
@@ -29,7 +29,7 @@ fn a_standby_has_applied_what_it_takes_over(rt: HostRuntime) {
     let first = opened(&rt, alloc, MemoryLog::new(alloc), 1);
     let log = keep_day(&rt, first.journal);
     let mut watch = Patient::new(3);
-    let day = unplayed(&rt, alloc);
+    let day = unapplied(&rt, alloc);
     let (day, journal) = stand_by_and_apply(alloc, log, 2, day, &mut watch, &Unwatched).expect(
         &rt, "a log",
     );
@@ -43,6 +43,6 @@ fn an_event_that_is_refused_is_a_fault(rt: HostRuntime) {
     let alloc = rt.alloc();
     let first = opened(&rt, alloc, MemoryLog::new(alloc), 1);
     let log = keep_stranger(&rt, first.journal);
-    let fault = open_and_apply(alloc, log, 2, unplayed(&rt, alloc), &Unwatched).err();
+    let fault = open_and_apply(alloc, log, 2, unapplied(&rt, alloc), &Unwatched).err();
     equal(&rt, fault, Some(DayLogError::Refused(DeskError::NoMember)));
 }

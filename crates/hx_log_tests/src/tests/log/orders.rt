@@ -117,7 +117,7 @@ fn reported(rt: &impl Abort, alloc: Global, order: u32, one: &[u8], other: &[u8]
 }
 
 #[test]
-fn who_is_in_office_tells(rt: HostRuntime) {
+fn the_active_writer_reports(rt: HostRuntime) {
     let alloc = rt.alloc();
     for (order, one, other) in ORDERS {
         reported(&rt, alloc, *order, one, other);

@@ -106,36 +106,36 @@ if_err P (Ok x) h = tt
 if_err P (Err e) h = h
 
 -- the execution for which there was no memory
-abbrev unkept : (g : _) (c : goal.After-from_residual g) → Fill
-unkept g c = c.execution-fill.result
+abbrev unstored : (g : _) (c : goal.After-from_residual g) → Fill
+unstored g c = c.execution-fill.result
 
 -- the executions after it
 abbrev later : (g : _) (c : goal.After-from_residual g) → List Fill
 later g c =
-    pass c.args.incoming.now.minimum (c.walk.left - (unkept g c).shares)
+    pass c.args.incoming.now.minimum (c.walk.left - (unstored g c).shares)
     (rest_after (Some c.in-Some.key) (ranked (terms c.args.incoming.now) (g.B.Book.orders c.args.book.now)))
 
 -- those in the list, it, and those after it are all
-all_output : (g : _) (c : goal.After-from_residual g) → c.walk.fills.items ++ unkept g c ∷ later g c ≡ fills_of c.args.incoming.now (g.B.Book.orders c.args.book.now)
+all_output : (g : _) (c : goal.After-from_residual g) → c.walk.fills.items ++ unstored g c ∷ later g c ≡ fills_of c.args.incoming.now (g.B.Book.orders c.args.book.now)
 all_output g c =
     let inc = c.args.incoming.now in
     let orders = g.B.Book.orders c.args.book.now in
     let step : StepAt inc orders c.walk.walk.after c.walk.left c.in-Some.key c.walk.fills.items c.execution-fill.result =
     executed inc c.walk.walk.after c.walk.left c.in-Some.key orders c.unwrap-order.result.now c.walk.fills.items (pass inc.minimum inc.shares (ranked (terms inc) orders)) c.execution-fill.result c.get.ensures.keys
     (sym c.in-Some.is ∙ c.next_qualifying.ensures.exact) (found c.get.result c.unwrap-order.result (order_of c.in-Some.key.0 orders) c.unwrap-order.ensures c.get.ensures.exact) c.execution-fill.ensures c.walk.invariant.output in
-    sym (append_assoc c.walk.fills.items (unkept g c ∷ []) (later g c)) ∙ step.output ∙ sym (steps_of-pass inc orders c.get.ensures.keys) ∙ steps_of-fills inc orders c.get.ensures.keys
+    sym (append_assoc c.walk.fills.items (unstored g c ∷ []) (later g c)) ∙ step.output ∙ sym (steps_of-pass inc orders c.get.ensures.keys) ∙ steps_of-fills inc orders c.get.ensures.keys
 
 -- if the list of fills cannot grow there is a fill
 pub returns-in_err-push-clause-memory : goal.returns-in_err-push-clause-memory
 returns-in_err-push-clause-memory g c =
     let all = fills_of c.args.incoming.now (g.B.Book.orders c.args.book.now) in
     if_err (0 < length all) c.from_residual.result
-    (some_among c.walk.fills.items (later g c) all (unkept g c) (all_output g c))
+    (some_among c.walk.fills.items (later g c) all (unstored g c) (all_output g c))
 
 -- and those in the list are the first ones
 pub returns-in_err-push-clause-front : goal.returns-in_err-push-clause-front
 returns-in_err-push-clause-front g c =
     let all = fills_of c.args.incoming.now (g.B.Book.orders c.args.book.now) in
-    let others = unkept g c ∷ later g c in
+    let others = unstored g c ∷ later g c in
     if_err ((rest : List Fill) × (c.push.new.self.items ++ rest ≡ all)) c.from_residual.result
     (others, ap (λ (v : List Fill). v ++ others) c.in_err-push.ensures.items ∙ all_output g c)

@@ -1,5 +1,5 @@
 use Rattle.std.proofs.Common.{◌≡◌, ◌++◌, ◌∷◌, [], ℕ, List, refl, sym, subst, ◌∙◌}
-use Rattle.hx_text.proofs.Splits.{same_split}
+use Rattle.hx_units.proofs.Splits.{same_split}
 use Rattle.hx_operator.specs.Answers.{IsFirstLine}
 use Rattle.hx_operator.proofs.answers.read_answer.Goals as goal
 

@@ -1,5 +1,5 @@
 use Rattle.std.proofs.Common.{◌≡◌, ℕ, List, subst}
-use Rattle.hx_replay.specs.Run.{Writes}
+use Rattle.hx_units.specs.Writing.{Writes}
 use Rattle.hx_replay.specs.declared.fault.TapeError.TheVariants as fault
 use Rattle.hx_replay.proofs.Gathering.{stops_gathering, stops_after}
 use Rattle.hx_replay.proofs.write_output.write_before.Goals as goal

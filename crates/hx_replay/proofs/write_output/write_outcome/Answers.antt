@@ -1,6 +1,6 @@
 use Rattle.std.proofs.Common.{List, ℕ, ◌++◌, ap, subst}
 use Rattle.std.proofs.lemmas.Result.{err_from_is_err_and}
-use Rattle.hx_replay.specs.Run.{Writes}
+use Rattle.hx_units.specs.Writing.{Writes}
 use Rattle.hx_replay.proofs.Spelled.{writes_then, writes_whole}
 use Rattle.hx_replay.proofs.write_output.write_outcome.Goals as goal
 

@@ -1,5 +1,5 @@
 use Rattle.rtrb.specs.Ring.{received, sent, SameConsumer, SameProducer}
-use Rattle.hx_replay.specs.Run.{Writes}
+use Rattle.hx_units.specs.Writing.{Writes}
 use Rattle.hx_replay_parallel.specs.Ahead.{IsAhead}
 use Rattle.hx_replay_parallel.specs.Turns.{events_of, output_of}
 use Rattle.hx_replay_parallel.proofs.io_thread.write_each.Given as goal

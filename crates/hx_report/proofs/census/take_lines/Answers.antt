@@ -2,8 +2,9 @@ use Rattle.std.proofs.Common.{List, map}
 use Rattle.hx_tape_lines.specs.Text.{Entry}
 use Rattle.hx_tape_lines.specs.Events.{event_of}
 use Rattle.hx_replay.specs.Run.{start}
+use Rattle.hx_replay.proofs.StruckTapes.{all_known}
 use Rattle.hx_report.specs.Noted.{HasNoted}
-use Rattle.hx_report.proofs.Tapes.{all_known, goes_on, all_done}
+use Rattle.hx_report.proofs.Tapes.{goes_on, all_done}
 use Rattle.hx_report.proofs.census.take_lines.Goals as goal
 
 pub loop-line-preserved : goal.loop-line-preserved

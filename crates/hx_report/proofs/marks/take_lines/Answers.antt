@@ -1,7 +1,8 @@
 use Rattle.std.proofs.Common.{◌∙◌}
 use Rattle.hx_replay.specs.Run.{start}
+use Rattle.hx_replay.proofs.StruckTapes.{all_known}
 use Rattle.hx_report.specs.Marks.{HasTakenLines}
-use Rattle.hx_report.proofs.Tapes.{all_known, goes_on, all_done}
+use Rattle.hx_report.proofs.Tapes.{goes_on, all_done}
 use Rattle.hx_report.proofs.marks.take_lines.Goals as goal
 
 pub loop-line-preserved : goal.loop-line-preserved

@@ -1,9 +1,9 @@
 use Rattle.std.proofs.Common.{ℕ, ◌+◌, Option, List, sym, ◌∙◌, subst, arith}
-use Rattle.hx_blog.proofs.Prefixes.{prefix_self, prefix_trans}
 use Rattle.hx_sessions.specs.Frames.{day_over}
 use Rattle.hx_sessions.specs.Logins.{AwaitsLogin}
 use Rattle.hx_sessions.proofs.Logging.{awaits_none, awaits_more, awaits_login, awaits_stop, awaits_end, space_fits}
 use Rattle.hx_sessions.proofs.opening.read_login.Goals as goal
+use Rattle.hx_units.proofs.Prefixes.{prefix_self, prefix_trans}
 
 pub loop-turn-init : goal.loop-turn-init
 loop-turn-init g c =

@@ -1,9 +1,9 @@
 use Rattle.std.proofs.Common.{◌≡◌, [], subst, refl}
-use Rattle.hx_blog.proofs.Prefixes.{prefix_self, prefix_trans}
 use Rattle.hx_desk.specs.Known.{known_replies}
 use Rattle.hx_sessions.specs.Frames.{Sent}
 use Rattle.hx_sessions.proofs.Going.{sent_none, sent_join, until_join, known_grows, sent_bounds}
 use Rattle.hx_sessions.proofs.outbound.deliver.Goals as goal
+use Rattle.hx_units.proofs.Prefixes.{prefix_self, prefix_trans}
 
 pub loop-init : goal.loop-init
 loop-init g c =

@@ -1,7 +1,7 @@
 use Rattle.std.proofs.Common.{◌≡◌, [], ◌∷◌, sym, ◌∙◌, subst}
 use Rattle.std.specs.Io.KnownBytes.{Appends}
 use Rattle.hx_units.specs.Fields.{texts}
-use Rattle.hx_sessions.specs.Frames.{Writes}
+use Rattle.hx_units.specs.Writing.{Writes}
 use Rattle.hx_sessions.proofs.Going.{turn_sends, one_frame}
 use Rattle.hx_sessions.proofs.outbound.send.Goals as goal
 

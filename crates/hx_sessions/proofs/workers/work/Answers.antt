@@ -1,5 +1,4 @@
 use Rattle.std.proofs.Common.{◌≡◌, ℕ, List, [], false, refl, sym, subst, Option, IfErr, OnOk}
-use Rattle.hx_blog.proofs.Prefixes.{prefix_self, prefix_trans}
 use Rattle.hx_desk.specs.Known.{known_replies}
 use Rattle.hx_sessions.specs.declared.ending.Fault.TheVariants as faults
 use Rattle.hx_sessions.specs.declared.ending.Stop.TheVariants as stops
@@ -9,6 +8,7 @@ use Rattle.hx_sessions.proofs.Passes.{carries_none, carries_more}
 use Rattle.hx_sessions.proofs.Taking.{receiving_none, received_here, acting_all, why_all}
 use Rattle.hx_sessions.proofs.Going.{sent_none, sent_join, until_join, known_grows, sent_bounds}
 use Rattle.hx_sessions.proofs.workers.work.Goals as goal
+use Rattle.hx_units.proofs.Prefixes.{prefix_self, prefix_trans}
 
 pub loop-init : goal.loop-init
 loop-init g c =

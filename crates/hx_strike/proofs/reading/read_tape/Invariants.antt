@@ -1,6 +1,6 @@
 use Rattle.std.proofs.Common.{◌≡◌, ◌≤◌, length, drop}
 use Rattle.std.specs.Io.KnownBytes.{Consumes}
-use Rattle.hx_text.specs.Cuts.{Lacks}
+use Rattle.hx_units.specs.Cuts.{Lacks}
 use Rattle.hx_strike.specs.Taking.{Takes}
 use Rattle.hx_strike.proofs.reading.read_tape.Given as goal
 

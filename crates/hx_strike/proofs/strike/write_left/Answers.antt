@@ -13,7 +13,7 @@ use Rattle.hx_strike.proofs.strike.write_left.Goals.{then-strikes, else-strikes+
 pub unreachable-requires : goal.unreachable-requires
 unreachable-requires g c =
     let t = c.requires.tape in
-    is_there t.entries c.args.bearings.now c.loop-bearing.bearing-index t.are_known t.bearings_are c.loop-bearing-test.true (subst (Rattle.hx_text.specs.Cuts.Lacks 10) (c.loop-bearing.invariant.rest t) c.in_default.ensures.none)
+    is_there t.entries c.args.bearings.now c.loop-bearing.bearing-index t.are_known t.bearings_are c.loop-bearing-test.true (subst (Rattle.hx_units.specs.Cuts.Lacks 10) (c.loop-bearing.invariant.rest t) c.in_default.ensures.none)
 
 pub overflow_sub-count : goal.overflow_sub-count
 overflow_sub-count g c =

@@ -3,7 +3,7 @@ use Rattle.std.specs.Char.{is_ascii_digit}
 use Rattle.std.proofs.lemmas.List.{length-take}
 use Rattle.std.proofs.lemmas.Grind.{get_or_default_zero}
 use Rattle.std.proofs.lemmas.Int.Digits.{digits_value_more, digits_more}
-use Rattle.hx_text.proofs.Numbers.{digit_value_of, digit_value_small, decimal_size, value_small}
+use Rattle.hx_units.proofs.Decimals.{digit_value_of, digit_value_small, decimal_size, value_small}
 use Rattle.hx_tape_lines.proofs.Fronts.{within_number, number_longer}
 use Rattle.hx_tape_lines.proofs.decimal.split_from.Goals as goal
 

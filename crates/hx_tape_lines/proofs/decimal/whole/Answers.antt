@@ -1,6 +1,6 @@
 use Rattle.std.proofs.Common.{◌≡◌, ℕ, List, ◌+◌, ◌∷◌, ◌++◌, length, get_or, sym, ap, ◌∙◌, arith}
 use Rattle.std.specs.Fmt.{decimal}
-use Rattle.hx_text.proofs.Numbers.{decimal_size, decimal_front}
+use Rattle.hx_units.proofs.Decimals.{decimal_size, decimal_front}
 use Rattle.std.proofs.lemmas.List.{get_or_append_left}
 use Rattle.std.proofs.lemmas.Slice.{between_to_end}
 use Rattle.hx_tape_lines.proofs.Fronts.{number_end, space_after, front_is}

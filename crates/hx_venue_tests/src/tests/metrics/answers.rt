@@ -1,10 +1,10 @@
-//! What the page answers, over memory.
+//! What the service answers, over memory.
 
 use super::venue::Model;
 use crate::tests::answered::answered;
 use crate::tests::{equal, holds};
 use http_server::{Reason, Refusal, State};
-use hx_metrics::{Health, Page};
+use hx_metrics::{Health, MetricsService};
 use std::process::Abort;
 use std::random::RandomSource;
 
@@ -22,7 +22,12 @@ fn is_answered<R: AllocGlobal + RandomSource + Abort>(
 ) {
     for step in [1, 7, 1000] {
         let venue = Model::new(health);
-        let (state, output) = answered(rt, &mut Page::new(rt.alloc(), &venue), request, step);
+        let (state, output) = answered(
+            rt,
+            &mut MetricsService::new(rt.alloc(), &venue),
+            request,
+            step,
+        );
         equal(rt, state, State::Open);
         equal(rt, output.as_slice(), answer);
     }
@@ -116,7 +121,12 @@ fn requests_that_come_at_once_are_answered_in_order(rt: HostRuntime) {
         connection: close\r\n\r\nok\n";
     for step in [1, 10, 1000] {
         let venue = Model::new(Health::Ready);
-        let (state, sent) = answered(&rt, &mut Page::new(rt.alloc(), &venue), input, step);
+        let (state, sent) = answered(
+            &rt,
+            &mut MetricsService::new(rt.alloc(), &venue),
+            input,
+            step,
+        );
         equal(&rt, state, State::Closing(Reason::Asked));
         equal(&rt, sent.as_slice(), output.as_slice());
     }
@@ -126,13 +136,13 @@ fn requests_that_come_at_once_are_answered_in_order(rt: HostRuntime) {
 #[test]
 fn garbage_is_refused(rt: HostRuntime) {
     let venue = Model::new(Health::Ready);
-    let mut page = Page::new(rt.alloc(), &venue);
-    let (state, output) = answered(&rt, &mut page, b"\0\x01\x02 what?\r\n\r\n", 1000);
+    let mut service = MetricsService::new(rt.alloc(), &venue);
+    let (state, output) = answered(&rt, &mut service, b"\0\x01\x02 what?\r\n\r\n", 1000);
     let refused = matches!(
         state,
         State::Closing(Reason::Refused(Refusal::Unreadable(_)))
     );
-    holds(&rt, refused && !page.is_read);
+    holds(&rt, refused && !service.is_read);
     let bad_request = b"HTTP/1.1 400 Bad Request\r\nconnection: close\r\ncontent-length: 0\r\n\r\n";
     equal(&rt, output.as_slice(), bad_request.as_slice());
 }

@@ -5,7 +5,7 @@ use crate::tests::answered::answered;
 use crate::tests::{equal, holds};
 use http_server::State;
 use hx_market_view::MarketView;
-use hx_web::Page;
+use hx_web::WebService;
 use std::process::Abort;
 use std::random::RandomSource;
 
@@ -24,7 +24,12 @@ fn answers<R: AllocGlobal + RandomSource + Abort>(
     market_view
         .take(news_of(rt, r#"{"stock":"ABCD"}"#, 7))
         .expect(rt, "memory");
-    answered(rt, &mut Page::new(rt.alloc(), &market_view), input, step)
+    answered(
+        rt,
+        &mut WebService::new(rt.alloc(), &market_view),
+        input,
+        step,
+    )
 }
 
 // A request gets this answer, however it is cut.

@@ -4,7 +4,7 @@
 use super::news::news_of;
 use crate::tests::equal;
 use hx_market_view::Post;
-use hx_web::serve_page;
+use hx_web::serve_web;
 use std::alloc::Global;
 use std::hash::RandomState;
 use std::io::{Read, Write};
@@ -83,7 +83,7 @@ fn browsers_are_reported(rt: HostRuntime) {
     let post = Post::new(alloc);
     let (served, _) = join(
         &rt,
-        || serve_page(&rt, alloc, listener, &post, RandomState::new(&rt)?),
+        || serve_web(&rt, alloc, listener, &post, RandomState::new(&rt)?),
         || {
             two_browsers(&rt, port, &post);
             post.end(&rt);
@@ -117,7 +117,7 @@ fn a_slow_one_hurts_nobody(rt: HostRuntime) {
     let post = Post::new(alloc);
     let (served, _) = join(
         &rt,
-        || serve_page(&rt, alloc, listener, &post, RandomState::new(&rt)?),
+        || serve_web(&rt, alloc, listener, &post, RandomState::new(&rt)?),
         || {
             a_slow_one(&rt, port, &post);
             post.end(&rt);

@@ -1,9 +1,9 @@
 use Rattle.std.proofs.Common.{ap, sym, ◌∙◌, arith}
 use Rattle.hx_blog.specs.Ends.{got}
-use Rattle.hx_blog.proofs.Prefixes.{prefix_length}
 use Rattle.hx_blog.proofs.Feeds.{feed-prefix, same_front}
 use Rattle.hx_blog.proofs.Settled.{is_reading, room_is}
 use Rattle.hx_blog.proofs.reader.Reader.look.Goals as goal
+use Rattle.hx_units.proofs.Prefixes.{prefix_length}
 
 pub invariant_of-self : goal.invariant_of-self
 invariant_of-self g c =

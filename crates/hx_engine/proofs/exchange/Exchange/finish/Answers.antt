@@ -48,7 +48,7 @@ returns-clause-durable g c =
     let began = ap (λ (d : DeskState). take (length g.V.Venue.before) (take d.published_end d.history)) back.same ∙ held.began in
     let all = all_published g.V.Venue.setup g.V.Venue.before desk g.V.Ledger.parts passes c.stands.ensures.standing (ap (λ (d : DeskState). d.setup) back.same ∙ held.of_setup) returned once counted began in
     IfSome_then c.journal_of.result
-    (c.journal_of.ensures c.into_parts-history.result.0.items (IfSome_then held.keeper held.home (λ k h. h.0 ∙ ap unspoken (ap published_of (sym back.same) ∙ all ∙ sym c.into_parts-history.ensures.history))))
+    (c.journal_of.ensures c.into_parts-history.result.0.items (IfSome_then held.journal_writer held.home (λ k h. h.0 ∙ ap unspoken (ap published_of (sym back.same) ∙ all ∙ sym c.into_parts-history.ensures.history))))
     (λ j h. (h.0, h.1, h.2))
 
 pub returns-clause-published : goal.returns-clause-published

@@ -20,18 +20,18 @@ invariant_of-pass-then-not-await_published g c =
     let inside = c.pass.inside in
     let i = c.pass.invariant in
     let count = c.enter-count.result.count in
-    let place = c.enter-count.result.last.place in
+    let position = c.enter-count.result.last.place in
     let first : List Event = take count c.args.events.items in
     let old : List Sent = inside.sent.items in
-    let more : List Sent = placed (place - length first) first in
+    let more : List Sent = placed (position - length first) first in
     let outright : AreAdmittedUpTo g.V.Venue.setup c.args.events.items c.enter-count.result.count c.enter-count.result.refused =
     subst (λ (es : List Event). AreAdmittedUpTo g.V.Venue.setup es c.enter-count.result.count c.enter-count.result.refused) c.deref-2.ensures.value c.enter-count.ensures.outright in
     let enough = length-take-le count c.args.events.items (at_most g.V.Venue.setup c.args.events.items count c.enter-count.result.refused outright) in
     let items : c.move_first.new.sent.items ≡ old ++ more =
-    c.move_first.ensures.sent ∙ ap (λ (l : List Sent). l ++ placed (place - count) first) c.reserve-room.ensures.items ∙ ap (λ (n : ℕ). old ++ placed (place - n) first) (sym enough) in
+    c.move_first.ensures.sent ∙ ap (λ (l : List Sent). l ++ placed (position - count) first) c.reserve-room.ensures.items ∙ ap (λ (n : ℕ). old ++ placed (position - n) first) (sym enough) in
     let within : inside.published_end ≤ length old = i.7 in
     let long : length c.move_first.new.sent.items ≡ length old + count =
-    omega (arith, ap (λ (l : List Sent). length l) items, length-append old more, length_placed (place - length first) first, length-take-le count c.args.events.items (at_most g.V.Venue.setup c.args.events.items count c.enter-count.result.refused outright)) in (
+    omega (arith, ap (λ (l : List Sent). length l) items, length-append old more, length_placed (position - length first) first, length-take-le count c.args.events.items (at_most g.V.Venue.setup c.args.events.items count c.enter-count.result.refused outright)) in (
       c.enter-count.ensures.parts ∙ i.0,
       omega (arith, c.enter-count.ensures.counted, i.1, long),
       c.await_published.ensures.logs.0,

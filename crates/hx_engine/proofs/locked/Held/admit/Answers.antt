@@ -39,7 +39,7 @@ invariant_of-self-2-clause-home g c =
     let s = c.stands.ensures.standing in
     let held = c.args.self.now in
     let grows = c.in-Ok-admit.ensures.ok in
-    IfSome_then held.keeper held.home
+    IfSome_then held.journal_writer held.home
     (λ k h. (
       h.0 ∙ ap unspoken (sym (published_stays held.desk c.admit.new.self _ _ grows (omega (arith, s.order, s.within)))),
       grows.sealed ∙ h.1 ∙ sym grows.published_end,

@@ -26,13 +26,13 @@ invariant_of-result-clause-begun g c =
     let held = c.args.self.now in
     let s = c.stands.ensures.standing in
     let known = ap (λ (r : ReceiptState Entry). r.known) c.receipt.ensures.receipt ∙ ap (λ (w : WriterState Entry). w.published) held.registered in
-    begun_at held.desk.history held.desk.published_end c.in_ok-keeper.keeper.writer.published c.receipt.result.known (omega (arith, s.order, s.within)) known (some_at _ held.keeper c.in_ok-keeper.keeper c.in_ok-keeper.ensures.value held.home).0
+    begun_at held.desk.history held.desk.published_end c.in_ok-journal_writer.journal_writer.writer.published c.receipt.result.known (omega (arith, s.order, s.within)) known (some_at _ held.journal_writer c.in_ok-journal_writer.journal_writer c.in_ok-journal_writer.ensures.value held.home).0
 
 pub invariant_of-result-clause-spelled : goal.invariant_of-result-clause-spelled
 invariant_of-result-clause-spelled g c =
     let held = c.args.self.now in
     let s = c.stands.ensures.standing in
     let known = ap (λ (r : ReceiptState Entry). r.known) c.receipt.ensures.receipt ∙ ap (λ (w : WriterState Entry). w.published) held.registered in
-    spelled_from record_of held.desk.history held.desk.published_end held.desk.sealed c.in_ok-keeper.keeper.writer.published c.receipt.result.known _ (omega (arith, s.order, s.within)) known (some_at _ held.keeper c.in_ok-keeper.keeper c.in_ok-keeper.ensures.value held.home).0
-    (some_at _ held.keeper c.in_ok-keeper.keeper c.in_ok-keeper.ensures.value held.home).1
+    spelled_from record_of held.desk.history held.desk.published_end held.desk.sealed c.in_ok-journal_writer.journal_writer.writer.published c.receipt.result.known _ (omega (arith, s.order, s.within)) known (some_at _ held.journal_writer c.in_ok-journal_writer.journal_writer c.in_ok-journal_writer.ensures.value held.home).0
+    (some_at _ held.journal_writer c.in_ok-journal_writer.journal_writer c.in_ok-journal_writer.ensures.value held.home).1
     (c.replace-records.ensures.value ∙ held.spelled)

@@ -19,7 +19,7 @@ returns-in_err-body-clause-fault g c goes_on =
 
 pub returns-clause-read : goal.returns-clause-read
 returns-clause-read g c =
-    let both : c.if-head.self ≡ (c.in_ok-head.head.is_kept && (length c.next_body.new.self.unread.items == 0)) =
+    let both : c.if-head.self ≡ (c.in_ok-head.head.is_persistent && (length c.next_body.new.self.unread.items == 0)) =
     elim c.if-head.branch [
       | then-head w ↦ w.self-is ∙ w.is_clear.ensures ∙ ap (λ (t : Bool). t && (length c.next_body.new.self.unread.items == 0)) (sym w.if-head.true)
       | else-head w ↦ w.self-is ∙ w.if-head.false ∙ ap (λ (t : Bool). t && (length c.next_body.new.self.unread.items == 0)) (sym w.if-head.false)

@@ -1,6 +1,7 @@
 use Rattle.std.proofs.Common.{sym, ◌∙◌, rules}
-use Rattle.hx_fenced_log.proofs.Fronts.{is_line, cut_is_none}
+use Rattle.hx_fenced_log.proofs.Fronts.{cut_is_none}
 use Rattle.hx_fenced_log.proofs.terms.lines.is_line.Goals as goal
+use Rattle.hx_journal.proofs.Spelling.{line_of_lacks}
 
 pub returns-in-Some : goal.returns-in-Some
 returns-in-Some c = (
@@ -10,6 +11,6 @@ returns-in-Some c = (
 
 pub returns-in-None : goal.returns-in-None
 returns-in-None c = (
-  λ _. (is_line c.args.line.now c.in-None.ensures.none c.requires, sym c.is_mark.ensures ∙ c.if-is_mark.false),
+  λ _. (line_of_lacks c.args.line.now c.in-None.ensures.none c.requires, sym c.is_mark.ensures ∙ c.if-is_mark.false),
   λ _. search rules,
 )

@@ -1,7 +1,8 @@
-use Rattle.std.proofs.Common.{◌≡◌, ℕ, ◌≤◌, Bool, true, false, ◌&&◌, leb, Some, Bor, refl, sym, ap, ◌∙◌, subst, arith}
+use Rattle.std.proofs.Common.{◌≡◌, ℕ, ◌≤◌, Bool, true, false, ◌&&◌, leb, Bor, refl, sym, ap, ◌∙◌, subst, arith}
 use Rattle.std.specs.List.{find}
 use Rattle.std.specs.Option.{is_some, option_map, option_copied, IfSome}
 use Rattle.std.proofs.lemmas.Bool.Decides.{nat_tests}
+use Rattle.std.proofs.lemmas.Option.{same_Some}
 use Rattle.hx_book.specs.declared.order.Order.{Order}
 use Rattle.hx_levels.specs.declared.level_book.linked_orders.LinkedOrder.{LinkedOrder}
 use Rattle.hx_book.specs.Book.{has_key, is_under}
@@ -10,9 +11,6 @@ use Rattle.hx_levels.specs.Walks.{is_from}
 use Rattle.hx_levels.proofs.Present.{is_some-map}
 use Rattle.hx_levels.proofs.LevelNext.{linked_order_found}
 use Rattle.hx_levels.proofs.level_book.LevelBook.is_from.Goals as goal
-
-same_some : {A : Type 0} {x y : A} → Some x ≡ Some y → x ≡ y
-same_some q = cc
 
 pub unwrap-order-requires : goal.unwrap-order-requires
 unwrap-order-requires c =
@@ -28,7 +26,7 @@ returns c =
     let h : has_key key (walked i.linked_orders i.time) ≡ true = ap (λ v. has_key key v.orders) c.self.view_is ∙ c.requires in
     let f = linked_order_found i.linked_orders i.sides.levels i.time i.reserved i.retained i.next (with_room i.conditional i.sides.sizes) (walked i.linked_orders i.time) c.self.invariant key h in
     let order : c.unwrap-order.result.now ≡ f.live.order =
-    same_some (sym (ap option_copied c.unwrap-order.ensures) ∙ c.order.ensures ∙ ap (option_map (λ (n : LinkedOrder). n.order)) f.stored) ∙ f.order in
+    same_Some _ _ (sym (ap option_copied c.unwrap-order.ensures) ∙ c.order.ensures ∙ ap (option_map (λ (n : LinkedOrder). n.order)) f.stored) ∙ f.order in
     let rank : c.rank.result ≡ rank_of (number_in i.linked_orders) f.live =
     subst (λ o. IfSome o (λ live. c.rank.result ≡ rank_of (number_in i.linked_orders) live)) f.found
     (subst (λ v. IfSome (find (is_under key) v.orders) (λ live. c.rank.result ≡ rank_of (number_in v.linked_orders) live)) (sym c.self.view_is) c.rank.ensures.exact) in

@@ -1,5 +1,5 @@
-use Rattle.hx_blog.proofs.Prefixes.{prefix_trans}
 use Rattle.hx_serve.proofs.publishing.Publishing.drain.Goals as goal
+use Rattle.hx_units.proofs.Prefixes.{prefix_trans}
 
 pub returns-then-not-publish-clause-known : goal.returns-then-not-publish-clause-known
 returns-then-not-publish-clause-known g c = prefix_trans _ _ _ c.loop.invariant c.publish.ensures.known

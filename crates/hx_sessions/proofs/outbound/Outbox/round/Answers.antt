@@ -8,7 +8,8 @@ use Rattle.hx_units.specs.Fields.{texts}
 use Rattle.hx_desk.specs.Rows.{page as part}
 use Rattle.hx_desk.specs.Known.{known_replies}
 use Rattle.hx_engine.specs.Exchanges.{AreKnownReplies}
-use Rattle.hx_sessions.specs.Frames.{day_over, Sends, Sent, Writes}
+use Rattle.hx_units.specs.Writing.{Writes}
+use Rattle.hx_sessions.specs.Frames.{day_over, Sends, Sent}
 use Rattle.hx_sessions.proofs.Going.{sends_over, sends_open, sent_none, sent_none_of, still_there, sent_more, sent_some, page_none, page_short, page_ahead, fill_cut, batch_sent, until_sent}
 use Rattle.hx_sessions.proofs.outbound.Outbox.round.Goals as goal
 use Rattle.hx_sessions.proofs.outbound.Outbox.round.Goals.{then-ended-2, else-ended-2}

@@ -1,5 +1,0 @@
-use Rattle.hx_replay.specs.Run.{Writes}
-use Rattle.hx_replay.proofs.replaying.write_whole.Given as goal
-
-abbrev pub invariant-loop : goal.invariant-loop
-invariant-loop g l = Writes (g.W.Write.contents l.fn.writer) (g.W.Write.contents l.writer) l.bytes l.rest
