@@ -6,7 +6,7 @@ ghost use Rattle.hx_engine.specs.Journals.{lines};
 
 use crate::day_services::day_services_of;
 use crate::failure::Failure;
-use crate::hosting::{host_logged, host_mirrored};
+use crate::hosting::{host_filed, host_logged};
 use crate::input::WakingInput;
 use crate::logged::{take_mirrored, take_over};
 use crate::plan::{Plan, open_file};
@@ -228,7 +228,7 @@ fn serve_mirrored<
     )?;
     let beginning = beginning_of(rt, matches, plan, early, day, journal)?;
     let path = matches.get_str("history");
-    host_mirrored(rt, path, hosting, beginning, mirror, input, heartbeat)
+    host_filed(rt, path, hosting, beginning, mirror, input, heartbeat)
 }
 
 // Serves a day over its log, and over a journal in a file beside it, if the command line names one.

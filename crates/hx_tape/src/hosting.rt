@@ -1,5 +1,8 @@
 //! A day that is served from what it begins with: without a journal, over a journal in a file, or over a log.
 ghost use Rattle.std.specs.Prelude.{◌≡◌};
+ghost use Rattle.hx_disk.specs.Calls.{seen_of};
+ghost use Rattle.hx_journal.specs.Files.{stored, appended};
+ghost use Rattle.hx_journal.specs.Records.{records_of};
 ghost use Rattle.hx_tape_lines.specs.Text.{record_of};
 ghost use Rattle.hx_desk.specs.Entries.{restored};
 ghost use Rattle.hx_engine.specs.Journals.{lines};
@@ -9,6 +12,7 @@ use crate::failure::Failure;
 use hx_engine::Journal;
 use hx_etcd_log::{CopiedLog, Nodes, Pages};
 use hx_fenced_log::{LogJournal, MirroredJournal};
+use hx_journal::{FileJournal, Noted, RawFile};
 use hx_log_commands::Heartbeat;
 use hx_serve::{
     AppliedBeginning, Beginning, Hosting, NoticeSink, ServeError, serve_applied, serve_durable,
@@ -167,7 +171,7 @@ pub(crate) fn host_logged<
 }
 
 // The same, with a mirror beside the log, which has the same records.
-pub(crate) fn host_mirrored<
+fn host_mirrored<
     R: AllocGlobal
         + Print
         + Files
@@ -205,4 +209,39 @@ pub(crate) fn host_mirrored<
         day_services,
     };
     host_shown(rt, path, hosting, beginning, input, heartbeat)
+}
+
+// The same, if the mirror is a journal in a file.
+pub(crate) fn host_filed<
+    R: AllocGlobal
+        + Print
+        + Files
+        + Log
+        + Net<Listener = TcpListener, Stream = TcpStream>
+        + Clock
+        + Threads
+        + Wait
+        + Sync,
+    G: Gate + Sync,
+    B: NoticeSink + Sync,
+    P: Pages + Drop + Send,
+    N: Nodes + Drop + Send,
+    F: RawFile + Drop + Send,
+    S: Nodes + Drop + Send,
+    I: Read + Send + Drop,
+>(
+    rt: &R,
+    path: Option<&str>,
+    hosting: &Hosting<'_, G, B>,
+    beginning: AppliedBeginning<'_, LogJournal<CopiedLog<P, N>>>,
+    mirror: FileJournal<Noted<F>>,
+    input: I,
+    heartbeat: Heartbeat<'_, S>,
+) -> Result<(), Failure>
+    requires of_setup { beginning.day.setup ≡ hosting.now.setup.now }
+    requires mirror { Mirrors (λ j. records_of (appended (λ d. seen_of d.log.events) j))
+        (λ j. records_of (stored (λ d. seen_of d.log.events) j)) (λ j. j.is_open) mirror
+        (lines record_of (restored beginning.day.events)) }
+{
+    host_mirrored(rt, path, hosting, beginning, mirror, input, heartbeat)
 }
